@@ -1,0 +1,9 @@
+pub mod Table
+pub mod Lengths
+pub mod Usual
+pub mod Walks
+pub mod Turns
+pub mod Ones
+pub mod RulesHold
+pub mod Half
+pub mod Examples

@@ -1,0 +1,40 @@
+-- The walk a second time, as rules with no count to end it: a derivation is a tree of these. `derived` and `derives` (proofs/RulesHold)
+-- show that they say what `run` says. Definitions only: assumes nothing.
+use Prim.Native.Nat.{ℕ, _+_, _-_, _<_}
+use mathlib.Core.Path.{_≡_}
+use mathlib.Core.Bool.{Bool, true, false}
+use mathlib.Core.List.{List}
+use Rattle.octets.specs.declared.Header.{Header}
+use Rattle.octets.specs.declared.Head.the-variants.{Item, ClosingMark, Refusal}
+use Rattle.octets.specs.First.{constructed}
+use Rattle.octets.specs.Head.{headAt}
+use Rattle.octets.specs.Items.{Items, none, item}
+use Rattle.octets.specs.Walk.{End, ends, stops, pastOf}
+
+-- the run from `at` has these items and ends so
+pub data Runs (s : List ℕ) : (room at limit : ℕ) (marked : Bool) → Items → End → Type 0 where
+  -- "The run ends exactly at the definite length"
+  at-limit : {room at limit : ℕ} → at ≡ limit → Runs s room at limit false none (ends limit)
+  -- "or an indefinite item reaches it unclosed"
+  unclosed : {room at limit : ℕ} → at ≡ limit → Runs s room at limit true none (stops 7 limit)
+  -- "or at the closing mark"
+  closes : {room at limit : ℕ} {marked : Bool} → at < limit → headAt s at limit marked room ≡ ClosingMark
+      → Runs s room at limit marked none (ends (at + 2))
+  -- "The walk ends at its first fault"
+  refuses : {room at limit : ℕ} {marked : Bool} {number place : ℕ} → at < limit → headAt s at limit marked room ≡ Refusal number place
+      → Runs s room at limit marked none (stops number place)
+  -- a primitive item, then the rest of the run
+  primitive : {room at limit : ℕ} {marked : Bool} {h : Header} {after : Items} {e : End}
+      → at < limit → headAt s at limit marked room ≡ Item h → constructed (h .octet) ≡ false
+      → Runs s room (h .bound) limit marked after e
+      → Runs s room at limit marked (item at (h .octet) (h .start) (pastOf (h .marked) (h .bound)) none after) e
+  -- a constructed item whose run ends, then the rest of the run
+  passes : {room at limit : ℕ} {marked : Bool} {h : Header} {inside after : Items} {next : ℕ} {e : End}
+      → at < limit → headAt s at limit marked room ≡ Item h → constructed (h .octet) ≡ true
+      → Runs s (room - 1) (h .start) (h .bound) (h .marked) inside (ends next) → Runs s room next limit marked after e
+      → Runs s room at limit marked (item at (h .octet) (h .start) (pastOf (h .marked) next) inside after) e
+  -- a constructed item whose run is refused: "An item counts once its own header has passed"
+  breaks : {room at limit : ℕ} {marked : Bool} {h : Header} {inside : Items} {number place : ℕ}
+      → at < limit → headAt s at limit marked room ≡ Item h → constructed (h .octet) ≡ true
+      → Runs s (room - 1) (h .start) (h .bound) (h .marked) inside (stops number place)
+      → Runs s room at limit marked (item at (h .octet) (h .start) (h .bound) inside none) (stops number place)

@@ -1,0 +1,115 @@
+-- The walk of a stream: the items whose headers passed, and how the walk ended. Document 01, "Octet rules" and "Numbers given back".
+-- Definitions only: assumes nothing.
+use Prim.Native.Nat.{ℕ, zero, suc, _+_, _-_}
+use mathlib.Core.Bool.{Bool, true, false, cond}
+use mathlib.Core.List.{List}
+use lib.ListN.{length}
+use lib.Dec.{leb}
+use Rattle.octets.specs.declared.Header.{Header}
+use Rattle.octets.specs.declared.Head.{Head}
+use Rattle.octets.specs.declared.Head.the-variants.{Item, ClosingMark, Refusal}
+use Rattle.octets.specs.declared.Outcome.{Outcome}
+use Rattle.octets.specs.declared.Outcome.the-variants.{Ended, Refused}
+use Rattle.octets.specs.First.{constructed}
+use Rattle.octets.specs.Head.{headAt}
+use Rattle.octets.specs.Items.{Items, none, item, count}
+
+-- "stream over 1,048,576 bytes"
+abbrev pub streamLimit : ℕ
+streamLimit = 1048576
+
+-- "Top elements are at level 1; level 16 is the deepest."
+abbrev pub deepest : ℕ
+deepest = 16
+
+-- A walk ends past a run, or stops with a refusal.
+pub data End : Type 0 where
+  ends : (at : ℕ) → End
+  stops : (number place : ℕ) → End
+
+pub record Walked : Type 0 where
+  pub items : Items
+  pub how : End
+
+abbrev pub ended : ℕ → Walked
+ended at = record { items = none; how = ends at }
+
+abbrev pub stopped : ℕ → ℕ → Walked
+stopped number place = record { items = none; how = stops number place }
+
+-- "Closing marks lie .. in no value": where a value ends whose run ended before next
+abbrev pub pastOf : (marked : Bool) → (next : ℕ) → ℕ
+pastOf marked next = cond marked (next - 2) next
+
+-- The item at `at` with what was walked inside it. Where that ended, more says what is walked from there; "The walk ends at its
+-- first fault".
+abbrev pub follow : ℕ → Header → Items → End → (ℕ → Walked) → Walked
+follow at h inside (ends next) more =
+    let w = more next in
+    record { items = item at (h .octet) (h .start) (pastOf (h .marked) next) inside (w .items); how = w .how }
+follow at h inside (stops number place) more =
+    record { items = item at (h .octet) (h .start) (h .bound) inside none; how = stops number place }
+
+-- the value of an item: "a constructed value is a run of items"
+abbrev pub value : Bool → Header → (Header → Walked) → Walked
+value true h run = run h
+value false h run = ended (h .bound)
+
+abbrev pub onHead : ℕ → Head → (Header → Walked) → (ℕ → Walked) → Walked
+onHead at (Item h) run more =
+    let v = value (constructed (h .octet)) h run in
+    follow at h (v .items) (v .how) more
+onHead at ClosingMark run more = ended (at + 2)
+onHead at (Refusal number place) run more = stopped number place
+
+-- "The run ends exactly at the definite length, or at the closing mark"; "an indefinite item reaches it unclosed" is 7 at the limit.
+-- Before the limit, what stands there decides.
+abbrev pub step : Bool → (at limit : ℕ) → (marked : Bool) → Head → (Header → Walked) → (ℕ → Walked) → Walked
+step true at limit marked head run more = cond marked (stopped 7 limit) (ended limit)
+step false at limit marked head run more = onHead at head run more
+
+-- The run from `at`, counting down from fuel items one after or inside another. The count is only there so that the definition ends:
+-- `run-step` (proofs/Walks) is the equation of `run`, no count stands in it, and nothing after it looks at the count.
+unfoldable pub runFor : (fuel room : ℕ) → List ℕ → (at limit : ℕ) → (marked : Bool) → Walked
+runFor zero room s at limit marked = stopped 0 at
+runFor (suc fuel) room s at limit marked =
+    step (leb limit at) at limit marked (headAt s at limit marked room)
+    (λ h. runFor fuel (room - 1) s (h .start) (h .bound) (h .marked))
+    (λ next. runFor fuel room s next limit marked)
+
+-- the run from `at` to the limit, or to its closing mark if it is marked, with room levels left
+unfoldable pub run : (room : ℕ) → List ℕ → (at limit : ℕ) → (marked : Bool) → Walked
+run room s at limit marked = runFor (suc (limit - at)) room s at limit marked
+
+-- the value of the item with the header h, which is at the first of room levels
+unfoldable pub valueOf : (room : ℕ) → List ℕ → Header → Walked
+valueOf room s h = value (constructed (h .octet)) h (λ g. run (room - 1) s (g .start) (g .bound) (g .marked))
+
+-- the item at `at` alone, with nothing walked after it
+unfoldable pub oneOf : (room : ℕ) → List ℕ → (at limit : ℕ) → Walked
+oneOf room s at limit =
+    step (leb limit at) at limit false (headAt s at limit false room)
+    (λ h. run (room - 1) s (h .start) (h .bound) (h .marked))
+    (λ next. ended next)
+
+-- "the header count is the number of items that passed 2 to 8": the count of the items that were walked
+abbrev pub answerOf : ℕ → End → Outcome
+answerOf n (ends at) = Ended at n
+answerOf n (stops number place) = Refused number place n
+
+abbrev pub answer : Walked → Outcome
+answer w = answerOf (count (w .items)) (w .how)
+
+-- "Refusal 1 comes first. Then the whole stream is walked for 2 to 8". After 1 the count is 0.
+unfoldable pub walkOf : List ℕ → Outcome
+walkOf s = cond (leb (length s) streamLimit) (answer (run deepest s 0 (length s) false)) (Refused 1 0 0)
+
+-- the number, place and header count that document 01 gives an outcome: 0 at 0 is accepted
+pub record Told : Type 0 where
+  pub number : ℕ
+  pub place : ℕ
+  pub headers : ℕ
+
+abbrev pub told : Outcome → Told
+told (Ended at n) = record { number = 0; place = 0; headers = n }
+told (Refused number place n) = record { number = number; place = place; headers = n }
