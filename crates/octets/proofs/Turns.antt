@@ -53,7 +53,7 @@ follow-breaks at h inside (stops n q) more number place k p =
     rw (a, b, e)
 
 module _ (room : ℕ) (s : List ℕ) (at limit : ℕ) (marked : Bool) (l : at < limit) where
-  at-head : (head : Head) → headAt s at limit marked room ≡ head → run room s at limit marked
+  pub at-head : (head : Head) → headAt s at limit marked room ≡ head → run room s at limit marked
       ≡ onHead at head (λ h. run (room - 1) s (h .start) (h .bound) (h .marked)) (λ next. run room s next limit marked)
   at-head head e = run-step room s at limit marked (omega arith) ∙ rw (lt-leb _ _ l, e)
 
@@ -137,7 +137,7 @@ module _ (room : ℕ) (s : List ℕ) (at limit : ℕ) (marked : Bool) (l : at < 
   tree-refuses number place e = ap (λ (w : Walked). w .items) (at-head room s at limit marked l (Refusal number place) e)
 
   module _ (h : Header) (e : headAt s at limit marked room ≡ Item h) where
-    at-item : run room s at limit marked .items
+    pub at-item : run room s at limit marked .items
         ≡ follow at h (valueOf room s h .items) (valueOf room s h .how) (λ n. run room s n limit marked) .items
     unfolding valueOf
     at-item = ap (λ (w : Walked). w .items) (at-head room s at limit marked l (Item h) e)
