@@ -1,0 +1,49 @@
+-- What is asked of a run of items, not looking inside them: how many have an octet, and the first that has it. "In the 31", "in it" and
+-- "in a style" of document 01 mean the direct items. An octet 0 stands for none: no item has it. Definitions only: assumes nothing.
+use Prim.Native.Nat.{ℕ, _+_}
+use mathlib.Core.Bool.{Bool, true, false, cond}
+use mathlib.Core.List.{List, [], _∷_}
+use lib.Dec.{eqb}
+use Rattle.octets.specs.Items.{Items, none, item}
+use Rattle.tree.specs.Tree.{Tree, empty, leaf, branch}
+use Rattle.contents.specs.declared.Span.{Span}
+
+-- whether a type field is this one octet
+abbrev pub is : (octet : ℕ) → (type : List ℕ) → Bool
+is octet [] = false
+is octet (x ∷ []) = eqb x octet
+is octet (x ∷ y ∷ ys) = false
+
+-- how many items of a run have the octet
+unfoldable pub amount : (octet : ℕ) → Tree → ℕ
+amount octet empty = 0
+amount octet (leaf type value after) = cond (is octet type) 1 0 + amount octet after
+amount octet (branch type inside after) = cond (is octet type) 1 0 + amount octet after
+
+-- the value octets of a primitive item, if it is there
+pub data Value : Type 0 where
+  absent : Value
+  octets : List ℕ → Value
+
+-- the value of the first primitive item with the octet
+unfoldable pub firstValue : (octet : ℕ) → Tree → Value
+firstValue octet empty = absent
+firstValue octet (leaf type value after) = cond (is octet type) (octets value) (firstValue octet after)
+firstValue octet (branch type inside after) = firstValue octet after
+
+-- the run inside the first constructed item with the octet; nothing, if there is none
+unfoldable pub firstRun : (octet : ℕ) → Tree → Tree
+firstRun octet empty = empty
+firstRun octet (leaf type value after) = firstRun octet after
+firstRun octet (branch type inside after) = cond (is octet type) inside (firstRun octet after)
+
+-- "first and past .. All pairs but the element's bound a value": the bounds of the value of the first item with the octet.
+-- "Absent is 0 and 0."
+unfoldable pub boundsOf : (octet : ℕ) → Items → Span
+boundsOf octet none = record { first = 0; past = 0 }
+boundsOf octet (item at type first past inside after) = cond (eqb type octet) (record { first = first; past = past }) (boundsOf octet after)
+
+-- the items inside the first item with the octet
+unfoldable pub itemsIn : (octet : ℕ) → Items → Items
+itemsIn octet none = none
+itemsIn octet (item at type first past inside after) = cond (eqb type octet) inside (itemsIn octet after)

@@ -1,0 +1,1 @@
+// The portions of an element: read once into lent numbers, and compared there.
