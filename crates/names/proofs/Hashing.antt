@@ -1,0 +1,50 @@
+-- A hash goes on byte by byte, so in parts too, and stays below 2^32; its bucket is its share of the buckets. Assumes nothing.
+use mathlib.Core.Path.{_≡_, refl, sym, ap, _∙_}
+use mathlib.Core.Bool.{Bool, true, false}
+use mathlib.Core.List.{List, [], _∷_, _++_}
+use Prim.Native.Nat.{ℕ, _+_, _*_, _/_, _%_, _^_, _<_, _≤_}
+use native.Mathlib.Nat.{lt-of-lt-of-le, mul-le-mul-left, mul-lt-mul-of-pos-right, div-lt-iff-lt-mul, mul-comm}
+use native.Mathlib.Omega.{arith}
+use lib.ListN.{length, getD}
+use lib.Seq.{slice}
+use Rattle.names.specs.declared.Asked.{Asked}
+use Rattle.names.specs.Names.{spaceByte}
+use Rattle.names.specs.Asked.{bytesOf}
+use Rattle.names.specs.Hash.{hashes, hashStep, hashFrom, hash, bucket}
+use Rattle.names.proofs.Parts.{slice-more}
+
+pub hash-more : (s : List ℕ) (first past h : ℕ) → first < past → past ≤ length s
+    → hashFrom h (slice first past s) ≡ hashFrom (hashStep h (getD s first 0)) (slice (first + 1) past s)
+unfolding hashFrom
+hash-more s first past h some inside = ap (hashFrom h) (slice-more s first past some inside)
+
+pub hash-append : (h : ℕ) (xs ys : List ℕ) → hashFrom h (xs ++ ys) ≡ hashFrom (hashFrom h xs) ys
+unfolding hashFrom
+hash-append h [] ys = refl
+hash-append h (x ∷ xs) ys = hash-append (hashStep h x) xs ys
+
+pub hash-below : (h : ℕ) (bytes : List ℕ) → h < hashes → hashFrom h bytes < hashes
+unfolding hashFrom
+hash-below h [] l = l
+hash-below h (x ∷ xs) l = hash-below (hashStep h x) xs (omega arith)
+
+-- what `hash_over`, and for a joined name `hash_space` and `hash_over` again, make of the name asked for
+module _ (s : List ℕ) (asked : Asked) where
+  pub hash-alone : asked .joined ≡ false → hash (bytesOf s asked) ≡ hash (slice (asked .first) (asked .past) s)
+  hash-alone e = rw e
+
+  pub hash-joined : asked .joined ≡ true → hash (bytesOf s asked)
+      ≡ hashFrom (hashFrom (hash (slice (asked .first) (asked .past) s)) (spaceByte ∷ [])) (slice (asked .from) (asked .to) s)
+  unfolding hashFrom
+  hash-joined e = rw e (hash-append 0 (slice (asked .first) (asked .past) s) (spaceByte ∷ slice (asked .from) (asked .to) s))
+
+module _ (buckets h : ℕ) (some : 0 < buckets) where
+  -- the product, which the code forms in 64 bits
+  pub bucket-fits : buckets ≤ hashes → h < hashes → h * buckets < 2 ^ 64
+  bucket-fits few low = lt-of-lt-of-le (mul-lt-mul-of-pos-right low some) (mul-le-mul-left hashes few)
+
+  pub bucket-below : h < hashes → bucket buckets h < buckets
+  unfolding bucket
+  bucket-below low =
+      div-lt-iff-lt-mul {k = hashes} {x = h * buckets} {y = buckets} (omega arith) .1
+      (rw (mul-comm buckets hashes) (mul-lt-mul-of-pos-right low some))

@@ -1,0 +1,16 @@
+-- `names::is_digit` meets its contract: the two tests are the definition's. Assumes nothing.
+use borrow.Author.Tests.{le-leb, lt-leb}
+use Rattle.names.specs.Names.{digit}
+use Rattle.names.proofs.is_digit.Statement.{statement}
+use Rattle.names.proofs.is_digit.Tie as tie
+
+returns : tie.Need-returns
+unfolding digit
+returns c = rw (lt-leb _ _ (c .if1 .taken))
+
+returns-2 : tie.Need-returns-2
+unfolding digit
+returns-2 c = rw (le-leb _ _ (c .if1 .left))
+
+pub is-digit-spec : {M : Type 1} → statement M
+is-digit-spec = tie.close (tie.spec returns returns-2)
