@@ -159,18 +159,18 @@ fn indefinite_at(octet: u8, at: usize, limit: usize) -> Head
     requires { ⌜ at + 2 ≤ limit ⌝ }
     ensures { λ r. ⌜ r ≡ indefiniteAt octet at limit ⌝ }
 {
-    if octet / 32 % 2 == 1 {
-        return Head::Item(Header {
-            octet: wide(octet),
-            start: at + 2,
-            bound: limit,
-            marked: true,
-        });
+    if octet / 32 % 2 != 1 {
+        return Head::Refusal {
+            number: 6,
+            place: at,
+        };
     }
-    Head::Refusal {
-        number: 6,
-        place: at,
-    }
+    Head::Item(Header {
+        octet: wide(octet),
+        start: at + 2,
+        bound: limit,
+        marked: true,
+    })
 }
 
 fn long_at(s: &[u8], octet: u8, at: usize, k: usize, limit: usize) -> Head
