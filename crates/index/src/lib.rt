@@ -1,0 +1,121 @@
+// An index of the identifiers of a table's rows: a chain of rows for each bucket of their hashes, each next one an earlier row.
+use names::Asked;
+ghost use mathlib.Core.Path.{_≡_};
+ghost use Prim.Native.Nat.{_+_, _*_, _<_, _≤_};
+ghost use lib.ListN.{length};
+ghost use Rattle.names.specs.Asked.{bytesOf, Within};
+ghost use Rattle.names.specs.Hash.{hash};
+ghost use Rattle.index.specs.Rows.{rowWidth, firstAt, pastAt, valueAt, Bounded, space};
+ghost use Rattle.index.specs.Index.{Indexed, named, Finds};
+
+// Numbers a row, and where a row has its identifier and its logical identifier.
+pub const ROW_WIDTH: usize = 12;
+
+pub const IDENTIFIER: usize = 4;
+
+pub const LOGICAL: usize = 6;
+
+const SPACES: [u8; 9] = [0, 1, 1, 2, 0, 1, 1, 3, 3];
+
+// What a look-up answers: a row's number, or that there is none.
+pub enum Found {
+    At(usize),
+    Nothing,
+}
+
+fn wide16(x: u16) -> usize
+    ensures { λ r. ⌜ r ≡ x ⌝ }
+{
+    x as usize
+}
+
+fn wide32(x: u32) -> usize
+    ensures { λ r. ⌜ r ≡ x ⌝ }
+{
+    x as usize
+}
+
+// The name space of a kind, 0 if it has none.
+pub fn space_of(kind: usize) -> u8
+    ensures { λ r. ⌜ r ≡ space kind ⌝ }
+{
+    if kind < SPACES.len() {
+        return SPACES[kind];
+    }
+    0
+}
+
+// Whether row j is of the name space and has the name asked for.
+fn has(s: &[u8], rows: &[u32], column: usize, j: usize, space: u8, asked: Asked) -> bool
+    requires { ⌜ column + 1 < rowWidth ⌝ }
+    requires { ⌜ j * rowWidth + rowWidth ≤ length (now rows) ⌝ }
+    requires { ⌜ firstAt (now rows) column j ≤ pastAt (now rows) column j ⌝ }
+    requires { ⌜ pastAt (now rows) column j ≤ length (now s) ⌝ }
+    requires { ⌜ Within (now s) asked ⌝ }
+    ensures { λ r. ⌜ r ≡ named (now (s .entry)) (now (rows .entry)) column space (bytesOf (now (s .entry)) asked) j ⌝ }
+{
+    let at = j * ROW_WIDTH;
+    let own = space_of(wide32(rows[at]));
+    if own != space {
+        return false;
+    }
+    let first = wide32(rows[at + column]);
+    let past = wide32(rows[at + column + 1]);
+    names::is_asked(s, asked, first, past)
+}
+
+// The last of the first n rows that is of the name space and has the name asked for, whose hash is `hashed`.
+pub fn find(
+    s: &[u8],
+    rows: &[u32],
+    head: &[u16],
+    next: &[u16],
+    n: usize,
+    column: usize,
+    space: u8,
+    hashed: usize,
+    asked: Asked,
+) -> Found
+    requires { ⌜ Bounded (now s) (now rows) column n ⌝ }
+    requires { ⌜ Indexed (now s) (now rows) column (now head) (now next) n ⌝ }
+    requires { ⌜ Within (now s) asked ⌝ }
+    requires { ⌜ hashed ≡ hash (bytesOf (now s) asked) ⌝ }
+    ensures { λ r. ⌜ Finds (now (s .entry)) (now (rows .entry)) column n space (bytesOf (now (s .entry)) asked) r ⌝ }
+{
+    let mut link = wide16(head[names::bucket_of(head.len(), hashed)]);
+    while 0 < link {
+        let j = link - 1;
+        if has(s, rows, column, j, space, asked) {
+            return Found::At(j);
+        }
+        link = wide16(next[j]);
+    }
+    Found::Nothing
+}
+
+// Adds row n, if it has a value there. `hashed` is that value's hash, by which the caller has looked it up before.
+pub fn insert(
+    s: &[u8],
+    rows: &[u32],
+    head: &mut [u16],
+    next: &mut [u16],
+    n: usize,
+    column: usize,
+    hashed: usize,
+)
+    requires { ⌜ Bounded (now s) (now rows) column (n + 1) ⌝ }
+    requires { ⌜ Indexed (now s) (now rows) column (now head) (now next) n ⌝ }
+    requires { ⌜ n < length (now next) ⌝ }
+    requires { ⌜ n + 1 < 65536 ⌝ }
+    requires { ⌜ hashed ≡ hash (valueAt (now s) (now rows) column n) ⌝ }
+    ensures { λ _. ⌜ Indexed (now (s .entry)) (now (rows .entry)) column (now (head .exit)) (now (next .exit)) (n + 1) ⌝ }
+    ensures { λ _. ⌜ length (now (head .exit)) ≡ length (now (head .entry)) ⌝ }
+    ensures { λ _. ⌜ length (now (next .exit)) ≡ length (now (next .entry)) ⌝ }
+{
+    let at = n * ROW_WIDTH + column;
+    if rows[at] < rows[at + 1] {
+        let b = names::bucket_of(head.len(), hashed);
+        next[n] = head[b];
+        head[b] = (n + 1) as u16;
+    }
+}
