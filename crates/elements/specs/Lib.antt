@@ -1,0 +1,4 @@
+pub mod Shape
+pub mod Element
+pub mod Judge
+pub mod Rows
