@@ -6,7 +6,7 @@ use mathlib.Core.List.{List}
 use Prim.Native.Nat.{ℕ, _+_, _-_, _<_, _≤_}
 use native.Mathlib.Omega.{arith}
 use lib.Dec.{leb, ltb, eqb}
-use lib.ListN.{length, take, drop}
+use lib.ListN.{take, drop}
 use borrow.Author.Tests.{le-leb, lt-ltb, eqb-false, ne-eqb}
 use Rattle.octets.specs.declared.Header.{Header}
 use Rattle.octets.specs.declared.Head.{Head}
@@ -15,7 +15,7 @@ use Rattle.octets.specs.First.{number, constructed, formAllowed}
 use Rattle.octets.specs.Lengths.{misfits, bigEndian}
 use Rattle.octets.specs.Head.{octetAt, definiteAt, indefiniteAt, longAt, byFirst, lengthAt, closingAt, itemAt, headAt}
 use Rattle.octets.specs.Items.{Items, none, item}
-use Rattle.octets.specs.Walk.{End, ends, stops, Walked, run}
+use Rattle.octets.specs.Walk.{End, ends, Walked, run}
 use Rattle.octets.specs.Rules.{Runs, at-limit, unclosed, closes, refuses, primitive, passes, breaks}
 use Rattle.octets.proofs.Walks.{cond-holds}
 use Rattle.octets.proofs.Turns.{header-ok}
@@ -23,7 +23,7 @@ use Rattle.octets.proofs.RulesHold.{derived, derives}
 use Rattle.tree.specs.Tree.{plain}
 use Rattle.runs.specs.Whole.{Whole}
 use Rattle.runs.specs.declared.Run.{Run}
-use Rattle.runs.specs.Runs.{walkIn, itemsOf, treeIn, definiteRun, allPrimitive, Fine, Spans, Meeting}
+use Rattle.runs.specs.Runs.{walkIn, itemsOf, treeIn, definiteRun, allPrimitive, Fine, Meeting}
 use Rattle.runs.proofs.Heads.{mark-marked}
 
 -- another reading yields the same header, if that is definite and its value ends within the other limit
