@@ -1,9 +1,8 @@
 -- A portion number has no space, so it is all after the last space of a joined name, and such a name tells both its parts. Assumes nothing.
 use mathlib.Core.Path.{_≡_, refl, sym, ap, _∙_}
-use mathlib.Core.Bool.{true, false, _&&_, false≢true, and-eq-true-iff}
+use mathlib.Core.Bool.{true, _&&_, false≢true, and-eq-true-iff}
 use mathlib.Core.List.{List, [], _∷_, _++_}
 use Prim.Native.Nat.{ℕ}
-use borrow.Table.Steps.{cases}
 use lib.Dec.{leb}
 use lib.ListN.{length}
 use Rattle.names.specs.Names.{spaceByte, longestPortion, digit, digits, isPortion}
