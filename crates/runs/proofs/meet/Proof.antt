@@ -1,0 +1,144 @@
+-- `runs::meet` meets its contract: where a header passed, the walk has an item, which ends at its bound or past its closing mark; and
+-- where none did, the run has no item. Assumes nothing.
+use mathlib.Core.Path.{_≡_, ap, sym, _∙_}
+use mathlib.Core.Bool.{Bool, true, false}
+use mathlib.Core.List.{List}
+use Prim.Native.Nat.{ℕ, _+_, _-_, _<_, _≤_}
+use native.Mathlib.Omega.{arith}
+use borrow.Author.Needs.{needs}
+use Rattle.octets.specs.declared.Header.{Header}
+use Rattle.octets.specs.declared.Head.the-variants.{Item}
+use Rattle.octets.specs.Head.{octetAt, headAt}
+use Rattle.octets.specs.Walk.{pastOf}
+use Rattle.octets.proofs.Turns.{tree-ends, tree-closes, tree-refuses}
+use Rattle.octets.proofs.head_at.Reads as head-at-reads
+use Rattle.runs.specs.declared.Run.{Run}
+use Rattle.runs.specs.Runs.{Fine}
+use Rattle.runs.proofs.Meetings.{lies, definite-ends, marked-value, marked-whole, marked-end, meets}
+use Rattle.runs.proofs.end_of_marked.Reads as end-of-marked-reads
+use Rattle.runs.proofs.inside_of.Reads as inside-of-reads
+use Rattle.runs.proofs.meet.Statement.{statement}
+use Rattle.runs.proofs.meet.Tie as tie
+use Rattle.runs.proofs.meet.Reads as reads
+use Rattle.runs.proofs.meet.Lts as lts
+
+-- the place where a header passed
+abbrev Passed : Type 0
+Passed =
+    lts.After-h
+    (head-at-reads.Asked, head-at-reads.Learnt, inside-of-reads.Asked, inside-of-reads.Learnt, end-of-marked-reads.Asked, end-of-marked-reads.Learnt)
+    reads.Pre
+    reads.Post
+
+module _ (c : Passed) where
+  abbrev stream : List ℕ
+  stream = c .before .before .before .before .before .args .s .now
+
+  abbrev its-run : Run
+  its-run = c .before .before .before .before .before .args .r
+
+  abbrev header : Header
+  header = c .h .given .0 .0
+
+  its-fine : Fine stream its-run
+  its-fine = c .before .before .before .before .before .pre
+
+  before-limit : its-run .at < its-run .limit
+  before-limit = omega (arith, its-fine .order)
+
+  read : headAt stream (its-run .at) (its-run .limit) (its-run .marked) (its-run .room) ≡ Item header
+  read = sym (c .before .before .head-at .ensures) ∙ c .h .given .1
+
+  octet-small : octetAt stream (its-run .at) < 256
+  octet-small = omega (arith, c .before .before .before .before .shared-slice-known .given (its-run .at))
+
+returns : tie.Need-returns
+returns c =
+    let a = c .before .before .args in
+    let r = a .r in
+    let e : r .at ≡ r .limit = c .if1 .taken in
+    rw e (tree-ends (r .room) (a .s .now) (r .limit) (r .marked))
+
+head-at-requires : tie.Need-head-at-requires
+head-at-requires c κs = search needs
+
+enum-told : tie.Need-enum-told
+enum-told c = search needs
+
+enum-told-2 : tie.Need-enum-told-2
+enum-told-2 c = search needs
+
+enum-known-h : tie.Need-enum-known-h
+enum-known-h c = search needs
+
+inside-of-requires : tie.Need-inside-of-requires
+inside-of-requires c κs =
+    let p = c .before in
+    lies (stream p) (its-run p) (its-fine p) (before-limit p) (header p) (read p) .deep
+
+sub-end-of-marked : tie.Need-sub-end-of-marked
+sub-end-of-marked c =
+    let p = c .before .before .before in
+    let o = lies (stream p) (its-run p) (its-fine p) (before-limit p) (header p) (read p) in
+    omega (arith, o .deep)
+
+end-of-marked-requires : tie.Need-end-of-marked-requires
+end-of-marked-requires c κs =
+    let p = c .before .before .before in
+    let o = lies (stream p) (its-run p) (its-fine p) (before-limit p) (header p) (read p) in
+    (o .order, omega (arith, o .within, its-fine p .inside), marked-whole (stream p) (its-run p) (its-fine p) (before-limit p) (header p) (read p) (c .if2 .taken))
+
+sub-t16 : tie.Need-sub-t16
+sub-t16 c =
+    let p = c .before .before .before .before in
+    let m = c .before .if2 .taken in
+    let v = marked-value (stream p) (its-run p) (its-fine p) (before-limit p) (header p) (read p) m ∙ c .end-of-marked .ensures in
+    marked-end (stream p) (its-run p) (its-fine p) (before-limit p) (header p) (read p) (c .end-of-marked .result) v m
+
+returns-2 : tie.Need-returns-2
+returns-2 c =
+    let p = c .before .before .before .before in
+    let m : header p .marked ≡ true = c .before .if2 .taken in
+    let v = marked-value (stream p) (its-run p) (its-fine p) (before-limit p) (header p) (read p) m ∙ c .end-of-marked .ensures in
+    meets (stream p) (its-run p) (its-fine p) (before-limit p) (header p) (read p) (c .end-of-marked .result) v (octet-small p)
+    (c .end-of-marked .result - 2) (sym (ap (λ (b : Bool). pastOf b (c .end-of-marked .result)) m)) (c .before .before .inside-of .result) (c .before .before .inside-of .ensures)
+
+returns-3 : tie.Need-returns-3
+returns-3 c =
+    let a = c .before .before .before .before .before .args in
+    let r = a .r in
+    let o = c .before .before .before .before .before .pre .order in
+    tree-closes (r .room) (a .s .now) (r .at) (r .limit) (r .marked) (omega arith) (sym (c .before .before .head-at .ensures) ∙ c .enum-told .given .1)
+
+returns-4 : tie.Need-returns-4
+returns-4 c =
+    let a = c .before .before .before .before .before .args in
+    let r = a .r in
+    let o = c .before .before .before .before .before .pre .order in
+    tree-refuses (r .room) (a .s .now) (r .at) (r .limit) (r .marked) (omega arith) _ _ (sym (c .before .before .head-at .ensures) ∙ c .enum-told2 .given .1)
+
+returns-5 : tie.Need-returns-5
+returns-5 c =
+    let p = c .before .before .before in
+    let m : header p .marked ≡ false = c .if2 .left in
+    let v = definite-ends (stream p) (its-run p) (its-fine p) (before-limit p) (header p) (read p) m in
+    meets (stream p) (its-run p) (its-fine p) (before-limit p) (header p) (read p) (header p .bound) v (octet-small p)
+    (header p .bound) (sym (ap (λ (b : Bool). pastOf b (header p .bound)) m)) (c .before .inside-of .result) (c .before .inside-of .ensures)
+
+pub meet-spec : {M : Type 1} → statement M
+meet-spec =
+    tie.close
+    (tie.spec
+    returns
+    head-at-requires
+    enum-told
+    enum-told-2
+    enum-known-h
+    inside-of-requires
+    sub-end-of-marked
+    end-of-marked-requires
+    sub-t16
+    returns-2
+    returns-3
+    returns-4
+    returns-5)

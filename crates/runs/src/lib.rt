@@ -1,0 +1,137 @@
+// A run of items as a value: what is met at its start. Every pass after the walk goes through `meet`.
+use octets::Head;
+use octets::Header;
+use octets::Outcome;
+ghost use mathlib.Core.Path.{_≡_};
+ghost use mathlib.Core.Bool.{true};
+ghost use Prim.Native.Nat.{_<_, _≤_};
+ghost use lib.ListN.{length};
+ghost use Rattle.octets.specs.Walk.{ends, run};
+ghost use Rattle.runs.specs.Whole.{Whole};
+ghost use Rattle.runs.specs.Runs.{insideOf, wholeStream, Fine, Meets};
+
+const DEEPEST: usize = 16;
+
+// A run of items from `at` to `limit`, or, if it is marked, to a closing mark before it; with `room` levels left.
+pub struct Run {
+    pub at: usize,
+    pub limit: usize,
+    pub marked: bool,
+    pub room: usize,
+}
+
+// What is met at the start of a run: an item with its value from `first` to `past`, the run inside it and the rest of the run; or
+// the run's end.
+pub enum Met {
+    Item {
+        octet: usize,
+        first: usize,
+        past: usize,
+        inner: Run,
+        rest: Run,
+    },
+    End,
+}
+
+// The run inside an item: a primitive has an empty one, at its end.
+fn inside_of(h: Header, room: usize) -> Run
+    requires { ⌜ 0 < room ⌝ }
+    ensures { λ r. ⌜ r ≡ insideOf h room ⌝ }
+{
+    let octet = h.octet;
+    if octet / 32 % 2 == 1 {
+        Run {
+            at: h.start,
+            limit: h.bound,
+            marked: h.marked,
+            room: room - 1,
+        }
+    } else {
+        Run {
+            at: h.bound,
+            limit: h.bound,
+            marked: false,
+            room: room - 1,
+        }
+    }
+}
+
+// Where an indefinite value that is known to be whole ends, past its closing mark.
+fn end_of_marked(s: &[u8], from: usize, limit: usize, room: usize) -> usize
+    requires { ⌜ (from ≤ limit) × (limit ≤ length (now s)) × Whole (run room (now s) from limit true .how) ⌝ }
+    ensures { λ r. ⌜ run room (now (s .entry)) from limit true .how ≡ ends r ⌝ }
+{
+    match octets::walk_run(s, from, limit, true, room) {
+        Outcome::Ended { at, count: _ } => at,
+        Outcome::Refused {
+            number: _,
+            place: _,
+            count: _,
+        } => limit,
+    }
+}
+
+// What stands at the start of a run that is known to be whole. A definite item is passed in one step; an indefinite one is walked.
+pub fn meet(s: &[u8], r: Run) -> Met
+    requires { ⌜ Fine (now s) r ⌝ }
+    ensures { λ m. ⌜ Meets (now (s .entry)) r m ⌝ }
+{
+    let at = r.at;
+    let limit = r.limit;
+    let marked = r.marked;
+    let room = r.room;
+    if at == limit {
+        return Met::End;
+    }
+    match octets::head_at(s, at, limit, marked, room) {
+        Head::ClosingMark => Met::End,
+        Head::Refusal {
+            number: _,
+            place: _,
+        } => Met::End,
+        Head::Item(h) => {
+            let first = h.start;
+            let bound = h.bound;
+            let inner = inside_of(h, room);
+            if h.marked {
+                let next = end_of_marked(s, first, bound, room - 1);
+                return Met::Item {
+                    octet: h.octet,
+                    first,
+                    past: next - 2,
+                    inner,
+                    rest: Run {
+                        at: next,
+                        limit,
+                        marked,
+                        room,
+                    },
+                };
+            }
+            Met::Item {
+                octet: h.octet,
+                first,
+                past: bound,
+                inner,
+                rest: Run {
+                    at: bound,
+                    limit,
+                    marked,
+                    room,
+                },
+            }
+        }
+    }
+}
+
+// The run of a whole stream.
+pub fn whole_stream(s: &[u8]) -> Run
+    ensures { λ r. ⌜ r ≡ wholeStream (now (s .entry)) ⌝ }
+{
+    Run {
+        at: 0,
+        limit: s.len(),
+        marked: false,
+        room: DEEPEST,
+    }
+}
