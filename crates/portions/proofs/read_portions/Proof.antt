@@ -1,3 +1,11 @@
+-- `portions::read_portions` meets its contract. The loop's invariant: so many were read, and the rest of the run is left. Assumes nothing.
+use mathlib.Core.Path.{_≡_, refl, subst, _∙_}
+use Prim.Native.Nat.{_-_, _≤_}
+use native.Mathlib.Omega.{arith}
+use borrow.Author.Needs.{needs}
+use lib.ListN.{length}
+use Rattle.runs.specs.Runs.{Meeting, Meets}
+use Rattle.portions.proofs.Reading.{Reads, starts, all-read, other-read, one-read}
 use Rattle.portions.proofs.read_portions.Statement.{statement}
 use Rattle.portions.proofs.read_portions.Tie as tie
 use Rattle.portions.proofs.read_portions.Reads as reads
@@ -7,62 +15,80 @@ use Rattle.portions.proofs.keep_bounds.Reads as keep-bounds-reads
 use Rattle.runs.proofs.meet.Reads as meet-reads
 
 abbrev Inv-loop : tie.InvT-loop
-Inv-loop s bounds₀ left₀ count₀ misspelt₀ bounds left count misspelt = ?
+Inv-loop s bounds₀ left₀ count₀ misspelt₀ bounds left count misspelt =
+    (length bounds ≡ length bounds₀) × Reads s left₀ left count misspelt bounds
 
 abbrev μ-loop : tie.MeasureT-loop
-μ-loop s bounds₀ left₀ count₀ misspelt₀ bounds left count misspelt = ?
+μ-loop s bounds₀ left₀ count₀ misspelt₀ bounds left count misspelt = left .limit - left .at
 
--- src/lib.rt:66:5
+-- the item that was met
+met : (c : tie.After-octet Inv-loop μ-loop) →
+    let v = c .octet .given .0 in
+    Meeting (c .before .before .before .before .before .before .args .s .now) (c .before .before .before .loop .left) (v .0) (v .1 .0) (v .1 .1 .0) (v .1 .1 .1 .0) (v .1 .1 .1 .1 .0)
+met c = subst (Meets (c .before .before .before .before .before .before .args .s .now) (c .before .before .before .loop .left)) (c .octet .given .1) (c .before .before .meet .ensures)
+
 loop-holds : tie.Need-loop-holds Inv-loop μ-loop
-loop-holds c = ?
+loop-holds c = let a = c .before .before .args in (refl, starts (a .s .now) (a .r) (a .bounds .now) (c .before .before .pre .0))
 
--- src/lib.rt:67:15
 meet-requires : tie.Need-meet-requires Inv-loop μ-loop
-meet-requires c κs = ?
+meet-requires c κs = c .loop .inv .1 .fine
 
--- src/lib.rt:68:25
 enum-told : tie.Need-enum-told Inv-loop μ-loop
-enum-told c = ?
+enum-told c = search needs
 
--- src/lib.rt:68:25
 same-length : tie.Need-same-length Inv-loop μ-loop
-same-length c = ?
+same-length c = c .before .before .before .loop .inv .0
 
--- src/lib.rt:68:25
 returns : tie.Need-returns Inv-loop μ-loop
-returns c = ?
+returns c =
+    let a = c .before .before .before .before .before .before .args in
+    let l = c .before .before .before .loop in
+    all-read (a .s .now) (a .r) (l .left) (l .count) (l .misspelt) (l .bounds) (l .inv .1)
+    (subst (Meets (a .s .now) (l .left)) (c .enum-told .given .1) (c .before .before .meet .ensures))
 
--- src/lib.rt:74:17
 enum-known-octet : tie.Need-enum-known-octet Inv-loop μ-loop
-enum-known-octet c = ?
+enum-known-octet c = search needs
 
--- src/lib.rt:81:21
 same-length-2 : tie.Need-same-length-2 Inv-loop μ-loop
-same-length-2 c = ?
+same-length-2 c = c .before .before .before .before .before .loop .inv .0
 
--- src/lib.rt:81:21
 returns-2 : tie.Need-returns-2 Inv-loop μ-loop
-returns-2 c = ?
+returns-2 c =
+    let a = c .before .before .before .before .before .before .before .before .args in
+    let l = c .before .before .before .before .before .loop in
+    other-read (a .s .now) (a .r) (l .left) (l .count) (l .misspelt) (l .bounds) (l .inv .1) _ _ _ _ _ (met (c .before .before)) (c .if1 .taken)
 
--- src/lib.rt:87:17
 is-misspelt-requires : tie.Need-is-misspelt-requires Inv-loop μ-loop
-is-misspelt-requires c κs = ?
+is-misspelt-requires c κs = let m = met (c .before .before) in (m .value-order, m .value-inside)
 
--- src/lib.rt:88:17
 keep-bounds-requires : tie.Need-keep-bounds-requires Inv-loop μ-loop
-keep-bounds-requires c κs = ?
+keep-bounds-requires c κs =
+    let m = met (c .before .before .before .before) in
+    let p = c .before .before .before .before .before .before .before .before .before .before .pre in
+    let l = c .before .before .before .before .before .before .before .loop in
+    (omega (arith, l .inv .0, p .2), omega (arith, m .value-order, m .value-inside, p .1), omega (arith, m .value-inside, p .1))
 
--- src/lib.rt:89:17
 add-count : tie.Need-add-count Inv-loop μ-loop
-add-count c = ?
+add-count c =
+    let m = met (c .before .before .before .before .before .before .before) in
+    let f = c .before .before .before .before .before .before .before .before .before .before .before .before .before .pre .0 in
+    let l = c .before .before .before .before .before .before .before .before .before .before .loop in
+    omega (arith, m .less, l .inv .1 .short, f .inside, c .before .before .before .before .before .before .before .before .before .before .before .before .before .pre .1)
 
--- src/lib.rt:66:5
 loop-less : tie.Need-loop-less Inv-loop μ-loop
-loop-less c = ?
+loop-less c = met (c .before .before .before .before .before .before .before) .less
 
--- src/lib.rt:66:5
 loop-again : tie.Need-loop-again Inv-loop μ-loop
-loop-again c = ?
+loop-again c =
+    let a = c .before .before .before .before .before .before .before .before .before .before .before .before .before .args in
+    let l = c .before .before .before .before .before .before .before .before .before .before .loop in
+    let k = c .before .before .keep-bounds in
+    let enough : 128 ≤ length (l .bounds) = omega (arith, l .inv .0, c .before .before .before .before .before .before .before .before .before .before .before .before .before .pre .2) in (
+      k .kept .0 ∙ l .inv .0,
+      rw (c .before .before .before .before .is-misspelt .ensures)
+          (one-read (a .s .now) (a .r) (l .left) (l .count) (l .misspelt) (l .bounds) (l .inv .1) _ _ _ _ _ (met (c .before .before .before .before .before .before .before))
+          (c .before .before .before .before .before .if1 .left) (k .last .0) enough (k .ensures)),
+    )
 
 pub read-portions-spec : {M : Type 1} → statement M
 read-portions-spec =
