@@ -12,6 +12,7 @@ use Rattle.octets.specs.Items.{Items, none, item}
 use Rattle.tree.specs.Tree.{Tree, formed, plain}
 use Rattle.runs.specs.declared.Run.{Run}
 use Rattle.runs.specs.Runs.{itemsOf, treeIn, allPrimitive, Meeting}
+use Rattle.runs.proofs.Laws.{tree-meets, tree-none}
 use Rattle.portions.specs.Portions.{allPortions, values}
 
 -- an item with an octet, its value, the run inside it and what follows
@@ -33,23 +34,20 @@ module _ (octet : ℕ) (value : List ℕ) (inside after : Tree) where
   portion-formed t =
       cases (eqb octet 0x12) (λ e. eqb-true octet 0x12 e) (λ e. absurd (false≢true (sym (others-formed (eqb-false octet 0x12 e)) ∙ t)))
 
-module _ (s : List ℕ) (r : Run) (octet first past : ℕ) (inner rest : Run) (m : Meeting s r octet first past inner rest) where
-  met : treeIn s r ≡ formed (constructed octet) (octet ∷ []) (slice first past s) (treeIn s inner) (treeIn s rest)
-  met = ap (plain s) (m .tree)
-
+module _ {s : List ℕ} {r : Run} {octet first past : ℕ} {inner rest : Run} (met : Meeting s r octet first past inner rest) where
   pub portions-met : octet ≡ 0x12 → allPortions (treeIn s r) ≡ allPortions (treeIn s rest)
-  portions-met e = ap allPortions met ∙ portions-formed octet (slice first past s) (treeIn s inner) (treeIn s rest) e
+  portions-met e = ap allPortions (tree-meets met) ∙ portions-formed octet (slice first past s) (treeIn s inner) (treeIn s rest) e
 
   pub others-met : (octet ≡ 0x12 → ⊥) → allPortions (treeIn s r) ≡ false
-  others-met n = ap allPortions met ∙ others-formed octet (slice first past s) (treeIn s inner) (treeIn s rest) n
+  others-met n = ap allPortions (tree-meets met) ∙ others-formed octet (slice first past s) (treeIn s inner) (treeIn s rest) n
 
   pub values-met : octet ≡ 0x12 → values (treeIn s r) ≡ slice first past s ∷ values (treeIn s rest)
-  values-met e = ap values met ∙ values-formed octet (slice first past s) (treeIn s inner) (treeIn s rest) e
+  values-met e = ap values (tree-meets met) ∙ values-formed octet (slice first past s) (treeIn s inner) (treeIn s rest) e
 
   -- of a run of portions, the next one is met, and portions are left
   module _ (all : allPortions (treeIn s r) ≡ true) where
     pub portion-next : octet ≡ 0x12
-    portion-next = portion-formed octet (slice first past s) (treeIn s inner) (treeIn s rest) (sym (ap allPortions met) ∙ all)
+    portion-next = portion-formed octet (slice first past s) (treeIn s inner) (treeIn s rest) (sym (ap allPortions (tree-meets met)) ∙ all)
 
     pub values-next : values (treeIn s r) ≡ slice first past s ∷ values (treeIn s rest)
     values-next = values-met portion-next
@@ -57,19 +55,20 @@ module _ (s : List ℕ) (r : Run) (octet first past : ℕ) (inner rest : Run) (m
     pub portions-left : allPortions (treeIn s rest) ≡ true
     portions-left = sym (portions-met portion-next) ∙ all
 
--- portions are primitive
+-- where no item is met there is no portion, and no other item
+module _ (s : List ℕ) (r : Run) (end : itemsOf s r ≡ none) where
+  pub portions-end : allPortions (treeIn s r) ≡ true
+  unfolding allPortions
+  portions-end = ap allPortions (tree-none s r end)
+
+  pub values-end : values (treeIn s r) ≡ []
+  unfolding values
+  values-end = ap values (tree-none s r end)
+
+-- portions are primitive: a value of portions can be read again by its bounds
 pub portions-primitive : (s : List ℕ) (items : Items) → allPortions (plain s items) ≡ true → allPrimitive items ≡ true
 portions-primitive s none all = refl
 portions-primitive s (item at octet first past inside after) all =
     let e : octet ≡ 0x12 = portion-formed octet (slice first past s) (plain s inside) (plain s after) all in
     let left : allPortions (plain s after) ≡ true = sym (portions-formed octet (slice first past s) (plain s inside) (plain s after) e) ∙ all in
     rw e (portions-primitive s after left)
-
--- of a run with no item
-pub portions-end : (s : List ℕ) (r : Run) → itemsOf s r ≡ none → allPortions (treeIn s r) ≡ true
-unfolding allPortions
-portions-end s r e = rw e
-
-pub values-end : (s : List ℕ) (r : Run) → itemsOf s r ≡ none → values (treeIn s r) ≡ []
-unfolding values
-values-end s r e = rw e

@@ -38,23 +38,23 @@ either-spells true this after = refl
 either-spells false true after = refl
 either-spells false false after = refl
 
-module _ (s : List ℕ) (r left : Run) (count : ℕ) (misspelt : Bool) (numbers : List ℕ) (so-far : Reads s r left count misspelt numbers) where
+module _ {s : List ℕ} {r left : Run} {count : ℕ} {misspelt : Bool} {numbers : List ℕ} (so-far : Reads s r left count misspelt numbers) where
   pub all-read : itemsOf s left ≡ none → Lists s r (record { count = count; others = false; misspelt = misspelt }) numbers
-  all-read e =
-      let no : values (treeIn s left) ≡ [] = values-end s left e in
+  all-read end =
+      let no : values (treeIn s left) ≡ [] = values-end s left end in
       record {
-        others = sym (ap not (so-far .portions ∙ portions-end s left e));
+        others = sym (ap not (so-far .portions ∙ portions-end s left end));
         count = λ _. omega (arith, so-far .counts, ap length no);
         misspelt = λ _. sym (so-far .spells ∙ rw no (or-false misspelt));
         inside = λ _. so-far .inside;
         stored = λ _ few. sym (so-far .stored few ∙ rw no (append-nil (bounded s (take (2 * count) numbers))));
       }
 
-  module _ (octet first past : ℕ) (inner rest : Run) (m : Meeting s left octet first past inner rest) where
+  module _ {octet first past : ℕ} {inner rest : Run} (met : Meeting s left octet first past inner rest) where
     pub other-read : (octet ≡ 0x12 → ⊥) → Lists s r (record { count = count; others = true; misspelt = misspelt }) numbers
     other-read n =
         record {
-          others = sym (ap not (so-far .portions ∙ others-met s left octet first past inner rest m n));
+          others = sym (ap not (so-far .portions ∙ others-met met n));
           count = λ t. absurd (true≢false t);
           misspelt = λ t. absurd (true≢false t);
           inside = λ t. absurd (true≢false t);
@@ -64,7 +64,7 @@ module _ (s : List ℕ) (r left : Run) (count : ℕ) (misspelt : Bool) (numbers 
     module _ (e : octet ≡ 0x12) (numbers' : List ℕ) (enough : 2 * mostPortions ≤ length numbers)
         (kept : count < mostPortions → take (2 * (count + 1)) numbers' ≡ take (2 * count) numbers ++ first ∷ past ∷ []) where
       value : values (treeIn s left) ≡ slice first past s ∷ values (treeIn s rest)
-      value = values-met s left octet first past inner rest m e
+      value = values-met met e
 
       module _ (few : count + 1 ≤ mostPortions) where
         before : length (take (2 * count) numbers) ≡ 2 * count
@@ -73,7 +73,7 @@ module _ (s : List ℕ) (r left : Run) (count : ℕ) (misspelt : Bool) (numbers 
         inside-one : Inside s (take (2 * (count + 1)) numbers')
         inside-one =
             rw (kept (omega arith))
-            (inside-append s first past (take (2 * count) numbers) count before (so-far .inside (omega arith)) (m .value-order) (m .value-inside))
+            (inside-append s first past (take (2 * count) numbers) count before (so-far .inside (omega arith)) (met .value-order) (met .value-inside))
 
         stored-one : values (treeIn s r) ≡ bounded s (take (2 * (count + 1)) numbers') ++ values (treeIn s rest)
         stored-one =
@@ -84,9 +84,9 @@ module _ (s : List ℕ) (r left : Run) (count : ℕ) (misspelt : Bool) (numbers 
       pub one-read : Reads s r rest (count + 1) (misspelt || not (isPortion (slice first past s))) numbers'
       one-read =
           record {
-            fine = m .rest-fine;
-            short = omega (arith, m .less, so-far .short);
-            portions = so-far .portions ∙ portions-met s left octet first past inner rest m e;
+            fine = met .rest-fine;
+            short = omega (arith, met .less, so-far .short);
+            portions = so-far .portions ∙ portions-met met e;
             counts = omega (arith, so-far .counts, ap length value);
             spells = so-far .spells ∙ rw value (either-spells misspelt (isPortion (slice first past s)) (all (map isPortion (values (treeIn s rest)))));
             inside = inside-one;

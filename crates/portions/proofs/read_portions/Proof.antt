@@ -43,7 +43,7 @@ returns : tie.Need-returns Inv-loop μ-loop
 returns c =
     let a = c .before .before .before .before .before .before .args in
     let l = c .before .before .before .loop in
-    all-read (a .s .now) (a .r) (l .left) (l .count) (l .misspelt) (l .bounds) (l .inv .1)
+    all-read (l .inv .1)
     (subst (Meets (a .s .now) (l .left)) (c .enum-told .given .1) (c .before .before .meet .ensures))
 
 enum-known-octet : tie.Need-enum-known-octet Inv-loop μ-loop
@@ -56,7 +56,7 @@ returns-2 : tie.Need-returns-2 Inv-loop μ-loop
 returns-2 c =
     let a = c .before .before .before .before .before .before .before .before .args in
     let l = c .before .before .before .before .before .loop in
-    other-read (a .s .now) (a .r) (l .left) (l .count) (l .misspelt) (l .bounds) (l .inv .1) _ _ _ _ _ (met (c .before .before)) (c .if1 .taken)
+    other-read (l .inv .1) (met (c .before .before)) (c .if1 .taken)
 
 is-misspelt-requires : tie.Need-is-misspelt-requires Inv-loop μ-loop
 is-misspelt-requires c κs = let m = met (c .before .before) in (m .value-order, m .value-inside)
@@ -86,7 +86,7 @@ loop-again c =
     let enough : 128 ≤ length (l .bounds) = omega (arith, l .inv .0, c .before .before .before .before .before .before .before .before .before .before .before .before .before .pre .2) in (
       k .kept .0 ∙ l .inv .0,
       rw (c .before .before .before .before .is-misspelt .ensures)
-          (one-read (a .s .now) (a .r) (l .left) (l .count) (l .misspelt) (l .bounds) (l .inv .1) _ _ _ _ _ (met (c .before .before .before .before .before .before .before))
+          (one-read (l .inv .1) (met (c .before .before .before .before .before .before .before))
           (c .before .before .before .before .before .if1 .left) (k .last .0) enough (k .ensures)),
     )
 
