@@ -89,6 +89,23 @@ fn no_part() -> Part
     }
 }
 
+// An item that was met. The run inside it is copied field by field: a struct that is copied whole has its padding carried along.
+fn part_of(octet: usize, first: usize, past: usize, inner: Run) -> Part
+    ensures { λ p. ⌜ p ≡ record { octet = octet; first = first; past = past; inner = inner } ⌝ }
+{
+    Part {
+        octet,
+        first,
+        past,
+        inner: Run {
+            at: inner.at,
+            limit: inner.limit,
+            marked: inner.marked,
+            room: inner.room,
+        },
+    }
+}
+
 // 2 if a run that follows two items ends here, 3 if it goes on.
 fn count_after_two(s: &[u8], last: Run) -> usize
     requires { ⌜ Fine (now s) last ⌝ }
@@ -129,12 +146,7 @@ fn opening_after(s: &[u8], one: Part, rest: Run) -> Opening
             Opening {
                 count: count_after_two(s, last),
                 one,
-                two: Part {
-                    octet,
-                    first,
-                    past,
-                    inner,
-                },
+                two: part_of(octet, first, past, inner),
             }
         }
     }
@@ -159,16 +171,7 @@ pub fn opening_of(s: &[u8], r: Run) -> Opening
             past,
             inner,
             rest,
-        } => opening_after(
-            s,
-            Part {
-                octet,
-                first,
-                past,
-                inner,
-            },
-            rest,
-        ),
+        } => opening_after(s, part_of(octet, first, past, inner), rest),
     }
 }
 
@@ -312,9 +315,10 @@ pub fn gather(s: &[u8], r: Run, sought: Sought) -> Gathered
     ensures { λ g. ⌜ Gathers (now (s .entry)) r sought g ⌝ }
 {
     let mut cur = r;
-    let mut identifier = unseen_yet();
-    let mut logical = unseen_yet();
-    let mut portions = unseen_yet();
+    let none = unseen_yet();
+    let mut identifier = none;
+    let mut logical = none;
+    let mut portions = none;
     let mut barred: usize = 0;
     loop {
         match runs::meet(s, cur) {
@@ -326,17 +330,12 @@ pub fn gather(s: &[u8], r: Run, sought: Sought) -> Gathered
                 inner,
                 rest,
             } => {
-                let p = Part {
-                    octet,
-                    first,
-                    past,
-                    inner,
-                };
+                let p = part_of(octet, first, past, inner);
                 identifier = seen_with(identifier, sought.identifier, p);
                 logical = seen_with(logical, sought.logical, p);
                 portions = seen_with(portions, sought.portions, p);
-                barred = counted_with(barred, sought.never, octet);
-                barred = counted_with(barred, sought.neither, octet);
+                barred = counted_with(barred, sought.never, p.octet);
+                barred = counted_with(barred, sought.neither, p.octet);
                 cur = rest;
             }
         }

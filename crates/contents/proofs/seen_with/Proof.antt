@@ -1,11 +1,7 @@
--- `contents::seen_with` meets its contract. Assumes nothing.
-use mathlib.Core.Path.{_≡_, refl, sym, ap, _∙_}
-use mathlib.Core.Bool.{Bool, true, false, not, _&&_, _||_}
-use Prim.Native.Nat.{ℕ, _+_, _-_, _<_, _≤_}
+-- `contents::seen_with` meets its contract: its two tests are those of `seenWith`. Assumes nothing.
 use native.Mathlib.Omega.{arith}
-use borrow.Author.Tests.{eq-eqb, ne-eqb, not-true, not-false}
+use borrow.Author.Tests.{eq-eqb, ne-eqb}
 use Rattle.contents.specs.Gather.{seenWith}
-use borrow.Author.Needs.{needs}
 use Rattle.contents.proofs.seen_with.Statement.{statement}
 use Rattle.contents.proofs.seen_with.Tie as tie
 
@@ -18,7 +14,7 @@ unfolding seenWith
 returns-2 c = rw (eq-eqb _ _ (c .before .before .if1 .left), c .if2 .taken)
 
 add-t6 : tie.Need-add-t6
-add-t6 c = search needs
+add-t6 c = omega arith
 
 returns-3 : tie.Need-returns-3
 unfolding seenWith
