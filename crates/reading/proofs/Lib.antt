@@ -1,0 +1,2 @@
+-- Made: the list while it is filled.
+pub mod Made
