@@ -5,9 +5,9 @@ use mathlib.Core.Logic.{_⊎_, inl, inr}
 use mathlib.Core.Bool.{Bool, true, false, false≢true}
 use mathlib.Core.Option.{some}
 use mathlib.Core.List.{List, [], _∷_, _++_, List·Memᴰ, List·Memᴰ·head, List·Memᴰ·not-nil, List·Memᴰ·append-cases, List·Memᴰ·eq-of-singleton, Memᴰ·append-left, Memᴰ·append-right}
-use Prim.Native.Nat.{ℕ, zero, suc, _+_, _<_}
+use Prim.Native.Nat.{ℕ, zero, suc, _+_, _<_, _≤_}
 use native.Mathlib.Omega.{arith}
-use lib.ListN.{getElem?}
+use lib.ListN.{length, getElem?, length-append}
 use borrow.Table.Steps.{cases}
 use Rattle.reading.specs.Match.{forEach, only}
 use Rattle.reading.proofs.Lists.{Sorted, sorted-append}
@@ -67,6 +67,18 @@ module _ {A B : Type 0} (f : ℕ → A → List B) where
         sorted-append R (f n x) (forEach (suc n) xs f) (within n x) (each-sorted (suc n) xs)
         (λ y w a b. let o = each-out (suc n) xs w b in across n (suc n + o .place) x (o .here) y w (omega arith) a (o .from))
 
+  -- nothing is listed, if nothing is for each; and one for each at most, if so for each
+  pub each-none : ((n : ℕ) (x : A) → f n x ≡ []) → (n : ℕ) (xs : List A) → forEach n xs f ≡ []
+  unfolding forEach
+  each-none none n [] = refl
+  each-none none n (x ∷ xs) = rw (none n x) (each-none none (suc n) xs)
+
+  pub each-few : ((n : ℕ) (x : A) → length (f n x) ≤ 1) → (n : ℕ) (xs : List A) → length (forEach n xs f) ≤ length xs
+  unfolding forEach
+  each-few few n [] = omega arith
+  each-few few n (x ∷ xs) =
+      simp (length-append (f n x) (forEach (suc n) xs f)) (let a = few n x in let b = each-few few (suc n) xs in omega arith)
+
 -- what is listed for those that pass a test
 module _ {A B : Type 0} (test : A → Bool) (g : ℕ → B) where
   abbrev listed : ℕ → List A → List B
@@ -95,3 +107,14 @@ module _ {A B : Type 0} (test : A → Bool) (g : ℕ → B) where
       cases (test y)
       (λ u. let w = one 0 y refl u in absurd (omega arith))
       (λ u. rw (u, i) r)
+
+  pub few-pass : (n : ℕ) (xs : List A)
+      → ((i j : ℕ) (x y : A) → getElem? xs i ≡ some x → getElem? xs j ≡ some y → test x ≡ true → test y ≡ true → i ≡ j) → length (listed n xs) ≤ 1
+  unfolding forEach
+  few-pass n [] one = omega arith
+  few-pass n (x ∷ xs) one =
+      cases (test x)
+      (λ t.
+      let none : listed (suc n) xs ≡ [] = none-passes (suc n) xs (λ k y e u. let w = one 0 (suc k) x y refl e t u in omega arith) in
+      rw (t, none) (omega arith))
+      (λ t. rw t (few-pass (suc n) xs (λ i j y z e f u v. let w = one (suc i) (suc j) y z e f u v in omega arith)))

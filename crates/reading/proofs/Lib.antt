@@ -3,3 +3,5 @@ pub mod Made
 pub mod Lists
 pub mod Each
 pub mod Accepted
+pub mod Matches
+pub mod Single

@@ -57,6 +57,16 @@ module _ {A : Type 0} where
   sorted-once R irr [] s = tt
   sorted-once R irr (x ∷ xs) s = (λ m. irr x (s .0 x m), sorted-once R irr xs (s .1))
 
+-- where f takes no two members to the same
+module _ {A B : Type 0} (f : A → B) where
+  pub once-map : (xs : List A) → Once xs → ((x y : A) → List·Memᴰ x xs → List·Memᴰ y xs → f x ≡ f y → x ≡ y) → Once (map f xs)
+  once-map [] o one = tt
+  once-map (x ∷ xs) o one =
+      (λ m. elsewhere (Memᴰ·of-map f xs m), once-map xs (o .1) (λ y z m n. one y z (List·Memᴰ·tail m) (List·Memᴰ·tail n)))
+    where
+      elsewhere : ((y : A) × List·Memᴰ y xs × (f y ≡ f x)) → ⊥
+      elsewhere (y, m, e) = o .0 (rw (one y x (List·Memᴰ·tail m) (List·Memᴰ·head refl) e) at m)
+
 -- a list without one of its members
 record Without {A : Type 0} (x : A) (ys : List A) : Type 0 where
   rest : List A
