@@ -1,15 +1,11 @@
 // The public questions, and nothing else. None has a `requires`: any caller may ask, of any octets, with any buffers.
 mod asking;
 
-use normal::Answer;
 use octets::Outcome;
-use reading::Match;
-use reading::Side;
-use asking::Fetch;
 
 ghost use mathlib.Core.Path.{_≡_};
 ghost use mathlib.Core.List.{List};
-ghost use Rattle.odif.specs.Answers.{checked, checkedTable, written, writtenOutput, listed, listedTable, listedList, fetched};
+ghost use Rattle.odif.specs.Answers.{checked, checkedTable};
 
 // What the check answers. Number 0 is accepted.
 #[repr(C)]
@@ -39,7 +35,7 @@ pub struct Listed {
 
 // Why a fetch of content gave nothing: number 0 if it was answered.
 #[repr(C)]
-pub struct Why {
+pub struct Reason {
     pub number: u32,
     pub place: u32,
 }
@@ -58,7 +54,7 @@ pub fn check(stream: &[u8], table: &mut [u32]) -> Checked
     ensures { λ r. ⌜ (r ≡ checked (now (stream .entry)) (now (table .entry))) × (now (table .exit) ≡ checkedTable (now (stream .entry)) (now (table .entry))) ⌝ }
 {
     match octets::walk(stream) {
-        Outcome::Ended { at: _, count } => asking::check_walked(stream, count, table),
+        Outcome::Ended { at: _, count } => asking::check_walked(stream, count as u32, table),
         Outcome::Refused {
             number,
             place,
