@@ -4,3 +4,5 @@ pub mod Letters
 pub mod Judging
 pub mod Checks
 pub mod Scratch
+pub mod Fetching
+pub mod Writing

@@ -36,9 +36,9 @@ lent s rows heads links needed room some few = record {
 }
 
 -- all that the judge asks, of a stream that the walk passed
-pub walked-lent : (s : List ℕ) (headers : ℕ) → walkOf s ≡ Ended (length s) headers → (rows heads links : ℕ)
+pub walked-lent : (s : List ℕ) (at headers : ℕ) → walkOf s ≡ Ended at headers → (rows heads links : ℕ)
     → rowsNeeded s ≤ links → links * rowWidth ≤ rows → 0 < heads → heads ≤ hashes
     → (Fine s (wholeStream s) × (length s ≤ streamLimit))
     × Lent s (replicate rows 0) (replicate heads 0) (replicate links 0) (replicate heads 0) (replicate links 0) (replicate 128 0)
-walked-lent s headers w rows heads links needed room some few =
-    ((stream-fine s (length s) headers w, stream-within s (length s) headers w), lent s rows heads links needed room some few)
+walked-lent s at headers w rows heads links needed room some few =
+    ((stream-fine s at headers w, stream-within s at headers w), lent s rows heads links needed room some few)

@@ -1,12 +1,14 @@
 -- The five public questions: what each answers, and what it leaves in what it was lent. Document 01, "Numbers given back" and "Table, list,
 -- part, normal form". A contract of this crate says that the result and every lent buffer at exit are these definitions of the values at
 -- entry. Definitions only: assumes nothing.
-use Prim.Native.Nat.{ℕ, _/_}
+use mathlib.Core.Path.{_≡_}
+use Prim.Native.Nat.{ℕ, _/_, _≤_}
 use mathlib.Core.Bool.{Bool, cond}
 use mathlib.Core.List.{List, [], _∷_, _++_}
 use mathlib.Core.Option.{Option, none, some}
 use lib.Dec.{eqb, ltb}
 use lib.ListN.{length, drop, getElem?}
+use lib.Seq.{slice}
 use Rattle.octets.specs.First.{isIn}
 use Rattle.octets.specs.Walk.{streamLimit}
 use Rattle.normal.specs.Normal.{normalForm}
@@ -149,3 +151,12 @@ locatedBy (letter headers elements) rows asked = locatedOf (getElem? rows asked)
 
 unfoldable pub located : (s : List ℕ) → (asked : ℕ) → Located
 located s asked = locatedBy (letterIn s) (rowsIn s) asked
+
+-- They are where the content stands that the question in its other form hands back: in the stream, and nothing is left open.
+pub record Fetches (s : List ℕ) (asked : ℕ) (told : Located) : Type 0 where
+  pub answered : told ≡ located s asked
+  pub number : told .number ≡ fetched s asked .number
+  pub place : told .place ≡ fetched s asked .place
+  pub part : slice (told .first) (told .past) s ≡ fetched s asked .part
+  pub order : told .first ≤ told .past
+  pub inside : told .past ≤ length s

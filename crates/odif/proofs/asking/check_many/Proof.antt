@@ -39,7 +39,7 @@ judge-stream-requires : tie.Need-judge-stream-requires
 judge-stream-requires c κs =
     let a = c .before .before .before .before .before .before .before .before in
     let s = now (a .args .stream) in
-    walked-lent s (a .args .headers) (a .pre) 49152 8192 4096 (omega arith) (omega arith) (omega arith) (omega arith)
+    walked-lent s _ _ (a .pre) 49152 8192 4096 (omega arith) (omega arith) (omega arith) (omega arith)
 
 -- src/asking.rt:119:35
 slice-aggregate-check-judged : tie.Need-slice-aggregate-check-judged
