@@ -1,0 +1,4 @@
+pub mod Length
+pub mod Normal
+pub mod Measure
+pub mod Writes
