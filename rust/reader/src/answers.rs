@@ -165,6 +165,11 @@ impl<'a> Reading<'a> {
         }
     }
 
+    /// The element count; 0 where the stream is refused.
+    pub fn element_count(&self) -> usize {
+        self.letter.as_ref().map_or(0, |letter| letter.rows.len())
+    }
+
     /// The matches of a side; none where the stream is refused.
     pub fn matches(&self, side: Side) -> Vec<Match> {
         self.letter.as_ref().map_or(Vec::new(), |letter| matches::of_side(self.stream, letter, side))

@@ -100,8 +100,8 @@ fn line(stream: &[u8], named: &Named<'_>) -> String {
         Length::Indefinite => "indefinite".into(),
     };
     let value = if item.is_constructed() { String::new() } else { value(&stream[item.value()]) };
-    let element = named.element.map(|number| format!("element {number},"));
-    let remark = [element.as_deref(), named.name, Some(&value)].map(Option::unwrap_or_default).join(" ");
+    let element = named.element.map_or(String::new(), |number| format!("element {number} "));
+    let remark = format!("{element}{} {value}", named.name.unwrap_or_default());
     format!("{:8} {level:5}  {tag:36} length {length:10}  {}", item.first(), remark.trim()).trim_end().into()
 }
 
