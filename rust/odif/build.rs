@@ -19,4 +19,5 @@ fn main() {
     }
     println!("cargo::rustc-link-search=native={}", folder.display());
     println!("cargo::rustc-link-lib=static=odif");
+    println!("cargo::rustc-env=ODIF_ARCHIVE={}", archive.display());
 }

@@ -40,6 +40,7 @@ fn judge_elements<'a>(stream: &'a [u8], tree: &Tree) -> Result<Letter<'a>, Refus
         return Err(Refusal { why: Why::EmptyStream, place: 0 });
     }
     let mut letter = Letter::default();
+    letter.rows.reserve(tree.elements().count().min(MOST_ELEMENTS));
     for (place, element) in tree.elements() {
         letter.add(stream, tree, place, element).map_err(|why| Refusal { why, place: element.first() as u32 })?;
     }
