@@ -6,6 +6,7 @@ use std::io;
 use std::path::{Path, PathBuf};
 
 use super::super::{Failure, show};
+use super::progress::Progress;
 
 /// A file to check, or something that could not even be looked at.
 pub struct Entry {
@@ -15,7 +16,7 @@ pub struct Entry {
 }
 
 /// All files in the folders and their subfolders, sorted, but for the CSV file that is to be written.
-pub fn list(folders: &[OsString], csv: Option<&Path>) -> Result<Vec<Entry>, Failure> {
+pub fn list(folders: &[OsString], csv: Option<&Path>, progress: &mut Progress) -> Result<Vec<Entry>, Failure> {
     if folders.is_empty() {
         return Err(Failure::Usage("a folder is missing".into()));
     }
@@ -23,7 +24,11 @@ pub fn list(folders: &[OsString], csv: Option<&Path>) -> Result<Vec<Entry>, Fail
     let mut entries = Vec::new();
     for folder in folders {
         let about = fs::metadata(folder).map_err(|error| Failure::File(format!("{}: {error}", show::name(folder))))?;
-        if about.is_dir() { list_folder(folder.into(), &mut entries) } else { list_file(folder.into(), &mut entries) }
+        if about.is_dir() {
+            list_folder(folder.into(), &mut entries, progress);
+        } else {
+            list_file(folder.into(), &mut entries);
+        }
     }
     entries.retain(|entry| !is_same_file(&entry.path, csv.as_deref()));
     entries.sort_by(|one, other| one.path.cmp(&other.path));
@@ -35,9 +40,10 @@ fn is_same_file(path: &Path, csv: Option<&Path>) -> bool {
 }
 
 /// Lists a folder and the folders in it. Links to folders are not followed, so it ends.
-fn list_folder(folder: PathBuf, entries: &mut Vec<Entry>) {
+fn list_folder(folder: PathBuf, entries: &mut Vec<Entry>, progress: &mut Progress) {
     let mut folders = vec![folder];
     while let Some(folder) = folders.pop() {
+        progress.show_found(entries.len());
         if let Err(error) = list_one_folder(&folder, &mut folders, entries) {
             entries.push(Entry { path: folder, trouble: Some(error.to_string()) });
         }

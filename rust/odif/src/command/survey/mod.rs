@@ -11,7 +11,6 @@ use std::path::Path;
 use std::sync::atomic::{AtomicUsize, Ordering};
 use std::sync::mpsc::{self, Receiver, SyncSender};
 use std::thread;
-use std::time::Instant;
 
 use odif::Checked;
 
@@ -42,18 +41,18 @@ pub fn run(args: &Args) -> Outcome {
     let jobs = args.count("--jobs")?.unwrap_or(processors);
     let mut tally = Tally::new(args.count("--first")?.unwrap_or(NAMED));
     let csv_file = args.value("--csv").map(Path::new);
-    let begun = Instant::now();
     let mut progress = Progress::new();
-    let entries = files::list(&args.files, csv_file)?;
+    let entries = files::list(&args.files, csv_file, &mut progress)?;
     let mut csv = csv_file.map(Csv::create).transpose()?;
     judge_all(&entries, args.has("--hex"), jobs.min(entries.len()), |path, verdict| {
         tally.add(path, verdict);
-        progress.show(&tally, entries.len(), begun.elapsed());
+        progress.show_checked(&tally, entries.len());
         csv.as_mut().map_or(Ok(()), |csv| csv.add(path, verdict))
     })?;
     csv.map_or(Ok(()), Csv::finish)?;
     progress.clear();
-    let report = if args.has("--json") { tally.json(begun.elapsed()) } else { tally.text(begun.elapsed()) };
+    let elapsed = progress.elapsed();
+    let report = if args.has("--json") { tally.json(elapsed) } else { tally.text(elapsed) };
     if csv_file.is_some_and(csv::is_standard_output) {
         eprint!("{report}");
     } else {
