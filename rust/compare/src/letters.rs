@@ -214,68 +214,89 @@ fn free_item(rng: &mut Rng, level: usize, deepest: usize, avoid: &[u8]) -> Item 
 
 /// One slip of a writer of letters.
 fn slip(elements: &mut Vec<Item>, rng: &mut Rng) {
-    match rng.below(14) {
-        0 => set_value(elements, rng, &[0x40, 0x41, 0x45, 0x84], misspelt_name),
+    match rng.below(4) {
+        0 => slip_in_value(elements, rng),
+        1 => slip_in_descriptor(elements, rng),
+        2 => slip_in_element(elements, rng),
+        _ => slip_among_elements(elements, rng),
+    }
+}
+
+/// A name or a number misspelt, taken from elsewhere, or an object type that is none.
+fn slip_in_value(elements: &mut [Item], rng: &mut Rng) {
+    const NAMES: [u8; 4] = [0x40, 0x41, 0x45, 0x84];
+    match rng.below(4) {
+        0 => set_value(elements, rng, &NAMES, misspelt_name),
         1 => set_value(elements, rng, &[0x12], misspelt_portion),
-        2 => set_value(elements, rng, &[0x02], |rng| {
+        2 => {
             let length = rng.below(3);
-            rng.octets(length)
-        }),
-        3 => change_run(elements, rng, &[0xA1], |run, rng| {
+            set_value(elements, rng, &[0x02], |rng| rng.octets(length));
+        }
+        _ => {
+            let name = value_of(elements, rng, &NAMES);
+            set_value(elements, rng, &NAMES, |_| name.unwrap_or_default());
+        }
+    }
+}
+
+/// Too many portions, one twice, one that is none, or an item that is forbidden or there already.
+fn slip_in_descriptor(elements: &mut [Item], rng: &mut Rng) {
+    match rng.below(4) {
+        0 => change_run(elements, rng, &[0xA1], |run, rng| {
             let portions = rng.between(63, 66);
             *run = (0..portions).map(|portion| Item::value(0x12, portion.to_string())).collect();
         }),
-        4 => change_run(elements, rng, &[0xA1], |run, rng| {
-            let place = rng.below(run.len() + 1);
-            run.insert(place, free_item(rng, 4, 4, &[]));
+        1 => change_run(elements, rng, &[0xA1], |run, rng| {
+            let portion = free_item(rng, 4, 4, &[]);
+            run.insert(rng.below(run.len() + 1), portion);
         }),
-        5 => change_run(elements, rng, &[0xA1], |run, rng| {
+        2 => change_run(elements, rng, &[0xA1], |run, rng| {
             if !run.is_empty() {
-                let portion = rng.pick(run).clone();
-                run.push(portion);
+                run.push(rng.pick(run).clone());
             }
         }),
-        6 => change_run(elements, rng, &[0x31, 0xA7, 0xA8], |run, rng| {
+        _ => change_run(elements, rng, &[0x31, 0xA7, 0xA8], |run, rng| {
             let octet = *rng.pick(&[0x40, 0x41, 0x45, 0x60, 0x61, 0x65, 0x81, 0x84, 0xA1, 0xA4]);
             let item = if octet & 0x20 != 0 { Item::run(octet, Vec::new()) } else { Item::value(octet, *b"9 9") };
-            let place = rng.below(run.len() + 1);
-            run.insert(place, item);
+            run.insert(rng.below(run.len() + 1), item);
         }),
-        7 => change_element(elements, rng, |run, rng| {
-            let place = rng.below(run.len() + 1);
+    }
+}
+
+/// An item too many, one too few, another order, or content in pieces.
+fn slip_in_element(elements: &mut [Item], rng: &mut Rng) {
+    let place = rng.below(elements.len());
+    let Item::Constructed(_, run) = &mut elements[place] else { return };
+    match rng.below(4) {
+        0 => {
             let item = match rng.below(4) {
                 0 => Item::value(0x02, [0]),
                 1 => Item::value(0x04, *b"text"),
                 2 => Item::run(0x31, Vec::new()),
                 _ => free_item(rng, 2, 4, &[]),
             };
-            run.insert(place, item);
-        }),
-        8 => change_element(elements, rng, |run, rng| {
-            if !run.is_empty() {
-                run.remove(rng.below(run.len()));
-            }
-        }),
-        9 => change_element(elements, rng, |run, rng| rng.shuffle(run)),
-        10 => change_element(elements, rng, |run, _| {
+            run.insert(rng.below(run.len() + 1), item);
+        }
+        1 if !run.is_empty() => {
+            run.remove(rng.below(run.len()));
+        }
+        2 => rng.shuffle(run),
+        _ => {
             if let Some(Item::Primitive(0x04, text)) = run.last().cloned() {
                 run.pop();
                 run.push(Item::run(0x24, vec![Item::value(0x04, text)]));
             }
-        }),
-        11 => {
-            let name = value_of(elements, rng, &[0x40, 0x41, 0x45, 0x84]);
-            set_value(elements, rng, &[0x40, 0x41, 0x45, 0x84], |_| name.clone().unwrap_or_default());
         }
-        12 => {
-            let place = rng.below(elements.len() + 1);
-            let octet = *rng.pick(&[0xA0, 0xA0, 0xA4, 0xA9, 0x30, 0x60, 0xE2]);
-            elements.insert(place, Item::run(octet, Vec::new()));
-        }
-        _ => {
-            let copy = rng.pick(elements).clone();
-            elements.push(copy);
-        }
+    }
+}
+
+/// An element that no letter has, a second profile, or an element twice.
+fn slip_among_elements(elements: &mut Vec<Item>, rng: &mut Rng) {
+    if rng.one_in(2) {
+        elements.push(rng.pick(elements).clone());
+    } else {
+        let octet = *rng.pick(&[0xA0, 0xA0, 0xA4, 0xA9, 0x30, 0x60, 0xE2]);
+        elements.insert(rng.below(elements.len() + 1), Item::run(octet, Vec::new()));
     }
 }
 
@@ -339,13 +360,6 @@ fn set_value(elements: &mut [Item], rng: &mut Rng, octets: &[u8], make: impl FnO
 
 fn change_run(elements: &mut [Item], rng: &mut Rng, octets: &[u8], change: impl FnOnce(&mut Vec<Item>, &mut Rng)) {
     if let Some(Item::Constructed(_, run)) = one_of(elements, rng, octets) {
-        change(run, rng);
-    }
-}
-
-fn change_element(elements: &mut [Item], rng: &mut Rng, change: impl FnOnce(&mut Vec<Item>, &mut Rng)) {
-    let place = rng.below(elements.len());
-    if let Item::Constructed(_, run) = &mut elements[place] {
         change(run, rng);
     }
 }

@@ -13,7 +13,7 @@ const STYLES: [u8; 2] = [0xA7, 0xA8];
 const PROFILE: [u8; 2] = [0xA0, 0x00];
 
 /// The groups of cases. Each group is made when it is wanted, for some are large.
-pub const GROUPS: [fn() -> Vec<Case>; 16] = [
+pub const GROUPS: [fn() -> Vec<Case>; 18] = [
     stream_length,
     element_count,
     full_tables,
@@ -23,6 +23,8 @@ pub const GROUPS: [fn() -> Vec<Case>; 16] = [
     object_types,
     levels,
     lengths,
+    first_length_octets,
+    primitive_lengths,
     closing_marks,
     first_octets,
     contents,
@@ -246,36 +248,46 @@ fn lengths() -> Vec<Case> {
     for length in [0, 1, 0x7F, 0x80, 0xFF, 0x100, 0xFFFF, 0x10000] {
         for form in [Form::Shortest, Form::Long(1), Form::Long(2), Form::Long(3), Form::Long(4)] {
             let inner = item_in(form, 0x04, &vec![0x41; length]);
-            let name = format!("a value of {length}, {form:?}");
-            cases.push(case(format!("{name}, exact"), item(0xA0, &inner)));
-            cases.push(case(format!("{name}, in an indefinite item"), indefinite(0xA0, &inner)));
-            let after = [item(0xA0, &inner), vec![0xA2, 0x00, 0xA2, 0x00]].concat();
-            // Every way to end one or more octets early: by the limit around, and by the end of the stream.
-            for missing in 1..=(inner.len()).min(7) {
-                let mut short = item(0xA0, &inner[..inner.len() - missing]);
-                cases.push(case(format!("{name}, {missing} missing at the end"), short.clone()));
-                short.extend(vec![0xA2, 0x00, 0x00, 0x00, 0x00, 0x00, 0x00, 0x00]);
-                cases.push(case(format!("{name}, {missing} missing at the limit"), short));
-                let open = [&[0xA0, 0x80], &inner[..inner.len() - missing]].concat();
-                cases.push(case(format!("{name}, {missing} missing in an indefinite item"), open));
-            }
-            for first in 1..inner.len().min(7) {
-                cases.push(case(format!("{name}, its first {first} octets"), item(0xA0, &inner[..first])));
-                let then = [item(0xA0, &inner[..first]), vec![0xA2, 0x00, 0xA2, 0x00]].concat();
-                cases.push(case(format!("{name}, its first {first} octets, then more"), then));
-            }
-            cases.push(case(format!("{name}, then more"), after));
+            let more = |name: &str, stream| case(format!("a value of {length}, {form:?}, {name}"), stream);
+            cases.extend(cut_short(&inner).into_iter().map(|(name, stream)| more(&name, stream)));
+            cases.push(more("exact", item(0xA0, &inner)));
+            cases.push(more("in an indefinite item", indefinite(0xA0, &inner)));
         }
     }
+    cases
+}
+
+/// An item in a profile, ended one or more octets early: by the limit around, and by the end of the stream.
+fn cut_short(inner: &[u8]) -> Vec<Case> {
+    let fronts = (1..inner.len()).filter(|&length| length < 7 || length + 7 >= inner.len());
+    let cut = |length: usize| {
+        let front = &inner[..length];
+        let limited = [item(0xA0, front), [0xA2, 0x00].repeat(4)].concat();
+        [
+            case(format!("its first {length} octets"), item(0xA0, front)),
+            case(format!("its first {length} octets, then more"), limited),
+            case(format!("its first {length} octets in an indefinite item"), [&[0xA0, 0x80], front].concat()),
+        ]
+    };
+    fronts.flat_map(cut).collect()
+}
+
+fn first_length_octets() -> Vec<Case> {
+    let rests: [&[u8]; 6] = [&[], &[0x00], &[0x00, 0x00], &[0x00; 6], &[0xFF; 6], &[0x80; 6]];
+    let mut cases = Vec::new();
     for length in 0x80..=0xFF {
         for octet in [0x04, 0x24, 0x30, 0x80, 0xA0] {
-            for rest in [&[][..], &[0x00], &[0x00, 0x00], &[0x00, 0x00, 0x00, 0x00, 0x00, 0x00], &[0xFF; 6], &[0x80; 6]]
-            {
+            for rest in rests {
                 let stream = item(0xA0, &[&[octet, length], rest].concat());
                 cases.push(case(format!("{octet:02X} {length:02X}, then {rest:02X?}"), stream));
             }
         }
     }
+    cases
+}
+
+fn primitive_lengths() -> Vec<Case> {
+    let mut cases = Vec::new();
     for octet in [0x01, 0x02, 0x05, 0x0A, 0x41, 0x81, 0xC5, 0x21, 0x22, 0x25, 0x2A] {
         for length in 0..=3 {
             for form in [Form::Shortest, Form::Long(1), Form::Long(4)] {
