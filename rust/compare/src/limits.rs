@@ -13,10 +13,11 @@ const STYLES: [u8; 2] = [0xA7, 0xA8];
 const PROFILE: [u8; 2] = [0xA0, 0x00];
 
 /// The groups of cases. Each group is made when it is wanted, for some are large.
-pub const GROUPS: [fn() -> Vec<Case>; 18] = [
+pub const GROUPS: [fn() -> Vec<Case>; 19] = [
     stream_length,
     element_count,
     full_tables,
+    long_names,
     portion_count,
     identifiers,
     portion_numbers,
@@ -128,6 +129,18 @@ fn full_tables() -> Vec<Case> {
         case("the same, backwards", letter(&backwards)),
         case("64 portions in each of 1,000 objects", letter(&many.chain(met_once).collect::<Vec<_>>())),
     ]
+}
+
+/// Every unit's name begins with every name that is looked for, and is none of them.
+fn long_names() -> Vec<Case> {
+    let zeros: Vec<_> = (1..=16).map(|count| "0".repeat(count)).collect();
+    let holder = |octet: u8, name: &[u8]| object(octet, &[item(0x41, name), portions(&zeros)].concat());
+    let longer = (0..MOST_ELEMENTS - 3).map(|number| {
+        let name = |first: u8| format!("{first} {}{number}", "0".repeat(17));
+        unit(&[item(0x40, name(2).as_bytes()), item(0x84, name(6).as_bytes())].concat(), b"")
+    });
+    let elements: Vec<_> = [holder(0xA2, b"2"), holder(0xA6, b"6")].into_iter().chain(longer).collect();
+    vec![case("names that begin with those looked for", letter(&elements))]
 }
 
 fn portion_count() -> Vec<Case> {
