@@ -158,7 +158,7 @@ impl One<'_> {
         let mut elements = vec![0, count, count + rng.below(5_000), rng.number() as u32 as usize, u32::MAX as usize];
         elements.extend((0..4).map(|_| rng.below(count + 1)));
         // Numbers that only their high bits tell from an element's.
-        elements.extend((12..32).map(|bit| rng.below(count + 1) | 1 << bit));
+        elements.extend((0..3).map(|_| rng.below(count + 1) | 1 << rng.between(12, 31)));
         if count <= 8 {
             elements.extend(0..count);
         }
