@@ -1,0 +1,6 @@
+-- what feeding byte by byte adds up to
+pub mod Blocks
+-- what one pair or one newline more does to the reading of lines
+pub mod Lines
+-- the promise: a text fed in any cutting is answered as the whole text reads
+pub mod Promise
