@@ -1,0 +1,4 @@
+-- the equations of a decimal number, and what a reader expects of one
+pub mod Decimal
+-- one run of stores after another, and a line as one run
+pub mod Stores
