@@ -10,7 +10,7 @@ use lib.Seq.{drop-cons, set-append-seam, append-snoc}
 use borrow.Author.Tests.{ltb-true, ltb-false}
 use Rattle.hex.specs.declared.State.the-variants.{Pairs, Half, Stopped}
 use Rattle.hex.specs.Lines.{streamLimit, newline, isDigit, octet, lines, Outcome, unreadable, readsFrom}
-use Rattle.hex.specs.Blocks.{Standing, standing, lastLine, step, fed}
+use Rattle.hex.specs.Blocks.{Standing, standing, lastLine, step, fed, finished, told}
 use Rattle.hex.specs.Promise.{Answers, AnyCutting}
 use Rattle.hex.proofs.Blocks.{fed-flatten, fed-stopped}
 use Rattle.hex.proofs.Lines.{reads-newline, reads-half, reads-pair, reads-past, reads-broken}
@@ -26,10 +26,14 @@ holding-more lent done o h =
     rw (drop-cons lent (length done) 0, set-append-seam, longer, append-snoc)
 
 module _ (lent : List ℕ) (full : length lent ≡ streamLimit) where
-  -- a line that cannot be read, wherever in it reading stopped
+  -- a line that cannot be read, and what is told of it
+  unread : (outcome : Outcome) (number : ℕ) (end : Standing) → outcome ≡ unreadable number → finished (end .state) ≡ told (unreadable number) → Answers outcome lent end
+  unread outcome number end u e =
+      record { answer = rw u e; octets = λ s o. let never : _≡_ {A = ℕ} 0 1 = cc in absurd (omega arith) }
+
+  -- wherever in it reading stopped
   stopped : (outcome : Outcome) (number : ℕ) (out bs : List ℕ) → outcome ≡ unreadable number → Answers outcome lent (fed (standing (Stopped (min number lastLine)) out) bs)
-  stopped outcome number out bs u =
-      rw fed-stopped record { answer = rw u; octets = λ s e. let z : _≡_ {A = ℕ} 0 1 = cc in absurd (omega arith) }
+  stopped outcome number out bs u = rw fed-stopped (unread outcome number _ u refl)
 
   -- in a line, after whole pairs
   abbrev at : List ℕ → ℕ → Standing
@@ -53,8 +57,7 @@ module _ (lent : List ℕ) (full : length lent ≡ streamLimit) where
 
   at-half : (b : ℕ) → eqb b newline ≡ false → Answered (b ∷ [])
   unfolding fed step
-  at-half b e done number h =
-      rw (reads-half done number b e, e) record { answer = refl; octets = λ s u. let z : _≡_ {A = ℕ} 0 1 = cc in absurd (omega arith) }
+  at-half b e done number h = rw e (unread _ number _ (reads-half done number b e) refl)
 
   -- after the first byte of a pair, by what the second makes of it
   judged :

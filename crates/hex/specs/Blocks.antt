@@ -23,13 +23,25 @@ pub record Standing : Type 0 where
 abbrev pub standing : State → List ℕ → Standing
 standing s o = record { state = s; out = o }
 
--- one byte more: a newline ends a line of whole pairs; two digits are an octet, if there is room for it; all else stops the reading at its line
-unfoldable pub step : State → List ℕ → ℕ → Standing
-step (Pairs n line) out b = cond (eqb b newline) (standing (Pairs n (min (line + 1) lastLine)) out) (standing (Half n line b) out)
-step (Half n line a) out b =
+-- before the first byte
+abbrev pub started : State
+started = Pairs 0 1
+
+-- the first byte of a pair, or the newline that ends a line of whole pairs
+abbrev pub first : ℕ → ℕ → ℕ → State
+first n line b = cond (eqb b newline) (Pairs n (min (line + 1) lastLine)) (Half n line b)
+
+-- the second byte of a pair: two digits make an octet, if there is room for it, and all else makes the line unreadable
+abbrev pub second : ℕ → ℕ → ℕ → List ℕ → ℕ → Standing
+second n line a out b =
     cond (isDigit a && isDigit b && ltb n streamLimit)
     (standing (Pairs (n + 1) line) (set out n (octet a b)))
     (standing (Stopped line) out)
+
+-- one byte more
+unfoldable pub step : State → List ℕ → ℕ → Standing
+step (Pairs n line) out b = standing (first n line b) out
+step (Half n line a) out b = second n line a out b
 step (Stopped line) out b = standing (Stopped line) out
 
 -- a block more

@@ -19,7 +19,7 @@ newline = 10
 unfoldable pub valueOf : ℕ → ℕ
 valueOf b =
     cond (leb 48 b && leb b 57) (b - 48)
-    (cond (leb 65 b && leb b 70) (b - 55)
+    (cond (leb 65 b && leb b 70) (10 + (b - 65))
     16)
 
 -- whether a byte is such a digit
@@ -53,8 +53,8 @@ pub data Outcome : Type 0 where
 
 -- a line that holds anything else, or the pair past the limit, ends the reading; else its octets are joined to the others
 abbrev pub joins : List ℕ → ℕ → Option (List ℕ) → (List ℕ → Outcome) → Outcome
-joins done number none go = unreadable number
-joins done number (some octets) go = cond (leb (length (done ++ octets)) streamLimit) (go (done ++ octets)) (unreadable number)
+joins done number none onward = unreadable number
+joins done number (some octets) onward = cond (leb (length (done ++ octets)) streamLimit) (onward (done ++ octets)) (unreadable number)
 
 -- the lines from a number on, where `done` is the stream so far
 unfoldable pub readsFrom : List ℕ → ℕ → List (List ℕ) → Outcome

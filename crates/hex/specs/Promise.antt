@@ -3,9 +3,8 @@ use mathlib.Core.Path.{_≡_}
 use mathlib.Core.List.{List, [], _∷_, _++_, flatten}
 use Prim.Native.Nat.{ℕ}
 use lib.ListN.{length, drop}
-use Rattle.hex.specs.declared.State.the-variants.{Pairs}
 use Rattle.hex.specs.Lines.{streamLimit, Outcome, stream, reads}
-use Rattle.hex.specs.Blocks.{Standing, standing, fed, finished, told}
+use Rattle.hex.specs.Blocks.{Standing, standing, started, fed, finished, told}
 
 -- all blocks, one after another
 unfoldable pub fedAll : Standing → List (List ℕ) → Standing
@@ -22,4 +21,4 @@ abbrev pub AnyCutting : Type 0
 AnyCutting =
     (blocks : List (List ℕ)) (lent : List ℕ) →
     length lent ≡ streamLimit →
-    Answers (reads (flatten blocks)) lent (fedAll (standing (Pairs 0 1) lent) blocks)
+    Answers (reads (flatten blocks)) lent (fedAll (standing started lent) blocks)

@@ -5,7 +5,7 @@
 ghost use mathlib.Core.Path.{_≡_};
 ghost use Prim.Native.Nat.{_+_, min};
 ghost use Rattle.hex.specs.Lines.{streamLimit, valueOf};
-ghost use Rattle.hex.specs.Blocks.{lastLine, standing, fed, finished};
+ghost use Rattle.hex.specs.Blocks.{lastLine, standing, started, first, second, fed, finished};
 ghost use Rattle.hex.specs.Blocks.{step as stepped};
 
 // What ends a line.
@@ -34,7 +34,7 @@ pub enum Read {
 
 // Where reading stands before the first byte.
 pub fn start() -> State
-    ensures { λ r. ⌜ r ≡ State.Pairs 0 1 ⌝ }
+    ensures { λ r. ⌜ r ≡ started ⌝ }
 {
     State::Pairs { length: 0, line: 1 }
 }
@@ -74,42 +74,52 @@ fn step(state: State, byte: u8, out: &mut [u8; STREAM_LIMIT]) -> State
     ensures { λ r. ⌜ standing r (now (out .exit)) ≡ stepped state (now (out .entry)) byte ⌝ }
 {
     match state {
-        State::Pairs { length, line } => {
-            if byte == NEWLINE {
-                return State::Pairs {
-                    length,
-                    line: next(line),
-                };
-            }
-            State::Half {
-                length,
-                line,
-                first: byte,
-            }
-        }
+        State::Pairs { length, line } => read_first(length, line, byte),
         State::Half {
             length,
             line,
             first,
-        } => {
-            let high = value(first);
-            let low = value(byte);
-            if 16 <= high {
-                return State::Stopped { line };
-            }
-            if 16 <= low {
-                return State::Stopped { line };
-            }
-            if STREAM_LIMIT <= length {
-                return State::Stopped { line };
-            }
-            out[length] = high * 16 + low;
-            State::Pairs {
-                length: length + 1,
-                line,
-            }
-        }
+        } => read_second(length, line, first, byte, out),
         State::Stopped { line } => State::Stopped { line },
+    }
+}
+
+// Reads a byte after whole pairs.
+fn read_first(length: usize, line: u64, byte: u8) -> State
+    ensures { λ r. ⌜ r ≡ first length line byte ⌝ }
+{
+    if byte == NEWLINE {
+        return State::Pairs {
+            length,
+            line: next(line),
+        };
+    }
+    State::Half {
+        length,
+        line,
+        first: byte,
+    }
+}
+
+// Reads the second byte of a pair.
+fn read_second(length: usize, line: u64, first: u8, byte: u8, out: &mut [u8; STREAM_LIMIT]) -> State
+    ensures { λ r. ⌜ standing r (now (out .exit)) ≡ second length line first (now (out .entry)) byte ⌝ }
+{
+    let high = value(first);
+    let low = value(byte);
+    if 16 <= high {
+        return State::Stopped { line };
+    }
+    if 16 <= low {
+        return State::Stopped { line };
+    }
+    if STREAM_LIMIT <= length {
+        return State::Stopped { line };
+    }
+    out[length] = high * 16 + low;
+    State::Pairs {
+        length: length + 1,
+        line,
     }
 }
 
@@ -118,8 +128,8 @@ fn value(byte: u8) -> u8
     ensures { λ r. ⌜ r ≡ valueOf byte ⌝ }
 {
     match byte {
-        b'0'..=b'9' => byte - 48,
-        b'A'..=b'F' => byte - 55,
+        b'0'..=b'9' => byte - b'0',
+        b'A'..=b'F' => 10 + (byte - b'A'),
         _ => 16,
     }
 }

@@ -15,6 +15,7 @@ abbrev pub turn : Bool → ℕ → (ℕ → List ℕ) → List ℕ
 turn true n tenth = digit n ∷ []
 turn false n tenth = tenth (n / 10) ++ (digit (n % 10) ∷ [])
 
+-- a number's digits, in no more than so many turns
 unfoldable pub decimalIn : ℕ → ℕ → List ℕ
 decimalIn zero n = []
 decimalIn (suc turns) n = turn (ltb n 10) n (λ m. decimalIn turns m)

@@ -12,9 +12,11 @@ abbrev pub ascii : String → List ℕ
 ascii String.[] = []
 ascii (String._∷_ c cs) = code c ∷ ascii cs
 
+-- what stands before a number
 abbrev pub space : ℕ
 space = 32
 
+-- what ends a line
 abbrev pub newline : ℕ
 newline = 10
 
@@ -27,6 +29,7 @@ spaced (n ∷ ns) = space ∷ (decimal n ++ spaced ns)
 abbrev pub rest : List ℕ → List ℕ
 rest numbers = spaced numbers ++ (newline ∷ [])
 
+-- a line: its first word, and the rest
 abbrev pub line : List ℕ → List ℕ → List ℕ
 line first numbers = first ++ rest numbers
 

@@ -69,7 +69,7 @@ pub fn put_unreadable(out: &mut [u8; LINE_ROOM], number: u64) -> usize
     put_line(out, b"unreadable", &[number])
 }
 
-// A word and some numbers.
+// A word and some numbers, each of which takes a space and at most 20 digits.
 fn put_line(out: &mut [u8], word: &[u8], numbers: &[u64]) -> usize
     requires { ⌜ length (now word) + 21 * length (now numbers) < length (now out) ⌝ }
     ensures { λ r. ⌜ Written (line (now (word .entry)) (now (numbers .entry))) (now (out .entry)) r (now (out .exit)) ⌝ }
@@ -116,10 +116,10 @@ fn put_number(out: &mut [u8], at: usize, n: u64) -> usize
     ensures { λ r. ⌜ now (out .exit) ≡ sets (now (out .entry)) at (decimal n) ⌝ }
 {
     if n < 10 {
-        out[at] = 48 + n as u8;
+        out[at] = b'0' + n as u8;
         return at + 1;
     }
     let last = put_number(out, at, n / 10);
-    out[last] = 48 + (n % 10) as u8;
+    out[last] = b'0' + (n % 10) as u8;
     last + 1
 }

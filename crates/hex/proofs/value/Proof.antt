@@ -6,8 +6,8 @@ use Rattle.hex.specs.Lines.{valueOf}
 use Rattle.hex.proofs.value.Statement.{statement}
 use Rattle.hex.proofs.value.Tie as tie
 
-sub-result : tie.Need-sub-result
-sub-result c = search needs
+add-result : tie.Need-add-result
+add-result c = search needs
 
 returns : tie.Need-returns
 unfolding valueOf
@@ -40,4 +40,4 @@ returns-5 c =
     simp (le-leb 48 b (omega arith), lt-leb b 57 (omega arith), le-leb 65 b (omega arith), lt-leb b 70 (omega arith))
 
 pub value-spec : {M : Type 1} → statement M
-value-spec = tie.close (tie.spec sub-result returns returns-2 returns-3 returns-4 returns-5)
+value-spec = tie.close (tie.spec add-result returns returns-2 returns-3 returns-4 returns-5)

@@ -6,7 +6,7 @@ use native.Mathlib.Omega.{arith}
 use mathlib.Core.Path.{refl}
 use mathlib.Core.List.{[], _∷_}
 use denote.Ref.{now}
-use lib.ListN.{length-append, length-set}
+use lib.ListN.{length, length-append, length-set}
 use Rattle.text.specs.Decimal.{decimal, digit}
 use Rattle.text.proofs.Decimal.{decimal-small, decimal-large, decimal-short}
 use Rattle.text.proofs.Stores.{sets-join}
@@ -53,15 +53,18 @@ module _ (t : ℕ) where
   add-out-2 : put-number-lts.Need-add-out-2 (calls t) (now-at t) put-number.Post
   add-out-2 c = omega arith
 
-  slice-write-out-2 : put-number-lts.Need-slice-write-out-2 (calls t) (now-at t) put-number.Post
-  slice-write-out-2 c =
+  -- there is room for the last digit
+  last-within : (c : put-number-lts.After-slice-known2 (calls t) (now-at t) put-number.Post) → c .before .before .put-number .result < length (c .before .before .put-number .last .0)
+  last-within c =
       let n = c .before .before .before .before .before .before .args .n in
-      omega (arith, c .before .before .put-number .ensures .0, c .before .before .put-number .kept .0, decimal-short 18 (n / 10) (omega arith))
+      let put = c .before .before .put-number in
+      omega (arith, put .ensures .0, put .kept .0, decimal-short 18 (n / 10) (omega arith))
+
+  slice-write-out-2 : put-number-lts.Need-slice-write-out-2 (calls t) (now-at t) put-number.Post
+  slice-write-out-2 c = last-within c
 
   add-result-2 : put-number-lts.Need-add-result-2 (calls t) (now-at t) put-number.Post
-  add-result-2 c =
-      let n = c .before .before .before .before .before .before .args .n in
-      omega (arith, c .before .before .put-number .ensures .0, c .before .before .put-number .kept .0, decimal-short 18 (n / 10) (omega arith))
+  add-result-2 c = omega (arith, last-within c, c .before .before .put-number .kept .0)
 
   same-length-2 : put-number-lts.Need-same-length-2 (calls t) (now-at t) put-number.Post
   same-length-2 c = simp length-set (c .before .before .put-number .kept .0)
