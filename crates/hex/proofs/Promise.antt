@@ -45,9 +45,7 @@ module _ (lent : List ℕ) (full : length lent ≡ streamLimit) where
 
   at-end : Answered []
   unfolding fed lines readsFrom
-  at-end done number h =
-      let within : min (length done) streamLimit ≡ length done = omega arith in
-      record { answer = rw within; octets = λ s e. let same : done ≡ s = cc in rw same }
+  at-end done number h = record { answer = refl; octets = λ s e. let same : done ≡ s = cc in rw same }
 
   at-newline : (b : ℕ) (bs : List ℕ) → eqb b newline ≡ true → Answered bs → Answered (b ∷ bs)
   unfolding fed step

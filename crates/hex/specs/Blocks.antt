@@ -51,7 +51,7 @@ fed t (b ∷ bs) = fed (step (t .state) (t .out) b) bs
 
 -- the answer where the text ends: half a pair makes its line unreadable
 abbrev pub finished : State → Read
-finished (Pairs n line) = Stream (min n streamLimit)
+finished (Pairs n line) = Stream n
 finished (Half n line a) = Unreadable line
 finished (Stopped line) = Unreadable line
 

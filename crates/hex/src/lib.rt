@@ -4,7 +4,8 @@
 // No function here requires anything of its caller, whatever the state and the bytes are.
 ghost use mathlib.Core.Path.{_≡_};
 ghost use Prim.Native.Nat.{_+_, min};
-ghost use Rattle.hex.specs.Lines.{streamLimit, valueOf};
+ghost use lib.ListN.{take};
+ghost use Rattle.hex.specs.Lines.{valueOf};
 ghost use Rattle.hex.specs.Blocks.{lastLine, standing, started, first, second, fed, finished};
 ghost use Rattle.hex.specs.Blocks.{step as stepped};
 
@@ -57,9 +58,7 @@ pub fn finish(state: State) -> Read
     ensures { λ r. ⌜ r ≡ finished state ⌝ }
 {
     match state {
-        State::Pairs { length, line: _ } => Read::Stream {
-            length: within(length),
-        },
+        State::Pairs { length, line: _ } => Read::Stream { length },
         State::Half {
             length: _,
             line,
@@ -67,6 +66,22 @@ pub fn finish(state: State) -> Read
         } => Read::Unreadable { line },
         State::Stopped { line } => Read::Unreadable { line },
     }
+}
+
+// A stream of a length, as a part of the array that it stands at the front of.
+pub fn part<'a>(out: &'a [u8; STREAM_LIMIT], length: usize) -> &'a [u8]
+    ensures { λ r. ⌜ now r ≡ take length (now (out .entry)) ⌝ }
+{
+    front(out, length)
+}
+
+fn front<'a>(s: &'a [u8], length: usize) -> &'a [u8]
+    ensures { λ r. ⌜ now r ≡ take length (now (s .entry)) ⌝ }
+{
+    if s.len() < length {
+        return &s[..];
+    }
+    &s[..length]
 }
 
 // Reads one byte more.
@@ -139,15 +154,4 @@ fn next(line: u64) -> u64
     ensures { λ r. ⌜ r ≡ min (line + 1) lastLine ⌝ }
 {
     if line < u64::MAX { line + 1 } else { line }
-}
-
-// A length within the limit, as that of every state that a text leads to.
-fn within(length: usize) -> usize
-    ensures { λ r. ⌜ r ≡ min length streamLimit ⌝ }
-{
-    if length < STREAM_LIMIT {
-        length
-    } else {
-        STREAM_LIMIT
-    }
 }
