@@ -1,15 +1,15 @@
 -- A text fed in any cutting is answered as the whole text reads: the blocks are their join, and along one text each pair and each newline moves the standing and the reading of lines alike. Assumes nothing.
 use Prim.Native.Nat.{ℕ, suc, _+_, _≤_, _<_, min}
 use native.Mathlib.Omega.{arith}
-use mathlib.Core.Path.{_≡_, refl}
+use mathlib.Core.Path.{_≡_, refl, sym, _∙_}
 use mathlib.Core.Bool.{Bool, true, false, _&&_}
 use mathlib.Core.List.{List, [], _∷_, _++_, flatten}
 use lib.Dec.{eqb, ltb}
 use lib.ListN.{length, drop, set, length-append}
-use lib.Seq.{drop-cons, set-append-seam, append-snoc}
+use lib.Seq.{drop-cons, set-append-seam, take-append-seam, drop-append-seam, append-snoc}
 use borrow.Author.Tests.{ltb-true, ltb-false}
 use Rattle.hex.specs.declared.State.the-variants.{Pairs, Half, Stopped}
-use Rattle.hex.specs.Lines.{streamLimit, newline, isDigit, octet, lines, Outcome, unreadable, readsFrom}
+use Rattle.hex.specs.Lines.{streamLimit, newline, isDigit, octet, lines, Outcome, stream, unreadable, readsFrom}
 use Rattle.hex.specs.Blocks.{Standing, standing, lastLine, step, fed, finished, told}
 use Rattle.hex.specs.Promise.{Answers, AnyCutting}
 use Rattle.hex.proofs.Blocks.{fed-flatten, fed-stopped}
@@ -25,11 +25,14 @@ holding-more lent done o h =
     let longer : length (done ++ (o ∷ [])) ≡ suc (length done) = simp length-append (omega arith) in
     rw (drop-cons lent (length done) 0, set-append-seam, longer, append-snoc)
 
+no-stream : (number : ℕ) (s : List ℕ) → unreadable number ≡ stream s → ⊥
+no-stream number s e = let never : _≡_ {A = ℕ} 0 1 = cc in omega arith
+
 module _ (lent : List ℕ) (full : length lent ≡ streamLimit) where
   -- a line that cannot be read, and what is told of it
   unread : (outcome : Outcome) (number : ℕ) (end : Standing) → outcome ≡ unreadable number → finished (end .state) ≡ told (unreadable number) → Answers outcome lent end
   unread outcome number end u e =
-      record { answer = rw u e; octets = λ s o. let never : _≡_ {A = ℕ} 0 1 = cc in absurd (omega arith) }
+      record { answer = rw u e; part = λ s o. absurd (no-stream number s (sym u ∙ o)); past = λ s o. absurd (no-stream number s (sym u ∙ o)) }
 
   -- wherever in it reading stopped
   stopped : (outcome : Outcome) (number : ℕ) (out bs : List ℕ) → outcome ≡ unreadable number → Answers outcome lent (fed (standing (Stopped (min number lastLine)) out) bs)
@@ -45,7 +48,12 @@ module _ (lent : List ℕ) (full : length lent ≡ streamLimit) where
 
   at-end : Answered []
   unfolding fed lines readsFrom
-  at-end done number h = record { answer = refl; octets = λ s e. let same : done ≡ s = cc in rw same }
+  at-end done number h =
+      record {
+        answer = refl;
+        part = λ s e. let same : done ≡ s = cc in rw (← same, take-append-seam);
+        past = λ s e. let same : done ≡ s = cc in rw (← same, drop-append-seam);
+      }
 
   at-newline : (b : ℕ) (bs : List ℕ) → eqb b newline ≡ true → Answered bs → Answered (b ∷ bs)
   unfolding fed step

@@ -1,6 +1,9 @@
 -- `hex::read_second` meets its contract: each return stands behind the tests that pick its case in the definition. Assumes nothing.
+use Prim.Native.Nat.{_≤_, _<_}
+use native.Mathlib.Omega.{arith}
 use borrow.Author.Needs.{needs}
 use borrow.Author.Tests.{lt-ltb, le-ltb}
+use Rattle.hex.specs.Lines.{streamLimit}
 use Rattle.hex.proofs.read_second.Statement.{statement}
 use Rattle.hex.proofs.read_second.Tie as tie
 
@@ -21,9 +24,11 @@ returns-2 c =
 
 returns-3 : tie.Need-returns-3
 returns-3 c =
+    let length = c .before .before .before .before .before .args .length in
+    let full : streamLimit ≤ length = omega arith in
     let high = c .before .before .before .before .value .ensures in
     let low = c .before .before .before .value2 .ensures in
-    rw (← high, lt-ltb _ _ (c .before .before .if1 .left), ← low, lt-ltb _ _ (c .before .if2 .left), le-ltb _ _ (c .if3 .taken))
+    rw (← high, lt-ltb _ _ (c .before .before .if1 .left), ← low, lt-ltb _ _ (c .before .if2 .left), le-ltb length streamLimit full)
 
 mul-out : tie.Need-mul-out
 mul-out c = search needs
@@ -39,9 +44,11 @@ add-t13 c = search needs
 
 returns-4 : tie.Need-returns-4
 returns-4 c =
+    let length = c .before .before .before .before .before .args .length in
+    let room : length < streamLimit = omega arith in
     let high = c .before .before .before .before .value .ensures in
     let low = c .before .before .before .value2 .ensures in
-    rw (← high, lt-ltb _ _ (c .before .before .if1 .left), ← low, lt-ltb _ _ (c .before .if2 .left), lt-ltb _ _ (c .if3 .left))
+    rw (← high, lt-ltb _ _ (c .before .before .if1 .left), ← low, lt-ltb _ _ (c .before .if2 .left), lt-ltb length streamLimit room)
 
 pub read-second-spec : {M : Type 1} → statement M
 read-second-spec =

@@ -42,7 +42,7 @@ module _ (t : ℕ) where
   same-length c = simp length-set
 
   returns : put-number-lts.Need-returns (calls t) (now-at t) put-number.Post
-  returns c = rw (decimal-small (c .before .before .args .n) (c .if1 .taken)) (refl, refl)
+  returns c = rw (decimal-small (c .before .before .args .n) (omega arith)) (refl, refl)
 
   put-number-requires : put-number-lts.Need-put-number-requires (calls t) (now-at t) put-number.Post
   put-number-requires c κs = (omega arith, omega arith)
@@ -61,7 +61,7 @@ module _ (t : ℕ) where
       omega (arith, put .ensures .0, put .kept .0, decimal-short 18 (n / 10) (omega arith))
 
   slice-write-out-2 : put-number-lts.Need-slice-write-out-2 (calls t) (now-at t) put-number.Post
-  slice-write-out-2 c = last-within c
+  slice-write-out-2 c = omega (arith, last-within c, c .before .before .put-number .kept .0)
 
   add-result-2 : put-number-lts.Need-add-result-2 (calls t) (now-at t) put-number.Post
   add-result-2 c = omega (arith, last-within c, c .before .before .put-number .kept .0)
@@ -73,7 +73,7 @@ module _ (t : ℕ) where
   returns-2 c =
       let a = c .before .before .before .before .before .before .args in
       let put = c .before .before .put-number .ensures in
-      rw (decimal-large (a .n) (c .before .before .before .before .if1 .left)) (
+      rw (decimal-large (a .n) (omega arith)) (
         rw (put .0) (simp length-append (omega arith)),
         rw (put .1, put .0) (sets-join (now (a .out)) (a .at) (decimal (a .n / 10)) (digit (a .n % 10) ∷ [])),
       )
