@@ -4,3 +4,5 @@ pub mod Blocks
 pub mod Lines
 -- the promise: a text fed in any cutting is answered as the whole text reads
 pub mod Promise
+-- worked examples, in one statement
+pub mod Examples

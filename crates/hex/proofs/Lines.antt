@@ -9,7 +9,8 @@ use lib.Dec.{eqb}
 use lib.ListN.{length, length-append}
 use lib.Seq.{append-snoc}
 use borrow.Author.Tests.{ne-eqb, le-leb, lt-leb}
-use Rattle.hex.specs.Lines.{streamLimit, newline, valueOf, isDigit, octet, pairs, begin, lines, Outcome, stream, unreadable, joins, readsFrom}
+use Rattle.text.specs.Ascii.{newline}
+use Rattle.hex.specs.Lines.{streamLimit, valueOf, isDigit, octet, pairs, begin, lines, Outcome, stream, unreadable, joins, readsFrom}
 
 -- a newline is no digit
 pub digit-in-line : (b : ℕ) → isDigit b ≡ true → eqb b newline ≡ false

@@ -9,7 +9,8 @@ use lib.ListN.{length, drop, set, length-append}
 use lib.Seq.{drop-cons, set-append-seam, take-append-seam, drop-append-seam, append-snoc}
 use borrow.Author.Tests.{ltb-true, ltb-false}
 use Rattle.hex.specs.declared.State.the-variants.{Pairs, Half, Stopped}
-use Rattle.hex.specs.Lines.{streamLimit, newline, isDigit, octet, lines, Outcome, stream, unreadable, readsFrom}
+use Rattle.text.specs.Ascii.{newline}
+use Rattle.hex.specs.Lines.{streamLimit, isDigit, octet, lines, Outcome, stream, unreadable, readsFrom}
 use Rattle.hex.specs.Blocks.{Standing, standing, lastLine, step, fed, finished, told}
 use Rattle.hex.specs.Promise.{Answers, AnyCutting}
 use Rattle.hex.proofs.Blocks.{fed-flatten, fed-stopped}

@@ -9,7 +9,8 @@ use Rattle.hex.specs.declared.State.{State}
 use Rattle.hex.specs.declared.State.the-variants.{Pairs, Half, Stopped}
 use Rattle.hex.specs.declared.Read.{Read}
 use Rattle.hex.specs.declared.Read.the-variants.{Stream, Unreadable}
-use Rattle.hex.specs.Lines.{streamLimit, newline, isDigit, octet, Outcome, stream, unreadable}
+use Rattle.text.specs.Ascii.{newline}
+use Rattle.hex.specs.Lines.{streamLimit, isDigit, octet, Outcome, stream, unreadable}
 
 -- the largest number that is told of a line: a later line bears it too
 abbrev pub lastLine : ℕ

@@ -6,14 +6,11 @@ use mathlib.Core.List.{List, [], _∷_, _++_}
 use mathlib.Core.Option.{Option, none, some, Option·map}
 use lib.ListN.{length}
 use lib.Dec.{ltb, leb, eqb}
+use Rattle.text.specs.Ascii.{newline}
 
 -- "a stream of at most 32,768 bytes"
 abbrev pub streamLimit : ℕ
 streamLimit = 32768
-
--- what ends a line
-abbrev pub newline : ℕ
-newline = 10
 
 -- the value of an upper-case hexadecimal digit, 0 to 9 (48 to 57) or A to F (65 to 70); 16 for any other byte
 unfoldable pub valueOf : ℕ → ℕ

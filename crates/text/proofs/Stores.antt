@@ -7,8 +7,9 @@ use mathlib.Core.Path.{_≡_, sym, _∙_}
 use mathlib.Core.List.{List, [], _∷_, _++_, append-assoc}
 use lib.ListN.{length, drop, getD, set, length-append, drop-of-length-le}
 use lib.Seq.{sets, sets-eq, length-sets, length-take-le, drop-cons}
+use Rattle.text.specs.Ascii.{space, newline}
 use Rattle.text.specs.Decimal.{decimal}
-use Rattle.text.specs.Lines.{space, newline, spaced, rest, line, Written}
+use Rattle.text.specs.Lines.{spaced, rest, line, Written}
 
 pub sets-join : (l : List ℕ) (i : ℕ) (xs ys : List ℕ) → sets (sets l i xs) (i + length xs) ys ≡ sets l i (xs ++ ys)
 sets-join l i [] ys = rw add-zero

@@ -1,24 +1,10 @@
 -- The lines that the hex lister writes (document 01, "Checked examples"): a word or a number, numbers after it with a space before each, and a newline.
 use Prim.Native.Nat.{ℕ, _≤_}
-use Prim.Native.Char.{code}
-use Prim.Native.String.{String}
 use mathlib.Core.Path.{_≡_}
 use mathlib.Core.List.{List, [], _∷_, _++_}
 use lib.ListN.{length, take, drop}
+use Rattle.text.specs.Ascii.{ascii, space, newline}
 use Rattle.text.specs.Decimal.{decimal}
-
--- the bytes of a word
-abbrev pub ascii : String → List ℕ
-ascii String.[] = []
-ascii (String._∷_ c cs) = code c ∷ ascii cs
-
--- what stands before a number
-abbrev pub space : ℕ
-space = 32
-
--- what ends a line
-abbrev pub newline : ℕ
-newline = 10
 
 -- each number, with a space before it
 unfoldable pub spaced : List ℕ → List ℕ
