@@ -4,5 +4,7 @@ pub mod Blocks
 pub mod Lines
 -- the promise: a text fed in any cutting is answered as the whole text reads
 pub mod Promise
+-- octets spelt as pairs read back
+pub mod Spelling
 -- worked examples, in one statement
 pub mod Examples
