@@ -21,6 +21,7 @@ pub record Standing : Type 0 where
   pub state : State
   pub out : List ℕ
 
+-- a state, over what the array then holds
 abbrev pub standing : State → List ℕ → Standing
 standing s o = record { state = s; out = o }
 

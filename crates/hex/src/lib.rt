@@ -75,6 +75,7 @@ pub fn part<'a>(out: &'a [u8; STREAM_LIMIT], length: usize) -> &'a [u8]
     front(out, length)
 }
 
+// The first bytes of a slice, or all of them where there are fewer.
 fn front<'a>(s: &'a [u8], length: usize) -> &'a [u8]
     ensures { λ r. ⌜ now r ≡ take length (now (s .entry)) ⌝ }
 {
