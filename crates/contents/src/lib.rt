@@ -89,7 +89,8 @@ fn no_part() -> Part
     }
 }
 
-// An item that was met. The run inside it is copied field by field: a struct that is copied whole has its padding carried along.
+// An item that was met. The run inside it is copied field by field: copied whole, a struct has its padding carried along, through
+// memory.
 fn part_of(octet: usize, first: usize, past: usize, inner: Run) -> Part
     ensures { λ p. ⌜ p ≡ record { octet = octet; first = first; past = past; inner = inner } ⌝ }
 {
@@ -104,6 +105,12 @@ fn part_of(octet: usize, first: usize, past: usize, inner: Run) -> Part
             room: inner.room,
         },
     }
+}
+
+fn copied(p: Part) -> Part
+    ensures { λ q. ⌜ q ≡ p ⌝ }
+{
+    part_of(p.octet, p.first, p.past, p.inner)
 }
 
 // 2 if a run that follows two items ends here, 3 if it goes on.
@@ -259,16 +266,22 @@ fn seen_with(x: Seen, octet: usize, p: Part) -> Seen
     requires { ⌜ x .amount + 1 < 2 ^ 64 ⌝ }
     ensures { λ y. ⌜ y ≡ seenWith octet x p ⌝ }
 {
+    let part = x.part;
     if p.octet != octet {
-        return x;
+        return Seen {
+            amount: x.amount,
+            part: copied(part),
+        };
     }
     if x.amount == 0 {
-        return Seen { amount: 1, part: p };
+        return Seen {
+            amount: 1,
+            part: copied(p),
+        };
     }
-    let part = x.part;
     Seen {
         amount: x.amount + 1,
-        part,
+        part: copied(part),
     }
 }
 
