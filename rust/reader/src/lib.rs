@@ -1,7 +1,7 @@
 //! An independent reader of ODIF streams.
 //!
-//! It answers the same questions as the proved library and shares nothing with it: it is written from
-//! document 01 alone, reads the whole stream into a tree of items first, and keeps names in hash maps. The crate
+//! It answers the same questions as the proved library and shares no code with it: it follows document 01 and the
+//! decisions taken on it, reads the whole stream into a tree of items first, and keeps names in hash maps. The crate
 //! `compare` holds the two against each other, and `bench` measures one beside the other.
 //!
 //! A [`Reading`] judges a stream once and then answers any number of questions about it.
