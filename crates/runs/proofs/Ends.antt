@@ -1,8 +1,8 @@
 -- Where a run ends: an unmarked one at its limit, a marked one past a closing mark, by the rules of the walk. Assumes nothing.
-use mathlib.Core.Path.{_≡_, refl, sym, ap}
+use mathlib.Core.Path.{_≡_, refl, ap}
 use mathlib.Core.Bool.{Bool, true, false, false≢true}
 use mathlib.Core.List.{List}
-use Prim.Native.Nat.{ℕ, _+_, _-_, _≤_}
+use Prim.Native.Nat.{ℕ, _+_, _≤_}
 use native.Mathlib.Omega.{arith}
 use Rattle.octets.specs.Items.{Items}
 use Rattle.octets.specs.Walk.{End, ends, stops, run}

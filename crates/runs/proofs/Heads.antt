@@ -1,7 +1,7 @@
 -- What reading at a position tells: an item has the octet that stands there, which is not 0, and a closing mark is only where an
 -- indefinite item is innermost. Each test of `headAt` is taken apart in turn. Assumes nothing.
 use mathlib.Core.Path.{_≡_, refl, subst}
-use mathlib.Core.Bool.{Bool, true, false}
+use mathlib.Core.Bool.{Bool, true}
 use mathlib.Core.List.{List}
 use Prim.Native.Nat.{ℕ, _+_, _-_}
 use lib.Dec.{leb, ltb, eqb}

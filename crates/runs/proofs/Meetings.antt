@@ -20,7 +20,7 @@ use Rattle.runs.specs.Runs.{walkIn, itemsOf, insideOf, Fine, Spans, Meet
 use Rattle.runs.proofs.Heads.{item-octet}
 use Rattle.runs.proofs.Ends.{EndsRight, ends-right, ends-at-limit}
 
--- where an item is followed by a walk that ended, its own value ended, and so did the rest
+-- where the walk of an item and what follows it ended, so did that of its value
 follow-whole : (at : ℕ) (h : Header) (inside : Items) (e : End) (more : ℕ → Walked) → Whole (follow at h inside e more .how) → Whole e
 follow-whole at h inside (ends next) more w = tt
 follow-whole at h inside (stops number place) more w = w

@@ -29,15 +29,19 @@ itemsOf s r = walkIn s r .items
 abbrev pub treeIn : List ℕ → Run → Tree
 treeIn s r = plain s (itemsOf s r)
 
+-- a definite run: the value from first to past, with room levels left
+abbrev pub definiteRun : (first past room : ℕ) → Run
+definiteRun first past room = record { at = first; limit = past; marked = false; room = room }
+
 -- the run of a whole stream: "Top elements are at level 1; level 16 is the deepest."
 abbrev pub wholeStream : List ℕ → Run
-wholeStream s = record { at = 0; limit = length s; marked = false; room = deepest }
+wholeStream s = definiteRun 0 (length s) deepest
 
 -- the run inside the item with the header h, which is at the first of room levels: a primitive has an empty one, at its end
 abbrev pub insideOf : Header → (room : ℕ) → Run
 insideOf h room =
     cond (constructed (h .octet)) (record { at = h .start; limit = h .bound; marked = h .marked; room = room - 1 })
-    (record { at = h .bound; limit = h .bound; marked = false; room = room - 1 })
+    (definiteRun (h .bound) (h .bound) (room - 1))
 
 -- where the first item of a run stands: at end if there is none
 abbrev pub startOf : (end : ℕ) → Items → ℕ

@@ -1,5 +1,5 @@
 -- `runs::end_of_marked` meets its contract: the walk of the run is known to have ended, so it does not refuse. Assumes nothing.
-use mathlib.Core.Path.{_≡_, sym, _∙_}
+use mathlib.Core.Path.{sym, _∙_}
 use mathlib.Core.Bool.{true}
 use borrow.Author.Needs.{needs}
 use Rattle.octets.specs.Items.{count}

@@ -3,7 +3,7 @@
 use mathlib.Core.Path.{_≡_, ap, sym, _∙_}
 use mathlib.Core.Bool.{Bool, true, false}
 use mathlib.Core.List.{List}
-use Prim.Native.Nat.{ℕ, _+_, _-_, _<_, _≤_}
+use Prim.Native.Nat.{ℕ, _-_, _<_}
 use native.Mathlib.Omega.{arith}
 use borrow.Author.Needs.{needs}
 use Rattle.octets.specs.declared.Header.{Header}
@@ -93,7 +93,8 @@ sub-t16 c =
     let p = c .before .before .before .before in
     let m = c .before .if2 .taken in
     let v = marked-value (stream p) (its-run p) (its-fine p) (before-limit p) (header p) (read p) m ∙ c .end-of-marked .ensures in
-    marked-end (stream p) (its-run p) (its-fine p) (before-limit p) (header p) (read p) (c .end-of-marked .result) v m
+    let two = marked-end (stream p) (its-run p) (its-fine p) (before-limit p) (header p) (read p) (c .end-of-marked .result) v m in
+    omega (arith, two)
 
 returns-2 : tie.Need-returns-2
 returns-2 c =
