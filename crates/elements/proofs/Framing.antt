@@ -51,7 +51,14 @@ module _ (s : List ℕ) (shape : Shape) (r : Run) (fine : Fine s r) (made : Well
         record {
           fits = rw f;
           framed =
-              λ _. record { fine = fine; items = rw (l, made .itself f); tree = rw (l, made .itself f); object = no-object; content = no-content };
+              λ _. record {
+                ordered = rw f;
+                fine = fine;
+                items = rw (l, made .itself f);
+                tree = rw (l, made .itself f);
+                object = no-object;
+                content = no-content;
+              };
         }
 
     pub unlooked-frame : shape .looked ≡ false
@@ -62,6 +69,7 @@ module _ (s : List ℕ) (shape : Shape) (r : Run) (fine : Fine s r) (made : Well
           fits = rw f;
           framed =
               λ _. record {
+                ordered = rw f;
                 fine = empty-fine s 0;
                 items = rw l (empty-items s 0);
                 tree = rw l (ap (plain s) (empty-items s 0));
@@ -86,6 +94,7 @@ module _ (s : List ℕ) (shape : Shape) (r : Run) (fine : Fine s r) (made : Well
               let in-body = inner few (made .within f) in
               let there = ne-eqb (shape .within) 0 (not-zero (shape .within) (made .within f)) in
               record {
+                ordered = rw f (sym fills ∙ t);
                 fine = in-body .fine;
                 items = rw (made .looked f, there) (in-body .items);
                 tree = rw (made .looked f, there) (in-body .tree);

@@ -4,3 +4,5 @@ pub mod Zero
 pub mod Bounding
 pub mod Framing
 pub mod Values
+pub mod Findings
+pub mod Relisting

@@ -29,6 +29,7 @@ pub record Inner (s : List ℕ) (r : Run) (octet : ℕ) (inner : Run) : Type 0 w
 
 -- where to look in an element whose items stand as tabled: what names it, its object type and its content
 pub record Framed (s : List ℕ) (shape : Shape) (r : Run) (frame : Frame) : Type 0 where
+  pub ordered : (shape .free || inOrder (shape .one) (shape .two) (treeIn s r)) ≡ true
   pub fine : Fine s (frame .body)
   pub items : itemsOf s (frame .body) ≡ bodyIn shape (itemsOf s r)
   pub tree : treeIn s (frame .body) ≡ bodyOf shape (treeIn s r)
