@@ -25,9 +25,12 @@ use Rattle.elements.specs.Says.{Placed, noSpan, Covers, Bounds}
 use Rattle.elements.specs.Frames.{Bounding, Inner}
 
 -- a pair that bounds a value, or nothing, lies in the stream
-pub bounds-placed : (s : List ℕ) (v : Span) (value : Value) → Bounds s v value → Placed s v
+bounds-placed : (s : List ℕ) (v : Span) (value : Value) → Bounds s v value → Placed s v
 bounds-placed s v absent b = rw b (record { order = omega arith; inside = omega arith })
 bounds-placed s v (octets bytes) b = b .placed
+
+pub bounding-placed : {s : List ℕ} {r : Run} {octet : ℕ} {v : Span} → Bounding s r octet v → Placed s v
+bounding-placed {s} {r} {octet} {v} b = bounds-placed s v (firstValue octet (treeIn s r)) (b .value)
 
 pub held-bounding : {s : List ℕ} {r : Run} {octet : ℕ} {p : Part} → Holds s r octet p → constructed octet ≡ false → Bounding s r octet (spanOf p)
 held-bounding {s} {r} {octet} {p} h c =

@@ -6,3 +6,4 @@ pub mod Framing
 pub mod Values
 pub mod Findings
 pub mod Relisting
+pub mod Passing

@@ -27,6 +27,12 @@ one-byte s first past e l =
     let next : suc first ≡ past = omega arith in
     slice-cons first past s 0 lt l ∙ ap (λ (xs : List ℕ). getD s first 0 ∷ xs) (ap (λ (n : ℕ). slice n past s) next ∙ slice-empty past s)
 
+-- no bytes are no identifier
+some-bytes : (bytes : List ℕ) → isIdentifier bytes ≡ true → 0 < length bytes
+unfolding isIdentifier grouped
+some-bytes [] t = absurd (false≢true t)
+some-bytes (x ∷ xs) t = omega arith
+
 module _ (s : List ℕ) (v : Span) where
   covers-length : (bytes : List ℕ) → Covers s v bytes → length bytes ≡ v .past - v .first
   covers-length bytes b = ap length (sym (b .value)) ∙ length-slice (v .first) (v .past) s (b .placed .inside)
@@ -57,3 +63,8 @@ module _ (s : List ℕ) (v : Span) where
       → (value : Value) → Bounds s v value → b ≡ spelt value
   spelt-there some b e absent k = absurd (some (ap (λ (x : Span). x .past) k))
   spelt-there some b e (octets bytes) k = e ∙ ap isIdentifier (k .value)
+
+  -- a well spelt identifier is not empty
+  pub named : (value : Value) → Bounds s v value → spelt value ≡ true → Names s v value
+  named absent b t = b
+  named (octets bytes) b t = (b, let some = some-bytes bytes t in omega (arith, covers-length bytes b))

@@ -1,6 +1,6 @@
 -- What the code learns of an element: rules 12 to 14, and its row. Definitions only: assumes nothing.
 use mathlib.Core.Path.{_≡_}
-use mathlib.Core.Bool.{Bool, not, _&&_}
+use mathlib.Core.Bool.{Bool, cond, not, _&&_}
 use mathlib.Core.List.{List, [], _∷_}
 use Prim.Native.Nat.{ℕ, _*_, _%_, _≤_}
 use lib.Dec.{eqb, leb}
@@ -83,6 +83,10 @@ noRow = record {
 -- of a refused element nothing but its number is told
 abbrev pub refusedBy : (number : ℕ) → Seen
 refusedBy number = record { refusal = number; row = noRow; count = 0 }
+
+-- an element that is refused by a number, or that has the row
+abbrev pub seenBy : (number : ℕ) → Row → (count : ℕ) → Seen
+seenBy number row count = cond (eqb number 0) (record { refusal = 0; row = row; count = count }) (refusedBy number)
 
 -- what is needed to look into an element
 pub record Ready (s : List ℕ) (shape : Shape) (frame : Frame) (whole : Span) : Type 0 where

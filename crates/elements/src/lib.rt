@@ -24,7 +24,7 @@ ghost use Rattle.elements.specs.Element.{spelt};
 ghost use Rattle.elements.specs.WellMade.{WellMade};
 ghost use Rattle.elements.specs.Says.{Placed, Bounds};
 ghost use Rattle.elements.specs.Frames.{Bounding, Inner, Framed, Frames, Types};
-ghost use Rattle.elements.specs.Sees.{once, tabledBy, listSpelt, numberOf, soughtOf, rowBy, refusedBy, Ready, Sees};
+ghost use Rattle.elements.specs.Sees.{once, tabledBy, listSpelt, numberOf, soughtOf, rowBy, refusedBy, seenBy, Ready, Sees};
 
 pub mod shapes; // shapes.rt: the shapes of the edition of 1988
 
@@ -289,6 +289,20 @@ fn refused(number: usize) -> Seen
     }
 }
 
+// An element that is refused by a number, or that has the row.
+fn seen_by(number: usize, row: Row, count: usize) -> Seen
+    ensures { λ r. ⌜ r ≡ seenBy number row count ⌝ }
+{
+    if number != 0 {
+        return refused(number);
+    }
+    Seen {
+        refusal: 0,
+        row,
+        count,
+    }
+}
+
 fn sought_of(shape: Shape) -> Sought
     ensures { λ r. ⌜ r ≡ soughtOf shape ⌝ }
 {
@@ -351,14 +365,8 @@ fn see_body(s: &[u8], shape: Shape, frame: Frame, whole: Span, bounds: &mut [u32
     let tabled = is_tabled(identifier.needed, g, listed.others);
     let spelt = are_spelt(s, g.identifier, g.logical, listed);
     let number = refusal_of(tabled, typed.fits, spelt);
-    if number != 0 {
-        return refused(number);
-    }
-    Seen {
-        refusal: 0,
-        row: row_of(shape, frame, typed.value, g, whole),
-        count: listed.count,
-    }
+    let row = row_of(shape, frame, typed.value, g, whole);
+    seen_by(number, row, listed.count)
 }
 
 // What rules 12 to 14 say of an element that stands from `first` to `past` and has the run r; and its row, if they refuse nothing. The
