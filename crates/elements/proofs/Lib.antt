@@ -7,3 +7,4 @@ pub mod Values
 pub mod Findings
 pub mod Relisting
 pub mod Passing
+pub mod Refusals

@@ -28,6 +28,8 @@ ghost use Rattle.elements.specs.Sees.{once, tabledBy, listSpelt, numberO
 
 pub mod shapes; // shapes.rt: the shapes of the edition of 1988
 
+pub use shapes::shape_1988;
+
 const NO_TYPE: usize = 255;
 
 const MOST_PORTIONS: usize = 64;
@@ -171,7 +173,7 @@ fn wide(x: u8) -> usize
 }
 
 // Rule 13, and the object type.
-pub fn object_type(s: &[u8], v: Span, types: usize) -> Typed
+fn object_type(s: &[u8], v: Span, types: usize) -> Typed
     requires { ⌜ Placed (now s) v ⌝ }
     ensures { λ t. ⌜ (t .value < 256) × ((value : Value) → Bounds (now (s .entry)) v value → Types types value t) ⌝ }
 {
@@ -207,7 +209,7 @@ fn is_once(needed: bool, amount: usize) -> bool
 }
 
 // Rule 12, in an element whose items stand in order, by what was gathered.
-pub fn is_tabled(needed: bool, g: Gathered, others: bool) -> bool
+fn is_tabled(needed: bool, g: Gathered, others: bool) -> bool
     ensures { λ b. ⌜ b ≡ tabledBy needed g others ⌝ }
 {
     if !is_once(needed, g.identifiers) {
