@@ -1,0 +1,63 @@
+-- The table. Document 01, "Table, list, part, normal form": "A table row is twelve numbers: kind .., object type .., then first and past for
+-- the element, its identifier, the unit's logical identifier, the portions' value, the content. All pairs but the element's bound a value."
+-- Definitions only: assumes nothing.
+use Prim.Native.Nat.{ℕ, zero, suc}
+use mathlib.Core.Bool.{Bool, cond}
+use mathlib.Core.List.{List, [], _∷_, _++_}
+use lib.Dec.{eqb}
+use lib.ListN.{length}
+use Rattle.octets.specs.Items.{Items, none, item}
+use Rattle.tree.specs.Tree.{plain}
+use Rattle.runs.specs.Runs.{startOf}
+use Rattle.contents.specs.declared.Span.{Span}
+use Rattle.contents.specs.Search.{boundsOf, itemsIn}
+use Rattle.elements.specs.declared.Shape.{Shape}
+use Rattle.elements.specs.declared.Row.{Row}
+use Rattle.elements.specs.Shape.{Edition, shapeOf}
+use Rattle.elements.specs.Element.{elementOf}
+
+-- the items that name an element: `bodyOf` of another file, with places
+unfoldable pub bodyIn : Shape → Items → Items
+bodyIn shape items = cond (shape .looked) (cond (eqb (shape .within) 0) items (itemsIn (shape .within) items)) none
+
+-- the row of an element of a shape that stands from first to past and has these items
+unfoldable pub rowOf : Shape → List ℕ → (first past : ℕ) → Items → Row
+rowOf shape s first past items =
+    let body = bodyIn shape items in
+    let says = elementOf shape (plain s items) in
+    record {
+      kind = says .kind;
+      object = says .object;
+      whole = record { first = first; past = past };
+      identifier = boundsOf (shape .identifier .octet) body;
+      logical = boundsOf (shape .logical) body;
+      portions = boundsOf (shape .portions) body;
+      content = boundsOf (shape .content) items;
+    }
+
+-- "Elements meet end to end from 0 to the stream's length."
+unfoldable pub rowsOf : Edition → List ℕ → Items → List Row
+rowsOf edition s none = []
+rowsOf edition s (item at octet first past inside after) =
+    rowOf (shapeOf edition (octet ∷ [])) s at (startOf (length s) after) inside ∷ rowsOf edition s after
+
+-- the twelve numbers of a row
+abbrev pub cells : Row → List ℕ
+cells row =
+    row .kind ∷ row .object
+    ∷ row .whole .first ∷ row .whole .past
+    ∷ row .identifier .first ∷ row .identifier .past
+    ∷ row .logical .first ∷ row .logical .past
+    ∷ row .portions .first ∷ row .portions .past
+    ∷ row .content .first ∷ row .content .past ∷ []
+
+-- the numbers of rows, one row after another
+unfoldable pub numbers : List Row → List ℕ
+numbers [] = []
+numbers (row ∷ rows) = cells row ++ numbers rows
+
+-- where the element with a number from 0 stands
+unfoldable pub placeOf : ℕ → Items → ℕ
+placeOf k none = 0
+placeOf zero (item at octet first past inside after) = at
+placeOf (suc k) (item at octet first past inside after) = placeOf k after
