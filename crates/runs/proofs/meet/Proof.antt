@@ -74,7 +74,8 @@ enum-known-h c = search needs
 inside-of-requires : tie.Need-inside-of-requires
 inside-of-requires c κs =
     let p = c .before in
-    lies (stream p) (its-run p) (its-fine p) (before-limit p) (header p) (read p) .deep
+    let o = lies (stream p) (its-run p) (its-fine p) (before-limit p) (header p) (read p) in
+    (o .deep, o .mark)
 
 sub-end-of-marked : tie.Need-sub-end-of-marked
 sub-end-of-marked c =
