@@ -85,7 +85,7 @@ pub fn meet(s: &[u8], r: Run) -> Met
     if at == limit {
         return Met::End;
     }
-    match octets::head_at(s, at, limit, marked, room) {
+    match octets::passed_head(s, at, limit, marked, room) {
         Head::ClosingMark => Met::End,
         Head::Refusal {
             number: _,
