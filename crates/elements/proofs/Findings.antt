@@ -1,27 +1,26 @@
 -- What was found of an element, against what it says: rule 12, and the number of the first of rules 12 to 14 that refuses it.
 -- Assumes nothing.
 use mathlib.Core.Path.{_≡_, refl, sym, ap, _∙_, subst}
-use mathlib.Core.Bool.{Bool, true, false, not, _&&_, _||_, false≢true, and-false, and-assoc, Bool·not-not}
+use mathlib.Core.Bool.{Bool, true, false, _&&_, false≢true, and-false, and-assoc, Bool·not-not}
 use mathlib.Core.List.{List, [], _∷_}
 use Prim.Native.Nat.{ℕ, zero, suc, _+_}
 use native.Mathlib.Omega.{arith}
-use lib.Dec.{eqb, leb}
+use lib.Dec.{eqb}
 use borrow.Author.Tests.{ne-eqb}
 use Rattle.tree.specs.Tree.{Tree}
 use Rattle.runs.specs.declared.Run.{Run}
 use Rattle.runs.specs.Runs.{treeIn}
 use Rattle.contents.specs.declared.Gathered.{Gathered}
-use Rattle.contents.specs.declared.Span.{Span}
-use Rattle.contents.specs.Search.{Value, amount, firstValue, firstRun}
+use Rattle.contents.specs.Search.{firstValue, firstRun}
 use Rattle.contents.specs.Gather.{Gathers}
 use Rattle.portions.specs.declared.Listed.{Listed}
 use Rattle.portions.specs.Lists.{Lists}
-use Rattle.portions.specs.Portions.{all, allPortions, values}
+use Rattle.portions.specs.Portions.{all, values}
 use Rattle.portions.proofs.Judging.{well-spelt}
 use Rattle.elements.specs.declared.Frame.{Frame}
 use Rattle.elements.specs.declared.Shape.{Shape}
 use Rattle.elements.specs.declared.Typed.{Typed}
-use Rattle.elements.specs.Element.{Element, bodyOf, elementOf, asTabled, spelt, namesFit}
+use Rattle.elements.specs.Element.{elementOf, asTabled, spelt, namesFit}
 use Rattle.elements.specs.Judge.{shapeRefusal}
 use Rattle.elements.specs.Says.{Bounds}
 use Rattle.elements.specs.Frames.{Framed, Types}

@@ -1,8 +1,8 @@
 -- An element that rules 12 to 14 do not refuse: its row is that of the definition, and says what the element says. Assumes nothing.
-use mathlib.Core.Path.{_≡_, refl, sym, ap, _∙_, subst}
+use mathlib.Core.Path.{_≡_, refl, sym, ap, _∙_}
 use mathlib.Core.Bool.{Bool, true, false, not, _&&_, _||_, false≢true}
 use mathlib.Core.List.{List, [], _∷_}
-use Prim.Native.Nat.{ℕ, _%_, _<_, _≤_}
+use Prim.Native.Nat.{ℕ, _<_, _≤_}
 use native.Mathlib.Nat.{mod-lt}
 use native.Mathlib.Omega.{arith}
 use lib.Dec.{eqb, leb}
@@ -15,20 +15,18 @@ use Rattle.runs.specs.declared.Run.{Run}
 use Rattle.runs.specs.Runs.{itemsOf, treeIn, allPrimitive}
 use Rattle.contents.specs.declared.Gathered.{Gathered}
 use Rattle.contents.specs.declared.Span.{Span}
-use Rattle.contents.specs.Search.{Value, absent, octets, itemsIn}
+use Rattle.contents.specs.Search.{itemsIn}
 use Rattle.contents.specs.Order.{inOrder}
 use Rattle.portions.specs.declared.Listed.{Listed}
 use Rattle.portions.specs.Portions.{all, allPortions, values, mostPortions}
 use Rattle.portions.proofs.Judging.{only-portions}
 use Rattle.elements.specs.declared.Frame.{Frame}
-use Rattle.elements.specs.declared.Row.{Row}
-use Rattle.elements.specs.declared.Seen.{Seen}
 use Rattle.elements.specs.declared.Shape.{Shape}
 use Rattle.elements.specs.declared.Typed.{Typed}
 use Rattle.elements.specs.Element.{elementOf, asTabled, spelt}
 use Rattle.elements.specs.Judge.{shapeRefusal}
 use Rattle.elements.specs.Rows.{rowOf}
-use Rattle.elements.specs.Says.{Placed, noSpan, Bounds, Names, Says, RowPlaced, portionsRun}
+use Rattle.elements.specs.Says.{Placed, noSpan, Says, RowPlaced, portionsRun}
 use Rattle.elements.specs.Sees.{tabledBy, listSpelt, numberOf, rowBy, noRow, refusedBy, seenBy, Passes, Sees}
 use Rattle.elements.proofs.Bounding.{counted-placed}
 use Rattle.elements.proofs.Findings.{Findings, no-others, identifier-bounds, logical-bounds, portions-are, names-by, number-by}
