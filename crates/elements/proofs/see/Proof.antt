@@ -5,7 +5,7 @@ use borrow.Author.Needs.{needs}
 use borrow.Author.Tests.{not-true, not-false}
 use Rattle.elements.specs.Sees.{Sees}
 use Rattle.elements.proofs.Bounding.{bounding-placed}
-use Rattle.elements.proofs.Passing.{sees-unordered}
+use Rattle.elements.proofs.Seeing.{sees-unordered}
 use Rattle.elements.proofs.see.Statement.{statement}
 use Rattle.elements.proofs.see.Tie as tie
 
