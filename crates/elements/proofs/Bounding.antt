@@ -2,7 +2,7 @@
 use mathlib.Core.Path.{_≡_, refl, sym, ap, _∙_, subst}
 use mathlib.Core.Bool.{Bool, true, false, cond}
 use mathlib.Core.List.{List}
-use Prim.Native.Nat.{ℕ, zero, suc, _+_, _<_, _≤_}
+use Prim.Native.Nat.{ℕ, zero, suc, _+_, _<_}
 use native.Mathlib.Omega.{arith}
 use lib.Dec.{eqb}
 use lib.Seq.{slice}
@@ -11,17 +11,17 @@ use Rattle.octets.specs.Items.{Items, none, item}
 use Rattle.octets.specs.Walk.{Walked}
 use Rattle.octets.specs.Rules.{at-limit}
 use Rattle.octets.proofs.RulesHold.{derived}
-use Rattle.tree.specs.Tree.{Tree, empty, leaf, branch, formed, plain}
+use Rattle.tree.specs.Tree.{plain}
 use Rattle.runs.specs.Whole.{Whole}
 use Rattle.runs.specs.declared.Run.{Run}
 use Rattle.runs.specs.Runs.{itemsOf, treeIn, definiteRun, Fine}
 use Rattle.contents.specs.declared.Part.{Part}
 use Rattle.contents.specs.declared.Span.{Span}
-use Rattle.contents.specs.Search.{Value, absent, octets, amount, firstValue, firstRun, boundsOf, itemsIn}
+use Rattle.contents.specs.Search.{Value, absent, octets, amount, firstValue, boundsOf, itemsIn}
 use Rattle.contents.specs.First.{spanOf, Holds, Lacks}
 use Rattle.contents.specs.Gather.{Counted}
 use Rattle.contents.proofs.Firsts.{amount-formed}
-use Rattle.elements.specs.Says.{Placed, noSpan, Covers, Bounds}
+use Rattle.elements.specs.Says.{Placed, noSpan, Bounds}
 use Rattle.elements.specs.Frames.{Bounding, Inner}
 
 -- a pair that bounds a value, or nothing, lies in the stream

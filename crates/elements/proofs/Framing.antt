@@ -1,7 +1,7 @@
 -- The top of an element, by its shape: items that are free, items that are not looked at, and items in order, of which there are then no
 -- more than two. Assumes nothing.
-use mathlib.Core.Path.{_≡_, refl, sym, ap, _∙_}
-use mathlib.Core.Bool.{Bool, true, false, false≢true, true≢false}
+use mathlib.Core.Path.{_≡_, sym, ap, _∙_}
+use mathlib.Core.Bool.{Bool, true, false, false≢true}
 use mathlib.Core.List.{List}
 use Prim.Native.Nat.{ℕ, _≤_}
 use native.Mathlib.Omega.{arith}
@@ -20,7 +20,7 @@ use Rattle.elements.specs.declared.Shape.{Shape}
 use Rattle.elements.specs.Element.{bodyOf}
 use Rattle.elements.specs.Rows.{bodyIn}
 use Rattle.elements.specs.Says.{noSpan}
-use Rattle.elements.specs.Frames.{Bounding, Inner, Framed, Frames}
+use Rattle.elements.specs.Frames.{Bounding, Inner, Frames}
 use Rattle.elements.specs.WellMade.{WellMade}
 use Rattle.elements.proofs.Bounding.{empty-fine, empty-items}
 use Rattle.elements.proofs.Zero.{zero-bounding}

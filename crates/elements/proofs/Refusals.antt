@@ -7,7 +7,6 @@ use lib.Dec.{eqb, leb}
 use lib.ListN.{length}
 use Rattle.tree.specs.Tree.{Tree}
 use Rattle.contents.specs.Search.{is, firstValue}
-use Rattle.elements.specs.declared.Shape.{Shape}
 use Rattle.elements.specs.Shape.{Edition, shapeOf}
 use Rattle.elements.specs.Element.{Element, elementOf, asTabled, typeFits, namesFit}
 use Rattle.elements.specs.Judge.{mostElements, profile, twice, firstOf, _when_, shapeRefusal, refusalOf}

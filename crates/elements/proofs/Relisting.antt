@@ -1,9 +1,9 @@
 -- The portions of an element can be read again by the bounds of their value alone: they are primitive items. Assumes nothing.
 use mathlib.Core.Path.{_≡_, refl, sym, ap, _∙_, subst}
-use mathlib.Core.Bool.{Bool, true, false, cond, not, _&&_, false≢true}
+use mathlib.Core.Bool.{Bool, true, false, cond, _&&_, false≢true}
 use mathlib.Core.List.{List, [], _∷_}
 use mathlib.Core.Logic.{_⊎_, inl, inr}
-use Prim.Native.Nat.{ℕ, _<_}
+use Prim.Native.Nat.{ℕ}
 use native.Mathlib.Omega.{arith}
 use lib.Dec.{eqb}
 use lib.Seq.{slice}
@@ -26,7 +26,7 @@ use Rattle.contents.specs.declared.Span.{Span}
 use Rattle.contents.specs.Search.{is, boundsOf, itemsIn}
 use Rattle.contents.specs.Gather.{Counted}
 use Rattle.portions.specs.Portions.{allPortions}
-use Rattle.elements.specs.Says.{noSpan, portionsRun}
+use Rattle.elements.specs.Says.{portionsRun}
 
 both : (a b : Bool) → a && b ≡ true → b ≡ true
 both true b t = t

@@ -1,17 +1,16 @@
 -- What a pair tells of the value that it bounds: the object type, and how an identifier is spelt. Assumes nothing.
-use mathlib.Core.Path.{_≡_, refl, sym, ap, _∙_, subst}
+use mathlib.Core.Path.{_≡_, refl, sym, ap, _∙_}
 use mathlib.Core.Bool.{Bool, true, false, false≢true}
 use mathlib.Core.List.{List, [], _∷_}
 use Prim.Native.Nat.{ℕ, suc, _-_, _<_, _≤_}
 use native.Mathlib.Omega.{arith}
-use lib.Dec.{ltb, leb}
+use lib.Dec.{ltb}
 use lib.ListN.{length, getD}
 use lib.Seq.{slice, slice-cons, slice-empty, length-slice}
 use Rattle.contents.specs.declared.Span.{Span}
 use Rattle.contents.specs.Search.{Value, absent, octets}
-use Rattle.names.specs.Names.{isIdentifier, grouped, longestIdentifier}
-use Rattle.elements.specs.declared.Typed.{Typed}
-use Rattle.elements.specs.Element.{noType, typeOf, typeFits, spelt}
+use Rattle.names.specs.Names.{isIdentifier, grouped}
+use Rattle.elements.specs.Element.{noType, typeFits, spelt}
 use Rattle.elements.specs.Says.{Covers, Bounds, Names}
 use Rattle.elements.specs.Frames.{Types}
 

@@ -11,6 +11,7 @@ use Rattle.runs.specs.Runs.{itemsOf, treeIn, Fine}
 use Rattle.contents.specs.declared.Gathered.{Gathered}
 use Rattle.contents.specs.declared.Sought.{Sought}
 use Rattle.contents.specs.declared.Span.{Span}
+use Rattle.contents.specs.Search.{Value}
 use Rattle.portions.specs.declared.Listed.{Listed}
 use Rattle.portions.specs.Bounds.{bounded, Inside}
 use Rattle.portions.specs.Portions.{mostPortions, all}
@@ -18,7 +19,7 @@ use Rattle.elements.specs.declared.Frame.{Frame}
 use Rattle.elements.specs.declared.Row.{Row}
 use Rattle.elements.specs.declared.Seen.{Seen}
 use Rattle.elements.specs.declared.Shape.{Shape}
-use Rattle.elements.specs.Element.{elementOf}
+use Rattle.elements.specs.Element.{elementOf, spelt}
 use Rattle.elements.specs.Judge.{firstOf, _when_, shapeRefusal}
 use Rattle.elements.specs.Rows.{rowOf}
 use Rattle.elements.specs.Says.{Placed, noSpan, Says, RowPlaced}
@@ -38,9 +39,13 @@ tabledBy needed g others =
     ∷ not others
     ∷ [])
 
--- the portions' part of rule 14, by what was read
+-- the portions' part of rule 14, by what was read: "misspelt, or a 65th portion"
 abbrev pub listSpelt : Listed → Bool
 listSpelt listed = leb (listed .count) mostPortions && not (listed .misspelt)
+
+-- rule 14, by the identifiers and by what was read of the portions
+abbrev pub speltBy : (identifier logical : Value) → Listed → Bool
+speltBy identifier logical listed = all (spelt identifier ∷ spelt logical ∷ listSpelt listed ∷ [])
 
 -- rules 12 to 14, by what was found of each
 abbrev pub numberOf : (tabled fits spelt : Bool) → ℕ

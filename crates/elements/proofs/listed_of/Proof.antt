@@ -1,11 +1,11 @@
 -- `elements::listed_of` meets its contract: where there is no list there are no items to read. Assumes nothing.
-use mathlib.Core.Path.{_≡_, refl, ap, sym, _∙_}
+use mathlib.Core.Path.{_≡_}
 use mathlib.Core.Bool.{false}
-use mathlib.Core.List.{List, []}
+use mathlib.Core.List.{List}
 use Prim.Native.Nat.{ℕ}
 use borrow.Author.Needs.{needs}
 use Rattle.octets.specs.Items.{none}
-use Rattle.tree.specs.Tree.{empty, plain}
+use Rattle.tree.specs.Tree.{empty}
 use Rattle.runs.specs.declared.Run.{Run}
 use Rattle.runs.specs.Runs.{itemsOf, treeIn}
 use Rattle.runs.proofs.Laws.{tree-none}

@@ -1,13 +1,11 @@
 -- `elements::see` meets its contract: items that do not stand as tabled are refused by 12, and what the others hold is looked into.
 -- Assumes nothing.
-use mathlib.Core.Path.{_≡_, sym, _∙_, subst}
-use mathlib.Core.Bool.{true, false}
+use mathlib.Core.Path.{sym, _∙_, subst}
 use borrow.Author.Needs.{needs}
 use borrow.Author.Tests.{not-true, not-false}
-use Rattle.elements.specs.Frames.{Framed}
 use Rattle.elements.specs.Sees.{Sees}
 use Rattle.elements.proofs.Bounding.{bounding-placed}
-use Rattle.elements.proofs.Passing.{sees-unordered}
+use Rattle.elements.proofs.Seeing.{sees-unordered}
 use Rattle.elements.proofs.see.Statement.{statement}
 use Rattle.elements.proofs.see.Tie as tie
 

@@ -11,7 +11,7 @@ use Rattle.elements.specs.Element.{elementOf}
 use Rattle.elements.specs.Sees.{soughtOf, numberOf, rowBy, seenBy, Sees}
 use Rattle.elements.proofs.Bounding.{uncounted}
 use Rattle.elements.proofs.Findings.{Findings, identifier-bounds, logical-bounds}
-use Rattle.elements.proofs.Passing.{sees-by}
+use Rattle.elements.proofs.Seeing.{sees-by}
 use Rattle.elements.proofs.see_body.Statement.{statement}
 use Rattle.elements.proofs.see_body.Tie as tie
 

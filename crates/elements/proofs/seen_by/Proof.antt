@@ -1,5 +1,4 @@
 -- `elements::seen_by` meets its contract. Assumes nothing.
-use mathlib.Core.Path.{_∙_}
 use borrow.Author.Needs.{needs}
 use borrow.Author.Tests.{eq-eqb, ne-eqb}
 use Rattle.elements.proofs.seen_by.Statement.{statement}

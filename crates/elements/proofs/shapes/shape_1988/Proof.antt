@@ -1,6 +1,6 @@
 -- `elements::shapes::shape_1988` meets its contract: each arm makes the shape that the list of 1988 has for its octet, and the last one
 -- that of no element, since no test of the list holds. Assumes nothing.
-use mathlib.Core.Path.{_≡_, sym, ap, _∙_}
+use mathlib.Core.Path.{sym, ap, _∙_}
 use mathlib.Core.List.{[], _∷_}
 use Prim.Native.Nat.{ℕ}
 use borrow.Author.Needs.{needs}

@@ -1,4 +1,4 @@
--- `elements::is_once` meets its contract: by whether there is none, one or more. Assumes nothing.
+-- `elements::rules::is_once` meets its contract: by whether there is none, one or more. Assumes nothing.
 use mathlib.Core.Path.{_≡_, refl, sym, _∙_}
 use mathlib.Core.Bool.{Bool, true, false, not, and-false}
 use Prim.Native.Nat.{ℕ, zero, suc}
@@ -6,8 +6,8 @@ use native.Mathlib.Omega.{arith}
 use lib.Dec.{eqb, leb}
 use borrow.Author.Tests.{ne-eqb, lt-leb}
 use Rattle.elements.specs.Sees.{once}
-use Rattle.elements.proofs.is_once.Statement.{statement}
-use Rattle.elements.proofs.is_once.Tie as tie
+use Rattle.elements.proofs.rules.is_once.Statement.{statement}
+use Rattle.elements.proofs.rules.is_once.Tie as tie
 
 none-there : (needed : Bool) → not needed ≡ once needed 0
 unfolding once

@@ -1,11 +1,11 @@
--- `elements::are_spelt` meets its contract: the tests of the definition in order. Assumes nothing.
+-- `elements::rules::are_spelt` meets its contract: the tests of the definition in order. Assumes nothing.
 use mathlib.Core.Path.{_≡_, sym, _∙_}
 use mathlib.Core.Bool.{true, false, and-true}
 use borrow.Author.Needs.{needs}
 use borrow.Author.Tests.{not-true, not-false, le-leb, lt-leb}
 use Rattle.elements.specs.Element.{spelt}
-use Rattle.elements.proofs.are_spelt.Statement.{statement}
-use Rattle.elements.proofs.are_spelt.Tie as tie
+use Rattle.elements.proofs.rules.are_spelt.Statement.{statement}
+use Rattle.elements.proofs.rules.are_spelt.Tie as tie
 
 is-spelt-requires : tie.Need-is-spelt-requires
 is-spelt-requires c κs = search needs

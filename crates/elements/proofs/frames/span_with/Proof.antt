@@ -1,10 +1,10 @@
--- `elements::span_with` meets its contract: what is found in the opening is what its run has. Assumes nothing.
+-- `elements::frames::span_with` meets its contract: what is found in the opening is what its run has. Assumes nothing.
 use mathlib.Core.Path.{subst}
 use borrow.Author.Needs.{needs}
 use Rattle.contents.specs.Opening.{FoundIn}
 use Rattle.elements.proofs.Bounding.{held-bounding, lacked-bounding}
-use Rattle.elements.proofs.span_with.Statement.{statement}
-use Rattle.elements.proofs.span_with.Tie as tie
+use Rattle.elements.proofs.frames.span_with.Statement.{statement}
+use Rattle.elements.proofs.frames.span_with.Tie as tie
 
 part-with-requires : tie.Need-part-with-requires
 part-with-requires c κs = search needs

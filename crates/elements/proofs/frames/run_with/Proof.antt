@@ -1,11 +1,11 @@
--- `elements::run_with` meets its contract: what is found in the opening is what its run has. Assumes nothing.
+-- `elements::frames::run_with` meets its contract: what is found in the opening is what its run has. Assumes nothing.
 use mathlib.Core.Path.{sym, subst}
 use borrow.Author.Needs.{needs}
 use Rattle.contents.specs.Opening.{FoundIn}
 use Rattle.elements.specs.Frames.{Inner}
 use Rattle.elements.proofs.Bounding.{held-inner, lacked-inner}
-use Rattle.elements.proofs.run_with.Statement.{statement}
-use Rattle.elements.proofs.run_with.Tie as tie
+use Rattle.elements.proofs.frames.run_with.Statement.{statement}
+use Rattle.elements.proofs.frames.run_with.Tie as tie
 
 part-with-requires : tie.Need-part-with-requires
 part-with-requires c κs = search needs

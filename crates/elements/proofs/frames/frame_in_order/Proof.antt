@@ -1,9 +1,9 @@
--- `elements::frame_in_order` meets its contract: all is found in the opening, whose run has no more items if they stand in order.
+-- `elements::frames::frame_in_order` meets its contract: all is found in the opening, whose run has no more items if they stand in order.
 -- Assumes nothing.
 use borrow.Author.Needs.{needs}
 use Rattle.elements.proofs.Framing.{ordered-frame}
-use Rattle.elements.proofs.frame_in_order.Statement.{statement}
-use Rattle.elements.proofs.frame_in_order.Tie as tie
+use Rattle.elements.proofs.frames.frame_in_order.Statement.{statement}
+use Rattle.elements.proofs.frames.frame_in_order.Tie as tie
 
 opening-of-requires : tie.Need-opening-of-requires
 opening-of-requires c κs = search needs

@@ -1,9 +1,9 @@
--- `elements::object_type` meets its contract: by how many octets the pair bounds. Assumes nothing.
+-- `elements::rules::object_type` meets its contract: by how many octets the pair bounds. Assumes nothing.
 use native.Mathlib.Omega.{arith}
 use borrow.Author.Needs.{needs}
 use Rattle.elements.proofs.Values.{type-absent, type-long, type-one}
-use Rattle.elements.proofs.object_type.Statement.{statement}
-use Rattle.elements.proofs.object_type.Tie as tie
+use Rattle.elements.proofs.rules.object_type.Statement.{statement}
+use Rattle.elements.proofs.rules.object_type.Tie as tie
 
 returns : tie.Need-returns
 returns c =

@@ -1,4 +1,4 @@
--- `elements::frame_of` meets its contract, for each kind of shape. Assumes nothing.
+-- `elements::frames::frame_of` meets its contract, for each kind of shape. Assumes nothing.
 use mathlib.Core.Path.{sym, subst}
 use mathlib.Core.Bool.{true}
 use borrow.Author.Needs.{needs}
@@ -7,8 +7,8 @@ use Rattle.runs.specs.declared.Run.{Run}
 use Rattle.elements.specs.Says.{noSpan}
 use Rattle.elements.specs.Frames.{Frames}
 use Rattle.elements.proofs.Framing.{free-frame, unlooked-frame}
-use Rattle.elements.proofs.frame_of.Statement.{statement}
-use Rattle.elements.proofs.frame_of.Tie as tie
+use Rattle.elements.proofs.frames.frame_of.Statement.{statement}
+use Rattle.elements.proofs.frames.frame_of.Tie as tie
 
 frame-in-order-requires : tie.Need-frame-in-order-requires
 frame-in-order-requires c κs =

@@ -1,8 +1,8 @@
--- `elements::is_spelt` meets its contract. Assumes nothing.
+-- `elements::rules::is_spelt` meets its contract. Assumes nothing.
 use borrow.Author.Needs.{needs}
 use Rattle.elements.proofs.Values.{spelt-absent, spelt-there}
-use Rattle.elements.proofs.is_spelt.Statement.{statement}
-use Rattle.elements.proofs.is_spelt.Tie as tie
+use Rattle.elements.proofs.rules.is_spelt.Statement.{statement}
+use Rattle.elements.proofs.rules.is_spelt.Tie as tie
 
 returns : tie.Need-returns
 returns c = spelt-absent (c .before .before .args .s .now) (c .before .before .args .v) (c .if1 .taken)

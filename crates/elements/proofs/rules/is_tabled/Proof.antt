@@ -1,11 +1,11 @@
--- `elements::is_tabled` meets its contract: the tests of the definition in order. Assumes nothing.
-use mathlib.Core.Path.{_≡_, sym, _∙_}
+-- `elements::rules::is_tabled` meets its contract: the tests of the definition in order. Assumes nothing.
+use mathlib.Core.Path.{sym, _∙_}
 use mathlib.Core.Bool.{and-true}
 use borrow.Author.Needs.{needs}
 use borrow.Author.Tests.{not-true, not-false, le-leb, lt-leb, eq-eqb, ne-eqb}
 use Rattle.elements.specs.Sees.{tabledBy}
-use Rattle.elements.proofs.is_tabled.Statement.{statement}
-use Rattle.elements.proofs.is_tabled.Tie as tie
+use Rattle.elements.proofs.rules.is_tabled.Statement.{statement}
+use Rattle.elements.proofs.rules.is_tabled.Tie as tie
 
 is-once-requires : tie.Need-is-once-requires
 is-once-requires c κs = search needs
