@@ -1,1 +1,5 @@
 pub mod Search
+pub mod Order
+pub mod First
+pub mod Opening
+pub mod Gather

@@ -1,7 +1,344 @@
-// What an element holds: its first items, and those that name it.
+// What an element holds: its first items, and, of a run, the items that name it. Each is one pass over the run.
+use runs::Met;
+use runs::Run;
+ghost use mathlib.Core.Path.{_≡_};
+ghost use mathlib.Core.Bool.{cond, not, _&&_, _||_};
+ghost use mathlib.Core.List.{List};
+ghost use Prim.Native.Nat.{ℕ, _+_, _<_, _^_};
+ghost use lib.Dec.{eqb};
+ghost use Rattle.runs.specs.Runs.{treeIn, Fine};
+ghost use Rattle.contents.specs.Order.{inOrder};
+ghost use Rattle.contents.specs.First.{spanOf};
+ghost use Rattle.contents.specs.Opening.{noPart, Begins, Opens, CountsOn, Finds};
+ghost use Rattle.contents.specs.Gather.{Gathers, unseen, seenWith, gatheredFrom};
 
 // The bounds of a value; absent is 0 and 0.
 pub struct Span {
     pub first: usize,
     pub past: usize,
+}
+
+// An item of a run: its octet, its value from `first` to `past`, and the run inside it.
+pub struct Part {
+    pub octet: usize,
+    pub first: usize,
+    pub past: usize,
+    pub inner: Run,
+}
+
+// How many items a run has, 3 for more than two, and the first two of them.
+pub struct Opening {
+    pub count: usize,
+    pub one: Part,
+    pub two: Part,
+}
+
+// An item that is needed, or may be missing.
+pub struct Slot {
+    pub octet: usize,
+    pub needed: bool,
+}
+
+// The first item with an octet, or none.
+pub enum Found {
+    At(Part),
+    Missing,
+}
+
+// The octets that matter in the run that names an element: its identifier, its logical identifier, its portions, and two that may
+// not stand there. 0 is none.
+pub struct Sought {
+    pub identifier: usize,
+    pub logical: usize,
+    pub portions: usize,
+    pub never: usize,
+    pub neither: usize,
+}
+
+// How often each of them stands there, and the first one's value; `list` is the run of the portions.
+pub struct Gathered {
+    pub identifiers: usize,
+    pub identifier: Span,
+    pub logicals: usize,
+    pub logical: Span,
+    pub lists: usize,
+    pub portions: Span,
+    pub list: Run,
+    pub barred: usize,
+}
+
+// How many items with one octet were seen, and the first of them.
+pub struct Seen {
+    pub amount: usize,
+    pub part: Part,
+}
+
+fn no_part() -> Part
+    ensures { λ p. ⌜ p ≡ noPart ⌝ }
+{
+    Part {
+        octet: 0,
+        first: 0,
+        past: 0,
+        inner: Run {
+            at: 0,
+            limit: 0,
+            marked: false,
+            room: 0,
+        },
+    }
+}
+
+// 2 if a run that follows two items ends here, 3 if it goes on.
+fn count_after_two(s: &[u8], last: Run) -> usize
+    requires { ⌜ Fine (now s) last ⌝ }
+    ensures { λ n. ⌜ CountsOn (now (s .entry)) last n ⌝ }
+{
+    match runs::meet(s, last) {
+        Met::End => 2,
+        Met::Item {
+            octet: _,
+            first: _,
+            past: _,
+            inner: _,
+            rest: _,
+        } => 3,
+    }
+}
+
+// The opening of a run whose first item is met already.
+fn opening_after(s: &[u8], one: Part, rest: Run) -> Opening
+    requires { ⌜ Fine (now s) rest ⌝ }
+    ensures { λ o. ⌜ ((r : Run) → Begins (now (s .entry)) r one rest → Opens (now (s .entry)) r o) ⌝ }
+{
+    match runs::meet(s, rest) {
+        Met::End => {
+            Opening {
+                count: 1,
+                one,
+                two: no_part(),
+            }
+        }
+        Met::Item {
+            octet,
+            first,
+            past,
+            inner,
+            rest: last,
+        } => {
+            Opening {
+                count: count_after_two(s, last),
+                one,
+                two: Part {
+                    octet,
+                    first,
+                    past,
+                    inner,
+                },
+            }
+        }
+    }
+}
+
+// The first two items of a run, and whether it has more. It never looks at a third item's value, and at no item after that.
+pub fn opening_of(s: &[u8], r: Run) -> Opening
+    requires { ⌜ Fine (now s) r ⌝ }
+    ensures { λ o. ⌜ Opens (now (s .entry)) r o ⌝ }
+{
+    match runs::meet(s, r) {
+        Met::End => {
+            Opening {
+                count: 0,
+                one: no_part(),
+                two: no_part(),
+            }
+        }
+        Met::Item {
+            octet,
+            first,
+            past,
+            inner,
+            rest,
+        } => opening_after(
+            s,
+            Part {
+                octet,
+                first,
+                past,
+                inner,
+            },
+            rest,
+        ),
+    }
+}
+
+// Whether an item alone is the second of two slots.
+fn fills_second(octet: usize, one: Slot, two: Slot) -> bool
+    ensures { λ b. ⌜ b ≡ (not (one .needed) && eqb octet (two .octet)) ⌝ }
+{
+    if one.needed {
+        return false;
+    }
+    octet == two.octet
+}
+
+// Whether an item alone is the first of two slots, or the second.
+fn fills_either(octet: usize, one: Slot, two: Slot) -> bool
+    ensures { λ b. ⌜ b ≡ (eqb octet (one .octet) && not (two .needed) || not (one .needed) && eqb octet (two .octet)) ⌝ }
+{
+    if octet == one.octet {
+        if !two.needed {
+            return true;
+        }
+        return fills_second(octet, one, two);
+    }
+    fills_second(octet, one, two)
+}
+
+// Whether an opening has an item for each of two slots in order, or none where it is not needed, and no others.
+pub fn fills(o: Opening, one: Slot, two: Slot) -> bool
+    ensures { λ b. ⌜ ((s : List ℕ) (r : Run) → Opens s r o → b ≡ inOrder one two (treeIn s r)) ⌝ }
+{
+    let first = o.one;
+    let second = o.two;
+    let count = o.count;
+    if count == 2 {
+        if first.octet == one.octet {
+            return second.octet == two.octet;
+        }
+        return false;
+    }
+    if count == 1 {
+        return fills_either(first.octet, one, two);
+    }
+    if count == 0 {
+        if one.needed {
+            return false;
+        }
+        return !two.needed;
+    }
+    false
+}
+
+// The first of an opening's items with the octet.
+pub fn part_with(o: Opening, octet: usize) -> Found
+    ensures { λ found. ⌜ Finds o octet found ⌝ }
+{
+    let one = o.one;
+    let two = o.two;
+    let count = o.count;
+    if count == 0 {
+        return Found::Missing;
+    }
+    if one.octet == octet {
+        return Found::At(one);
+    }
+    if count == 1 {
+        return Found::Missing;
+    }
+    if two.octet == octet {
+        return Found::At(two);
+    }
+    Found::Missing
+}
+
+fn unseen_yet() -> Seen
+    ensures { λ x. ⌜ x ≡ unseen ⌝ }
+{
+    Seen {
+        amount: 0,
+        part: no_part(),
+    }
+}
+
+// One item more: it counts if it has the octet.
+fn seen_with(x: Seen, octet: usize, p: Part) -> Seen
+    requires { ⌜ x .amount + 1 < 2 ^ 64 ⌝ }
+    ensures { λ y. ⌜ y ≡ seenWith octet x p ⌝ }
+{
+    if p.octet != octet {
+        return x;
+    }
+    if x.amount == 0 {
+        return Seen { amount: 1, part: p };
+    }
+    let part = x.part;
+    Seen {
+        amount: x.amount + 1,
+        part,
+    }
+}
+
+// One more if an octet is the one that is counted.
+fn counted_with(n: usize, counted: usize, octet: usize) -> usize
+    requires { ⌜ n + 1 < 2 ^ 64 ⌝ }
+    ensures { λ m. ⌜ m ≡ n + cond (eqb octet counted) 1 0 ⌝ }
+{
+    if octet == counted {
+        return n + 1;
+    }
+    n
+}
+
+fn span_of(p: Part) -> Span
+    ensures { λ v. ⌜ v ≡ spanOf p ⌝ }
+{
+    Span {
+        first: p.first,
+        past: p.past,
+    }
+}
+
+fn gathered_from(identifier: Seen, logical: Seen, portions: Seen, barred: usize) -> Gathered
+    ensures { λ g. ⌜ g ≡ gatheredFrom identifier logical portions barred ⌝ }
+{
+    let list = portions.part;
+    let inner = list.inner;
+    Gathered {
+        identifiers: identifier.amount,
+        identifier: span_of(identifier.part),
+        logicals: logical.amount,
+        logical: span_of(logical.part),
+        lists: portions.amount,
+        portions: span_of(list),
+        list: inner,
+        barred,
+    }
+}
+
+// What of five octets stands in a run, in one pass.
+pub fn gather(s: &[u8], r: Run, sought: Sought) -> Gathered
+    requires { ⌜ Fine (now s) r ⌝ }
+    ensures { λ g. ⌜ Gathers (now (s .entry)) r sought g ⌝ }
+{
+    let mut cur = r;
+    let mut identifier = unseen_yet();
+    let mut logical = unseen_yet();
+    let mut portions = unseen_yet();
+    let mut barred: usize = 0;
+    loop {
+        match runs::meet(s, cur) {
+            Met::End => return gathered_from(identifier, logical, portions, barred),
+            Met::Item {
+                octet,
+                first,
+                past,
+                inner,
+                rest,
+            } => {
+                let p = Part {
+                    octet,
+                    first,
+                    past,
+                    inner,
+                };
+                identifier = seen_with(identifier, sought.identifier, p);
+                logical = seen_with(logical, sought.logical, p);
+                portions = seen_with(portions, sought.portions, p);
+                barred = counted_with(barred, sought.never, octet);
+                barred = counted_with(barred, sought.neither, octet);
+                cur = rest;
+            }
+        }
+    }
 }

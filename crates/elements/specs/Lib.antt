@@ -1,4 +1,7 @@
+-- Shape: the element table as data. Element: what an element says, and rules 12 to 14. Judge: rules 9 to 15 of a letter. Rows: the table.
+-- WellMade: what the code relies on in a shape.
 pub mod Shape
 pub mod Element
 pub mod Judge
 pub mod Rows
+pub mod WellMade

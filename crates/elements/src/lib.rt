@@ -2,6 +2,8 @@
 use contents::Slot;
 use contents::Span;
 
+pub mod shapes; // shapes.rt: the shapes of the edition of 1988
+
 // The shape of an element: which items it has, and what they are for. An octet 0 stands for none.
 pub struct Shape {
     pub octet: usize,

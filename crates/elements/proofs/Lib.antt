@@ -1,0 +1,2 @@
+-- Made: every shape of 1988 is well made.
+pub mod Made

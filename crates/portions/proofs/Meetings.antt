@@ -1,0 +1,74 @@
+-- What an item that is met says of the run: whether it is a portion, and then its value and what the rest says. Assumes nothing.
+use mathlib.Core.Path.{_≡_, refl, ap, sym, _∙_}
+use mathlib.Core.Bool.{true, false, false≢true}
+use mathlib.Core.List.{List, [], _∷_}
+use Prim.Native.Nat.{ℕ}
+use borrow.Author.Tests.{ne-eqb, eqb-true, eqb-false}
+use borrow.Table.Steps.{cases}
+use lib.Dec.{eqb}
+use lib.Seq.{slice}
+use Rattle.octets.specs.First.{constructed}
+use Rattle.octets.specs.Items.{Items, none, item}
+use Rattle.tree.specs.Tree.{Tree, formed, plain}
+use Rattle.runs.specs.declared.Run.{Run}
+use Rattle.runs.specs.Runs.{itemsOf, treeIn, allPrimitive, Meeting}
+use Rattle.runs.proofs.Laws.{tree-meets, tree-none}
+use Rattle.portions.specs.Portions.{allPortions, values}
+
+-- an item with an octet, its value, the run inside it and what follows
+module _ (octet : ℕ) (value : List ℕ) (inside after : Tree) where
+  pub portions-formed : octet ≡ 0x12 → allPortions (formed (constructed octet) (octet ∷ []) value inside after) ≡ allPortions after
+  unfolding allPortions
+  portions-formed e = rw e
+
+  pub others-formed : (octet ≡ 0x12 → ⊥) → allPortions (formed (constructed octet) (octet ∷ []) value inside after) ≡ false
+  unfolding allPortions
+  others-formed n = cases (constructed octet) (λ c. rw c) (λ c. rw (c, ne-eqb octet 0x12 n))
+
+  pub values-formed : octet ≡ 0x12 → values (formed (constructed octet) (octet ∷ []) value inside after) ≡ value ∷ values after
+  unfolding values
+  values-formed e = rw e
+
+  -- if all are portions, the first is
+  pub portion-formed : allPortions (formed (constructed octet) (octet ∷ []) value inside after) ≡ true → octet ≡ 0x12
+  portion-formed t =
+      cases (eqb octet 0x12) (λ e. eqb-true octet 0x12 e) (λ e. absurd (false≢true (sym (others-formed (eqb-false octet 0x12 e)) ∙ t)))
+
+module _ {s : List ℕ} {r : Run} {octet first past : ℕ} {inner rest : Run} (met : Meeting s r octet first past inner rest) where
+  pub portions-met : octet ≡ 0x12 → allPortions (treeIn s r) ≡ allPortions (treeIn s rest)
+  portions-met e = ap allPortions (tree-meets met) ∙ portions-formed octet (slice first past s) (treeIn s inner) (treeIn s rest) e
+
+  pub others-met : (octet ≡ 0x12 → ⊥) → allPortions (treeIn s r) ≡ false
+  others-met n = ap allPortions (tree-meets met) ∙ others-formed octet (slice first past s) (treeIn s inner) (treeIn s rest) n
+
+  pub values-met : octet ≡ 0x12 → values (treeIn s r) ≡ slice first past s ∷ values (treeIn s rest)
+  values-met e = ap values (tree-meets met) ∙ values-formed octet (slice first past s) (treeIn s inner) (treeIn s rest) e
+
+  -- of a run of portions, the next one is met, and portions are left
+  module _ (all : allPortions (treeIn s r) ≡ true) where
+    pub portion-next : octet ≡ 0x12
+    portion-next = portion-formed octet (slice first past s) (treeIn s inner) (treeIn s rest) (sym (ap allPortions (tree-meets met)) ∙ all)
+
+    pub values-next : values (treeIn s r) ≡ slice first past s ∷ values (treeIn s rest)
+    values-next = values-met portion-next
+
+    pub portions-left : allPortions (treeIn s rest) ≡ true
+    portions-left = sym (portions-met portion-next) ∙ all
+
+-- where no item is met there is no portion, and no other item
+module _ (s : List ℕ) (r : Run) (end : itemsOf s r ≡ none) where
+  pub portions-end : allPortions (treeIn s r) ≡ true
+  unfolding allPortions
+  portions-end = ap allPortions (tree-none s r end)
+
+  pub values-end : values (treeIn s r) ≡ []
+  unfolding values
+  values-end = ap values (tree-none s r end)
+
+-- portions are primitive: a value of portions can be read again by its bounds
+pub portions-primitive : (s : List ℕ) (items : Items) → allPortions (plain s items) ≡ true → allPrimitive items ≡ true
+portions-primitive s none all = refl
+portions-primitive s (item at octet first past inside after) all =
+    let e : octet ≡ 0x12 = portion-formed octet (slice first past s) (plain s inside) (plain s after) all in
+    let left : allPortions (plain s after) ≡ true = sym (portions-formed octet (slice first past s) (plain s inside) (plain s after) e) ∙ all in
+    rw e (portions-primitive s after left)

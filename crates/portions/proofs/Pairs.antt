@@ -1,0 +1,62 @@
+-- Numbers that bound values begin with the first value's pair, and a pair more at their end is a value more. Assumes nothing.
+use mathlib.Core.Path.{_≡_, refl, ap, _∙_, subst}
+use mathlib.Core.List.{List, [], _∷_, _++_, append-assoc}
+use Prim.Native.Nat.{ℕ, suc, _+_, _*_, _-_, _<_, _≤_}
+use native.Mathlib.Omega.{arith}
+use lib.ListN.{length, getD, take, set, length-set}
+use lib.Seq.{slice, take-suc-set}
+use Rattle.names.proofs.Parts.{slice-more}
+use Rattle.portions.specs.Bounds.{bounded, Inside}
+
+-- the pair k, which is not the last
+module _ (s numbers : List ℕ) (k count : ℕ) (some : k < count) (enough : 2 * count ≤ length numbers) where
+  abbrev first : ℕ
+  first = getD numbers (2 * k) 0
+
+  abbrev past : ℕ
+  past = getD numbers (2 * k + 1) 0
+
+  abbrev rest : List ℕ
+  rest = slice (2 * (k + 1)) (2 * count) numbers
+
+  pair-more : slice (2 * k) (2 * count) numbers ≡ first ∷ past ∷ rest
+  pair-more =
+      let e : 2 * (k + 1) ≡ 2 * k + 1 + 1 = omega arith in
+      slice-more numbers (2 * k) (2 * count) (omega arith) enough
+      ∙ rw e (ap (λ (l : List ℕ). first ∷ l) (slice-more numbers (2 * k + 1) (2 * count) (omega arith) enough))
+
+  pub bounded-more : bounded s (slice (2 * k) (2 * count) numbers) ≡ slice first past s ∷ bounded s rest
+  unfolding bounded
+  bounded-more = ap (bounded s) pair-more
+
+  pub inside-more : Inside s (slice (2 * k) (2 * count) numbers) → (first ≤ past) × (past ≤ length s) × Inside s rest
+  unfolding Inside
+  inside-more i = subst (Inside s) pair-more i
+
+-- a pair stored after k others
+pub pair-stored : (numbers : List ℕ) (k first past : ℕ) → 2 * k + 1 < length numbers
+    → take (2 * (k + 1)) (set (set numbers (2 * k) first) (2 * k + 1) past) ≡ take (2 * k) numbers ++ first ∷ past ∷ []
+pair-stored numbers k first past l =
+    let e : 2 * (k + 1) ≡ suc (suc (2 * k)) = omega arith in
+    let f : 2 * k + 1 ≡ suc (2 * k) = omega arith in
+    let l₁ : 2 * k < length numbers = omega arith in
+    let l₂ : suc (2 * k) < length (set numbers (2 * k) first) = simp length-set (omega arith) in
+    rw (e, f, take-suc-set (set numbers (2 * k) first) (suc (2 * k)) past l₂, take-suc-set numbers (2 * k) first l₁)
+    (append-assoc (take (2 * k) numbers) (first ∷ []) (past ∷ []))
+
+module _ (s : List ℕ) (first past : ℕ) where
+  pub bounded-append : (numbers : List ℕ) (k : ℕ) → length numbers ≡ 2 * k
+      → bounded s (numbers ++ first ∷ past ∷ []) ≡ bounded s numbers ++ slice first past s ∷ []
+  unfolding bounded
+  bounded-append [] k e = refl
+  bounded-append (x ∷ []) k e = absurd (omega arith)
+  bounded-append (x ∷ y ∷ numbers) k e =
+      ap (λ (l : List (List ℕ)). slice x y s ∷ l) (bounded-append numbers (k - 1) (omega arith))
+
+  pub inside-append : (numbers : List ℕ) (k : ℕ) → length numbers ≡ 2 * k → Inside s numbers → first ≤ past → past ≤ length s
+      → Inside s (numbers ++ first ∷ past ∷ [])
+  unfolding Inside
+  inside-append [] k e i order inside = (order, inside, i)
+  inside-append (x ∷ []) k e i order inside = absurd (omega arith)
+  inside-append (x ∷ y ∷ numbers) k e i order inside =
+      (i .0, i .1, inside-append numbers (k - 1) (omega arith) (i .2) order inside)

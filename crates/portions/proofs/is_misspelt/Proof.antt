@@ -1,0 +1,18 @@
+use borrow.Author.Needs.{needs}
+use Rattle.portions.proofs.is_misspelt.Statement.{statement}
+use Rattle.portions.proofs.is_misspelt.Tie as tie
+use Rattle.portions.proofs.is_misspelt.Reads as reads
+use Rattle.portions.proofs.is_misspelt.Lts as lts
+use Rattle.names.proofs.is_portion.Reads as is-portion-reads
+
+returns : tie.Need-returns
+returns c = search needs
+
+is-portion-requires : tie.Need-is-portion-requires
+is-portion-requires c κs = search needs
+
+returns-2 : tie.Need-returns-2
+returns-2 c = rw (c .before .if1 .left, c .is-portion .ensures)
+
+pub is-misspelt-spec : {M : Type 1} → statement M
+is-misspelt-spec = tie.close (tie.spec returns is-portion-requires returns-2)
