@@ -1,1 +1,6 @@
+-- Lists: a list with one more. Rows: the numbers of rows. Meetings: what is met in a run.
+pub mod Lists
+pub mod Rows
+pub mod Clash
+pub mod Grow
 pub mod Meetings

@@ -1,3 +1,4 @@
 pub mod Letter
 pub mod Scratch
 pub mod Numbers
+pub mod Judges
