@@ -3,4 +3,6 @@ pub mod Lists
 pub mod Rows
 pub mod Clash
 pub mod Grow
+pub mod Steps
+pub mod State
 pub mod Meetings

@@ -15,6 +15,7 @@ ghost use lib.Seq.{sets, paste};
 ghost use Rattle.octets.specs.Walk.{streamLimit};
 ghost use Rattle.runs.specs.Runs.{itemsOf, wholeStream, tops, Fine};
 ghost use Rattle.names.specs.Hash.{hash};
+ghost use Rattle.portions.specs.Portions.{mostPortions};
 ghost use Rattle.portions.specs.Bounds.{bounded, Inside};
 ghost use Rattle.index.specs.Rows.{rowWidth, Bounded};
 ghost use Rattle.index.specs.Index.{Indexed};
@@ -23,7 +24,8 @@ ghost use Rattle.elements.specs.Judge.{twice};
 ghost use Rattle.elements.specs.Rows.{cells};
 ghost use Rattle.elements.specs.Says.{Placed, Says, RowPlaced};
 ghost use Rattle.letters.specs.Numbers.{Narrow};
-ghost use Rattle.letters.specs.Scratch.{Holds};
+ghost use Rattle.letters.specs.Scratch.{Holds, Gives};
+ghost use Rattle.letters.specs.Lent.{Lent, endVerdict};
 ghost use Rattle.letters.specs.Judges.{earlyRefusal, bytesIn, Taken, Indexes, hashesOf, Judges};
 
 const ROW_WIDTH: usize = 12;
@@ -267,4 +269,93 @@ fn add_row(
     put_row(rows, n * ROW_WIDTH, row);
     index::insert(s, rows, head, next, n, index::IDENTIFIER, hashes.identifier);
     index::insert(s, rows, head2, next2, n, index::LOGICAL, hashes.logical);
+}
+
+// Rules 9 to 15 for element n, which stands from first to past and has the run inner. The bounds lent are for its portions.
+fn judge_element(
+    s: &[u8],
+    rows: &[u32],
+    head: &[u16],
+    next: &[u16],
+    head2: &[u16],
+    next2: &[u16],
+    bounds: &mut [u32],
+    n: usize,
+    octet: usize,
+    inner: Run,
+    first: usize,
+    past: usize,
+) -> Judgement
+    requires { ⌜ Indexes (now s) (now rows) (now head) (now next) (now head2) (now next2) n ⌝ }
+    requires { ⌜ Fine (now s) inner × (length (now s) ≤ streamLimit) × (first ≤ past) × (past ≤ length (now s)) × (2 * mostPortions ≤ length (now bounds)) ⌝ }
+    ensures { λ r. ⌜ ((table : List Row) (done : List Element) → Holds (now (s .entry)) (now (rows .entry)) (now (head .entry)) (now (next .entry)) (now (head2 .entry)) (now (next2 .entry)) n table done → Judges (now (s .entry)) done octet inner first past r) ⌝ }
+{
+    Judgement::Fails { number: 9 }
+}
+
+fn at_end(n: usize) -> Verdict
+    ensures { λ r. ⌜ r ≡ endVerdict n ⌝ }
+{
+    if n == 0 {
+        return Verdict::Refused {
+            number: 11,
+            place: 0,
+        };
+    }
+    Verdict::Accepted { count: n }
+}
+
+// Judges the elements of a stream that the walk has passed. The scratch then holds the rows of an accepted one and their indexes.
+pub fn judge_stream(
+    s: &[u8],
+    rows: &mut [u32],
+    head: &mut [u16],
+    next: &mut [u16],
+    head2: &mut [u16],
+    next2: &mut [u16],
+    bounds: &mut [u32],
+) -> Verdict
+    requires { ⌜ Fine (now s) (wholeStream (now s)) × (length (now s) ≤ streamLimit) ⌝ }
+    requires { ⌜ Lent (now s) (now rows) (now head) (now next) (now head2) (now next2) (now bounds) ⌝ }
+    ensures { λ r. ⌜ Gives (now (s .entry)) (now (rows .exit)) (now (head .exit)) (now (next .exit)) (now (head2 .exit)) (now (next2 .exit)) r ⌝ }
+{
+    let mut cur = runs::whole_stream(s);
+    let mut n: usize = 0;
+    loop {
+        match runs::meet(s, cur) {
+            Met::End => return at_end(n),
+            Met::Item {
+                octet,
+                first: _,
+                past: _,
+                inner,
+                rest,
+            } => {
+                match judge_element(
+                    s,
+                    rows,
+                    head,
+                    next,
+                    head2,
+                    next2,
+                    bounds,
+                    n,
+                    octet,
+                    inner,
+                    cur.at,
+                    rest.at,
+                ) {
+                    Judgement::Fails { number } => return Verdict::Refused {
+                        number,
+                        place: cur.at,
+                    },
+                    Judgement::Passes { row, hashes } => {
+                        add_row(s, rows, head, next, head2, next2, n, row, hashes);
+                        n += 1;
+                        cur = rest;
+                    }
+                }
+            }
+        }
+    }
 }
