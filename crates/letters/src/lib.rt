@@ -290,7 +290,23 @@ fn judge_element(
     requires { ⌜ Fine (now s) inner × (length (now s) ≤ streamLimit) × (first ≤ past) × (past ≤ length (now s)) × (2 * mostPortions ≤ length (now bounds)) ⌝ }
     ensures { λ r. ⌜ ((table : List Row) (done : List Element) → Holds (now (s .entry)) (now (rows .entry)) (now (head .entry)) (now (next .entry)) (now (head2 .entry)) (now (next2 .entry)) n table done → Judges (now (s .entry)) done octet inner first past r) ⌝ }
 {
-    Judgement::Fails { number: 9 }
+    let shape = elements::shapes::shape_1988(octet);
+    let number = early(n, octet, shape.octet);
+    if number != 0 {
+        return Judgement::Fails { number };
+    }
+    let seen = elements::see(s, shape, inner, first, past, bounds);
+    if seen.refusal != 0 {
+        return Judgement::Fails {
+            number: seen.refusal,
+        };
+    }
+    let row = seen.row;
+    let hashes = hashes_of(s, row);
+    if has_double(s, rows, head, next, head2, next2, bounds, n, seen, hashes) {
+        return Judgement::Fails { number: 15 };
+    }
+    Judgement::Passes { row, hashes }
 }
 
 fn at_end(n: usize) -> Verdict
