@@ -6,3 +6,6 @@ pub mod Grow
 pub mod Steps
 pub mod State
 pub mod Meetings
+pub mod Nested
+pub mod Apart
+pub mod Table

@@ -19,6 +19,11 @@ use Rattle.elements.specs.Element.{Element, asTabled, typeFits, namesFit}
 use Rattle.elements.specs.Judge.{mostElements, profile, twice, firstOf, _when_, shapeRefusal, refusalOf, Judged, refused, judgeOne, judgeFrom, judge}
 use Rattle.letters.specs.Judges.{earlyRefusal, shape1988, element1988}
 
+-- of rules that do not refuse the first does not, nor do those after it
+pub passed : (number : ℕ) (refuses : Bool) (others : ℕ) → (number ≡ 0 → ⊥) → cond refuses number others ≡ 0 → (refuses ≡ false) × (others ≡ 0)
+passed number true others some e = absurd (some e)
+passed number false others some e = (refl, e)
+
 -- of seven rules the first that refuses, by three, three and one
 by-steps : (a b c d e f g : Bool) →
     let first = firstOf ((9 when a) ∷ (10 when b) ∷ (11 when c) ∷ []) in
@@ -63,10 +68,7 @@ module _ (done : List Element) (octet : ℕ) (run : Tree) where
   -- an element that no rule refuses has a number below 4,096
   pub unrefused-few : number ≡ 0 → length done < mostElements
   unfolding refusalOf
-  unrefused-few e =
-      cases (leb mostElements (length done))
-      (λ t. let nine : 9 ≡ number = rw t in absurd (omega (arith, nine, e)))
-      (λ t. leb-false mostElements (length done) t)
+  unrefused-few e = leb-false mostElements (length done) (passed 9 (leb mostElements (length done)) _ (λ q. absurd (omega arith)) e .0)
 
 -- an item of a run, and then those after it
 module _ (s : List ℕ) (done : List Element) (at octet first past : ℕ) (inside after : Items) (nothing-inside : constructed octet ≡ false → inside ≡ none) where
