@@ -1,5 +1,5 @@
 -- In an accepted letter no two elements share a name, for each was judged after those before it. Assumes nothing.
-use mathlib.Core.Path.{_≡_, refl, ap, sym, _∙_, subst}
+use mathlib.Core.Path.{_≡_, refl, sym, _∙_, subst}
 use mathlib.Core.Bool.{Bool, true, false, not, xor, _||_, true≢false}
 use mathlib.Core.List.{List, [], _∷_, _++_, map}
 use mathlib.Core.Option.{some}
@@ -11,7 +11,7 @@ use lib.Dec.{eqb, leb}
 use lib.ListN.{length, getElem?}
 use Rattle.tree.specs.Tree.{Tree, empty, leaf, branch}
 use Rattle.names.proofs.Same.{same-refl}
-use Rattle.contents.specs.Search.{Value, octets, is, firstValue}
+use Rattle.contents.specs.Search.{octets, is, firstValue}
 use Rattle.portions.specs.Portions.{any, repeats}
 use Rattle.index.specs.Rows.{space}
 use Rattle.elements.specs.Shape.{Edition, shapeOf}

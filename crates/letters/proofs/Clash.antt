@@ -2,16 +2,14 @@
 -- their elements say and no identifier is empty. Assumes nothing.
 use mathlib.Core.Path.{_≡_, refl, ap, sym, _∙_, subst}
 use mathlib.Core.Bool.{Bool, true, false, _&&_, _||_, false≢true}
-use mathlib.Core.List.{List, [], _∷_, map}
+use mathlib.Core.List.{List, [], map}
 use mathlib.Core.Option.{some}
-use Prim.Native.Nat.{ℕ, _+_, _-_, _<_, _≤_}
+use Prim.Native.Nat.{ℕ, _+_, _-_, _<_}
 use native.Mathlib.Omega.{arith}
 use borrow.Author.Tests.{eq-eqb, eqb-true}
-use borrow.Table.Steps.{cases}
 use lib.Dec.{eqb}
 use lib.ListN.{length, getD, getElem?}
 use lib.Seq.{slice, slice-empty, length-slice}
-use Rattle.names.specs.Names.{same}
 use Rattle.names.proofs.Same.{same-eq, same-refl}
 use Rattle.contents.specs.declared.Span.{Span}
 use Rattle.contents.specs.Search.{Value, absent, octets}
@@ -24,7 +22,7 @@ use Rattle.elements.specs.declared.Row.{Row}
 use Rattle.elements.specs.Element.{Element}
 use Rattle.elements.specs.Judge.{shares, clash, twice}
 use Rattle.elements.specs.Rows.{cells}
-use Rattle.elements.specs.Says.{noSpan, Names, Says}
+use Rattle.elements.specs.Says.{Names, Says}
 use Rattle.letters.specs.Scratch.{Holds}
 use Rattle.letters.specs.Judges.{bytesIn, Taken}
 use Rattle.letters.proofs.Lists.{below-length, at-below, any-true, any-false, any-or}

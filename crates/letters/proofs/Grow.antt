@@ -1,5 +1,5 @@
 -- A row more: it is written after the others, which stay as they are, and both indexes take it up. Assumes nothing.
-use mathlib.Core.Path.{_≡_, refl, ap, sym, _∙_, subst}
+use mathlib.Core.Path.{_≡_, refl, ap, _∙_}
 use mathlib.Core.List.{List, [], _∷_, _++_}
 use Prim.Native.Nat.{ℕ, _+_, _*_, _<_, _≤_}
 use native.Mathlib.Omega.{arith}
@@ -12,7 +12,7 @@ use Rattle.index.proofs.Rows.{row-value, row-bounded, row-indexed}
 use Rattle.elements.specs.declared.Row.{Row}
 use Rattle.elements.specs.Element.{Element}
 use Rattle.elements.specs.Rows.{cells}
-use Rattle.elements.specs.Says.{Placed, Says, RowPlaced}
+use Rattle.elements.specs.Says.{Says, RowPlaced}
 use Rattle.letters.specs.Numbers.{Narrow}
 use Rattle.letters.specs.Scratch.{more, Holds}
 use Rattle.letters.specs.Judges.{Indexes}

@@ -1,16 +1,14 @@
 -- Items lie in their run, at every depth, and the bounds of a value that is looked for lie there too; an item of the stream lies before
 -- the next. By the rules of the walk. Assumes nothing.
-use mathlib.Core.Path.{_≡_, refl, ap, sym, _∙_, subst}
-use mathlib.Core.Bool.{Bool, true, false, cond, false≢true}
+use mathlib.Core.Path.{_≡_, refl, sym, _∙_}
+use mathlib.Core.Bool.{Bool, true, false, false≢true}
 use mathlib.Core.List.{List}
-use Prim.Native.Nat.{ℕ, _+_, _-_, _<_, _≤_}
+use Prim.Native.Nat.{ℕ, _+_, _-_, _≤_}
 use native.Mathlib.Omega.{arith}
 use borrow.Table.Steps.{cases}
 use lib.Dec.{eqb}
-use lib.ListN.{length}
-use Rattle.octets.specs.declared.Header.{Header}
 use Rattle.octets.specs.Items.{Items, none, item}
-use Rattle.octets.specs.Walk.{End, ends, stops, pastOf}
+use Rattle.octets.specs.Walk.{End, ends, pastOf}
 use Rattle.octets.specs.Rules.{Runs, at-limit, unclosed, closes, refuses, primitive, passes, breaks}
 use Rattle.octets.proofs.Turns.{header-ok}
 use Rattle.runs.specs.Whole.{Whole}
@@ -56,9 +54,13 @@ stays {s} (primitive {room} {at} {limit} {marked} {h} {after} l p q r) end e =
     record {
       order = omega (arith, head .header, head .order, beyond .order);
       mark = λ m. omega (arith, head .header, head .order, beyond .order);
-      nested =
-          (omega (arith, head .header), past .0, omega (arith, past .1, beyond .order), tt,
-          wider (h .bound) end at end (omega (arith, head .header, head .order)) (omega arith) after (beyond .nested));
+      nested = (
+        omega (arith, head .header),
+        past .0,
+        omega (arith, past .1, beyond .order),
+        tt,
+        wider (h .bound) end at end (omega (arith, head .header, head .order)) (omega arith) after (beyond .nested),
+      );
     }
 stays {s} (passes {room} {at} {limit} {marked} {h} {inside} {after} {next} l p q v r) end e =
     let head = header-ok s at limit room marked h p in
@@ -68,10 +70,13 @@ stays {s} (passes {room} {at} {limit} {marked} {h} {inside} {after} {next} l p q
     record {
       order = omega (arith, head .header, within .order, beyond .order);
       mark = λ m. omega (arith, head .header, within .order, beyond .order);
-      nested =
-          (omega (arith, head .header), past .0, omega (arith, past .1, beyond .order),
-          wider (h .start) next at end (omega (arith, head .header)) (omega (arith, beyond .order)) inside (within .nested),
-          wider next end at end (omega (arith, head .header, within .order)) (omega arith) after (beyond .nested));
+      nested = (
+        omega (arith, head .header),
+        past .0,
+        omega (arith, past .1, beyond .order),
+        wider (h .start) next at end (omega (arith, head .header)) (omega (arith, beyond .order)) inside (within .nested),
+        wider next end at end (omega (arith, head .header, within .order)) (omega arith) after (beyond .nested),
+      );
     }
 stays (breaks l p q v) end e = let z : _≡_ {A = ℕ} 0 1 = cc in absurd (omega arith)
 

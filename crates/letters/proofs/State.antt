@@ -1,9 +1,9 @@
 -- Where the judge stands between two elements: what is done is in the scratch, and the rest of the stream decides as the whole does.
 -- Assumes nothing.
-use mathlib.Core.Path.{_≡_, refl, ap, sym, _∙_, subst}
-use mathlib.Core.Bool.{Bool, true, false, cond}
+use mathlib.Core.Path.{_≡_, refl, ap, sym, _∙_}
+use mathlib.Core.Bool.{false}
 use mathlib.Core.List.{List, [], _∷_, _++_, append-assoc, append-nil}
-use Prim.Native.Nat.{ℕ, suc, _+_, _*_, _<_, _≤_}
+use Prim.Native.Nat.{ℕ, suc, _+_, _<_}
 use native.Mathlib.Omega.{arith}
 use borrow.Author.Tests.{eqb-true, eqb-false}
 use borrow.Table.Steps.{cases}
@@ -16,17 +16,16 @@ use Rattle.runs.specs.Runs.{itemsOf, treeIn, wholeStream, startOf, tops, Fine, 
 use Rattle.runs.proofs.Laws.{start-at}
 use Rattle.names.specs.Hash.{hashes}
 use Rattle.index.specs.Rows.{identifierColumn, logicalColumn}
-use Rattle.index.specs.Index.{Empty}
 use Rattle.index.proofs.Rows.{bounded-none, indexed-none}
 use Rattle.elements.specs.declared.Row.{Row}
 use Rattle.elements.specs.Shape.{edition1988}
 use Rattle.elements.specs.Element.{Element}
-use Rattle.elements.specs.Judge.{mostElements, accepted, refused, judgeFrom, judge}
-use Rattle.elements.specs.Rows.{rowOf, rowsOf, numbers, placeOf}
+use Rattle.elements.specs.Judge.{mostElements, judgeFrom, judge}
+use Rattle.elements.specs.Rows.{rowsOf, numbers, placeOf}
 use Rattle.letters.specs.declared.Hashes.{Hashes}
 use Rattle.letters.specs.declared.Judgement.the-variants.{Fails}
 use Rattle.letters.specs.Letter.{itemsOfStream, rowsOfStream}
-use Rattle.letters.specs.Scratch.{Saying, none, Holds, Filled, Stopped, Gives}
+use Rattle.letters.specs.Scratch.{none, Holds, Filled, Stopped, Gives}
 use Rattle.letters.specs.Lent.{rowsNeeded, Lent, endVerdict}
 use Rattle.letters.specs.Judges.{Indexes, element1988, Passing, Judges}
 use Rattle.letters.proofs.Meetings.{nothing-inside}

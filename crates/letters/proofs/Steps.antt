@@ -1,11 +1,11 @@
 -- The rules of an element in three steps, 9 to 11, 12 to 14 and 15, of which the first that refuses counts; and what an element does to
 -- the judge of a run. Assumes nothing.
-use mathlib.Core.Path.{_≡_, refl, ap, sym, _∙_}
+use mathlib.Core.Path.{_≡_, refl, _∙_}
 use mathlib.Core.Bool.{Bool, true, false, cond, not, xor}
 use mathlib.Core.List.{List, [], _∷_, _++_}
-use Prim.Native.Nat.{ℕ, suc, _+_, _<_, _≤_}
+use Prim.Native.Nat.{ℕ, _+_, _<_}
 use native.Mathlib.Omega.{arith}
-use borrow.Author.Tests.{eq-eqb, ne-eqb, leb-false, le-leb}
+use borrow.Author.Tests.{ne-eqb, leb-false}
 use borrow.Table.Steps.{cases}
 use lib.Dec.{eqb, leb}
 use lib.ListN.{length}
@@ -16,7 +16,7 @@ use Rattle.runs.specs.Runs.{tops}
 use Rattle.contents.specs.Search.{firstValue}
 use Rattle.elements.specs.Shape.{edition1988}
 use Rattle.elements.specs.Element.{Element, asTabled, typeFits, namesFit}
-use Rattle.elements.specs.Judge.{mostElements, profile, twice, firstOf, _when_, shapeRefusal, refusalOf, Judged, refused, judgeOne, judgeFrom, judge}
+use Rattle.elements.specs.Judge.{mostElements, profile, twice, firstOf, _when_, shapeRefusal, refusalOf, refused, judgeOne, judgeFrom, judge}
 use Rattle.letters.specs.Judges.{earlyRefusal, shape1988, element1988}
 
 -- of rules that do not refuse the first does not, nor do those after it

@@ -1,6 +1,6 @@
 -- The table of a walked stream: its elements meet end to end, each pair lies in its element, and rows say what the elements of an
 -- accepted letter say. Assumes nothing.
-use mathlib.Core.Path.{_≡_, refl, ap, sym, _∙_, subst}
+use mathlib.Core.Path.{_≡_, refl, subst}
 use mathlib.Core.List.{List, [], _∷_}
 use mathlib.Core.Option.{some}
 use Prim.Native.Nat.{ℕ, zero, suc}
@@ -11,7 +11,7 @@ use Rattle.octets.proofs.RulesHold.{derives}
 use Rattle.tree.specs.Tree.{treeOf}
 use Rattle.runs.specs.Runs.{wholeStream, startOf, Fine}
 use Rattle.runs.proofs.Laws.{start-at}
-use Rattle.contents.specs.Search.{Value, octets}
+use Rattle.contents.specs.Search.{octets}
 use Rattle.elements.specs.declared.Row.{Row}
 use Rattle.elements.specs.declared.Shape.{Shape}
 use Rattle.elements.specs.Shape.{Edition, edition1988, shapeOf}

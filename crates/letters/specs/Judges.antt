@@ -2,10 +2,9 @@
 -- Definitions only: assumes nothing.
 use mathlib.Core.Path.{_≡_}
 use mathlib.Core.Bool.{Bool, true, false, not, xor}
-use mathlib.Core.List.{List, [], _∷_, _++_}
-use Prim.Native.Nat.{ℕ, _<_, _≤_}
+use mathlib.Core.List.{List, [], _∷_}
+use Prim.Native.Nat.{ℕ}
 use lib.Dec.{eqb, leb}
-use lib.ListN.{length}
 use lib.Seq.{slice}
 use Rattle.tree.specs.Tree.{Tree}
 use Rattle.runs.specs.declared.Run.{Run}

@@ -1,7 +1,5 @@
 -- `letters::add_row` meets its contract: the row is written, and then both indexes are one row longer. Assumes nothing.
-use mathlib.Core.Path.{_≡_, sym, ap, _∙_}
-use mathlib.Core.List.{List}
-use Prim.Native.Nat.{ℕ}
+use mathlib.Core.Path.{sym, ap, _∙_}
 use native.Mathlib.Omega.{arith}
 use Rattle.names.specs.Hash.{hash}
 use Rattle.letters.specs.declared.Hashes.{Hashes}
@@ -9,10 +7,6 @@ use Rattle.letters.proofs.Grow.{narrow, identifier-written, logical-wri
 use borrow.Author.Needs.{needs}
 use Rattle.letters.proofs.add_row.Statement.{statement}
 use Rattle.letters.proofs.add_row.Tie as tie
-use Rattle.letters.proofs.add_row.Reads as reads
-use Rattle.letters.proofs.add_row.Lts as lts
-use Rattle.index.proofs.insert.Reads as insert-reads
-use Rattle.letters.proofs.put_row.Reads as put-row-reads
 
 mul-put-row : tie.Need-mul-put-row
 mul-put-row c = search needs

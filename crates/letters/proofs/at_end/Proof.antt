@@ -2,8 +2,6 @@
 use borrow.Author.Tests.{eq-eqb, ne-eqb}
 use Rattle.letters.proofs.at_end.Statement.{statement}
 use Rattle.letters.proofs.at_end.Tie as tie
-use Rattle.letters.proofs.at_end.Reads as reads
-use Rattle.letters.proofs.at_end.Lts as lts
 
 returns : tie.Need-returns
 returns c = rw (eq-eqb _ _ (c .if1 .taken))

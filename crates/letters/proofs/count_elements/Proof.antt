@@ -1,10 +1,9 @@
 -- `letters::count_elements` meets its contract: the items of the stream are those counted and those of the rest. Assumes nothing.
 use mathlib.Core.Path.{_≡_, sym, ap, subst}
-use Prim.Native.Nat.{ℕ, suc, _+_, _-_, _<_, _≤_}
+use Prim.Native.Nat.{_+_, _-_, _≤_}
 use native.Mathlib.Omega.{arith}
 use borrow.Author.Needs.{needs}
-use lib.ListN.{length}
-use Rattle.runs.specs.Runs.{itemsOf, tops, Fine, Meeting, Meets}
+use Rattle.runs.specs.Runs.{itemsOf, tops, Fine, Meeting}
 use Rattle.runs.specs.declared.Run.{Run}
 use Rattle.letters.proofs.Meetings.{met}
 use Rattle.letters.proofs.count_elements.Statement.{statement}

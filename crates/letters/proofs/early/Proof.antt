@@ -4,8 +4,6 @@ use borrow.Author.Tests.{eq-eqb, ne-eqb, le-leb, lt-leb}
 use Rattle.letters.specs.Judges.{earlyRefusal}
 use Rattle.letters.proofs.early.Statement.{statement}
 use Rattle.letters.proofs.early.Tie as tie
-use Rattle.letters.proofs.early.Reads as reads
-use Rattle.letters.proofs.early.Lts as lts
 
 returns : tie.Need-returns
 unfolding earlyRefusal xor

@@ -10,11 +10,6 @@ use Rattle.letters.proofs.Clash.{identifier-twice, logical-twice, porti
 use borrow.Author.Needs.{needs}
 use Rattle.letters.proofs.has_double.Statement.{statement}
 use Rattle.letters.proofs.has_double.Tie as tie
-use Rattle.letters.proofs.has_double.Reads as reads
-use Rattle.letters.proofs.has_double.Lts as lts
-use Rattle.index.proofs.space_of.Reads as space-of-reads
-use Rattle.letters.proofs.is_taken.Reads as is-taken-reads
-use Rattle.portions.proofs.has_repeats.Reads as has-repeats-reads
 
 -- what the look-up of the identifier says, if it answers b
 identifier-taken : (c : tie.After-is-taken) (b : Bool) → c .is-taken .result ≡ b →

@@ -1,11 +1,7 @@
 -- `letters::hashes_of` meets its contract: each hash is that of its bytes, from 0. Assumes nothing.
-use mathlib.Core.Path.{_≡_}
 use borrow.Author.Needs.{needs}
 use Rattle.letters.proofs.hashes_of.Statement.{statement}
 use Rattle.letters.proofs.hashes_of.Tie as tie
-use Rattle.letters.proofs.hashes_of.Reads as reads
-use Rattle.letters.proofs.hashes_of.Lts as lts
-use Rattle.names.proofs.hash_over.Reads as hash-over-reads
 
 hash-over-requires : tie.Need-hash-over-requires
 hash-over-requires c κs = search needs

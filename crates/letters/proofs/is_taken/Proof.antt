@@ -1,13 +1,9 @@
 -- `letters::is_taken` meets its contract: an empty name is no row's, and any other is looked up. Assumes nothing.
-use mathlib.Core.Path.{_≡_}
 use native.Mathlib.Omega.{arith}
 use Rattle.letters.proofs.Clash.{found-taken, nothing-taken, empty-untaken}
 use borrow.Author.Needs.{needs}
 use Rattle.letters.proofs.is_taken.Statement.{statement}
 use Rattle.letters.proofs.is_taken.Tie as tie
-use Rattle.letters.proofs.is_taken.Reads as reads
-use Rattle.letters.proofs.is_taken.Lts as lts
-use Rattle.index.proofs.find.Reads as find-reads
 
 returns : tie.Need-returns
 returns c =

@@ -83,9 +83,11 @@ same-length c = search needs
 returns-2 : tie.Need-returns-2
 returns-2 c =
     λ table done holds.
-    let a = c .before .before .before .before .before .before .before .before .before .before .before .before .before .before .before .before .args in
-    (refused-later done (a .octet) (treeIn (a .s .now) (a .inner)) (early-passed (c .before .before .before .before .before .before) table done holds) (c .before .before .before .before .see .result .refusal)
-    (seen-is (c .before .before .before .before) .refusal) (c .if2 .taken), c .if2 .taken)
+    let a = c .before .before .before .before .before .before .before .before .before .before .before .before .before .before .before .before .args in (
+      refused-later done (a .octet) (treeIn (a .s .now) (a .inner)) (early-passed (c .before .before .before .before .before .before) table done holds) (c .before .before .before .before .see .result .refusal)
+          (seen-is (c .before .before .before .before) .refusal) (c .if2 .taken),
+      c .if2 .taken,
+    )
 
 hashes-of-requires : tie.Need-hashes-of-requires
 hashes-of-requires c κs = search needs
@@ -102,9 +104,11 @@ same-length-2 c = search needs
 returns-3 : tie.Need-returns-3
 returns-3 c =
     λ table done holds.
-    let a = c .before .before .before .before .before .before .before .before .before .before .before .before .before .before .before .before .before .before .before .before .before .args in
-    (refused-last done (a .octet) (treeIn (a .s .now) (a .inner)) (early-passed (c .before .before .before .before .before .before .before .before .before .before .before) table done holds) (later-passed (c .before .before .before .before .before)) _
-    (sym (double-is (c .before) table done holds) ∙ c .if3 .taken), λ e. absurd (omega arith))
+    let a = c .before .before .before .before .before .before .before .before .before .before .before .before .before .before .before .before .before .before .before .before .before .args in (
+      refused-last done (a .octet) (treeIn (a .s .now) (a .inner)) (early-passed (c .before .before .before .before .before .before .before .before .before .before .before) table done holds) (later-passed (c .before .before .before .before .before)) _
+          (sym (double-is (c .before) table done holds) ∙ c .if3 .taken),
+      λ e. absurd (omega arith),
+    )
 
 same-length-3 : tie.Need-same-length-3
 same-length-3 c = search needs

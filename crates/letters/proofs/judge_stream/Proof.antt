@@ -1,17 +1,13 @@
 -- `letters::judge_stream` meets its contract: the judge stands between two elements at each turn, and all that is lent keeps its
 -- length. Assumes nothing.
-use mathlib.Core.Path.{_≡_, refl, sym, ap, _∙_, subst}
-use Prim.Native.Nat.{ℕ, _+_, _-_, _*_, _<_, _≤_}
+use mathlib.Core.Path.{_≡_, refl, sym, subst}
+use Prim.Native.Nat.{_-_}
 use native.Mathlib.Omega.{arith}
 use borrow.Author.Needs.{needs}
 use lib.ListN.{length}
-use Rattle.runs.specs.declared.Run.{Run}
 use Rattle.runs.specs.Runs.{Meeting}
 use Rattle.letters.specs.declared.Judgement.{Judgement}
-use Rattle.letters.specs.declared.Judgement.the-variants.{Fails, Passes}
-use Rattle.letters.specs.declared.Verdict.{Verdict}
 use Rattle.letters.specs.Judges.{Judges, Passing}
-use Rattle.letters.specs.Scratch.{Gives}
 use Rattle.letters.proofs.Meetings.{met}
 use Rattle.letters.proofs.State.{Judging, judging-none, end-gives, refused-at, few, needed, judging-more, indexes-of}
 use Rattle.letters.proofs.judge_stream.Statement.{statement}
@@ -56,10 +52,16 @@ whole-stream-requires c κs = search needs
 loop-holds : tie.Need-loop-holds Inv-loop μ-loop
 loop-holds c =
     let start = c .before .before .before .before .before .before .before .before in
-    let a = start .args in
-    (subst (Judging (a .s .now) (a .rows .now) (a .head .now) (a .next .now) (a .head2 .now) (a .next2 .now) 0) (sym (c .whole-stream .ensures))
-    (judging-none (a .s .now) (a .rows .now) (a .head .now) (a .next .now) (a .head2 .now) (a .next2 .now) (a .bounds .now) (start .pre .1) (start .pre .0 .0)),
-    refl, refl, refl, refl, refl, refl)
+    let a = start .args in (
+      subst (Judging (a .s .now) (a .rows .now) (a .head .now) (a .next .now) (a .head2 .now) (a .next2 .now) 0) (sym (c .whole-stream .ensures))
+          (judging-none (a .s .now) (a .rows .now) (a .head .now) (a .next .now) (a .head2 .now) (a .next2 .now) (a .bounds .now) (start .pre .1) (start .pre .0 .0)),
+      refl,
+      refl,
+      refl,
+      refl,
+      refl,
+      refl,
+    )
 
 meet-requires : tie.Need-meet-requires Inv-loop μ-loop
 meet-requires c κs = c .loop .inv .0 .fine
@@ -102,9 +104,16 @@ judge-element-requires : tie.Need-judge-element-requires Inv-loop μ-loop
 judge-element-requires c κs =
     let start = c .before .before .before .before .before .before .before .before .before .before .before .before .before .before .before .before .before .before .before in
     let l = c .before .before .before .before .before .before .before .before .before .before .loop in
-    let m = meeting (c .before .before .before .before .before .before) in
-    (indexes-of (l .inv .0 .holds), (m .inner-fine, start .pre .0 .1, omega (arith, m .starts, m .value-order, m .value-before),
-    omega (arith, m .rest-fine .order, m .rest-fine .inside), omega (arith, start .pre .1 .portions, l .inv .6)))
+    let m = meeting (c .before .before .before .before .before .before) in (
+      indexes-of (l .inv .0 .holds),
+      (
+        m .inner-fine,
+        start .pre .0 .1,
+        omega (arith, m .starts, m .value-order, m .value-before),
+        omega (arith, m .rest-fine .order, m .rest-fine .inside),
+        omega (arith, start .pre .1 .portions, l .inv .6),
+      ),
+    )
 
 enum-known-number : tie.Need-enum-known-number Inv-loop μ-loop
 enum-known-number c = search needs
@@ -141,10 +150,18 @@ add-row-requires c κs =
     let l = c .before .before .before .before .before .before .before .before .before .before .before .before .before .before .before .before .before .before .before .before .before .loop in
     let w = passing (c .before .before .before .before .before) in
     let some = needed (l .inv .0) (meeting (c .before .before .before .before .before .before .before .before .before .before .before .before .before .before .before .before .before)) w in
-    let lent = start .pre .1 in
-    (indexes-of (l .inv .0 .holds), ((w .placed, w .hashed, start .pre .0 .1),
-    (omega (arith, some, lent .rows, l .inv .1), omega (arith, some, lent .links, l .inv .3), omega (arith, some, lent .links2, l .inv .5),
-    few (l .inv .0) (meeting (c .before .before .before .before .before .before .before .before .before .before .before .before .before .before .before .before .before)) w)))
+    let lent = start .pre .1 in (
+      indexes-of (l .inv .0 .holds),
+      (
+        (w .placed, w .hashed, start .pre .0 .1),
+        (
+          omega (arith, some, lent .rows, l .inv .1),
+          omega (arith, some, lent .links, l .inv .3),
+          omega (arith, some, lent .links2, l .inv .5),
+          few (l .inv .0) (meeting (c .before .before .before .before .before .before .before .before .before .before .before .before .before .before .before .before .before)) w,
+        ),
+      ),
+    )
 
 add-n : tie.Need-add-n Inv-loop μ-loop
 add-n c = omega (arith, few (c .before .before .before .before .before .before .before .before .before .before .before .before .before .before .before .before .before .before .before .before .before .before .before .before .before .before .before .before .before .before .before .before .loop .inv .0) (meeting (c .before .before .before .before .before .before .before .before .before .before .before .before .before .before .before .before .before .before .before .before .before .before .before .before .before .before .before .before)) (passing (c .before .before .before .before .before .before .before .before .before .before .before .before .before .before .before .before)))
@@ -155,9 +172,15 @@ loop-less c = meeting (c .before .before .before .before .before .before .before
 loop-again : tie.Need-loop-again Inv-loop μ-loop
 loop-again c =
     let l = c .before .before .before .before .before .before .before .before .before .before .before .before .before .before .before .before .before .before .before .before .before .before .before .before .before .before .before .before .before .before .before .before .loop in
-    let w = passing (c .before .before .before .before .before .before .before .before .before .before .before .before .before .before .before .before) in
-    (judging-more (l .inv .0) (meeting (c .before .before .before .before .before .before .before .before .before .before .before .before .before .before .before .before .before .before .before .before .before .before .before .before .before .before .before .before)) w (c .before .before .before .before .before .before .before .before .before .before .add-row .ensures (l .inv .0 .table) (l .inv .0 .done) _ (l .inv .0 .holds) (w .says)),
-    search needs, search needs, search needs, search needs, search needs, search needs)
+    let w = passing (c .before .before .before .before .before .before .before .before .before .before .before .before .before .before .before .before) in (
+      judging-more (l .inv .0) (meeting (c .before .before .before .before .before .before .before .before .before .before .before .before .before .before .before .before .before .before .before .before .before .before .before .before .before .before .before .before)) w (c .before .before .before .before .before .before .before .before .before .before .add-row .ensures (l .inv .0 .table) (l .inv .0 .done) _ (l .inv .0 .holds) (w .says)),
+      search needs,
+      search needs,
+      search needs,
+      search needs,
+      search needs,
+      search needs,
+    )
 
 pub judge-stream-spec : {M : Type 1} → statement M
 judge-stream-spec =
