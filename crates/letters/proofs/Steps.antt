@@ -1,7 +1,7 @@
 -- The rules of an element in three steps, 9 to 11, 12 to 14 and 15, of which the first that refuses counts; and what an element does to
 -- the judge of a run. Assumes nothing.
 use mathlib.Core.Path.{_≡_, refl, _∙_}
-use mathlib.Core.Bool.{Bool, true, false, cond, not, xor}
+use mathlib.Core.Bool.{Bool, true, false, cond, xor}
 use mathlib.Core.List.{List, [], _∷_, _++_}
 use Prim.Native.Nat.{ℕ, _+_, _<_}
 use native.Mathlib.Omega.{arith}
@@ -13,30 +13,16 @@ use Rattle.octets.specs.First.{constructed}
 use Rattle.octets.specs.Items.{Items, none, item}
 use Rattle.tree.specs.Tree.{Tree, plain}
 use Rattle.runs.specs.Runs.{tops}
-use Rattle.contents.specs.Search.{firstValue}
 use Rattle.elements.specs.Shape.{edition1988}
-use Rattle.elements.specs.Element.{Element, asTabled, typeFits, namesFit}
-use Rattle.elements.specs.Judge.{mostElements, profile, twice, firstOf, _when_, shapeRefusal, refusalOf, refused, judgeOne, judgeFrom, judge}
+use Rattle.elements.specs.Element.{Element}
+use Rattle.elements.specs.Judge.{mostElements, profile, twice, shapeRefusal, refusalOf, refused, judgeOne, judgeFrom, judge}
+use Rattle.elements.proofs.Refusals.{refusal-9, refusal-10, refusal-11, refusal-by-shape}
 use Rattle.letters.specs.Judges.{earlyRefusal, shape1988, element1988}
 
 -- of rules that do not refuse the first does not, nor do those after it
 pub passed : (number : ℕ) (refuses : Bool) (others : ℕ) → (number ≡ 0 → ⊥) → cond refuses number others ≡ 0 → (refuses ≡ false) × (others ≡ 0)
 passed number true others some e = absurd (some e)
 passed number false others some e = (refl, e)
-
--- of seven rules the first that refuses, by three, three and one
-by-steps : (a b c d e f g : Bool) →
-    let first = firstOf ((9 when a) ∷ (10 when b) ∷ (11 when c) ∷ []) in
-    let second = firstOf ((12 when d) ∷ (13 when e) ∷ (14 when f) ∷ []) in
-    firstOf ((9 when a) ∷ (10 when b) ∷ (11 when c) ∷ (12 when d) ∷ (13 when e) ∷ (14 when f) ∷ (15 when g) ∷ [])
-    ≡ cond (eqb first 0) (cond (eqb second 0) (cond g 15 0) second) first
-by-steps true b c d e f g = refl
-by-steps false true c d e f g = refl
-by-steps false false true d e f g = refl
-by-steps false false false true e f g = refl
-by-steps false false false false true f g = refl
-by-steps false false false false false true g = refl
-by-steps false false false false false false g = refl
 
 module _ (done : List Element) (octet : ℕ) (run : Tree) where
   abbrev early : ℕ
@@ -49,11 +35,17 @@ module _ (done : List Element) (octet : ℕ) (run : Tree) where
   number = refusalOf edition1988 done (octet ∷ []) run
 
   in-steps : number ≡ cond (eqb early 0) (cond (eqb later 0) (cond (twice done (element1988 octet run)) 15 0) later) early
-  unfolding refusalOf earlyRefusal shapeRefusal
+  unfolding earlyRefusal
   in-steps =
-      by-steps (leb mostElements (length done)) (not (eqb octet (shape1988 octet .octet))) (xor (eqb (length done) 0) (eqb octet profile))
-      (not (asTabled (shape1988 octet) run)) (not (typeFits (shape1988 octet .types) (firstValue (shape1988 octet .object) run)))
-      (not (namesFit (element1988 octet run))) (twice done (element1988 octet run))
+      let type = octet ∷ [] in
+      cases (leb mostElements (length done)) (λ many. refusal-9 edition1988 done type run many ∙ rw many)
+      (λ few.
+      cases (eqb octet (shape1988 octet .octet))
+      (λ known.
+      cases (xor (eqb (length done) 0) (eqb octet profile))
+      (λ misplaced. refusal-11 edition1988 done type run few known misplaced ∙ rw (few, known, misplaced))
+      (λ placed. refusal-by-shape edition1988 done type run few known placed ∙ rw (few, known, placed)))
+      (λ unknown. refusal-10 edition1988 done type run few unknown ∙ rw (few, unknown)))
 
   pub refused-early : (n : ℕ) → n ≡ early → (n ≡ 0 → ⊥) → number ≡ n
   refused-early n e some = in-steps ∙ rw (← e, ne-eqb n 0 some)
