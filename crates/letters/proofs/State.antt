@@ -23,6 +23,7 @@ use Rattle.elements.specs.Element.{Element}
 use Rattle.elements.specs.Judge.{mostElements, judgeFrom, judge}
 use Rattle.elements.specs.Rows.{rowsOf, numbers, placeOf}
 use Rattle.letters.specs.declared.Hashes.{Hashes}
+use Rattle.letters.specs.declared.Item.{Item}
 use Rattle.letters.specs.declared.Judgement.the-variants.{Fails}
 use Rattle.letters.specs.Letter.{itemsOfStream, rowsOfStream}
 use Rattle.letters.specs.Scratch.{none, Holds, Filled, Stopped, Gives}
@@ -109,6 +110,9 @@ module _ {s scratch head next head2 next2 : List ℕ} {n : ℕ} {cur : Run} (j :
 
   -- an element is met
   module _ {octet first past : ℕ} {inner rest : Run} (m : Meeting s cur octet first past inner rest) where
+    abbrev here : Item
+    here = record { octet = octet; first = cur .at; past = rest .at; inner = inner }
+
     some-left : 0 < tops (itemsOfStream s)
     some-left = omega (arith, j .counted, ap tops (m .tree))
 
@@ -120,19 +124,19 @@ module _ {s scratch head next head2 next2 : List ℕ} {n : ℕ} {cur : Run} (j :
     met-tree = ap (λ (i : Items). judgeFrom edition1988 (j .done) (plain s i)) (m .tree)
 
     -- and refused: element n stands there
-    pub refused-at : (number : ℕ) → Judges s (j .done) octet inner (cur .at) (rest .at) (Fails number) → Stopped s number (cur .at)
+    pub refused-at : (number : ℕ) → Judges s (j .done) here (Fails number) → Stopped s number (cur .at)
     unfolding placeOf
     refused-at number w =
-        let here : n + 0 ≡ length (j .done) = omega (arith, j .holds .counted) in
+        let this : n + 0 ≡ length (j .done) = omega (arith, j .holds .counted) in
         record {
           element = length (j .done);
           judged = met-judged ∙ met-tree
               ∙ judged-refused s (j .done) (cur .at) octet first past (itemsOf s inner) (itemsOf s rest) (nothing-inside (j .fine) m) number (w .0) (w .1);
-          placed = sym (ap (λ (i : ℕ). placeOf i (itemsOfStream s)) (sym here) ∙ j .placed 0 ∙ ap (placeOf 0) (m .tree));
+          placed = sym (ap (λ (i : ℕ). placeOf i (itemsOfStream s)) (sym this) ∙ j .placed 0 ∙ ap (placeOf 0) (m .tree));
         }
 
     -- and passed: there is room for its row
-    module _ {row : Row} {hashes : Hashes} (w : Passing s (j .done) octet inner (cur .at) (rest .at) row hashes) where
+    module _ {row : Row} {hashes : Hashes} (w : Passing s (j .done) here row hashes) where
       pub few : n < mostElements
       few = omega (arith, unrefused-few (j .done) octet (treeIn s inner) (w .unrefused), j .holds .counted)
 

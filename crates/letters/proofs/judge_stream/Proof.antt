@@ -6,6 +6,7 @@ use native.Mathlib.Omega.{arith}
 use borrow.Author.Needs.{needs}
 use lib.ListN.{length}
 use Rattle.runs.specs.Runs.{Meeting}
+use Rattle.letters.specs.declared.Item.{Item}
 use Rattle.letters.specs.declared.Judgement.{Judgement}
 use Rattle.letters.specs.Judges.{Judges, Passing}
 use Rattle.letters.proofs.Meetings.{met}
@@ -27,23 +28,22 @@ meeting : (c : tie.After-known-told Inv-loop μ-loop) →
     Meeting (c .before .before .before .before .before .before .before .before .before .before .before .before .before .args .s .now) (c .before .before .before .before .loop .cur) (g .0) (g .1 .0) (g .1 .1 .0) (g .1 .1 .1 .0) (g .1 .1 .1 .1 .0)
 meeting c = met (c .before .before .before .before .before .before .before .before .before .before .before .before .before .args .s .now) (c .before .before .before .before .loop .cur) _ _ (c .before .before .before .meet .ensures) (c .before .octet .given .1)
 
+abbrev item : tie.After-known-told Inv-loop μ-loop → Item
+item c =
+    let g = c .before .octet .given .0 in
+    record { octet = g .0; first = c .before .before .before .before .loop .cur .at; past = g .1 .1 .1 .1 .0 .at; inner = g .1 .1 .1 .0 }
+
 -- and judged
-judged : (c : tie.After-judge-element Inv-loop μ-loop) (y : Judgement) → c .judge-element .result ≡ y →
-    let g = c .before .before .before .before .before .before .before .before .octet .given .0 in
-    let l = c .before .before .before .before .before .before .before .before .before .before .before .loop in
-    Judges (c .before .before .before .before .before .before .before .before .before .before .before .before .before .before .before .before .before .before .before .before .args .s .now) (l .inv .0 .done) (g .0) (g .1 .1 .1 .0) (l .cur .at) (g .1 .1 .1 .1 .0 .at) y
+judged : (c : tie.After-judge-element Inv-loop μ-loop) (y : Judgement) → c .judge-element .result ≡ y
+    → Judges (c .before .before .before .before .before .before .before .before .before .before .before .before .before .before .before .before .before .before .before .before .args .s .now) (c .before .before .before .before .before .before .before .before .before .before .before .loop .inv .0 .done) (item (c .before .before .before .before .before .before .before)) y
 judged c y e =
-    let g = c .before .before .before .before .before .before .before .before .octet .given .0 in
-    let l = c .before .before .before .before .before .before .before .before .before .before .before .loop in
-    subst (Judges (c .before .before .before .before .before .before .before .before .before .before .before .before .before .before .before .before .before .before .before .before .args .s .now) (l .inv .0 .done) (g .0) (g .1 .1 .1 .0) (l .cur .at) (g .1 .1 .1 .1 .0 .at)) e
-    (c .judge-element .ensures (l .inv .0 .table) (l .inv .0 .done) (l .inv .0 .holds))
+    let state = c .before .before .before .before .before .before .before .before .before .before .before .loop .inv .0 in
+    subst (Judges (c .before .before .before .before .before .before .before .before .before .before .before .before .before .before .before .before .before .before .before .before .args .s .now) (state .done) (item (c .before .before .before .before .before .before .before))) e (c .judge-element .ensures (state .table) (state .done) (state .holds))
 
 -- and passed
 passing : (c : tie.After-known-told3 Inv-loop μ-loop) →
-    let g = c .before .before .before .before .before .before .before .before .before .before .before .before .before .octet .given .0 in
-    let l = c .before .before .before .before .before .before .before .before .before .before .before .before .before .before .before .before .loop in
     let p = c .before .row .given .0 in
-    Passing (c .before .before .before .before .before .before .before .before .before .before .before .before .before .before .before .before .before .before .before .before .before .before .before .before .before .args .s .now) (l .inv .0 .done) (g .0) (g .1 .1 .1 .0) (l .cur .at) (g .1 .1 .1 .1 .0 .at) (p .0) (p .1 .0)
+    Passing (c .before .before .before .before .before .before .before .before .before .before .before .before .before .before .before .before .before .before .before .before .before .before .before .before .before .args .s .now) (c .before .before .before .before .before .before .before .before .before .before .before .before .before .before .before .before .loop .inv .0 .done) (item (c .before .before .before .before .before .before .before .before .before .before .before .before)) (p .0) (p .1 .0)
 passing c = judged (c .before .before .before .before .before) _ (c .before .row .given .1)
 
 whole-stream-requires : tie.Need-whole-stream-requires Inv-loop μ-loop

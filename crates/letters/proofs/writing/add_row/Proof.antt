@@ -1,12 +1,12 @@
--- `letters::add_row` meets its contract: the row is written, and then both indexes are one row longer. Assumes nothing.
+-- `letters::writing::add_row` meets its contract: the row is written, and then both indexes are one row longer. Assumes nothing.
 use mathlib.Core.Path.{sym, ap, _∙_}
 use native.Mathlib.Omega.{arith}
 use Rattle.names.specs.Hash.{hash}
 use Rattle.letters.specs.declared.Hashes.{Hashes}
 use Rattle.letters.proofs.Grow.{narrow, identifier-written, logical-written, holds-more}
 use borrow.Author.Needs.{needs}
-use Rattle.letters.proofs.add_row.Statement.{statement}
-use Rattle.letters.proofs.add_row.Tie as tie
+use Rattle.letters.proofs.writing.add_row.Statement.{statement}
+use Rattle.letters.proofs.writing.add_row.Tie as tie
 
 mul-put-row : tie.Need-mul-put-row
 mul-put-row c = search needs

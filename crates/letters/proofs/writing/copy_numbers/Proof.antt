@@ -1,12 +1,12 @@
--- `letters::copy_numbers` meets its contract: after i turns the first i numbers stand at their place. Assumes nothing.
+-- `letters::writing::copy_numbers` meets its contract: after i turns the first i numbers stand at their place. Assumes nothing.
 use mathlib.Core.Path.{_≡_, ap, _∙_}
 use Prim.Native.Nat.{_+_, _-_, _<_, _≤_}
 use native.Mathlib.Numerals.{add-one}
 use native.Mathlib.Omega.{arith}
 use lib.ListN.{length}
 use lib.Seq.{paste, paste-zero, paste-suc, length-paste}
-use Rattle.letters.proofs.copy_numbers.Statement.{statement}
-use Rattle.letters.proofs.copy_numbers.Tie as tie
+use Rattle.letters.proofs.writing.copy_numbers.Statement.{statement}
+use Rattle.letters.proofs.writing.copy_numbers.Tie as tie
 
 abbrev Inv-loop : tie.InvT-loop
 Inv-loop from count to₀ at i₀ to i = (i ≤ count) × (to ≡ paste to₀ at from i)

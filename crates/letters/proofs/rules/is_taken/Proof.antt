@@ -1,9 +1,9 @@
--- `letters::is_taken` meets its contract: an empty name is no row's, and any other is looked up. Assumes nothing.
+-- `letters::rules::is_taken` meets its contract: an empty name is no row's, and any other is looked up. Assumes nothing.
 use native.Mathlib.Omega.{arith}
 use Rattle.letters.proofs.Clash.{found-taken, nothing-taken, empty-untaken}
 use borrow.Author.Needs.{needs}
-use Rattle.letters.proofs.is_taken.Statement.{statement}
-use Rattle.letters.proofs.is_taken.Tie as tie
+use Rattle.letters.proofs.rules.is_taken.Statement.{statement}
+use Rattle.letters.proofs.rules.is_taken.Tie as tie
 
 returns : tie.Need-returns
 returns c =

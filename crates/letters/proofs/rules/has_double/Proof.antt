@@ -1,4 +1,4 @@
--- `letters::has_double` meets its contract: each look-up is a part of rule 15, and so are the portions. Assumes nothing.
+-- `letters::rules::has_double` meets its contract: each look-up is a part of rule 15, and so are the portions. Assumes nothing.
 use mathlib.Core.Path.{_≡_, sym, ap, _∙_, subst}
 use mathlib.Core.Bool.{Bool, true, false}
 use Prim.Native.Nat.{ℕ}
@@ -8,8 +8,8 @@ use Rattle.letters.specs.declared.Hashes.{Hashes}
 use Rattle.letters.specs.Judges.{bytesIn, Taken}
 use Rattle.letters.proofs.Clash.{identifier-twice, logical-twice, portions-twice}
 use borrow.Author.Needs.{needs}
-use Rattle.letters.proofs.has_double.Statement.{statement}
-use Rattle.letters.proofs.has_double.Tie as tie
+use Rattle.letters.proofs.rules.has_double.Statement.{statement}
+use Rattle.letters.proofs.rules.has_double.Tie as tie
 
 -- what the look-up of the identifier says, if it answers b
 identifier-taken : (c : tie.After-is-taken) (b : Bool) → c .is-taken .result ≡ b →

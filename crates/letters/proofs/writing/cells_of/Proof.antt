@@ -1,8 +1,8 @@
--- `letters::cells_of` meets its contract: each number fits. Assumes nothing.
+-- `letters::writing::cells_of` meets its contract: each number fits. Assumes nothing.
 use native.Mathlib.Omega.{arith}
 use borrow.Author.Needs.{needs}
-use Rattle.letters.proofs.cells_of.Statement.{statement}
-use Rattle.letters.proofs.cells_of.Tie as tie
+use Rattle.letters.proofs.writing.cells_of.Statement.{statement}
+use Rattle.letters.proofs.writing.cells_of.Tie as tie
 
 cast-t7 : tie.Need-cast-t7
 cast-t7 c = search needs

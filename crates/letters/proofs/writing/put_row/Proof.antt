@@ -1,4 +1,4 @@
--- `letters::put_row` meets its contract: a copy of twelve numbers is twelve stores. Assumes nothing.
+-- `letters::writing::put_row` meets its contract: a copy of twelve numbers is twelve stores. Assumes nothing.
 use mathlib.Core.Path.{sym, ap, _∙_}
 use mathlib.Core.List.{List}
 use Prim.Native.Nat.{ℕ}
@@ -7,8 +7,8 @@ use lib.Seq.{paste, sets-eq}
 use Rattle.index.specs.Rows.{rowWidth}
 use Rattle.elements.specs.Rows.{cells}
 use borrow.Author.Needs.{needs}
-use Rattle.letters.proofs.put_row.Statement.{statement}
-use Rattle.letters.proofs.put_row.Tie as tie
+use Rattle.letters.proofs.writing.put_row.Statement.{statement}
+use Rattle.letters.proofs.writing.put_row.Tie as tie
 
 cells-of-requires : tie.Need-cells-of-requires
 cells-of-requires c κs = search needs

@@ -1,7 +1,7 @@
--- `letters::hashes_of` meets its contract: each hash is that of its bytes, from 0. Assumes nothing.
+-- `letters::rules::hashes_of` meets its contract: each hash is that of its bytes, from 0. Assumes nothing.
 use borrow.Author.Needs.{needs}
-use Rattle.letters.proofs.hashes_of.Statement.{statement}
-use Rattle.letters.proofs.hashes_of.Tie as tie
+use Rattle.letters.proofs.rules.hashes_of.Statement.{statement}
+use Rattle.letters.proofs.rules.hashes_of.Tie as tie
 
 hash-over-requires : tie.Need-hash-over-requires
 hash-over-requires c κs = search needs

@@ -1,9 +1,9 @@
--- `letters::early` meets its contract: each test decides as its rule does. Assumes nothing.
+-- `letters::rules::early` meets its contract: each test decides as its rule does. Assumes nothing.
 use mathlib.Core.Bool.{xor}
 use borrow.Author.Tests.{eq-eqb, ne-eqb, le-leb, lt-leb}
 use Rattle.letters.specs.Judges.{earlyRefusal}
-use Rattle.letters.proofs.early.Statement.{statement}
-use Rattle.letters.proofs.early.Tie as tie
+use Rattle.letters.proofs.rules.early.Statement.{statement}
+use Rattle.letters.proofs.rules.early.Tie as tie
 
 returns : tie.Need-returns
 unfolding earlyRefusal xor
@@ -15,11 +15,11 @@ returns-2 c = rw (lt-leb _ _ (c .before .if1 .left), ne-eqb _ _ (c .if2 .taken))
 
 returns-3 : tie.Need-returns-3
 unfolding earlyRefusal xor
-returns-3 c = rw (lt-leb _ _ (c .before .before .before .if1 .left), eq-eqb _ _ (c .before .before .if2 .left), eq-eqb _ _ (c .before .if3 .taken), eq-eqb _ _ (c .if4 .taken))
+returns-3 c = rw (lt-leb _ _ (c .before .before .before .if1 .left), eq-eqb _ _ (c .before .before .if2 .left), eq-eqb _ _ (c .before .if3 .taken), ne-eqb _ _ (c .if4 .taken))
 
 returns-4 : tie.Need-returns-4
 unfolding earlyRefusal xor
-returns-4 c = rw (lt-leb _ _ (c .before .before .before .if1 .left), eq-eqb _ _ (c .before .before .if2 .left), eq-eqb _ _ (c .before .if3 .taken), ne-eqb _ _ (c .if4 .left))
+returns-4 c = rw (lt-leb _ _ (c .before .before .before .if1 .left), eq-eqb _ _ (c .before .before .if2 .left), eq-eqb _ _ (c .before .if3 .taken), eq-eqb _ _ (c .if4 .left))
 
 returns-5 : tie.Need-returns-5
 unfolding earlyRefusal xor
