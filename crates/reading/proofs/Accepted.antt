@@ -19,6 +19,7 @@ use Rattle.portions.specs.Portions.{mostPortions, all, any, among, repeats, wel
 use Rattle.elements.specs.Shape.{Edition, shapeOf}
 use Rattle.elements.specs.Element.{Element, elementOf, asTabled, typeFits, spelt, namesFit}
 use Rattle.elements.specs.Judge.{Judged, accepted, refused, Rule, firstOf, mostElements, profile, clash, twice, refusalOf, judgeOne, judgeFrom, judge}
+use Rattle.reading.specs.Ready.{Lawful}
 use Rattle.reading.proofs.Lists.{at-inside, at-more}
 
 -- elements each of which was passed after those before it
@@ -70,14 +71,6 @@ module _ (edition : Edition) where
   passes empty elements e = let z : _≡_ {A = ℕ} 0 1 = cc in absurd (omega arith)
   passes (leaf type value after) elements e = from-passes [] (leaf type value after) elements none e
   passes (branch type inside after) elements e = from-passes [] (branch type inside after) elements none e
-
--- What an accepted letter's elements are: at most 4,096, no two with a name that rule 15 wants apart, none that lists a portion twice,
--- and all names well spelt.
-pub record Lawful (elements : List Element) : Type 0 where
-  pub few : length elements ≤ mostElements
-  pub apart : (i j : ℕ) (d e : Element) → i < j → getElem? elements i ≡ some d → getElem? elements j ≡ some e → clash d e ≡ false
-  pub not-repeated : (i : ℕ) (e : Element) → getElem? elements i ≡ some e → repeats (e .portions) ≡ false
-  pub well-spelt : (i : ℕ) (e : Element) → getElem? elements i ≡ some e → namesFit e ≡ true
 
 either-false : (a b : Bool) → a || b ≡ false → (a ≡ false) × (b ≡ false)
 either-false true b e = absurd (true≢false e)

@@ -25,9 +25,10 @@ use Rattle.reading.specs.declared.Side.{Side}
 use Rattle.reading.specs.declared.Side.the-variants.{Layout, Logical}
 use Rattle.reading.specs.Match.{unitKind, kindsOf, nameOn, joins, forEach, portionMatches, elementMatches, matches}
 use Rattle.reading.specs.Promises.{Joined, IsMatch, units, portionsOn}
+use Rattle.reading.specs.Ready.{Lawful}
 use Rattle.reading.proofs.Lists.{Once, once-fits, once-map}
 use Rattle.reading.proofs.Each.{none-passes, few-pass, each-none, each-few}
-use Rattle.reading.proofs.Accepted.{Lawful, portion-spelt, one-place, one-element}
+use Rattle.reading.proofs.Accepted.{portion-spelt, one-place, one-element}
 use Rattle.reading.proofs.Matches.{joins-told, matches-are, matches-once}
 
 -- the elements of a side are of one name space

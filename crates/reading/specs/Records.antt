@@ -1,14 +1,16 @@
 -- The lent list as numbers. Document 01, "Table, list, part, normal form": "The lent list is a run of records of three numbers: element,
--- portion place, unit, all from 0." Definitions only: assumes nothing.
-use Prim.Native.Nat.{ℕ, zero, suc, _+_, _*_}
+-- portion place, unit, all from 0. Records past the count keep theirs." Definitions only: assumes nothing.
+use mathlib.Core.Path.{_≡_}
 use mathlib.Core.List.{List, [], _∷_, _++_}
-use lib.ListN.{getD}
+use Prim.Native.Nat.{ℕ, zero, suc, _+_, _*_}
+use lib.ListN.{length, getD}
+use lib.Seq.{sets}
 use Rattle.reading.specs.declared.Match.{Match}
 
--- the numbers of a list of records, three a record
-unfoldable pub flat : List Match → List ℕ
-flat [] = []
-flat (m ∷ ms) = m .element ∷ m .portion ∷ m .unit ∷ flat ms
+-- the numbers of records, three a record
+unfoldable pub numbersOf : List Match → List ℕ
+numbersOf [] = []
+numbersOf (m ∷ ms) = m .element ∷ m .portion ∷ m .unit ∷ numbersOf ms
 
 -- the record k of a list of numbers
 abbrev pub recordAt : List ℕ → (k : ℕ) → Match
@@ -19,3 +21,8 @@ recordAt numbers k =
 unfoldable pub records : List ℕ → (count : ℕ) → List Match
 records numbers zero = []
 records numbers (suc n) = records numbers n ++ (recordAt numbers n ∷ [])
+
+-- after so many records these were put, in their place, and so many are there then
+pub record Puts (before : List ℕ) (count : ℕ) (ms : List Match) (after : List ℕ) (total : ℕ) : Type 0 where
+  pub counted : total ≡ count + length ms
+  pub stored : after ≡ sets before (3 * count) (numbersOf ms)
