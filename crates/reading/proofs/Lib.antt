@@ -6,3 +6,5 @@ pub mod Each
 pub mod Accepted
 pub mod Matches
 pub mod Single
+pub mod Looking
+pub mod Listing

@@ -4,10 +4,11 @@ use mathlib.Core.Path.{_≡_}
 use mathlib.Core.Bool.{true, false, cond}
 use mathlib.Core.Option.{some}
 use mathlib.Core.List.{List, [], _∷_}
-use Prim.Native.Nat.{ℕ, _<_, _≤_}
+use Prim.Native.Nat.{ℕ, _+_, _*_, _<_, _≤_}
 use lib.Dec.{ltb}
 use lib.ListN.{length, getD, getElem?}
 use lib.Seq.{slice}
+use Rattle.octets.specs.First.{isIn}
 use Rattle.runs.specs.declared.Run.{Run}
 use Rattle.runs.specs.Runs.{treeIn, definiteRun, Fine}
 use Rattle.contents.specs.Search.{Value, absent, octets}
@@ -21,6 +22,8 @@ use Rattle.elements.specs.Judge.{mostElements, clash}
 use Rattle.reading.specs.declared.Match.{Match}
 use Rattle.reading.specs.declared.Side.{Side}
 use Rattle.reading.specs.declared.Side.the-variants.{Layout, Logical}
+use Rattle.reading.specs.Match.{kindsOf, elementMatches, matches}
+use Rattle.reading.specs.Records.{Puts}
 
 -- What rules 9, 14 and 15 leave: at most 4,096 elements, no two with a name that has to differ, none that lists a portion twice, and all
 -- names well spelt.
@@ -89,3 +92,23 @@ noElement = record { kind = 0; object = 0; identifier = absent; logical = absent
 
 abbrev pub elementAt : List Element → (e : ℕ) → Element
 elementAt elements e = getD elements e noElement
+
+-- an element that is read on the side, and has an identifier
+pub record Named (side : Side) (rows : List ℕ) (n e : ℕ) : Type 0 where
+  pub below : e < n
+  pub on-side : isIn (kindAt rows e) (kindsOf side) ≡ true
+  pub named : firstAt rows identifierColumn e < pastAt rows identifierColumn e
+
+-- there is room for the matches of element e after so many
+abbrev pub Room : (side : Side) (s rows : List ℕ) (n e : ℕ) (flat : List ℕ) (count : ℕ) → Type 0
+Room side s rows n e flat count =
+    (elements : List Element) → Ready s rows n elements → 3 * (count + length (elementMatches side elements e (elementAt elements e))) ≤ length flat
+
+-- the matches of element e are put after so many
+abbrev pub PutsElement : (side : Side) (s rows : List ℕ) (n e : ℕ) (before : List ℕ) (count : ℕ) (after : List ℕ) (total : ℕ) → Type 0
+PutsElement side s rows n e before count after total =
+    (elements : List Element) → Ready s rows n elements → Puts before count (elementMatches side elements e (elementAt elements e)) after total
+
+-- all matches of the side are put
+abbrev pub PutsAll : (side : Side) (s rows : List ℕ) (n : ℕ) (before after : List ℕ) (total : ℕ) → Type 0
+PutsAll side s rows n before after total = (elements : List Element) → Ready s rows n elements → Puts before 0 (matches side elements) after total

@@ -18,7 +18,7 @@ ghost use Rattle.index.specs.Index.{Indexed, Finds};
 ghost use Rattle.elements.specs.Element.{Element};
 ghost use Rattle.reading.specs.Match.{kindsOf, elementMatches, matches};
 ghost use Rattle.reading.specs.Records.{recordAt, records, Puts};
-ghost use Rattle.reading.specs.Ready.{columnOf, unitSpace, portionsAt, Ready, Set, foundMatches, FoundBelow, elementAt};
+ghost use Rattle.reading.specs.Ready.{columnOf, unitSpace, portionsAt, Set, Named, Room, PutsElement, PutsAll, foundMatches, FoundBelow};
 
 const ROW_WIDTH: usize = 12;
 
@@ -186,4 +186,98 @@ fn put_found(flat: &mut [u32], count: usize, element: usize, portion: usize, fou
         }
         Found::Nothing => count,
     }
+}
+
+// Puts the matches of an element of the side that has an identifier. The identifier is hashed once, and no joined name is written out.
+fn list_portions(
+    s: &[u8],
+    rows: &[u32],
+    head: &[u16],
+    next: &[u16],
+    n: usize,
+    side: Side,
+    element: usize,
+    flat: &mut [u32],
+    count: usize,
+) -> usize
+    requires { ⌜ Set side (now s) (now rows) (now head) (now next) n ⌝ }
+    requires { ⌜ Named side (now rows) n element ⌝ }
+    requires { ⌜ Room side (now s) (now rows) n element (now flat) count ⌝ }
+    ensures { λ r. ⌜ PutsElement side (now (s .entry)) (now (rows .entry)) n element (now (flat .entry)) count (now (flat .exit)) r ⌝ }
+{
+    let name = bounds_at(rows, element, IDENTIFIER);
+    let first = name.first;
+    let past = name.past;
+    let hashed = names::hash_space(names::hash_over(s, first, past, 0));
+    let mut left = portions_at(rows, element);
+    let mut place: usize = 0;
+    let mut total = count;
+    loop {
+        match runs::meet(s, left) {
+            Met::End => return total,
+            Met::Item {
+                octet: _,
+                first: from,
+                past: to,
+                inner: _,
+                rest,
+            } => {
+                let column = column_of(side);
+                let found = unit_of(s, rows, head, next, n, column, hashed, first, past, from, to);
+                total = put_found(flat, total, element, place, found);
+                place += 1;
+                left = rest;
+            }
+        }
+    }
+}
+
+// Puts the matches of one element, if it is read on the side and has an identifier.
+fn list_element(
+    s: &[u8],
+    rows: &[u32],
+    head: &[u16],
+    next: &[u16],
+    n: usize,
+    side: Side,
+    element: usize,
+    flat: &mut [u32],
+    count: usize,
+) -> usize
+    requires { ⌜ Set side (now s) (now rows) (now head) (now next) n ⌝ }
+    requires { ⌜ element < n ⌝ }
+    requires { ⌜ Room side (now s) (now rows) n element (now flat) count ⌝ }
+    ensures { λ r. ⌜ PutsElement side (now (s .entry)) (now (rows .entry)) n element (now (flat .entry)) count (now (flat .exit)) r ⌝ }
+{
+    if !is_read(side, wide(rows[element * ROW_WIDTH])) {
+        return count;
+    }
+    let name = bounds_at(rows, element, IDENTIFIER);
+    if name.past <= name.first {
+        return count;
+    }
+    list_portions(s, rows, head, next, n, side, element, flat, count)
+}
+
+// Puts all matches of a side, by the index of its identifiers.
+fn list_side(
+    s: &[u8],
+    rows: &[u32],
+    head: &[u16],
+    next: &[u16],
+    n: usize,
+    side: Side,
+    flat: &mut [u32],
+) -> usize
+    requires { ⌜ Set side (now s) (now rows) (now head) (now next) n ⌝ }
+    requires { ⌜ 3 * n ≤ length (now flat) ⌝ }
+    ensures { λ r. ⌜ PutsAll side (now (s .entry)) (now (rows .entry)) n (now (flat .entry)) (now (flat .exit)) r ⌝ }
+{
+    let mut element: usize = 0;
+    let mut count: usize = 0;
+    while element < n {
+        count = list_element(s, rows, head, next, n, side, element, flat, count);
+        element += 1;
+    }
+    count
 }
