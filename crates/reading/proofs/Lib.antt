@@ -8,3 +8,4 @@ pub mod Matches
 pub mod Single
 pub mod Looking
 pub mod Listing
+pub mod Turning

@@ -1,7 +1,7 @@
 -- What is known while the portions of an element are listed: what is put, and then what the portions that are left yield, is all.
 -- Assumes nothing.
 use mathlib.Core.Path.{_≡_, refl, ap, sym, _∙_, subst}
-use mathlib.Core.Bool.{true}
+use mathlib.Core.Bool.{Bool, true, false, _&&_, false≢true, true≢false, and-eq-true-iff}
 use mathlib.Core.Option.{some}
 use mathlib.Core.List.{List, [], _∷_, _++_}
 use Prim.Native.Nat.{ℕ, suc, _+_, _*_, _<_, _≤_}
@@ -10,11 +10,15 @@ use native.Mathlib.Numerals.{add-one}
 use lib.Dec.{ltb}
 use lib.ListN.{length, getElem?, length-append}
 use lib.Seq.{slice}
-use borrow.Author.Tests.{lt-ltb}
+use borrow.Author.Tests.{ltb-true, ltb-false, lt-ltb}
+use borrow.Table.Steps.{cases}
 use Rattle.octets.specs.First.{isIn}
 use Rattle.octets.specs.Items.{none}
+use Rattle.octets.specs.Walk.{Walked}
+use Rattle.octets.specs.Rules.{at-limit}
+use Rattle.octets.proofs.RulesHold.{derived}
 use Rattle.names.specs.Names.{spaceByte}
-use Rattle.contents.specs.Search.{octets}
+use Rattle.contents.specs.Search.{absent, octets}
 use Rattle.runs.specs.declared.Run.{Run}
 use Rattle.runs.specs.Runs.{itemsOf, treeIn, Fine, Meeting}
 use Rattle.portions.specs.Portions.{mostPortions, allPortions, values}
@@ -29,9 +33,11 @@ use Rattle.reading.specs.declared.Match.{Match}
 use Rattle.reading.specs.declared.Side.{Side}
 use Rattle.reading.specs.Match.{kindsOf, forEach, portionMatches, elementMatches}
 use Rattle.reading.specs.Records.{Puts}
-use Rattle.reading.specs.Ready.{columnOf, unitSpace, portionsAt, Tells, Ready, Set, Named, Room, PutsElement, foundMatches, FoundBelow, elementAt, noElement}
+use Rattle.reading.specs.Ready.{columnOf, unitSpace, portionsAt, Tells, Ready, listed, portionsColumn, nameIn, Set, Room, PutsElement, foundMatches, FoundBelow, elementAt, noElement}
 use Rattle.reading.proofs.Lists.{at-getD}
 use Rattle.reading.proofs.Accepted.{few-portions}
+use Rattle.reading.proofs.Matches.{joins-told}
+use Rattle.reading.proofs.Single.{unread}
 use Rattle.reading.proofs.Putting.{puts-none, puts-then, puts-length}
 use Rattle.reading.proofs.Looking.{found-matches, finds-below}
 
@@ -45,6 +51,21 @@ finds-on side s rows n element portion found e f g finds = rw (e, f, g) at finds
 -- the matches of the portions that are left
 abbrev pub toCome : Side → (s : List ℕ) → List Element → (element : ℕ) → (left : Run) → (place : ℕ) → List Match
 toCome side s elements element left place = forEach place (values (treeIn s left)) (portionMatches side elements element (elementAt elements element))
+
+-- an element that is listed is read on the side, and has an identifier
+record Named (side : Side) (rows : List ℕ) (n e : ℕ) : Type 0 where
+  below : e < n
+  on-side : isIn (kindAt rows e) (kindsOf side) ≡ true
+  named : firstAt rows identifierColumn e < pastAt rows identifierColumn e
+
+listed-named : (side : Side) (rows : List ℕ) (n e : ℕ) → e < n → listed side rows e ≡ true → Named side rows n e
+unfolding listed
+listed-named side rows n e l t =
+    let on = isIn (kindAt rows e) (kindsOf side) in
+    let there = ltb (firstAt rows identifierColumn e) (pastAt rows identifierColumn e) in
+    let a = and-eq-true-iff (on && there) (ltb (firstAt rows portionsColumn e) (pastAt rows portionsColumn e)) .0 t in
+    let b = and-eq-true-iff on there .0 (a .0) in
+    record { below = l; on-side = b .0; named = ltb-true _ _ (b .1) }
 
 pub record Listing (side : Side) (s rows : List ℕ) (n element : ℕ) (flat₀ : List ℕ) (count : ℕ) (flat : List ℕ) (left : Run) (place total : ℕ) : Type 0 where
   pub fine : Fine s left
@@ -67,7 +88,10 @@ module _ (s rows : List ℕ) (n element : ℕ) (below : element < n) (elements :
   unfolding elementMatches
   all-to-come side = ap (λ (vs : List (List ℕ)). forEach 0 vs (portionMatches side elements element (elementAt elements element))) (element-told .portions)
 
-module _ {side : Side} {s rows head next : List ℕ} {n element : ℕ} (known : Set side s rows head next n) (named : Named side rows n element) where
+module _ {side : Side} {s rows head next : List ℕ} {n element : ℕ} (known : Set side s rows head next n) (below : element < n) (is-listed : listed side rows element ≡ true) where
+  abbrev named : Named side rows n element
+  named = listed-named side rows n element below is-listed
+
   abbrev there : Tells s rows element (elementAt (known .elements) element)
   there = element-told s rows n element (named .below) (known .elements) (known .ready)
 
@@ -105,9 +129,9 @@ module _ {side : Side} {s rows head next : List ℕ} {n element : ℕ} (known : 
           let told = element-told s rows n element (named .below) elements ready in
           let on-side : isIn (x .kind) (kindsOf side) ≡ true = ap (λ (k : ℕ). isIn k (kindsOf side)) (sym (told .kind)) ∙ named .on-side in
           let name : x .identifier ≡ octets (slice (firstAt rows identifierColumn element) (pastAt rows identifierColumn element) s) =
-              told .identifier ∙ rw (lt-ltb (firstAt rows identifierColumn element) (pastAt rows identifierColumn element) (named .named)) in
+          told .identifier ∙ rw (lt-ltb (firstAt rows identifierColumn element) (pastAt rows identifierColumn element) (named .named)) in
           let first = found-matches ready side x (slice (firstAt rows identifierColumn element) (pastAt rows identifierColumn element) s) (slice from to s)
-              on-side name element place found finds in
+          on-side name element place found finds in
           ap (λ (vs : List (List ℕ)). forEach place vs (portionMatches side elements element x)) (values-next met (listing .only-portions))
           ∙ rw (first, add-one place)
 
@@ -151,3 +175,39 @@ module _ {side : Side} {s rows head next : List ℕ} {n element : ℕ} (known : 
             (subst (λ (ms : List Match). Puts flat total ms after end) (sym (one-more elements ready))
             (puts-then (foundMatches element place found) (toCome side s elements element rest (place + 1)) put p));
       }
+
+-- an element that is not listed has no match
+module _ (side : Side) (s rows : List ℕ) (n e : ℕ) (below : e < n) (elements : List Element) (ready : Ready s rows n elements) where
+  abbrev x : Element
+  x = elementAt elements e
+
+  abbrev told : Tells s rows e x
+  told = element-told s rows n e below elements ready
+
+  other-kind : isIn (kindAt rows e) (kindsOf side) ≡ false → elementMatches side elements e x ≡ []
+  other-kind t =
+      unread side elements e x (λ portion unit j.
+      true≢false (sym (joins-told side x portion unit j .on-side) ∙ ap (λ (k : ℕ). isIn k (kindsOf side)) (sym (told .kind)) ∙ t))
+
+  no-name : ltb (firstAt rows identifierColumn e) (pastAt rows identifierColumn e) ≡ false → elementMatches side elements e x ≡ []
+  no-name t =
+      unread side elements e x (λ portion unit j.
+      let a : absent ≡ octets (joins-told side x portion unit j .identifier) = sym (told .identifier ∙ rw t) ∙ joins-told side x portion unit j .named in
+      let z : _≡_ {A = ℕ} 0 1 = cc in
+      omega arith)
+
+  no-portion : ltb (firstAt rows portionsColumn e) (pastAt rows portionsColumn e) ≡ false → elementMatches side elements e x ≡ []
+  unfolding elementMatches forEach
+  no-portion t =
+      let fine = told .portions-fine in
+      let at : firstAt rows portionsColumn e ≡ pastAt rows portionsColumn e = omega (arith, ltb-false (firstAt rows portionsColumn e) (pastAt rows portionsColumn e) t, fine .order) in
+      let empty : itemsOf s (portionsAt rows e) ≡ none = ap (λ (w : Walked). w .items) (sym (derived (at-limit at))) in
+      let none-left : x .portions ≡ [] = sym (told .portions) ∙ values-end s (portionsAt rows e) empty in
+      rw none-left
+
+  pub unlisted : listed side rows e ≡ false → elementMatches side elements e x ≡ []
+  unfolding listed
+  unlisted t =
+      cases (isIn (kindAt rows e) (kindsOf side))
+      (λ a. cases (ltb (firstAt rows identifierColumn e) (pastAt rows identifierColumn e)) (λ b. no-portion (rw (a, b) at t)) no-name)
+      other-kind

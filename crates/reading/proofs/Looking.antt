@@ -90,7 +90,7 @@ module _ {s rows : List ℕ} {n : ℕ} {elements : List Element} (ready : Ready 
       has-joined has =
           let tells = ready .tells j unit there in
           let name : nameOn side unit ≡ octets bytes =
-              name-told side j unit tells ∙ rw (lt-ltb (firstAt rows (columnOf side) j) (pastAt rows (columnOf side) j) (has .present)) (ap octets (has .of-bytes)) in
+          name-told side j unit tells ∙ rw (lt-ltb (firstAt rows (columnOf side) j) (pastAt rows (columnOf side) j) (has .present)) (ap octets (has .of-bytes)) in
           record {
             on-side = on-side;
             of-unit = sym (tells .kind) ∙ unit-kind (kindAt rows j) (has .of-space);

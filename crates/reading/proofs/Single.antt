@@ -85,6 +85,11 @@ unit-in n (x ∷ es) (suc k) u p e =
     let r : List·Memᴰ (n + suc k) (unitsFrom (suc n) es) = rw i (unit-in (suc n) es k u p e) in
     cases (eqb (x .kind) unitKind) (λ t. rw t (List·Memᴰ·tail r)) (λ t. rw t r)
 
+units-few : (es : List Element) → units es ≤ length es
+unfolding units
+units-few [] = omega arith
+units-few (e ∷ es) = let l = units-few es in cases (eqb (e .kind) unitKind) (λ t. rw t (omega arith)) (λ t. rw t (omega arith))
+
 -- an element none of whose portions joins a unit has no match
 pub unread : (side : Side) (elements : List Element) (e : ℕ) (element : Element)
     → ((portion : List ℕ) (unit : Element) → joins side element portion unit ≡ true → ⊥) → elementMatches side elements e element ≡ []
@@ -206,3 +211,7 @@ module _ (elements : List Element) (lawful : Lawful elements) (side : Side) wher
           let a = matches-are side elements m i in
           let z : 0 + m .unit ≡ u = omega arith in
           subst (λ (k : ℕ). List·Memᴰ k (unitsFrom 0 elements)) z (unit-in 0 elements (m .unit) (a .unit) (a .unit-there) (a .joined .of-unit))
+
+  -- so no more than all elements
+  pub no-more-than-elements : length (matches side elements) ≤ length elements
+  no-more-than-elements = omega (arith, no-more-than-units, units-few elements)

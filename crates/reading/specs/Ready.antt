@@ -1,7 +1,7 @@
 -- What is known of an accepted letter when its matches are looked up: its elements, their rows, and the index of the text units by the
 -- identifier of the side. Of any edition. Definitions only: assumes nothing.
 use mathlib.Core.Path.{_≡_}
-use mathlib.Core.Bool.{true, false, cond}
+use mathlib.Core.Bool.{Bool, true, false, cond, _&&_}
 use mathlib.Core.Option.{some}
 use mathlib.Core.List.{List, [], _∷_}
 use Prim.Native.Nat.{ℕ, _+_, _*_, _<_, _≤_}
@@ -93,11 +93,12 @@ noElement = record { kind = 0; object = 0; identifier = absent; logical = absent
 abbrev pub elementAt : List Element → (e : ℕ) → Element
 elementAt elements e = getD elements e noElement
 
--- an element that is read on the side, and has an identifier
-pub record Named (side : Side) (rows : List ℕ) (n e : ℕ) : Type 0 where
-  pub below : e < n
-  pub on-side : isIn (kindAt rows e) (kindsOf side) ≡ true
-  pub named : firstAt rows identifierColumn e < pastAt rows identifierColumn e
+-- whether element e is read on the side and has an identifier and portions
+unfoldable pub listed : (side : Side) (rows : List ℕ) (e : ℕ) → Bool
+listed side rows e =
+    isIn (kindAt rows e) (kindsOf side)
+    && ltb (firstAt rows identifierColumn e) (pastAt rows identifierColumn e)
+    && ltb (firstAt rows portionsColumn e) (pastAt rows portionsColumn e)
 
 -- there is room for the matches of element e after so many
 abbrev pub Room : (side : Side) (s rows : List ℕ) (n e : ℕ) (flat : List ℕ) (count : ℕ) → Type 0

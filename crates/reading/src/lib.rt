@@ -18,7 +18,7 @@ ghost use Rattle.index.specs.Index.{Indexed, Finds};
 ghost use Rattle.elements.specs.Element.{Element};
 ghost use Rattle.reading.specs.Match.{kindsOf, elementMatches, matches};
 ghost use Rattle.reading.specs.Records.{recordAt, records, Puts};
-ghost use Rattle.reading.specs.Ready.{columnOf, unitSpace, portionsAt, Set, Named, Room, PutsElement, PutsAll, foundMatches, FoundBelow};
+ghost use Rattle.reading.specs.Ready.{columnOf, unitSpace, portionsAt, listed, Set, Room, PutsElement, PutsAll, foundMatches, FoundBelow};
 
 const ROW_WIDTH: usize = 12;
 
@@ -130,6 +130,23 @@ fn portions_at(rows: &[u32], j: usize) -> Run
     }
 }
 
+// Whether element j is read on the side and has an identifier and portions.
+fn is_listed(rows: &[u32], side: Side, j: usize) -> bool
+    requires { ⌜ j * rowWidth + rowWidth ≤ length (now rows) ⌝ }
+    ensures { λ r. ⌜ r ≡ listed side (now (rows .entry)) j ⌝ }
+{
+    let kind = wide(rows[j * ROW_WIDTH]);
+    if !is_read(side, kind) {
+        return false;
+    }
+    let name = bounds_at(rows, j, IDENTIFIER);
+    if name.past <= name.first {
+        return false;
+    }
+    let portions = bounds_at(rows, j, PORTIONS);
+    portions.first < portions.past
+}
+
 // The text unit whose identifier is s[first..past], one space and s[from..to]; `hashed` is the hash up to the space.
 fn unit_of(
     s: &[u8],
@@ -188,7 +205,7 @@ fn put_found(flat: &mut [u32], count: usize, element: usize, portion: usize, fou
     }
 }
 
-// Puts the matches of an element of the side that has an identifier. The identifier is hashed once, and no joined name is written out.
+// Puts the matches of an element that is listed. The identifier is hashed once, and no joined name is written out.
 fn list_portions(
     s: &[u8],
     rows: &[u32],
@@ -201,7 +218,7 @@ fn list_portions(
     count: usize,
 ) -> usize
     requires { ⌜ Set side (now s) (now rows) (now head) (now next) n ⌝ }
-    requires { ⌜ Named side (now rows) n element ⌝ }
+    requires { ⌜ (element < n) × (listed side (now rows) element ≡ true) ⌝ }
     requires { ⌜ Room side (now s) (now rows) n element (now flat) count ⌝ }
     ensures { λ r. ⌜ PutsElement side (now (s .entry)) (now (rows .entry)) n element (now (flat .entry)) count (now (flat .exit)) r ⌝ }
 {
@@ -223,7 +240,19 @@ fn list_portions(
                 rest,
             } => {
                 let column = column_of(side);
-                let found = unit_of(s, rows, head, next, n, column, hashed, first, past, from, to);
+                let found = unit_of(
+                    s,
+                    rows,
+                    head,
+                    next,
+                    n,
+                    column,
+                    hashed,
+                    first,
+                    past,
+                    from,
+                    to,
+                );
                 total = put_found(flat, total, element, place, found);
                 place += 1;
                 left = rest;
@@ -232,7 +261,7 @@ fn list_portions(
     }
 }
 
-// Puts the matches of one element, if it is read on the side and has an identifier.
+// Puts the matches of one element.
 fn list_element(
     s: &[u8],
     rows: &[u32],
@@ -249,11 +278,7 @@ fn list_element(
     requires { ⌜ Room side (now s) (now rows) n element (now flat) count ⌝ }
     ensures { λ r. ⌜ PutsElement side (now (s .entry)) (now (rows .entry)) n element (now (flat .entry)) count (now (flat .exit)) r ⌝ }
 {
-    if !is_read(side, wide(rows[element * ROW_WIDTH])) {
-        return count;
-    }
-    let name = bounds_at(rows, element, IDENTIFIER);
-    if name.past <= name.first {
+    if !is_listed(rows, side, element) {
         return count;
     }
     list_portions(s, rows, head, next, n, side, element, flat, count)

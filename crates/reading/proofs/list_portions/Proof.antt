@@ -54,15 +54,14 @@ finds c =
 bounds-at-requires : tie.Need-bounds-at-requires Inv-loop μ-loop
 bounds-at-requires c κs =
     let start = c .before .before .before .before .before in
-    (omega arith, omega (arith, start .pre .1 .0 .below, start .pre .0 .bounded .in-table))
+    (omega arith, omega (arith, start .pre .1 .0 .0, start .pre .0 .bounded .in-table))
 
 hash-over-requires : tie.Need-hash-over-requires Inv-loop μ-loop
 hash-over-requires c κs =
     let start = c .before .before .before .before .before .before in
-    let named = start .pre .1 .0 in
     let name = c .bounds-at .ensures in
     let bounded = start .pre .0 .bounded in
-    (omega (arith, named .named), omega (arith, bounded .inside (start .args .element) (named .below)), omega arith)
+    (omega (arith, bounded .ordered (start .args .element) (start .pre .1 .0 .0)), omega (arith, bounded .inside (start .args .element) (start .pre .1 .0 .0)), omega arith)
 
 hash-space-requires : tie.Need-hash-space-requires Inv-loop μ-loop
 hash-space-requires c κs = c .hash-over .ensures .1
@@ -70,12 +69,12 @@ hash-space-requires c κs = c .hash-over .ensures .1
 portions-at-requires : tie.Need-portions-at-requires Inv-loop μ-loop
 portions-at-requires c κs =
     let start = c .before .before .before .before .before .before .before .before in
-    omega (arith, start .pre .1 .0 .below, start .pre .0 .bounded .in-table)
+    omega (arith, start .pre .1 .0 .0, start .pre .0 .bounded .in-table)
 
 loop-holds : tie.Need-loop-holds Inv-loop μ-loop
 loop-holds c =
     let start = c .before .before .before .before .before .before .before .before .before in
-    rw (c .portions-at .ensures) (listing-all (start .pre .0) (start .pre .1 .0) (start .args .flat .now) (start .args .count) (start .pre .1 .1))
+    rw (c .portions-at .ensures) (listing-all (start .pre .0) (start .pre .1 .0 .0) (start .pre .1 .0 .1) (start .args .flat .now) (start .args .count) (start .pre .1 .1))
 
 meet-requires : tie.Need-meet-requires Inv-loop μ-loop
 meet-requires c κs = c .loop .inv .fine
@@ -90,7 +89,7 @@ returns : tie.Need-returns Inv-loop μ-loop
 returns c =
     let at = c .before .before .before in
     let start = entry at in
-    listing-none (start .pre .0) (start .pre .1 .0) (at .loop .inv)
+    listing-none (start .pre .0) (start .pre .1 .0 .0) (start .pre .1 .0 .1) (at .loop .inv)
     (subst (Meets (start .args .s .now) (at .loop .left)) (c .enum-told .given .1) (c .before .before .meet .ensures))
 
 enum-known-from : tie.Need-enum-known-from Inv-loop μ-loop
@@ -103,34 +102,39 @@ unit-of-requires : tie.Need-unit-of-requires Inv-loop μ-loop
 unit-of-requires c κs =
     let at = c .before .before .before .before .before in
     let start = entry at in
-    let named = start .pre .1 .0 in
     let name = at .before .before .before .before .bounds-at .ensures in
     let bounded = start .pre .0 .bounded in
     let hashed = at .before .before .before .hash-over .ensures in
     let spaced = at .before .before .hash-space .ensures in
-    let met = meeting (c .before) in
-    (rw (c .column-of .ensures) (start .pre .0 .bounded-on), (rw (c .column-of .ensures) (start .pre .0 .indexed),
-    ((spaced .0 ∙ ap (λ (h : ℕ). hashFrom h (spaceByte ∷ [])) (hashed .0), spaced .1),
-    (omega (arith, named .named), omega (arith, bounded .inside (start .args .element) (named .below)), met .value-order, met .value-inside))))
+    let met = meeting (c .before) in (
+      rw (c .column-of .ensures) (start .pre .0 .bounded-on),
+      (
+        rw (c .column-of .ensures) (start .pre .0 .indexed),
+        (
+          (rw (← hashed .0) (spaced .0), spaced .1),
+          (omega (arith, bounded .ordered (start .args .element) (start .pre .1 .0 .0)), omega (arith, bounded .inside (start .args .element) (start .pre .1 .0 .0)), met .value-order, met .value-inside),
+        ),
+      ),
+    )
 
 put-found-requires : tie.Need-put-found-requires Inv-loop μ-loop
 put-found-requires c κs =
     let at = c .before .before .before .before .before .before .before in
     let start = entry at in
     let known = start .pre .0 in
-    let named = start .pre .1 .0 in
     let met = meeting (c .before .before .before) in
     let found = c .before .unit-of .result in
-    let one = finds (c .before) in
-    (room-for-one known named (at .loop .inv) met found one,
-    (small-element known named (at .loop .inv) met found one, omega (arith, small-place known named (at .loop .inv) met found one), found-small known named (at .loop .inv) met found one))
+    let one = finds (c .before) in (
+      room-for-one known (start .pre .1 .0 .0) (start .pre .1 .0 .1) (at .loop .inv) met found one,
+      (small-element known (start .pre .1 .0 .0) (start .pre .1 .0 .1) (at .loop .inv) met found one, omega (arith, small-place known (start .pre .1 .0 .0) (start .pre .1 .0 .1) (at .loop .inv) met found one), found-small known (start .pre .1 .0 .0) (start .pre .1 .0 .1) (at .loop .inv) met found one),
+    )
 
 add-place : tie.Need-add-place Inv-loop μ-loop
 add-place c =
     let at = c .before .before .before .before .before .before .before .before .before .before in
     let start = entry at in
     let unit = c .before .before .before .before in
-    omega (arith, small-place (start .pre .0) (start .pre .1 .0) (at .loop .inv) (meeting (unit .before .before)) (unit .unit-of .result) (finds unit))
+    omega (arith, small-place (start .pre .0) (start .pre .1 .0 .0) (start .pre .1 .0 .1) (at .loop .inv) (meeting (unit .before .before)) (unit .unit-of .result) (finds unit))
 
 loop-less : tie.Need-loop-less Inv-loop μ-loop
 loop-less c = meeting (c .before .before .before .before .before .before) .less
@@ -140,7 +144,7 @@ loop-again c =
     let at = c .before .before .before .before .before .before .before .before .before .before in
     let start = entry at in
     let unit = c .before .before .before .before in
-    listing-more (start .pre .0) (start .pre .1 .0) (at .loop .inv) (meeting (unit .before .before)) (unit .unit-of .result) (finds unit) (c .before .before .put-found .ensures)
+    listing-more (start .pre .0) (start .pre .1 .0 .0) (start .pre .1 .0 .1) (at .loop .inv) (meeting (unit .before .before)) (unit .unit-of .result) (finds unit) (c .before .before .put-found .ensures)
 
 pub list-portions-spec : {M : Type 1} → statement M
 list-portions-spec =
