@@ -1,6 +1,38 @@
 // The shapes of elements; and of one element rules 12 to 14, and its row.
+use contents::Found;
+use contents::Gathered;
+use contents::Opening;
 use contents::Slot;
+use contents::Sought;
 use contents::Span;
+use portions::Listed;
+use runs::Run;
+ghost use mathlib.Core.Path.{_≡_};
+ghost use mathlib.Core.Bool.{true, false};
+ghost use mathlib.Core.List.{List, [], _∷_};
+ghost use Prim.Native.Nat.{ℕ, _<_, _≤_};
+ghost use lib.ListN.{length};
+ghost use Rattle.octets.specs.First.{constructed};
+ghost use Rattle.octets.specs.Items.{none};
+ghost use Rattle.octets.specs.Walk.{streamLimit};
+ghost use Rattle.runs.specs.Runs.{itemsOf, definiteRun, Fine};
+ghost use Rattle.contents.specs.Search.{Value};
+ghost use Rattle.contents.specs.Opening.{Opens};
+ghost use Rattle.portions.specs.Portions.{all};
+ghost use Rattle.portions.specs.Lists.{Lists};
+ghost use Rattle.elements.specs.Element.{spelt};
+ghost use Rattle.elements.specs.WellMade.{WellMade};
+ghost use Rattle.elements.specs.Says.{Placed, Bounds};
+ghost use Rattle.elements.specs.Frames.{Bounding, Inner, Framed, Frames, Types};
+ghost use Rattle.elements.specs.Sees.{once, tabledBy, listSpelt, numberOf, soughtOf, rowBy, refusedBy, seenBy, Ready, Sees};
+
+pub mod shapes; // shapes.rt: the shapes of the edition of 1988
+
+pub use shapes::shape_1988;
+
+const NO_TYPE: usize = 255;
+
+const MOST_PORTIONS: usize = 64;
 
 // The shape of an element: which items it has, and what they are for. An octet 0 stands for none.
 pub struct Shape {
@@ -33,4 +65,321 @@ pub struct Row {
     pub logical: Span,
     pub portions: Span,
     pub content: Span,
+}
+
+// The top of an element: whether its items stand as tabled, and if so the run that names it, its object type and its content.
+pub struct Frame {
+    pub fits: bool,
+    pub body: Run,
+    pub object: Span,
+    pub content: Span,
+}
+
+// Whether an object type is in its range, and which it is.
+pub struct Typed {
+    pub fits: bool,
+    pub value: usize,
+}
+
+// What is seen of an element: a refusal, 12 to 14, or 0 with its row and how many portions it has.
+pub struct Seen {
+    pub refusal: usize,
+    pub row: Row,
+    pub count: usize,
+}
+
+fn no_run() -> Run
+    ensures { λ r. ⌜ r ≡ definiteRun 0 0 0 ⌝ }
+{
+    Run {
+        at: 0,
+        limit: 0,
+        marked: false,
+        room: 0,
+    }
+}
+
+// The value of an opening's item with the octet.
+fn span_with(o: Opening, octet: usize) -> Span
+    ensures { λ v. ⌜ ((s : List ℕ) (r : Run) → Opens s r o → o .count ≤ 2 → constructed octet ≡ false → Bounding s r octet v) ⌝ }
+{
+    match contents::part_with(o, octet) {
+        Found::At(p) => Span {
+            first: p.first,
+            past: p.past,
+        },
+        Found::Missing => Span { first: 0, past: 0 },
+    }
+}
+
+// The run inside an opening's item with the octet.
+fn run_with(o: Opening, octet: usize) -> Run
+    ensures { λ b. ⌜ ((s : List ℕ) (r : Run) → Opens s r o → o .count ≤ 2 → constructed octet ≡ true → Inner s r octet b) ⌝ }
+{
+    match contents::part_with(o, octet) {
+        Found::At(p) => p.inner,
+        Found::Missing => no_run(),
+    }
+}
+
+// The top of an element whose items stand in order.
+fn frame_in_order(s: &[u8], shape: Shape, r: Run) -> Frame
+    requires { ⌜ Fine (now s) r × WellMade shape × (shape .free ≡ false) ⌝ }
+    ensures { λ frame. ⌜ Frames (now (s .entry)) shape r frame ⌝ }
+{
+    let o = contents::opening_of(s, r);
+    let one = shape.one;
+    let two = shape.two;
+    let fits = contents::fills(o, one, two);
+    let body = run_with(o, shape.within);
+    let object = span_with(o, shape.object);
+    let content = span_with(o, shape.content);
+    Frame {
+        fits,
+        body,
+        object,
+        content,
+    }
+}
+
+// The top of an element: at most three items of it are met.
+pub fn frame_of(s: &[u8], shape: Shape, r: Run) -> Frame
+    requires { ⌜ Fine (now s) r × WellMade shape ⌝ }
+    ensures { λ frame. ⌜ Frames (now (s .entry)) shape r frame ⌝ }
+{
+    if !shape.free {
+        return frame_in_order(s, shape, r);
+    }
+    if shape.looked {
+        return Frame {
+            fits: true,
+            body: r,
+            object: Span { first: 0, past: 0 },
+            content: Span { first: 0, past: 0 },
+        };
+    }
+    Frame {
+        fits: true,
+        body: no_run(),
+        object: Span { first: 0, past: 0 },
+        content: Span { first: 0, past: 0 },
+    }
+}
+
+fn wide(x: u8) -> usize
+    ensures { λ r. ⌜ (r ≡ x) × (r < 256) ⌝ }
+{
+    x as usize
+}
+
+// Rule 13, and the object type.
+fn object_type(s: &[u8], v: Span, types: usize) -> Typed
+    requires { ⌜ Placed (now s) v ⌝ }
+    ensures { λ t. ⌜ (t .value < 256) × ((value : Value) → Bounds (now (s .entry)) v value → Types types value t) ⌝ }
+{
+    let first = v.first;
+    let past = v.past;
+    if past == 0 {
+        return Typed {
+            fits: true,
+            value: NO_TYPE,
+        };
+    }
+    if past - first != 1 {
+        return Typed {
+            fits: false,
+            value: NO_TYPE,
+        };
+    }
+    let value = wide(s[first]);
+    Typed {
+        fits: value < types,
+        value,
+    }
+}
+
+// Whether an item may stand there so often: at most once, and once if it is needed.
+fn is_once(needed: bool, amount: usize) -> bool
+    ensures { λ b. ⌜ b ≡ once needed amount ⌝ }
+{
+    if amount == 0 {
+        return !needed;
+    }
+    amount == 1
+}
+
+// Rule 12, in an element whose items stand in order, by what was gathered.
+fn is_tabled(needed: bool, g: Gathered, others: bool) -> bool
+    ensures { λ b. ⌜ b ≡ tabledBy needed g others ⌝ }
+{
+    if !is_once(needed, g.identifiers) {
+        return false;
+    }
+    if 1 < g.logicals {
+        return false;
+    }
+    if 1 < g.lists {
+        return false;
+    }
+    if g.barred != 0 {
+        return false;
+    }
+    !others
+}
+
+// Whether an identifier is well spelt, or absent.
+fn is_spelt(s: &[u8], v: Span) -> bool
+    requires { ⌜ Placed (now s) v ⌝ }
+    ensures { λ b. ⌜ ((value : Value) → Bounds (now (s .entry)) v value → b ≡ spelt value) ⌝ }
+{
+    let first = v.first;
+    let past = v.past;
+    if past == 0 {
+        return true;
+    }
+    names::is_identifier(s, first, past)
+}
+
+// Rule 14, by what was gathered and read.
+fn are_spelt(s: &[u8], identifier: Span, logical: Span, listed: Listed) -> bool
+    requires { ⌜ Placed (now s) identifier × Placed (now s) logical ⌝ }
+    ensures { λ b. ⌜ ((x y : Value) → Bounds (now (s .entry)) identifier x → Bounds (now (s .entry)) logical y → b ≡ all (spelt x ∷ spelt y ∷ listSpelt listed ∷ [])) ⌝ }
+{
+    if !is_spelt(s, identifier) {
+        return false;
+    }
+    if !is_spelt(s, logical) {
+        return false;
+    }
+    if MOST_PORTIONS < listed.count {
+        return false;
+    }
+    !listed.misspelt
+}
+
+// The first of rules 12 to 14 that refuses.
+fn refusal_of(tabled: bool, fits: bool, spelt: bool) -> usize
+    ensures { λ n. ⌜ n ≡ numberOf tabled fits spelt ⌝ }
+{
+    if !tabled {
+        return 12;
+    }
+    if !fits {
+        return 13;
+    }
+    if !spelt {
+        return 14;
+    }
+    0
+}
+
+fn refused(number: usize) -> Seen
+    ensures { λ r. ⌜ r ≡ refusedBy number ⌝ }
+{
+    Seen {
+        refusal: number,
+        row: Row {
+            kind: 0,
+            object: 0,
+            whole: Span { first: 0, past: 0 },
+            identifier: Span { first: 0, past: 0 },
+            logical: Span { first: 0, past: 0 },
+            portions: Span { first: 0, past: 0 },
+            content: Span { first: 0, past: 0 },
+        },
+        count: 0,
+    }
+}
+
+// An element that is refused by a number, or that has the row.
+fn seen_by(number: usize, row: Row, count: usize) -> Seen
+    ensures { λ r. ⌜ r ≡ seenBy number row count ⌝ }
+{
+    if number != 0 {
+        return refused(number);
+    }
+    Seen {
+        refusal: 0,
+        row,
+        count,
+    }
+}
+
+fn sought_of(shape: Shape) -> Sought
+    ensures { λ r. ⌜ r ≡ soughtOf shape ⌝ }
+{
+    let identifier = shape.identifier;
+    Sought {
+        identifier: identifier.octet,
+        logical: shape.logical,
+        portions: shape.portions,
+        never: shape.never,
+        neither: shape.neither,
+    }
+}
+
+// The portions of an element, read if there are any.
+fn listed_of(s: &[u8], g: Gathered, bounds: &mut [u32]) -> Listed
+    requires { ⌜ Fine (now s) (g .list) × (length (now s) ≤ streamLimit) × (128 ≤ length (now bounds)) ⌝ }
+    ensures { λ listed. ⌜ ((g .lists ≡ 0 → itemsOf (now (s .entry)) (g .list) ≡ none) → Lists (now (s .entry)) (g .list) listed (now (bounds .exit))) ⌝ }
+{
+    if g.lists == 0 {
+        return Listed {
+            count: 0,
+            others: false,
+            misspelt: false,
+        };
+    }
+    let list = g.list;
+    portions::read_portions(s, list, bounds)
+}
+
+// The row of an element.
+fn row_of(shape: Shape, frame: Frame, object: usize, g: Gathered, whole: Span) -> Row
+    ensures { λ row. ⌜ row ≡ rowBy shape frame object g whole ⌝ }
+{
+    let identifier = g.identifier;
+    let logical = g.logical;
+    let portions = g.portions;
+    let content = frame.content;
+    Row {
+        kind: shape.octet % 32,
+        object,
+        whole,
+        identifier,
+        logical,
+        portions,
+        content,
+    }
+}
+
+// What is seen of an element whose items stand as tabled. What names it is gathered once, and its portions are read once.
+fn see_body(s: &[u8], shape: Shape, frame: Frame, whole: Span, bounds: &mut [u32]) -> Seen
+    requires { ⌜ Ready (now s) shape frame whole × (128 ≤ length (now bounds)) ⌝ }
+    ensures { λ seen. ⌜ ((r : Run) → Framed (now (s .entry)) shape r frame → Sees (now (s .entry)) shape r (whole .first) (whole .past) (now (bounds .exit)) seen) ⌝ }
+{
+    let body = frame.body;
+    let g = contents::gather(s, body, sought_of(shape));
+    let listed = listed_of(s, g, bounds);
+    let object = frame.object;
+    let typed = object_type(s, object, shape.types);
+    let identifier = shape.identifier;
+    let tabled = is_tabled(identifier.needed, g, listed.others);
+    let spelt = are_spelt(s, g.identifier, g.logical, listed);
+    let number = refusal_of(tabled, typed.fits, spelt);
+    let row = row_of(shape, frame, typed.value, g, whole);
+    seen_by(number, row, listed.count)
+}
+
+// What rules 12 to 14 say of an element that stands from `first` to `past` and has the run r; and its row, if they refuse nothing. The
+// judge of a letter calls it once for each element, and lends the numbers that its portions are then compared by.
+pub fn see(s: &[u8], shape: Shape, r: Run, first: usize, past: usize, bounds: &mut [u32]) -> Seen
+    requires { ⌜ Fine (now s) r × WellMade shape × (length (now s) ≤ streamLimit) × (first ≤ past) × (past ≤ length (now s)) × (128 ≤ length (now bounds)) ⌝ }
+    ensures { λ seen. ⌜ Sees (now (s .entry)) shape r first past (now (bounds .exit)) seen ⌝ }
+{
+    let frame = frame_of(s, shape, r);
+    if !frame.fits {
+        return refused(12);
+    }
+    see_body(s, shape, frame, Span { first, past }, bounds)
 }

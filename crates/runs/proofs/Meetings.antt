@@ -18,7 +18,7 @@ use Rattle.runs.specs.Whole.{Whole}
 use Rattle.runs.specs.declared.Run.{Run}
 use Rattle.runs.specs.Runs.{walkIn, itemsOf, insideOf, Fine, Spans, Meeting}
 use Rattle.runs.proofs.Heads.{item-octet}
-use Rattle.runs.proofs.Ends.{EndsRight, ends-right, ends-at-limit}
+use Rattle.runs.proofs.Ends.{EndsRight, ends-right, ends-at-limit, past-next}
 
 -- where the walk of an item and what follows it ended, so did that of its value
 follow-whole : (at : ℕ) (h : Header) (inside : Items) (e : End) (more : ℕ → Walked) → Whole (follow at h inside e more .how) → Whole e
@@ -40,11 +40,6 @@ past-order false start bound next l r = omega arith
 past-before : (m : Bool) (next : ℕ) → pastOf m next ≤ next
 past-before true next = omega arith
 past-before false next = omega arith
-
--- where the run inside ends, said by the value's end
-past-next : (m : Bool) (start bound next : ℕ) → EndsRight m start bound (ends next) → next ≡ cond m (pastOf m next + 2) (pastOf m next)
-past-next true start bound next r = omega arith
-past-next false start bound next r = refl
 
 inside-items : (s : List ℕ) (h : Header) (room : ℕ) (b : Bool) → constructed (h .octet) ≡ b → itemsOf s (insideOf h room) ≡ valueOf room s h .items
 unfolding valueOf
