@@ -3,7 +3,7 @@ pub mod Made
 pub mod Putting
 pub mod Lists
 pub mod Each
-pub mod Accepted
+pub mod OnePlace
 pub mod Matches
 pub mod Single
 pub mod Looking

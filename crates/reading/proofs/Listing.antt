@@ -35,7 +35,7 @@ use Rattle.reading.specs.Match.{kindsOf, forEach, portionMatches, elemen
 use Rattle.reading.specs.Records.{Puts}
 use Rattle.reading.specs.Ready.{columnOf, unitSpace, portionsAt, Tells, Ready, listed, portionsColumn, nameIn, Set, Room, PutsElement, foundMatches, FoundBelow, elementAt, noElement}
 use Rattle.reading.proofs.Lists.{at-getD}
-use Rattle.reading.proofs.Accepted.{few-portions}
+use Rattle.reading.proofs.OnePlace.{few-portions}
 use Rattle.reading.proofs.Matches.{joins-told}
 use Rattle.reading.proofs.Single.{unread}
 use Rattle.reading.proofs.Putting.{puts-none, puts-then, puts-length}
@@ -98,7 +98,7 @@ module _ {side : Side} {s rows head next : List ℕ} {n element : ℕ} (known : 
   -- at the start all are left
   pub listing-all : (flat : List ℕ) (count : ℕ) → Room side s rows n element flat count → Listing side s rows n element flat count flat (portionsAt rows element) 0 count
   listing-all flat count room =
-      let spelt = known .ready .lawful .well-spelt element (elementAt (known .elements) element) (element-there s rows n element (named .below) (known .elements) (known .ready)) in
+      let spelt = known .ready .apart .spelt element (elementAt (known .elements) element) (element-there s rows n element (named .below) (known .elements) (known .ready)) in
       record {
         fine = there .portions-fine;
         only-portions = there .only-portions;
@@ -146,7 +146,7 @@ module _ {side : Side} {s rows head next : List ℕ} {n element : ℕ} (known : 
           omega arith
 
       pub small-element : element < 4294967296
-      small-element = omega (arith, named .below, known .ready .counted, known .ready .lawful .few)
+      small-element = omega (arith, named .below, known .ready .counted, known .ready .apart .few)
 
       pub small-place : place < mostPortions
       small-place = omega (arith, listing .placed, some-left)
@@ -155,7 +155,7 @@ module _ {side : Side} {s rows head next : List ℕ} {n element : ℕ} (known : 
       found-small = smaller found (finds-below s rows (columnOf side) n unitSpace (slice (firstAt rows identifierColumn element) (pastAt rows identifierColumn element) s ++ spaceByte ∷ slice from to s) found finds)
         where
           smaller : (f : Found) → FoundBelow n f → FoundBelow 4294967296 f
-          smaller (At u) b = omega (arith, known .ready .counted, known .ready .lawful .few)
+          smaller (At u) b = omega (arith, known .ready .counted, known .ready .apart .few)
           smaller Nothing b = tt
 
       -- and once it is put, the others are left

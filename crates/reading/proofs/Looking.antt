@@ -18,13 +18,14 @@ use Rattle.index.specs.declared.Found.the-variants.{At, Nothing}
 use Rattle.index.specs.Rows.{kindAt, firstAt, pastAt, valueAt, space}
 use Rattle.index.specs.Index.{Has, Finds}
 use Rattle.elements.specs.Element.{Element}
+use Rattle.letters.proofs.Lists.{below-length}
 use Rattle.reading.specs.declared.Match.{Match}
 use Rattle.reading.specs.declared.Side.{Side}
 use Rattle.reading.specs.declared.Side.the-variants.{Layout, Logical}
 use Rattle.reading.specs.Match.{unitKind, kindsOf, nameOn, joins, portionMatches}
 use Rattle.reading.specs.Promises.{Joined}
 use Rattle.reading.specs.Ready.{columnOf, unitSpace, nameIn, Tells, Ready, foundMatches, FoundBelow, elementAt, noElement}
-use Rattle.reading.proofs.Lists.{at-inside, at-getD}
+use Rattle.reading.proofs.Lists.{at-getD}
 use Rattle.reading.proofs.Each.{none-passes, one-passes}
 use Rattle.reading.proofs.Matches.{joins-told, joined-joins}
 use Rattle.reading.proofs.Single.{one-unit}
@@ -80,7 +81,7 @@ module _ {s rows : List ℕ} {n : ℕ} {elements : List Element} (ready : Ready 
           let g : nameOn side unit ≡ octets bytes = joined .spelt ∙ ap (λ (l : List ℕ). octets (l ++ spaceByte ∷ portion)) f in
           let h = name-there s (firstAt rows (columnOf side) j) (pastAt rows (columnOf side) j) bytes (sym (name-told side j unit tells) ∙ g) in
           record {
-            below = omega (arith, at-inside elements j unit there, ready .counted);
+            below = omega (arith, below-length elements j unit there, ready .counted);
             present = h .0;
             of-space = ap space (tells .kind ∙ joined .of-unit) ∙ unit-space;
             of-bytes = h .1;
@@ -113,7 +114,7 @@ module _ {s rows : List ℕ} {n : ℕ} {elements : List Element} (ready : Ready 
           one-passes (joins side element portion) made 0 elements u unit there (joined-joins side element portion unit joined)
           (λ k other at t.
           let second = has-joined k other at (joins-has k other at t) in
-          one-unit elements (ready .lawful) side k u other unit bytes at there (second .of-unit) (joined .of-unit) (second .spelt) (joined .spelt))
+          one-unit elements (ready .apart) side k u other unit bytes at there (second .of-unit) (joined .of-unit) (second .spelt) (joined .spelt))
           ∙ ap (λ (k : ℕ). made k ∷ []) z
 
       found-nowhere : ((u : ℕ) → HasName u → ⊥) → portionMatches side elements e element p portion ≡ []

@@ -33,7 +33,7 @@ unfolding matches
 turning-all side s rows n flat enough = record {
   within = omega arith;
   kept = refl;
-  room = λ elements ready. omega (arith, no-more-than-elements elements (ready .lawful) side, ready .counted);
+  room = λ elements ready. omega (arith, no-more-than-elements elements (ready .apart) side, ready .counted);
   goes-on = λ elements ready after end p. p;
 }
 

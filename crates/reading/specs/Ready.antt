@@ -12,26 +12,18 @@ use Rattle.octets.specs.First.{isIn}
 use Rattle.runs.specs.declared.Run.{Run}
 use Rattle.runs.specs.Runs.{treeIn, definiteRun, Fine}
 use Rattle.contents.specs.Search.{Value, absent, octets}
-use Rattle.portions.specs.Portions.{allPortions, values, repeats}
+use Rattle.portions.specs.Portions.{allPortions, values}
 use Rattle.index.specs.declared.Found.{Found}
 use Rattle.index.specs.declared.Found.the-variants.{At, Nothing}
 use Rattle.index.specs.Rows.{identifierColumn, logicalColumn, kindAt, firstAt, pastAt, Bounded}
 use Rattle.index.specs.Index.{Indexed}
-use Rattle.elements.specs.Element.{Element, namesFit}
-use Rattle.elements.specs.Judge.{mostElements, clash}
+use Rattle.elements.specs.Element.{Element}
+use Rattle.letters.specs.Table.{Apart}
 use Rattle.reading.specs.declared.Match.{Match}
 use Rattle.reading.specs.declared.Side.{Side}
 use Rattle.reading.specs.declared.Side.the-variants.{Layout, Logical}
 use Rattle.reading.specs.Match.{kindsOf, elementMatches, matches}
 use Rattle.reading.specs.Records.{Puts}
-
--- What rules 9, 14 and 15 leave: at most 4,096 elements, no two with a name that has to differ, none that lists a portion twice, and all
--- names well spelt.
-pub record Lawful (elements : List Element) : Type 0 where
-  pub few : length elements ≤ mostElements
-  pub apart : (i j : ℕ) (d e : Element) → i < j → getElem? elements i ≡ some d → getElem? elements j ≡ some e → clash d e ≡ false
-  pub not-repeated : (i : ℕ) (e : Element) → getElem? elements i ≡ some e → repeats (e .portions) ≡ false
-  pub well-spelt : (i : ℕ) (e : Element) → getElem? elements i ≡ some e → namesFit e ≡ true
 
 -- where a row has the portions, and the identifier of a side
 abbrev pub portionsColumn : ℕ
@@ -62,9 +54,9 @@ pub record Tells (s rows : List ℕ) (j : ℕ) (element : Element) : Type 0 wher
   pub only-portions : allPortions (treeIn s (portionsAt rows j)) ≡ true
   pub portions : values (treeIn s (portionsAt rows j)) ≡ element .portions
 
--- the first n rows tell of lawful elements
+-- the first n rows tell of the elements of an accepted letter
 pub record Ready (s rows : List ℕ) (n : ℕ) (elements : List Element) : Type 0 where
-  pub lawful : Lawful elements
+  pub apart : Apart elements
   pub counted : length elements ≡ n
   pub tells : (j : ℕ) (element : Element) → getElem? elements j ≡ some element → Tells s rows j element
 
