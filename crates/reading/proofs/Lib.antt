@@ -9,3 +9,4 @@ pub mod Single
 pub mod Looking
 pub mod Listing
 pub mod Turning
+pub mod Scratch

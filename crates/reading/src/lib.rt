@@ -15,9 +15,13 @@ ghost use Rattle.names.specs.Names.{spaceByte};
 ghost use Rattle.names.specs.Hash.{hash, hashFrom, hashes};
 ghost use Rattle.index.specs.Rows.{rowWidth, identifierColumn, kindAt, firstAt, pastAt, Bounded};
 ghost use Rattle.index.specs.Index.{Indexed, Finds};
+ghost use Rattle.tree.specs.Tree.{treeOf};
+ghost use Rattle.elements.specs.Shape.{edition1988};
 ghost use Rattle.elements.specs.Element.{Element};
-ghost use Rattle.reading.specs.Match.{kindsOf, elementMatches, matches};
-ghost use Rattle.reading.specs.Records.{recordAt, records, Puts};
+ghost use Rattle.elements.specs.Judge.{accepted, judge};
+ghost use Rattle.letters.specs.Scratch.{Filled};
+ghost use Rattle.reading.specs.Match.{kindsOf};
+ghost use Rattle.reading.specs.Records.{recordAt, records, Puts, Lists};
 ghost use Rattle.reading.specs.Ready.{columnOf, unitSpace, portionsAt, listed, Set, Room, PutsElement, PutsAll, foundMatches, FoundBelow};
 
 const ROW_WIDTH: usize = 12;
@@ -305,4 +309,26 @@ fn list_side(
         element += 1;
     }
     count
+}
+
+// Lists the matches of a side of an accepted letter, of which the judge filled the scratch: three numbers a record, and how many.
+pub fn list_matches(
+    s: &[u8],
+    rows: &[u32],
+    head: &[u16],
+    next: &[u16],
+    head2: &[u16],
+    next2: &[u16],
+    n: usize,
+    side: Side,
+    flat: &mut [u32],
+) -> usize
+    requires { ⌜ Filled (now s) (now rows) (now head) (now next) (now head2) (now next2) n ⌝ }
+    requires { ⌜ 3 * n ≤ length (now flat) ⌝ }
+    ensures { λ r. ⌜ ((elements : List Element) → judge edition1988 (treeOf (now (s .entry))) ≡ accepted elements → Lists side elements (now (flat .entry)) (now (flat .exit)) r) ⌝ }
+{
+    match side {
+        Side::Layout => list_side(s, rows, head, next, n, Side::Layout, flat),
+        Side::Logical => list_side(s, rows, head2, next2, n, Side::Logical, flat),
+    }
 }
