@@ -3,12 +3,12 @@ use mathlib.Core.Path.{_≡_, refl, sym, _∙_, subst}
 use mathlib.Core.Bool.{Bool, true, false, not, xor, _||_, true≢false}
 use mathlib.Core.List.{List, [], _∷_, _++_, map}
 use mathlib.Core.Option.{some}
-use Prim.Native.Nat.{ℕ, _<_}
+use Prim.Native.Nat.{ℕ, _<_, _≤_}
 use native.Mathlib.Omega.{arith}
-use borrow.Author.Tests.{eqb-true, eq-eqb, not-false}
+use borrow.Author.Tests.{eqb-true, eq-eqb, leb-false, not-false}
 use borrow.Table.Steps.{cases}
 use lib.Dec.{eqb, leb}
-use lib.ListN.{length, getElem?}
+use lib.ListN.{length, getElem?, length-append}
 use Rattle.tree.specs.Tree.{Tree, empty, leaf, branch}
 use Rattle.names.proofs.Same.{same-refl}
 use Rattle.contents.specs.Search.{octets, is, firstValue}
@@ -27,6 +27,7 @@ or-false false b e = (refl, e)
 
 -- an element that no rule refuses
 record Apt (done : List Element) (e : Element) : Type 0 where
+  few : length done < mostElements
   apart : any (map (λ d. clash d e) done) ≡ false
   once : repeats (e .portions) ≡ false
   spelt : namesFit e ≡ true
@@ -44,7 +45,7 @@ apt edition done type run z =
     let p14 = passed 14 (not (namesFit e)) _ (λ q. absurd (omega arith)) (p13 .1) in
     let p15 = passed 15 (any (map (λ d. clash d e) done) || repeats (e .portions)) _ (λ q. absurd (omega arith)) (p14 .1) in
     let parts = or-false (any (map (λ d. clash d e) done)) (repeats (e .portions)) (p15 .0) in
-    record { apart = parts .0; once = parts .1; spelt = not-false (namesFit e) (p14 .0) }
+    record { few = leb-false mostElements (length done) (p9 .0); apart = parts .0; once = parts .1; spelt = not-false (namesFit e) (p14 .0) }
 
 module _ (done : List Element) (e : Element) (a : Apart done) (w : Apt done e) where
   two : (i j : ℕ) (x y : Element) → i < j → Last done e i x → Last done e j y → clash x y ≡ false
@@ -63,6 +64,7 @@ module _ (done : List Element) (e : Element) (a : Apart done) (w : Apt done e) w
 
   apart-more : Apart (done ++ e ∷ [])
   apart-more = record {
+    few = simp length-append (omega (arith, w .few));
     apart = λ i j x y l p q. two i j x y l (at-last done e i x p) (at-last done e j y q);
     once = λ j x p. once-more j x (at-last done e j x p);
     spelt = λ j x p. spelt-more j x (at-last done e j x p);
@@ -89,6 +91,7 @@ apart-from edition (branch type inside after) done elements judged a =
 
 apart-none : Apart []
 apart-none = record {
+  few = omega arith;
   apart = λ i j d e l p q. let z : _≡_ {A = ℕ} 0 1 = cc in absurd (omega arith);
   once = λ j e p. let z : _≡_ {A = ℕ} 0 1 = cc in absurd (omega arith);
   spelt = λ j e p. let z : _≡_ {A = ℕ} 0 1 = cc in absurd (omega arith);

@@ -5,12 +5,12 @@ use mathlib.Core.Bool.{true, false}
 use mathlib.Core.List.{List, [], _∷_}
 use mathlib.Core.Option.{some}
 use Prim.Native.Nat.{ℕ, _<_, _≤_}
-use lib.ListN.{getElem?}
+use lib.ListN.{length, getElem?}
 use Rattle.contents.specs.declared.Span.{Span}
 use Rattle.portions.specs.Portions.{repeats}
 use Rattle.elements.specs.declared.Row.{Row}
 use Rattle.elements.specs.Element.{Element, namesFit}
-use Rattle.elements.specs.Judge.{clash}
+use Rattle.elements.specs.Judge.{mostElements, clash}
 use Rattle.elements.specs.Says.{noSpan}
 
 -- "Elements meet end to end": the first row begins at from, each where the one before it ends, and the last ends at to
@@ -31,8 +31,9 @@ pub record PairsWithin (row : Row) : Type 0 where
   pub content : Within (row .whole .first) (row .whole .past) (row .content)
 
 -- "No two classes or objects share an identifier, no two styles, no two units a layout identifier, no two units a logical identifier,
--- and no element lists a portion twice"; and all are well spelt
+-- and no element lists a portion twice"; all are well spelt, and at most 4,096
 pub record Apart (elements : List Element) : Type 0 where
+  pub few : length elements ≤ mostElements
   pub apart : (i j : ℕ) (d e : Element) → i < j → getElem? elements i ≡ some d → getElem? elements j ≡ some e → clash d e ≡ false
   pub once : (j : ℕ) (e : Element) → getElem? elements j ≡ some e → repeats (e .portions) ≡ false
   pub spelt : (j : ℕ) (e : Element) → getElem? elements j ≡ some e → namesFit e ≡ true
