@@ -10,7 +10,7 @@ ghost use Rattle.runs.specs.Runs.{treeIn, Fine};
 ghost use Rattle.contents.specs.Order.{inOrder};
 ghost use Rattle.contents.specs.First.{spanOf};
 ghost use Rattle.contents.specs.Opening.{noPart, Begins, Opens, CountsOn, Finds};
-ghost use Rattle.contents.specs.Gather.{Gathers, unseen, seenWith, gatheredFrom};
+ghost use Rattle.contents.specs.Gather.{Gathers, unseen, firstOf, seenWith, gatheredFrom};
 
 // The bounds of a value; absent is 0 and 0.
 pub struct Span {
@@ -68,11 +68,12 @@ pub struct Gathered {
 }
 
 // How many items with one octet were seen, and the first of them.
-pub struct Seen {
-    pub amount: usize,
-    pub part: Part,
+struct Seen {
+    amount: usize,
+    part: Part,
 }
 
+// A part that is not there.
 fn no_part() -> Part
     ensures { λ p. ⌜ p ≡ noPart ⌝ }
 {
@@ -89,7 +90,8 @@ fn no_part() -> Part
     }
 }
 
-// An item that was met. The run inside it is copied field by field: a struct that is copied whole has its padding carried along.
+// An item that was met. The run inside it is copied field by field: copied whole, a struct has its padding carried along, through
+// memory.
 fn part_of(octet: usize, first: usize, past: usize, inner: Run) -> Part
     ensures { λ p. ⌜ p ≡ record { octet = octet; first = first; past = past; inner = inner } ⌝ }
 {
@@ -104,6 +106,13 @@ fn part_of(octet: usize, first: usize, past: usize, inner: Run) -> Part
             room: inner.room,
         },
     }
+}
+
+// The same part, field by field.
+fn copied(p: Part) -> Part
+    ensures { λ q. ⌜ q ≡ p ⌝ }
+{
+    part_of(p.octet, p.first, p.past, p.inner)
 }
 
 // 2 if a run that follows two items ends here, 3 if it goes on.
@@ -152,7 +161,7 @@ fn opening_after(s: &[u8], one: Part, rest: Run) -> Opening
     }
 }
 
-// The first two items of a run, and whether it has more. It never looks at a third item's value, and at no item after that.
+// The first two items of a run, and whether it has more. An element's own items are read by this, at most three of them.
 pub fn opening_of(s: &[u8], r: Run) -> Opening
     requires { ⌜ Fine (now s) r ⌝ }
     ensures { λ o. ⌜ Opens (now (s .entry)) r o ⌝ }
@@ -198,7 +207,8 @@ fn fills_either(octet: usize, one: Slot, two: Slot) -> bool
     fills_second(octet, one, two)
 }
 
-// Whether an opening has an item for each of two slots in order, or none where it is not needed, and no others.
+// Whether an opening has an item for each of two slots in order, or none where it is not needed, and no others. Contents that are
+// not as tabled fail this.
 pub fn fills(o: Opening, one: Slot, two: Slot) -> bool
     ensures { λ b. ⌜ ((s : List ℕ) (r : Run) → Opens s r o → b ≡ inOrder one two (treeIn s r)) ⌝ }
 {
@@ -223,7 +233,7 @@ pub fn fills(o: Opening, one: Slot, two: Slot) -> bool
     false
 }
 
-// The first of an opening's items with the octet.
+// The first of an opening's items with the octet: the object type, the run that names an element, the content.
 pub fn part_with(o: Opening, octet: usize) -> Found
     ensures { λ found. ⌜ Finds o octet found ⌝ }
 {
@@ -245,6 +255,7 @@ pub fn part_with(o: Opening, octet: usize) -> Found
     Found::Missing
 }
 
+// Nothing was seen.
 fn unseen_yet() -> Seen
     ensures { λ x. ⌜ x ≡ unseen ⌝ }
 {
@@ -254,21 +265,32 @@ fn unseen_yet() -> Seen
     }
 }
 
+// The first of the items with an octet, after one more.
+fn first_of(x: Seen, p: Part) -> Part
+    ensures { λ q. ⌜ q ≡ firstOf x p ⌝ }
+{
+    if x.amount == 0 {
+        return copied(p);
+    }
+    let first = x.part;
+    copied(first)
+}
+
 // One item more: it counts if it has the octet.
 fn seen_with(x: Seen, octet: usize, p: Part) -> Seen
     requires { ⌜ x .amount + 1 < 2 ^ 64 ⌝ }
     ensures { λ y. ⌜ y ≡ seenWith octet x p ⌝ }
 {
-    if p.octet != octet {
-        return x;
-    }
-    if x.amount == 0 {
-        return Seen { amount: 1, part: p };
+    if p.octet == octet {
+        return Seen {
+            amount: x.amount + 1,
+            part: first_of(x, p),
+        };
     }
     let part = x.part;
     Seen {
-        amount: x.amount + 1,
-        part,
+        amount: x.amount,
+        part: copied(part),
     }
 }
 
@@ -283,6 +305,7 @@ fn counted_with(n: usize, counted: usize, octet: usize) -> usize
     n
 }
 
+// The bounds of a part's value.
 fn span_of(p: Part) -> Span
     ensures { λ v. ⌜ v ≡ spanOf p ⌝ }
 {
@@ -292,6 +315,7 @@ fn span_of(p: Part) -> Span
     }
 }
 
+// What was seen, as the answer.
 fn gathered_from(identifier: Seen, logical: Seen, portions: Seen, barred: usize) -> Gathered
     ensures { λ g. ⌜ g ≡ gatheredFrom identifier logical portions barred ⌝ }
 {
@@ -309,7 +333,7 @@ fn gathered_from(identifier: Seen, logical: Seen, portions: Seen, barred: usize)
     }
 }
 
-// What of five octets stands in a run, in one pass.
+// How often each of five octets stands in a run, and the first value of three of them, in one pass: what names an element.
 pub fn gather(s: &[u8], r: Run, sought: Sought) -> Gathered
     requires { ⌜ Fine (now s) r ⌝ }
     ensures { λ g. ⌜ Gathers (now (s .entry)) r sought g ⌝ }

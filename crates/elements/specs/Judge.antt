@@ -1,7 +1,7 @@
 -- The judge of a letter: "Then elements in order, 9 to 15 in order within each." Document 01, "Element rules" and "Numbers given back".
 -- Definitions only: assumes nothing.
 use Prim.Native.Nat.{ℕ}
-use mathlib.Core.Bool.{Bool, true, false, cond, not, xor, _&&_, _||_}
+use mathlib.Core.Bool.{Bool, false, cond, not, xor, _&&_, _||_}
 use mathlib.Core.List.{List, [], _∷_, _++_, map}
 use lib.Dec.{eqb, leb}
 use lib.ListN.{length}

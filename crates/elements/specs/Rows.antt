@@ -2,14 +2,13 @@
 -- the element, its identifier, the unit's logical identifier, the portions' value, the content. All pairs but the element's bound a value."
 -- Definitions only: assumes nothing.
 use Prim.Native.Nat.{ℕ, zero, suc}
-use mathlib.Core.Bool.{Bool, cond}
+use mathlib.Core.Bool.{cond}
 use mathlib.Core.List.{List, [], _∷_, _++_}
 use lib.Dec.{eqb}
 use lib.ListN.{length}
 use Rattle.octets.specs.Items.{Items, none, item}
 use Rattle.tree.specs.Tree.{plain}
 use Rattle.runs.specs.Runs.{startOf}
-use Rattle.contents.specs.declared.Span.{Span}
 use Rattle.contents.specs.Search.{boundsOf, itemsIn}
 use Rattle.elements.specs.declared.Shape.{Shape}
 use Rattle.elements.specs.declared.Row.{Row}

@@ -1,7 +1,7 @@
 -- The element table of document 01, "Element rules", as data: a record for each shape, a list of shapes for an edition.
 -- Definitions only: assumes nothing.
 use Prim.Native.Nat.{ℕ}
-use mathlib.Core.Bool.{Bool, true, false, cond}
+use mathlib.Core.Bool.{true, false, cond}
 use mathlib.Core.List.{List, [], _∷_}
 use Rattle.contents.specs.declared.Slot.{Slot}
 use Rattle.contents.specs.Search.{is}

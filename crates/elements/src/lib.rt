@@ -1,6 +1,27 @@
 // The shapes of elements; and of one element rules 12 to 14, and its row.
+use contents::Gathered;
 use contents::Slot;
+use contents::Sought;
 use contents::Span;
+use portions::Listed;
+use runs::Run;
+ghost use mathlib.Core.Path.{_≡_};
+ghost use Prim.Native.Nat.{_≤_};
+ghost use lib.ListN.{length};
+ghost use Rattle.octets.specs.Items.{none};
+ghost use Rattle.octets.specs.Walk.{streamLimit};
+ghost use Rattle.runs.specs.Runs.{itemsOf, Fine};
+ghost use Rattle.portions.specs.Lists.{Lists};
+ghost use Rattle.elements.specs.WellMade.{WellMade};
+ghost use Rattle.elements.specs.Frames.{Framed};
+ghost use Rattle.elements.specs.Sees.{soughtOf, rowBy, refusedBy, seenBy, Ready, Sees};
+
+mod frames; // frames.rt: the top of an element
+mod rules; // rules.rt: rules 12 to 14, by what was found
+mod shapes; // shapes.rt: the shapes of the edition of 1988
+
+pub use frames::frame_of;
+pub use shapes::shape_1988;
 
 // The shape of an element: which items it has, and what they are for. An octet 0 stands for none.
 pub struct Shape {
@@ -33,4 +54,136 @@ pub struct Row {
     pub logical: Span,
     pub portions: Span,
     pub content: Span,
+}
+
+// The top of an element: whether its items stand as tabled, and if so the run that names it, its object type and its content.
+pub struct Frame {
+    pub fits: bool,
+    pub body: Run,
+    pub object: Span,
+    pub content: Span,
+}
+
+// Whether an object type is in its range, and which it is.
+pub struct Typed {
+    pub fits: bool,
+    pub value: usize,
+}
+
+// What is seen of an element: a refusal, 12 to 14, or 0 with its row and how many portions it has.
+pub struct Seen {
+    pub refusal: usize,
+    pub row: Row,
+    pub count: usize,
+}
+
+fn refused(number: usize) -> Seen
+    ensures { λ r. ⌜ r ≡ refusedBy number ⌝ }
+{
+    Seen {
+        refusal: number,
+        row: Row {
+            kind: 0,
+            object: 0,
+            whole: Span { first: 0, past: 0 },
+            identifier: Span { first: 0, past: 0 },
+            logical: Span { first: 0, past: 0 },
+            portions: Span { first: 0, past: 0 },
+            content: Span { first: 0, past: 0 },
+        },
+        count: 0,
+    }
+}
+
+// An element that is refused by a number, or that has the row.
+fn seen_by(number: usize, row: Row, count: usize) -> Seen
+    ensures { λ r. ⌜ r ≡ seenBy number row count ⌝ }
+{
+    if number != 0 {
+        return refused(number);
+    }
+    Seen {
+        refusal: 0,
+        row,
+        count,
+    }
+}
+
+fn sought_of(shape: Shape) -> Sought
+    ensures { λ r. ⌜ r ≡ soughtOf shape ⌝ }
+{
+    let identifier = shape.identifier;
+    Sought {
+        identifier: identifier.octet,
+        logical: shape.logical,
+        portions: shape.portions,
+        never: shape.never,
+        neither: shape.neither,
+    }
+}
+
+// The portions of an element, read if there are any.
+fn listed_of(s: &[u8], g: Gathered, bounds: &mut [u32]) -> Listed
+    requires { ⌜ Fine (now s) (g .list) × (length (now s) ≤ streamLimit) × (128 ≤ length (now bounds)) ⌝ }
+    ensures { λ listed. ⌜ ((g .lists ≡ 0 → itemsOf (now (s .entry)) (g .list) ≡ none) → Lists (now (s .entry)) (g .list) listed (now (bounds .exit))) ⌝ }
+{
+    if g.lists == 0 {
+        return Listed {
+            count: 0,
+            others: false,
+            misspelt: false,
+        };
+    }
+    let list = g.list;
+    portions::read_portions(s, list, bounds)
+}
+
+// The row of an element.
+fn row_of(shape: Shape, frame: Frame, object: usize, g: Gathered, whole: Span) -> Row
+    ensures { λ row. ⌜ row ≡ rowBy shape frame object g whole ⌝ }
+{
+    let identifier = g.identifier;
+    let logical = g.logical;
+    let portions = g.portions;
+    let content = frame.content;
+    Row {
+        kind: shape.octet % 32,
+        object,
+        whole,
+        identifier,
+        logical,
+        portions,
+        content,
+    }
+}
+
+// What is seen of an element whose items stand as tabled. What names it is gathered once, and its portions are read once.
+fn see_body(s: &[u8], shape: Shape, frame: Frame, whole: Span, bounds: &mut [u32]) -> Seen
+    requires { ⌜ Ready (now s) shape frame whole × (128 ≤ length (now bounds)) ⌝ }
+    ensures { λ seen. ⌜ ((r : Run) → Framed (now (s .entry)) shape r frame → Sees (now (s .entry)) shape r (whole .first) (whole .past) (now (bounds .exit)) seen) ⌝ }
+{
+    let body = frame.body;
+    let g = contents::gather(s, body, sought_of(shape));
+    let listed = listed_of(s, g, bounds);
+    let object = frame.object;
+    let typed = rules::object_type(s, object, shape.types);
+    let identifier = shape.identifier;
+    let tabled = rules::is_tabled(identifier.needed, g, listed.others);
+    let spelt = rules::are_spelt(s, g.identifier, g.logical, listed);
+    let number = rules::refusal_of(tabled, typed.fits, spelt);
+    let row = row_of(shape, frame, typed.value, g, whole);
+    seen_by(number, row, listed.count)
+}
+
+// What rules 12 to 14 say of an element that stands from `first` to `past` and has the run r; and its row, if they refuse nothing. The
+// judge of a letter calls it once for each element, and lends the numbers that its portions are then compared by.
+pub fn see(s: &[u8], shape: Shape, r: Run, first: usize, past: usize, bounds: &mut [u32]) -> Seen
+    requires { ⌜ Fine (now s) r × WellMade shape × (length (now s) ≤ streamLimit) × (first ≤ past) × (past ≤ length (now s)) × (128 ≤ length (now bounds)) ⌝ }
+    ensures { λ seen. ⌜ Sees (now (s .entry)) shape r first past (now (bounds .exit)) seen ⌝ }
+{
+    let frame = frames::frame_of(s, shape, r);
+    if !frame.fits {
+        return refused(12);
+    }
+    see_body(s, shape, frame, Span { first, past }, bounds)
 }

@@ -2,15 +2,14 @@
 -- logical identifiers. Nobody but the code that lends it sees it. Definitions only: assumes nothing.
 use mathlib.Core.Path.{_≡_}
 use mathlib.Core.List.{List, [], _∷_, _++_}
-use Prim.Native.Nat.{ℕ, _*_, _<_, _≤_}
+use Prim.Native.Nat.{ℕ, _*_}
 use lib.ListN.{length, take}
 use Rattle.index.specs.Rows.{rowWidth, identifierColumn, logicalColumn, Bounded}
 use Rattle.index.specs.Index.{Indexed}
-use Rattle.octets.specs.Walk.{streamLimit}
 use Rattle.elements.specs.declared.Row.{Row}
 use Rattle.elements.specs.Shape.{edition1988}
 use Rattle.elements.specs.Element.{Element}
-use Rattle.elements.specs.Judge.{Judged, accepted, refused, judge}
+use Rattle.elements.specs.Judge.{accepted, refused, judge}
 use Rattle.elements.specs.Rows.{numbers, placeOf}
 use Rattle.elements.specs.Says.{Says}
 use Rattle.tree.specs.Tree.{treeOf}

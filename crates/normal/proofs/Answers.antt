@@ -1,5 +1,5 @@
 -- What the writer gives, by how long the normal form is: each case is one of `answerOf`. Assumes nothing.
-use mathlib.Core.Path.{_≡_, refl, ap, _∙_}
+use mathlib.Core.Path.{_≡_, refl, ap, sym, _∙_}
 use mathlib.Core.Bool.{true, false}
 use mathlib.Core.List.{List}
 use Prim.Native.Nat.{ℕ, _+_, _<_, _≤_}
@@ -15,7 +15,7 @@ use Rattle.normal.specs.declared.Answer.{Answer}
 use Rattle.normal.specs.declared.Answer.the-variants.{Written, Refused as Not}
 use Rattle.normal.specs.Normal.{normalForm}
 use Rattle.normal.specs.Measure.{normalFrom, Measures, Puts}
-use Rattle.normal.specs.Writes.{answerOf, answerFor, Gives}
+use Rattle.normal.specs.Writes.{answerOf, outputOf, answerFor, Gives}
 use Rattle.normal.proofs.Passes.{form-end}
 use Rattle.normal.proofs.Putting.{put-front}
 
@@ -65,3 +65,13 @@ module _ (s out : List ℕ) where
   pub gives-refused : (number place k : ℕ) → walkOf s ≡ Refused number place k → Gives (answerFor s out) (normalForm s) out (Not number place) out
   unfolding answerFor
   gives-refused number place k e = rw e (record { answered = refl; output = refl })
+
+-- A contract that says `Gives` leaves nothing open: two outcomes that it allows are equal.
+pub determined : {expected : Answer} {form before : List ℕ} {a b : Answer} {x y : List ℕ}
+    → Gives expected form before a x → Gives expected form before b y → (a ≡ b) × (x ≡ y)
+determined g h = (g .answered ∙ sym (h .answered), g .output ∙ sym (h .output))
+
+-- After a refusal the output is as it was.
+pub untouched : {expected : Answer} {form before : List ℕ} {number place : ℕ} {after : List ℕ}
+    → Gives expected form before (Not number place) after → after ≡ before
+untouched {expected} {form} {before} g = g .output ∙ ap (λ (a : Answer). outputOf a form before) (sym (g .answered))

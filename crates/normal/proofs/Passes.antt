@@ -13,7 +13,7 @@ use Rattle.octets.specs.declared.Header.{Header}
 use Rattle.octets.specs.declared.Head.{Head}
 use Rattle.octets.specs.declared.Head.the-variants.{Item, ClosingMark, Refusal}
 use Rattle.octets.specs.First.{constructed}
-use Rattle.octets.specs.Head.{headAt}
+use Rattle.octets.specs.Head.{headAt, Passed}
 use Rattle.octets.specs.Items.{Items, item, count}
 use Rattle.octets.specs.Walk.{End, ends, stops, Walked, ended, stopped, pastOf, follow, run, valueOf}
 use Rattle.octets.proofs.Walks.{Lies, EndOk, value-ok, run-ok, run-step}
@@ -91,6 +91,16 @@ module _ (room : ℕ) (s : List ℕ) (h : Header) where
 
 -- ---- an item that is met
 
+-- where a run goes on that ended, nothing is refused
+pub passed : (room : ℕ) (s : List ℕ) (at limit : ℕ) (marked : Bool) → at < limit → Whole (run room s at limit marked .how)
+    → Passed (headAt s at limit marked room)
+passed room s at limit marked l w = head-passed (headAt s at limit marked room) refl
+  where
+    head-passed : (head : Head) → headAt s at limit marked room ≡ head → Passed head
+    head-passed (Item h) e = tt
+    head-passed ClosingMark e = tt
+    head-passed (Refusal number place) e = subst (λ (x : Walked). Whole (x .how)) (at-head room s at limit marked l (Refusal number place) e) w
+
 form-of : (b : Bool) (type v u : List ℕ) (inside after : Tree) (form : List ℕ) → (b ≡ true → normalOf inside ≡ form) → (b ≡ false → v ≡ u)
     → normalOf (formed b type v inside after) ≡ coded type (cond b form u) (normalOf after)
 unfolding normalOf
@@ -162,13 +172,10 @@ module _ (room : ℕ) (s : List ℕ) (at limit : ℕ) (marked : Bool) where
         let back : at + 2 - 2 ≡ at = omega arith in
         (ap (λ (x : Walked). x .how) p, ap (λ (x : Walked). normalOf (plain s (x .items))) p, rw m back)
 
-    no-refusal : at < limit → (number place : ℕ) → headAt s at limit marked room ≡ Refusal number place → ⊥
-    no-refusal l number place e = subst (λ (x : Walked). Whole (x .how)) (at-head room s at limit marked l (Refusal number place) e) w
-
     meets-head : at < limit → (head : Head) → headAt s at limit marked room ≡ head → Meets (metBy at head)
     meets-head l (Item h) e = turn l h e
     meets-head l ClosingMark e = at-mark l e
-    meets-head l (Refusal number place) e = absurd (no-refusal l number place e)
+    meets-head l (Refusal number place) e = absurd (subst Passed e (passed room s at limit marked l w))
 
 at-end : (room : ℕ) (s : List ℕ) (at limit : ℕ) (marked : Bool) → at ≡ limit → Whole (run room s at limit marked .how) → Meets room s at limit marked (Last limit)
 unfolding normalFrom normalOf

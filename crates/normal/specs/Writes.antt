@@ -16,9 +16,7 @@ use Rattle.normal.specs.Normal.{normalForm}
 -- 17 "normal form over 1,048,576 bytes", then 18 "output shorter than the normal form"
 unfoldable pub answerOf : (form out : List ℕ) → Answer
 answerOf form out =
-    cond (leb (length form) streamLimit)
-    (cond (leb (length form) (length out)) (Written (length form)) (Not 18 0))
-    (Not 17 0)
+    cond (leb (length form) streamLimit) (cond (leb (length form) (length out)) (Written (length form)) (Not 18 0)) (Not 17 0)
 
 -- "Output past it stays"; "A refusal leaves the lent .. output untouched"
 abbrev pub outputOf : Answer → (form out : List ℕ) → List ℕ

@@ -97,13 +97,13 @@ fn header_size(size: usize) -> usize
 
 // What stands at `at` in a run that was walked to its end.
 fn meet(s: &[u8], at: usize, limit: usize, marked: bool, room: usize) -> Met
-    requires { ⌜ (at ≤ limit) × (limit ≤ length (now s)) ⌝ }
+    requires { ⌜ (at ≤ limit) × (limit ≤ length (now s)) × Whole (run room (now s) at limit marked .how) ⌝ }
     ensures { λ r. ⌜ r ≡ metAt room (now (s .entry)) at limit marked ⌝ }
 {
     if limit <= at {
         return Met::Last { past: limit };
     }
-    match octets::head_at(s, at, limit, marked, room) {
+    match octets::passed_head(s, at, limit, marked, room) {
         Head::Item(h) => Met::Item(h),
         Head::ClosingMark => Met::Last { past: at + 2 },
         Head::Refusal {

@@ -8,28 +8,11 @@ use native.Mathlib.Omega.{arith}
 use lib.ListN.{length, getElem?, getD}
 
 module _ {A : Type 0} where
-  -- what stands at a place stands within the list
-  pub at-inside : (xs : List A) (k : ℕ) (x : A) → getElem? xs k ≡ some x → k < length xs
-  at-inside [] k x e = let z : _≡_ {A = ℕ} 0 1 = cc in absurd (omega arith)
-  at-inside (y ∷ xs) zero x e = omega arith
-  at-inside (y ∷ xs) (suc k) x e = let l = at-inside xs k x e in omega arith
-
+  -- what stands at a place within the list
   pub at-getD : (xs : List A) (k : ℕ) (d : A) → k < length xs → getElem? xs k ≡ some (getD xs k d)
   at-getD [] k d l = absurd (omega arith)
   at-getD (y ∷ xs) zero d l = refl
   at-getD (y ∷ xs) (suc k) d l = at-getD xs k d (omega arith)
-
-  -- of a list with one more at its end
-  pub at-more : (xs : List A) (x : A) (k : ℕ) (y : A) → getElem? (xs ++ (x ∷ [])) k ≡ some y
-      → (getElem? xs k ≡ some y) ⊎ ((k ≡ length xs) × (y ≡ x))
-  at-more [] x zero y e = inr (refl, cc)
-  at-more [] x (suc k) y e = let z : _≡_ {A = ℕ} 0 1 = cc in absurd (omega arith)
-  at-more (z ∷ xs) x zero y e = inl e
-  at-more (z ∷ xs) x (suc k) y e = later (at-more xs x k y e)
-    where
-      later : (getElem? xs k ≡ some y) ⊎ ((k ≡ length xs) × (y ≡ x)) → (getElem? xs k ≡ some y) ⊎ ((suc k ≡ suc (length xs)) × (y ≡ x))
-      later (inl f) = inl f
-      later (inr f) = inr (ap suc (f .0), f .1)
 
   -- each stands before all after it
   abbrev pub Sorted : (A → A → Type 0) → List A → Type 0

@@ -20,6 +20,7 @@ use Rattle.index.specs.Rows.{space}
 use Rattle.contents.specs.Search.{Value, octets}
 use Rattle.elements.specs.Element.{Element}
 use Rattle.elements.specs.Judge.{shares, clash}
+use Rattle.letters.specs.Table.{Apart}
 use Rattle.reading.specs.declared.Match.{Match}
 use Rattle.reading.specs.declared.Side.{Side}
 use Rattle.reading.specs.declared.Side.the-variants.{Layout, Logical}
@@ -27,7 +28,7 @@ use Rattle.reading.specs.Match.{unitKind, kindsOf, nameOn, joins, forEac
 use Rattle.reading.specs.Promises.{Joined, IsMatch, units, portionsOn}
 use Rattle.reading.proofs.Lists.{Once, once-fits, once-map}
 use Rattle.reading.proofs.Each.{none-passes, few-pass, each-none, each-few}
-use Rattle.reading.proofs.Accepted.{Lawful, portion-spelt, one-place, one-element}
+use Rattle.reading.proofs.OnePlace.{portion-spelt, one-place, one-element}
 use Rattle.reading.proofs.Matches.{joins-told, matches-are, matches-once}
 
 -- the elements of a side are of one name space
@@ -84,6 +85,11 @@ unit-in n (x ∷ es) (suc k) u p e =
     let r : List·Memᴰ (n + suc k) (unitsFrom (suc n) es) = rw i (unit-in (suc n) es k u p e) in
     cases (eqb (x .kind) unitKind) (λ t. rw t (List·Memᴰ·tail r)) (λ t. rw t r)
 
+units-few : (es : List Element) → units es ≤ length es
+unfolding units
+units-few [] = omega arith
+units-few (e ∷ es) = let l = units-few es in cases (eqb (e .kind) unitKind) (λ t. rw t (omega arith)) (λ t. rw t (omega arith))
+
 -- an element none of whose portions joins a unit has no match
 pub unread : (side : Side) (elements : List Element) (e : ℕ) (element : Element)
     → ((portion : List ℕ) (unit : Element) → joins side element portion unit ≡ true → ⊥) → elementMatches side elements e element ≡ []
@@ -92,13 +98,13 @@ unread side elements e element never =
     each-none (portionMatches side elements e element)
     (λ p portion. none-passes (joins side element portion) (made e p) 0 elements (λ k unit _. never portion unit)) 0 (element .portions)
 
-module _ (elements : List Element) (lawful : Lawful elements) (side : Side) where
+module _ (elements : List Element) (apart : Apart elements) (side : Side) where
   -- two units with the same name on a side are one
   pub one-unit : (i j : ℕ) (u v : Element) (bytes : List ℕ) → getElem? elements i ≡ some u → getElem? elements j ≡ some v → u .kind ≡ unitKind
       → v .kind ≡ unitKind → nameOn side u ≡ octets bytes → nameOn side v ≡ octets bytes → i ≡ j
   one-unit i j u v bytes p q k l m n =
       let s : space (u .kind) ≡ space (v .kind) = ap space (k ∙ sym l) in
-      one-element elements lawful i j u v p q (clash-side side u v bytes s m n) (clash-side side v u bytes (sym s) n m)
+      one-element elements apart i j u v p q (clash-side side u v bytes s m n) (clash-side side v u bytes (sym s) n m)
 
   -- a portion of an element has at most one unit
   pub portion-one-unit : (m n : Match) → IsMatch side elements m → IsMatch side elements n → m .element ≡ n .element → m .portion ≡ n .portion
@@ -126,15 +132,15 @@ module _ (elements : List Element) (lawful : Lawful elements) (side : Side) wher
         sym (a .joined .spelt) ∙ ap (nameOn side) v ∙ b .joined .spelt in
         let z : a .joined .identifier ++ spaceByte ∷ a .portion ≡ b .joined .identifier ++ spaceByte ∷ b .portion = cc in
         joined-parts (a .joined .identifier) (b .joined .identifier) (a .portion) (b .portion)
-        (portion-spelt (a .element) (lawful .well-spelt (m .element) (a .element) (a .element-there)) (m .portion) (a .portion) (a .portion-there))
-        (portion-spelt (b .element) (lawful .well-spelt (n .element) (b .element) (b .element-there)) (n .portion) (b .portion) (b .portion-there)) z
+        (portion-spelt (a .element) (apart .spelt (m .element) (a .element) (a .element-there)) (m .portion) (a .portion) (a .portion-there))
+        (portion-spelt (b .element) (apart .spelt (n .element) (b .element) (b .element-there)) (n .portion) (b .portion) (b .portion-there)) z
 
     same-element : m .element ≡ n .element
     same-element =
         let s : space (a .element .kind) ≡ space (b .element .kind) =
         side-space side (a .element .kind) (a .joined .on-side) ∙ sym (side-space side (b .element .kind) (b .joined .on-side)) in
         let named : b .element .identifier ≡ octets (a .joined .identifier) = b .joined .named ∙ ap octets (sym (told .0)) in
-        one-element elements lawful (m .element) (n .element) (a .element) (b .element) (a .element-there) (b .element-there)
+        one-element elements apart (m .element) (n .element) (a .element) (b .element) (a .element-there) (b .element-there)
         (clash-identifier (a .element) (b .element) (a .joined .identifier) s (a .joined .named) named)
         (clash-identifier (b .element) (a .element) (a .joined .identifier) (sym s) named (a .joined .named))
 
@@ -144,7 +150,7 @@ module _ (elements : List Element) (lawful : Lawful elements) (side : Side) wher
         let f : b .element ≡ a .element = cc in
         let there : getElem? (a .element .portions) (n .portion) ≡ some (a .portion) =
         ap (λ (x : Element). getElem? (x .portions) (n .portion)) (sym f) ∙ b .portion-there ∙ ap some (sym (told .1)) in
-        one-place (a .element .portions) (lawful .not-repeated (m .element) (a .element) (a .element-there)) (m .portion) (n .portion) (a .portion)
+        one-place (a .element .portions) (apart .once (m .element) (a .element) (a .element-there)) (m .portion) (n .portion) (a .portion)
         (a .portion-there) there
 
   -- a unit has at most one match on a side
@@ -205,3 +211,7 @@ module _ (elements : List Element) (lawful : Lawful elements) (side : Side) wher
           let a = matches-are side elements m i in
           let z : 0 + m .unit ≡ u = omega arith in
           subst (λ (k : ℕ). List·Memᴰ k (unitsFrom 0 elements)) z (unit-in 0 elements (m .unit) (a .unit) (a .unit-there) (a .joined .of-unit))
+
+  -- so no more than all elements
+  pub no-more-than-elements : length (matches side elements) ≤ length elements
+  no-more-than-elements = omega (arith, no-more-than-units, units-few elements)

@@ -15,7 +15,7 @@ use Rattle.octets.specs.First.{number, constructed, formAllowed}
 use Rattle.octets.specs.Lengths.{misfits, bigEndian}
 use Rattle.octets.specs.Head.{octetAt, definiteAt, indefiniteAt, longAt, byFirst, lengthAt, closingAt, itemAt, headAt}
 use Rattle.octets.specs.Items.{Items, none, item}
-use Rattle.octets.specs.Walk.{End, ends, Walked, run}
+use Rattle.octets.specs.Walk.{End, ends, Walked, pastOf, run}
 use Rattle.octets.specs.Rules.{Runs, at-limit, unclosed, closes, refuses, primitive, passes, breaks}
 use Rattle.octets.proofs.Walks.{cond-holds}
 use Rattle.octets.proofs.Turns.{header-ok}
@@ -25,6 +25,7 @@ use Rattle.runs.specs.Whole.{Whole}
 use Rattle.runs.specs.declared.Run.{Run}
 use Rattle.runs.specs.Runs.{walkIn, itemsOf, treeIn, definiteRun, allPrimitive, Fine, Meeting}
 use Rattle.runs.proofs.Heads.{mark-marked}
+use Rattle.runs.proofs.Ends.{right, past-next}
 
 -- another reading yields the same header, if that is definite and its value ends within the other limit
 abbrev Kept : (other : Head) → (limit : ℕ) → Head → Type 0
@@ -123,6 +124,12 @@ again-runs {s} (primitive {room} {at} {limit} {marked} {h} {after} l p q r) leve
     (omega arith, primitive before k q (n .1))
 again-runs (passes {h = h} {after = after} l p q v r) levels deep past e a = absurd (not-all (constructed (h .octet)) (allPrimitive after) q a)
 again-runs (breaks l p q v) levels deep past e a = let z : _≡_ {A = ℕ} 0 1 = cc in absurd (omega arith)
+
+-- the run inside an item, read again up to where its value ends
+pub value-again : {s : List ℕ} {room at limit : ℕ} {marked : Bool} {i : Items} {next : ℕ} → Runs s room at limit marked i (ends next)
+    → (levels : ℕ) → (0 < room → 0 < levels) → allPrimitive i ≡ true → Runs s levels at (pastOf marked next) false i (ends (pastOf marked next))
+value-again {at = at} {limit = limit} {marked = marked} {next = next} v levels deep all =
+    again-runs v levels deep (pastOf marked next) (ap ends (past-next marked at limit next (right v))) all .1
 
 module _ {s : List ℕ} {r : Run} {octet first past : ℕ} {inner rest : Run} (met : Meeting s r octet first past inner rest)
     (c : constructed octet ≡ true) (all : allPrimitive (itemsOf s inner) ≡ true) (levels : ℕ) (deep : 0 < inner .room → 0 < levels) where

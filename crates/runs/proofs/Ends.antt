@@ -1,11 +1,11 @@
 -- Where a run ends: an unmarked one at its limit, a marked one past a closing mark, by the rules of the walk. Assumes nothing.
 use mathlib.Core.Path.{_≡_, refl, ap}
-use mathlib.Core.Bool.{Bool, true, false, false≢true}
+use mathlib.Core.Bool.{Bool, true, false, cond, false≢true}
 use mathlib.Core.List.{List}
 use Prim.Native.Nat.{ℕ, _+_, _≤_}
 use native.Mathlib.Omega.{arith}
 use Rattle.octets.specs.Items.{Items}
-use Rattle.octets.specs.Walk.{End, ends, stops, run}
+use Rattle.octets.specs.Walk.{End, ends, stops, pastOf, run}
 use Rattle.octets.specs.Rules.{Runs, at-limit, unclosed, closes, refuses, primitive, passes, breaks}
 use Rattle.octets.proofs.Turns.{header-ok}
 use Rattle.octets.proofs.RulesHold.{derives}
@@ -36,7 +36,8 @@ pub ends-later : (marked : Bool) (at limit next : ℕ) → at ≤ limit → Ends
 ends-later true at limit next l r = omega arith
 ends-later false at limit next l r = omega arith
 
-right : {s : List ℕ} {room at limit : ℕ} {marked : Bool} {i : Items} {e : End} → Runs s room at limit marked i e → EndsRight marked at limit e
+-- by the rules, a run ends so
+pub right : {s : List ℕ} {room at limit : ℕ} {marked : Bool} {i : Items} {e : End} → Runs s room at limit marked i e → EndsRight marked at limit e
 right (at-limit p) = refl
 right (unclosed p) = tt
 right {s} (closes {room} {at} {limit} {marked} l h) = closes-right marked at limit (mark-marked s at limit marked room h)
@@ -49,6 +50,11 @@ right {s} (passes {room} {at} {limit} {marked} {h} {inside} {after} {next} {e} l
     let n = ends-later (h .marked) (h .start) (h .bound) next (o .order) (right v) in
     later-right marked at next limit e (omega arith) (right r)
 right (breaks {room} {at} {limit} {marked} {h} {inside} {number} {place} l p q v) = stops-right marked at limit number place
+
+-- where the run inside an item ends, said by its value's end
+pub past-next : (m : Bool) (start bound next : ℕ) → EndsRight m start bound (ends next) → next ≡ cond m (pastOf m next + 2) (pastOf m next)
+past-next true start bound next r = omega arith
+past-next false start bound next r = refl
 
 pub ends-right : (room : ℕ) (s : List ℕ) (at limit : ℕ) (marked : Bool) → at ≤ limit → EndsRight marked at limit (run room s at limit marked .how)
 ends-right room s at limit marked l = right (derives room s at limit marked l)

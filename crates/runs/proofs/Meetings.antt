@@ -1,15 +1,16 @@
 -- What is met where a header passed: the item that the walk has there, for the walk is known to have ended. Assumes nothing.
 use mathlib.Core.Path.{_≡_, refl, ap, sym, _∙_, subst}
-use mathlib.Core.Bool.{Bool, true, false, cond, false≢true}
+use mathlib.Core.Bool.{Bool, true, false, false≢true}
 use mathlib.Core.List.{List}
-use Prim.Native.Nat.{ℕ, _+_, _-_, _<_, _≤_}
+use Prim.Native.Nat.{ℕ, _-_, _<_, _≤_}
 use native.Mathlib.Omega.{arith}
 use lib.ListN.{length}
 use borrow.Author.Tests.{le-leb}
 use Rattle.octets.specs.declared.Header.{Header}
-use Rattle.octets.specs.declared.Head.the-variants.{Item}
+use Rattle.octets.specs.declared.Head.{Head}
+use Rattle.octets.specs.declared.Head.the-variants.{Item, ClosingMark, Refusal}
 use Rattle.octets.specs.First.{constructed}
-use Rattle.octets.specs.Head.{octetAt, headAt}
+use Rattle.octets.specs.Head.{octetAt, headAt, Passed}
 use Rattle.octets.specs.Items.{Items, item, count}
 use Rattle.octets.specs.Walk.{End, ends, stops, Walked, ended, pastOf, follow, run, valueOf, answerOf}
 use Rattle.octets.proofs.Walks.{Lies, run-step}
@@ -18,7 +19,7 @@ use Rattle.runs.specs.Whole.{Whole}
 use Rattle.runs.specs.declared.Run.{Run}
 use Rattle.runs.specs.Runs.{walkIn, itemsOf, insideOf, Fine, Spans, Meeting}
 use Rattle.runs.proofs.Heads.{item-octet}
-use Rattle.runs.proofs.Ends.{EndsRight, ends-right, ends-at-limit}
+use Rattle.runs.proofs.Ends.{EndsRight, ends-right, ends-at-limit, past-next}
 
 -- where the walk of an item and what follows it ended, so did that of its value
 follow-whole : (at : ℕ) (h : Header) (inside : Items) (e : End) (more : ℕ → Walked) → Whole (follow at h inside e more .how) → Whole e
@@ -41,11 +42,6 @@ past-before : (m : Bool) (next : ℕ) → pastOf m next ≤ next
 past-before true next = omega arith
 past-before false next = omega arith
 
--- where the run inside ends, said by the value's end
-past-next : (m : Bool) (start bound next : ℕ) → EndsRight m start bound (ends next) → next ≡ cond m (pastOf m next + 2) (pastOf m next)
-past-next true start bound next r = omega arith
-past-next false start bound next r = refl
-
 inside-items : (s : List ℕ) (h : Header) (room : ℕ) (b : Bool) → constructed (h .octet) ≡ b → itemsOf s (insideOf h room) ≡ valueOf room s h .items
 unfolding valueOf
 inside-items s h room true c = rw c
@@ -65,6 +61,16 @@ inside-fine s h room false c p q w = rw c (record { order = omega arith; inside 
 inside-room : (h : Header) (room : ℕ) (b : Bool) → constructed (h .octet) ≡ b → insideOf h room .room ≡ room - 1
 inside-room h room true c = rw c
 inside-room h room false c = rw c
+
+-- where the walk of a run ended, what stands at its place was not refused
+passed-by : (s : List ℕ) (r : Run) → Fine s r → r .at < r .limit → (head : Head) → headAt s (r .at) (r .limit) (r .marked) (r .room) ≡ head → Passed head
+passed-by s r fine l (Item h) e = tt
+passed-by s r fine l ClosingMark e = tt
+passed-by s r fine l (Refusal number place) e =
+    subst (λ (w : Walked). Whole (w .how)) (at-head (r .room) s (r .at) (r .limit) (r .marked) l (Refusal number place) e) (fine .whole)
+
+pub passed : (s : List ℕ) (r : Run) → Fine s r → r .at < r .limit → Passed (headAt s (r .at) (r .limit) (r .marked) (r .room))
+passed s r fine l = passed-by s r fine l (headAt s (r .at) (r .limit) (r .marked) (r .room)) refl
 
 module _ (s : List ℕ) (r : Run) (fine : Fine s r) (l : r .at < r .limit) (h : Header)
     (e : headAt s (r .at) (r .limit) (r .marked) (r .room) ≡ Item h) where

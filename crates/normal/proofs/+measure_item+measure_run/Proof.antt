@@ -114,7 +114,7 @@ module _ (t : ℕ) where
       none-counted (a .room) (now (a .s)) (a .from) (a .limit) (a .marked) (omega arith) (c .before .pre .1 .3)
 
   meet-requires : run-lts.Need-meet-requires (run-calls t) (run-at t) measure-run.Post Inv μ
-  meet-requires c κs = omega arith
+  meet-requires c κs = (c .loop .inv .within, omega arith, c .loop .inv .whole)
 
   enum-known-h : run-lts.Need-enum-known-h (run-calls t) (run-at t) measure-run.Post Inv μ
   enum-known-h c = search needs

@@ -11,6 +11,7 @@ use Rattle.octets.specs.declared.Head.{Head}
 use Rattle.octets.specs.declared.Head.the-variants.{Item, ClosingMark, Refusal}
 use Rattle.octets.specs.Head.{headAt}
 use Rattle.normal.specs.Measure.{metBy, metAt}
+use Rattle.normal.proofs.Passes.{passed}
 use Rattle.normal.proofs.meet.Statement.{statement}
 use Rattle.normal.proofs.meet.Tie as tie
 
@@ -23,8 +24,10 @@ returns : tie.Need-returns
 unfolding metAt
 returns c = let a = c .before .before .args in rw (le-leb (a .limit) (a .at) (c .if1 .taken))
 
-head-at-requires : tie.Need-head-at-requires
-head-at-requires c κs = search needs
+passed-head-requires : tie.Need-passed-head-requires
+passed-head-requires c κs =
+    let a = c .before .before .args in
+    (omega arith, omega arith, passed (a .room) (now (a .s)) (a .at) (a .limit) (a .marked) (omega arith) (c .before .before .pre .2))
 
 enum-known-h : tie.Need-enum-known-h
 enum-known-h c = search needs
@@ -42,26 +45,26 @@ returns-2 : tie.Need-returns-2
 returns-2 c =
     let a = c .before .before .before .before .before .before .args in
     before-limit (a .room) (now (a .s)) (a .at) (a .limit) (a .marked) (omega arith) (Item (c .before .h .given .0 .0))
-    (sym (c .before .before .before .head-at .ensures) ∙ c .before .h .given .1)
+    (sym (c .before .before .before .passed-head .ensures) ∙ c .before .h .given .1)
 
 returns-3 : tie.Need-returns-3
 returns-3 c =
     let a = c .before .before .before .before .before .args in
     before-limit (a .room) (now (a .s)) (a .at) (a .limit) (a .marked) (omega arith) ClosingMark
-    (sym (c .before .before .head-at .ensures) ∙ c .enum-told .given .1)
+    (sym (c .before .before .passed-head .ensures) ∙ c .enum-told .given .1)
 
 returns-4 : tie.Need-returns-4
 returns-4 c =
     let a = c .before .before .before .before .before .args in
     before-limit (a .room) (now (a .s)) (a .at) (a .limit) (a .marked) (omega arith) (Refusal _ _)
-    (sym (c .before .before .head-at .ensures) ∙ c .enum-told2 .given .1)
+    (sym (c .before .before .passed-head .ensures) ∙ c .enum-told2 .given .1)
 
 pub meet-spec : {M : Type 1} → statement M
 meet-spec =
     tie.close
     (tie.spec
     returns
-    head-at-requires
+    passed-head-requires
     enum-known-h
     enum-told
     add-t10

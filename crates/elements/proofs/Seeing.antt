@@ -1,0 +1,74 @@
+-- What is seen of an element is what was found of it: the first rule of 12 to 14 that refuses, or its row. Assumes nothing.
+use mathlib.Core.Path.{_≡_, refl, sym, _∙_}
+use mathlib.Core.Bool.{Bool, true, false, _||_}
+use mathlib.Core.List.{List}
+use Prim.Native.Nat.{ℕ, _<_}
+use native.Mathlib.Nat.{mod-lt}
+use native.Mathlib.Omega.{arith}
+use lib.Dec.{eqb}
+use borrow.Author.Tests.{eqb-true, eqb-false}
+use Rattle.octets.proofs.Walks.{cond-holds}
+use Rattle.runs.specs.declared.Run.{Run}
+use Rattle.runs.specs.Runs.{treeIn}
+use Rattle.contents.specs.declared.Gathered.{Gathered}
+use Rattle.contents.specs.declared.Span.{Span}
+use Rattle.contents.specs.Order.{inOrder}
+use Rattle.portions.specs.declared.Listed.{Listed}
+use Rattle.elements.specs.declared.Frame.{Frame}
+use Rattle.elements.specs.declared.Shape.{Shape}
+use Rattle.elements.specs.declared.Typed.{Typed}
+use Rattle.elements.specs.Element.{asTabled}
+use Rattle.elements.specs.Judge.{shapeRefusal}
+use Rattle.elements.specs.Says.{Placed, noSpan, RowPlaced}
+use Rattle.elements.specs.Sees.{tabledBy, speltBy, numberOf, rowBy, noRow, refusedBy, seenBy, Sees}
+use Rattle.elements.proofs.Bounding.{counted-placed}
+use Rattle.elements.proofs.Findings.{Findings, elementIn, no-others, names-by, number-by}
+use Rattle.elements.proofs.Passing.{passes-by}
+
+no-row-placed : (s : List ℕ) → RowPlaced s noRow
+no-row-placed s =
+    let none : Placed s noSpan = record { order = omega arith; inside = omega arith } in
+    record { kind = omega arith; object = omega arith; whole = none; identifier = none; logical = none; portions = none; content = none }
+
+-- items that do not stand as tabled: 12
+pub sees-unordered : (s : List ℕ) (shape : Shape) (r : Run) (first past : ℕ) (numbers : List ℕ)
+    → (shape .free || inOrder (shape .one) (shape .two) (treeIn s r)) ≡ false → Sees s shape r first past numbers (refusedBy 12)
+unfolding shapeRefusal asTabled
+sees-unordered s shape r first past numbers e =
+    record { refusal = rw e; placed = no-row-placed s; passes = λ z. absurd (omega arith) }
+
+-- none of the rules refuses
+all-well : (a b c : Bool) → numberOf a b c ≡ 0 → (a ≡ true) × (b ≡ true) × (c ≡ true)
+all-well true true true e = (refl, refl, refl)
+all-well true true false e = absurd (omega arith)
+all-well true false c e = absurd (omega arith)
+all-well false b c e = absurd (omega arith)
+
+module _ {s : List ℕ} {shape : Shape} {r : Run} {frame : Frame} {g : Gathered} {listed : Listed} {numbers : List ℕ} {typed : Typed}
+    (f : Findings s shape r frame g listed numbers typed) (whole : Span)
+    (small : typed .value < 256) (w : Placed s whole) (content : Placed s (frame .content)) where
+  row-placed : RowPlaced s (rowBy shape frame (typed .value) g whole)
+  row-placed =
+      record {
+        kind = mod-lt (shape .octet) {m = 32} (omega arith);
+        object = small;
+        whole = w;
+        identifier = counted-placed (f .gathers .identifier);
+        logical = counted-placed (f .gathers .logical);
+        portions = counted-placed (f .gathers .portions);
+        content = content;
+      }
+
+  module _ (tabled fit : Bool) (p : tabled ≡ tabledBy (shape .identifier .needed) g (listed .others))
+      (q : fit ≡ speltBy (elementIn shape s r .identifier) (elementIn shape s r .logical) listed) where
+    pub sees-by : Sees s shape r (whole .first) (whole .past) numbers
+        (seenBy (numberOf tabled (typed .fits) fit) (rowBy shape frame (typed .value) g whole) (listed .count))
+    sees-by =
+        let number = number-by f tabled fit p (λ none. q ∙ names-by f none) in
+        cond-holds (Sees s shape r (whole .first) (whole .past) numbers) (eqb (numberOf tabled (typed .fits) fit) 0)
+        (λ e.
+        let zero = eqb-true (numberOf tabled (typed .fits) fit) 0 e in
+        let k = all-well tabled (typed .fits) fit zero in
+        let none = no-others (shape .identifier .needed) g (listed .others) (sym p ∙ k .0) in
+        record { refusal = sym zero ∙ number; placed = row-placed; passes = λ _. passes-by f whole none (k .1) (sym q ∙ k .2) })
+        (λ e. record { refusal = number; placed = no-row-placed s; passes = λ z. absurd (eqb-false (numberOf tabled (typed .fits) fit) 0 e z) })

@@ -1,0 +1,34 @@
+-- `elements::rules::object_type` meets its contract: by how many octets the pair bounds. Assumes nothing.
+use native.Mathlib.Omega.{arith}
+use borrow.Author.Needs.{needs}
+use Rattle.elements.proofs.Values.{type-absent, type-long, type-one}
+use Rattle.elements.proofs.rules.object_type.Statement.{statement}
+use Rattle.elements.proofs.rules.object_type.Tie as tie
+
+returns : tie.Need-returns
+returns c =
+    let a = c .before .before .args in
+    (omega arith, type-absent (a .s .now) (a .v) (a .types) (c .if1 .taken))
+
+sub-if2 : tie.Need-sub-if2
+sub-if2 c = search needs
+
+returns-2 : tie.Need-returns-2
+returns-2 c =
+    let a = c .before .before .before .args in
+    (omega arith, type-long (a .s .now) (a .v) (a .types) (c .before .if1 .left) (c .if2 .taken))
+
+shared-slice-read-wide : tie.Need-shared-slice-read-wide
+shared-slice-read-wide c = search needs
+
+wide-requires : tie.Need-wide-requires
+wide-requires c κs = search needs
+
+returns-3 : tie.Need-returns-3
+returns-3 c =
+    let a = c .before .before .before .before .before .args in
+    let w = c .wide in
+    (w .ensures .1, type-one (a .s .now) (a .v) (a .types) (c .before .before .before .if1 .left) (c .before .before .if2 .left) (w .result) (w .ensures .0))
+
+pub object-type-spec : {M : Type 1} → statement M
+object-type-spec = tie.close (tie.spec returns sub-if2 returns-2 shared-slice-read-wide wide-requires returns-3)

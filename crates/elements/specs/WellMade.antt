@@ -1,0 +1,22 @@
+-- What the code relies on in a shape, and what every shape of an edition is: an item with a value is primitive, one with a run is
+-- constructed, and where items are free nothing is sought among them in order. Definitions only: assumes nothing.
+use mathlib.Core.Path.{_≡_}
+use mathlib.Core.Bool.{true, false}
+use mathlib.Core.Logic.{_⊎_}
+use Rattle.octets.specs.First.{constructed}
+use Rattle.elements.specs.declared.Shape.{Shape}
+
+pub record WellMade (shape : Shape) : Type 0 where
+  -- items that stand in order are looked at, and one of them names the element
+  pub looked : shape .free ≡ false → shape .looked ≡ true
+  pub within : shape .free ≡ false → constructed (shape .within) ≡ true
+  -- an element whose items are free is named among them, and has neither an object type nor content
+  pub itself : shape .free ≡ true → shape .within ≡ 0
+  pub no-object : shape .free ≡ true → shape .object ≡ 0
+  pub no-content : shape .free ≡ true → shape .content ≡ 0
+  -- values are of primitive items, portions in a constructed one
+  pub identifier : constructed (shape .identifier .octet) ≡ false
+  pub logical : constructed (shape .logical) ≡ false
+  pub object : constructed (shape .object) ≡ false
+  pub content : constructed (shape .content) ≡ false
+  pub portions : (shape .portions ≡ 0) ⊎ (constructed (shape .portions) ≡ true)

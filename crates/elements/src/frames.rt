@@ -1,0 +1,94 @@
+// The top of an element: which of its items stand where, by its shape.
+use super::Frame;
+use super::Shape;
+use contents::Found;
+use contents::Opening;
+use contents::Span;
+use runs::Run;
+ghost use mathlib.Core.Path.{_≡_};
+ghost use mathlib.Core.Bool.{true, false};
+ghost use mathlib.Core.List.{List};
+ghost use Prim.Native.Nat.{ℕ, _≤_};
+ghost use Rattle.octets.specs.First.{constructed};
+ghost use Rattle.runs.specs.Runs.{definiteRun, Fine};
+ghost use Rattle.contents.specs.Opening.{Opens};
+ghost use Rattle.elements.specs.WellMade.{WellMade};
+ghost use Rattle.elements.specs.Frames.{Bounding, Inner, Frames};
+
+fn no_run() -> Run
+    ensures { λ r. ⌜ r ≡ definiteRun 0 0 0 ⌝ }
+{
+    Run {
+        at: 0,
+        limit: 0,
+        marked: false,
+        room: 0,
+    }
+}
+
+// The value of an opening's item with the octet.
+fn span_with(o: Opening, octet: usize) -> Span
+    ensures { λ v. ⌜ ((s : List ℕ) (r : Run) → Opens s r o → o .count ≤ 2 → constructed octet ≡ false → Bounding s r octet v) ⌝ }
+{
+    match contents::part_with(o, octet) {
+        Found::At(p) => Span {
+            first: p.first,
+            past: p.past,
+        },
+        Found::Missing => Span { first: 0, past: 0 },
+    }
+}
+
+// The run inside an opening's item with the octet.
+fn run_with(o: Opening, octet: usize) -> Run
+    ensures { λ b. ⌜ ((s : List ℕ) (r : Run) → Opens s r o → o .count ≤ 2 → constructed octet ≡ true → Inner s r octet b) ⌝ }
+{
+    match contents::part_with(o, octet) {
+        Found::At(p) => p.inner,
+        Found::Missing => no_run(),
+    }
+}
+
+// The top of an element whose items stand in order.
+fn frame_in_order(s: &[u8], shape: Shape, r: Run) -> Frame
+    requires { ⌜ Fine (now s) r × WellMade shape × (shape .free ≡ false) ⌝ }
+    ensures { λ frame. ⌜ Frames (now (s .entry)) shape r frame ⌝ }
+{
+    let o = contents::opening_of(s, r);
+    let one = shape.one;
+    let two = shape.two;
+    let fits = contents::fills(o, one, two);
+    let body = run_with(o, shape.within);
+    let object = span_with(o, shape.object);
+    let content = span_with(o, shape.content);
+    Frame {
+        fits,
+        body,
+        object,
+        content,
+    }
+}
+
+// The top of an element: at most three items of it are met.
+pub fn frame_of(s: &[u8], shape: Shape, r: Run) -> Frame
+    requires { ⌜ Fine (now s) r × WellMade shape ⌝ }
+    ensures { λ frame. ⌜ Frames (now (s .entry)) shape r frame ⌝ }
+{
+    if !shape.free {
+        return frame_in_order(s, shape, r);
+    }
+    if shape.looked {
+        return Frame {
+            fits: true,
+            body: r,
+            object: Span { first: 0, past: 0 },
+            content: Span { first: 0, past: 0 },
+        };
+    }
+    Frame {
+        fits: true,
+        body: no_run(),
+        object: Span { first: 0, past: 0 },
+        content: Span { first: 0, past: 0 },
+    }
+}

@@ -1,0 +1,167 @@
+// The shapes of elements, and which octet has which. Made anew at each use: a table would be copied for it.
+use super::Shape;
+use contents::Slot;
+ghost use mathlib.Core.Path.{_≡_};
+ghost use mathlib.Core.List.{[], _∷_};
+ghost use Rattle.elements.specs.Shape.{profileShape, classShape, objectShape, unitShape, styleShape, edition1988, shapeOf};
+
+const NO_ITEM: Slot = Slot {
+    octet: 0,
+    needed: false,
+};
+
+const LAYOUT_TYPES: usize = 5;
+
+const LOGICAL_TYPES: usize = 3;
+
+fn profile_shape(octet: usize) -> Shape
+    ensures { λ r. ⌜ r ≡ profileShape octet ⌝ }
+{
+    Shape {
+        octet,
+        looked: false,
+        free: true,
+        one: NO_ITEM,
+        two: NO_ITEM,
+        within: 0,
+        identifier: NO_ITEM,
+        logical: 0,
+        portions: 0,
+        never: 0,
+        neither: 0,
+        object: 0,
+        types: 0,
+        content: 0,
+    }
+}
+
+fn class_shape(octet: usize, types: usize) -> Shape
+    ensures { λ r. ⌜ r ≡ classShape octet types ⌝ }
+{
+    Shape {
+        octet,
+        looked: true,
+        free: false,
+        one: Slot {
+            octet: 0x02,
+            needed: true,
+        },
+        two: Slot {
+            octet: 0x31,
+            needed: true,
+        },
+        within: 0x31,
+        identifier: Slot {
+            octet: 0x41,
+            needed: true,
+        },
+        logical: 0,
+        portions: 0xA1,
+        never: 0x61,
+        neither: 0x81,
+        object: 0x02,
+        types,
+        content: 0,
+    }
+}
+
+fn object_shape(octet: usize, types: usize) -> Shape
+    ensures { λ r. ⌜ r ≡ objectShape octet types ⌝ }
+{
+    Shape {
+        octet,
+        looked: true,
+        free: false,
+        one: Slot {
+            octet: 0x02,
+            needed: false,
+        },
+        two: Slot {
+            octet: 0x31,
+            needed: false,
+        },
+        within: 0x31,
+        identifier: Slot {
+            octet: 0x41,
+            needed: false,
+        },
+        logical: 0,
+        portions: 0xA1,
+        never: 0x61,
+        neither: 0x81,
+        object: 0x02,
+        types,
+        content: 0,
+    }
+}
+
+fn unit_shape(octet: usize) -> Shape
+    ensures { λ r. ⌜ r ≡ unitShape octet ⌝ }
+{
+    Shape {
+        octet,
+        looked: true,
+        free: false,
+        one: Slot {
+            octet: 0x31,
+            needed: false,
+        },
+        two: Slot {
+            octet: 0x04,
+            needed: true,
+        },
+        within: 0x31,
+        identifier: Slot {
+            octet: 0x40,
+            needed: false,
+        },
+        logical: 0x84,
+        portions: 0,
+        never: 0x60,
+        neither: 0xA4,
+        object: 0,
+        types: 0,
+        content: 0x04,
+    }
+}
+
+fn style_shape(octet: usize) -> Shape
+    ensures { λ r. ⌜ r ≡ styleShape octet ⌝ }
+{
+    Shape {
+        octet,
+        looked: true,
+        free: true,
+        one: NO_ITEM,
+        two: NO_ITEM,
+        within: 0,
+        identifier: Slot {
+            octet: 0x45,
+            needed: true,
+        },
+        logical: 0,
+        portions: 0,
+        never: 0x65,
+        neither: 0,
+        object: 0,
+        types: 0,
+        content: 0,
+    }
+}
+
+// The shape of an element by its octet, in the edition of 1988.
+pub fn shape_1988(octet: usize) -> Shape
+    ensures { λ r. ⌜ r ≡ shapeOf edition1988 (octet ∷ []) ⌝ }
+{
+    match octet {
+        0xA0 => profile_shape(0xA0),
+        0xA1 => class_shape(0xA1, LAYOUT_TYPES),
+        0xA2 => object_shape(0xA2, LAYOUT_TYPES),
+        0xA3 => unit_shape(0xA3),
+        0xA5 => class_shape(0xA5, LOGICAL_TYPES),
+        0xA6 => object_shape(0xA6, LOGICAL_TYPES),
+        0xA7 => style_shape(0xA7),
+        0xA8 => style_shape(0xA8),
+        _ => profile_shape(0),
+    }
+}
