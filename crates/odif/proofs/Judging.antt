@@ -20,7 +20,7 @@ use Rattle.letters.specs.declared.Verdict.the-variants.{Accepted, Refused}
 use Rattle.letters.specs.Letter.{letter, refusal}
 use Rattle.letters.specs.Scratch.{Saying, Holds, Filled, Stopped}
 use Rattle.letters.proofs.Rows.{cell-at}
-use Rattle.reading.proofs.Accepted.{lawful}
+use Rattle.letters.proofs.Apart.{accepted-apart}
 use Rattle.odif.specs.Answers.{letterIn, rowsIn}
 use Rattle.odif.specs.Asking.{Judged, IsLetter, IsRefused, Decides}
 use Rattle.odif.proofs.Letters.{refused-element, accepted-letter}
@@ -60,7 +60,7 @@ module _ {s rows : List ℕ} {verdict : Verdict} {at headers : ℕ} (walked : wa
         elements = filled .elements;
         judged = accepted-letter edition1988 s at headers (filled .elements) walked (filled .judged);
         counted = holds .counted;
-        few = subst (λ (n : ℕ). n ≤ mostElements) (holds .counted) (lawful edition1988 _ (filled .elements) (filled .judged) .few);
+        few = subst (λ (n : ℕ). n ≤ mostElements) (holds .counted) (accepted-apart edition1988 _ (filled .elements) (filled .judged) .few);
         within-limit = stream-within s at headers walked;
         within = holds .identifiers .in-table;
         written = holds .written;
