@@ -64,3 +64,8 @@ module _ (side : Side) (s table flat : List ℕ) (room : ℕ) where
           let u : ltb room (length (matches side elements)) ≡ false = le-ltb room (length (matches side elements)) (omega (arith, lists .counted)) in
           let c = lists .counted in
           record { answered = rw (e, t, u, counted, c); tabled = rw (e, t, u); stored = lists-records lists ∙ rw e; fits = lists .fits; enough = enough }
+
+-- the table is the finished one by another name
+pub retabled : {side : Side} {s table : List ℕ} {room : ℕ} {answer : Listed} {after finished flat : List ℕ} → after ≡ finished
+    → ListsFlat side s table room answer finished flat → ListsFlat side s table room answer after flat
+retabled e l = record { answered = l .answered; tabled = e ∙ l .tabled; stored = l .stored; fits = l .fits; enough = l .enough }
