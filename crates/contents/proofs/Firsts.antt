@@ -20,8 +20,8 @@ use Rattle.contents.specs.First.{Holds, Lacks}
 use Rattle.contents.specs.Opening.{Begins}
 
 -- what `meet` gave, once its case is known
-pub met : (s : List ℕ) (r : Run) (x y : Met) → Meets s r x → x ≡ y → Meets s r y
-met s r x y m e = subst (Meets s r) e m
+pub met : (s : List ℕ) (r : Run) {x y : Met} → Meets s r x → x ≡ y → Meets s r y
+met s r m e = subst (Meets s r) e m
 
 -- an item of either form
 module _ (octet type : ℕ) (value : List ℕ) (inside after : Tree) where

@@ -1,8 +1,9 @@
 -- Two slots in order, by how many items a run has: the octets of its first two decide. Assumes nothing.
 use mathlib.Core.Path.{_≡_, refl, sym, ap, _∙_}
-use mathlib.Core.Bool.{Bool, true, false, not, _&&_, _||_, and-true, and-false, or-false}
+use mathlib.Core.Bool.{Bool, true, false, not, _&&_, _||_, and-true, and-false, or-false, false≢true}
 use mathlib.Core.List.{List, [], _∷_}
-use Prim.Native.Nat.{ℕ, zero, suc}
+use Prim.Native.Nat.{ℕ, zero, suc, _≤_}
+use native.Mathlib.Omega.{arith}
 use lib.Dec.{eqb}
 use Rattle.octets.specs.First.{constructed}
 use Rattle.octets.specs.Items.{none}
@@ -111,3 +112,13 @@ module _ (s : List ℕ) (r : Run) (o : Opening) (x y : Slot) where
   in-order (several rest last m n (ends-here z e)) = ap by-count z ∙ sym (in-order-two s x y r (o .one) rest m (o .two) last n e)
   in-order (several rest last m n (goes-on third beyond z k)) =
       ap by-count z ∙ sym (in-order-more s x y r (o .one) rest m (o .two) last n third beyond k)
+
+  filled-few : (n p q : ℕ) → filled n p q x y ≡ true → n ≤ 2
+  filled-few zero p q f = omega arith
+  filled-few (suc zero) p q f = omega arith
+  filled-few (suc (suc zero)) p q f = omega arith
+  filled-few (suc (suc (suc n))) p q f = absurd (false≢true f)
+
+  -- a run whose items fill two slots has no more than two
+  pub in-order-few : Opens s r o → inOrder x y (treeIn s r) ≡ true → o .count ≤ 2
+  in-order-few k f = filled-few (o .count) _ _ (in-order k ∙ f)

@@ -1,14 +1,19 @@
 -- The items of an opening, one after the other: the first with the octet is the run's, and if neither has it, the run has none.
 -- Assumes nothing.
-use mathlib.Core.Path.{_≡_, refl}
+use mathlib.Core.Path.{_≡_, subst}
 use mathlib.Core.List.{List}
 use Prim.Native.Nat.{ℕ, _<_, _≤_}
 use native.Mathlib.Omega.{arith}
 use Rattle.runs.specs.declared.Run.{Run}
+use Rattle.contents.specs.declared.Found.{Found}
 use Rattle.contents.specs.declared.Opening.{Opening}
 use Rattle.contents.specs.First.{Holds, Lacks}
-use Rattle.contents.specs.Opening.{Opens, nothing, single, several, ends-here, goes-on}
+use Rattle.contents.specs.Opening.{Opens, FoundIn, nothing, single, several, ends-here, goes-on}
 use Rattle.contents.proofs.Firsts.{holds-before, lacks-before, lacks-at-end, alike-after, holds-here}
+
+-- what `part_with` found, once its case is known
+pub found : (s : List ℕ) (r : Run) (octet : ℕ) {x y : Found} → FoundIn s r octet x → x ≡ y → FoundIn s r octet y
+found s r octet f e = subst (FoundIn s r octet) e f
 
 module _ (octet : ℕ) (o : Opening) (s : List ℕ) (r : Run) where
   pub one-holds : (o .count ≡ 0 → ⊥) → o .one .octet ≡ octet → Opens s r o → Holds s r octet (o .one)

@@ -1,6 +1,6 @@
 -- A pass that counts the items with an octet and keeps the first: what was seen, and what the run still has. Assumes nothing.
-use mathlib.Core.Path.{_≡_, refl, sym, ap, _∙_, subst}
-use mathlib.Core.Bool.{true, false, cond}
+use mathlib.Core.Path.{_≡_, refl, sym, _∙_, subst}
+use mathlib.Core.Bool.{true, false}
 use mathlib.Core.List.{List}
 use mathlib.Core.Logic.{_⊎_, inl, inr}
 use Prim.Native.Nat.{ℕ, zero, suc, _+_, _-_, _≤_}
@@ -19,7 +19,7 @@ use Rattle.contents.specs.declared.Seen.{Seen}
 use Rattle.contents.specs.Search.{amount, firstRun, boundsOf, itemsIn}
 use Rattle.contents.specs.First.{spanOf, Holds, Lacks}
 use Rattle.contents.specs.Opening.{noPart, Begins}
-use Rattle.contents.specs.Gather.{Counted, unseen, seenWith}
+use Rattle.contents.specs.Gather.{Counted, unseen, firstOf, seenWith}
 use Rattle.contents.proofs.Firsts.{Alike, same-search, alike-on, holds-before, lacks-before, lacks-at-end, amount-at-end, amount-of-item, alike-after, holds-here}
 
 -- x is what was seen of the octet from the run `from` up to the run `to`, which is what is left of it
@@ -40,7 +40,7 @@ sees-nothing s octet r f =
 
 module _ (s : List ℕ) (octet : ℕ) (from to : Run) (x : Seen) (p : Part) (rest : Run) (m : Begins s to p rest) (k : Sees s octet from to x) where
   sees-one : eqb (p .octet) octet ≡ true
-      → Sees s octet from rest (record { amount = x .amount + 1; part = cond (eqb (x .amount) 0) p (x .part) })
+      → Sees s octet from rest (record { amount = x .amount + 1; part = firstOf x p })
   sees-one e =
       let a : amount octet (treeIn s to) ≡ 1 + amount octet (treeIn s rest) = amount-of-item s to p rest m octet ∙ rw e in
       record {

@@ -46,10 +46,13 @@ pub record Gathers (s : List ℕ) (r : Run) (sought : Sought) (g : Gathered) : T
 abbrev pub unseen : Seen
 unseen = record { amount = 0; part = noPart }
 
--- the item p is seen after the others: it counts if it has the octet, and is kept if it is the first that has
+-- the first item that was seen, if p comes after x
+abbrev pub firstOf : Seen → Part → Part
+firstOf x p = cond (eqb (x .amount) 0) p (x .part)
+
+-- the item p is seen after the others: it counts if it has the octet
 unfoldable pub seenWith : (octet : ℕ) → Seen → Part → Seen
-seenWith octet x p =
-    cond (eqb (p .octet) octet) (record { amount = x .amount + 1; part = cond (eqb (x .amount) 0) p (x .part) }) x
+seenWith octet x p = cond (eqb (p .octet) octet) (record { amount = x .amount + 1; part = firstOf x p }) x
 
 -- what was seen of three octets, as the answer
 abbrev pub gatheredFrom : (identifier logical portions : Seen) → (barred : ℕ) → Gathered

@@ -10,7 +10,7 @@ ghost use Rattle.runs.specs.Runs.{treeIn, Fine};
 ghost use Rattle.contents.specs.Order.{inOrder};
 ghost use Rattle.contents.specs.First.{spanOf};
 ghost use Rattle.contents.specs.Opening.{noPart, Begins, Opens, CountsOn, Finds};
-ghost use Rattle.contents.specs.Gather.{Gathers, unseen, seenWith, gatheredFrom};
+ghost use Rattle.contents.specs.Gather.{Gathers, unseen, firstOf, seenWith, gatheredFrom};
 
 // The bounds of a value; absent is 0 and 0.
 pub struct Span {
@@ -68,11 +68,12 @@ pub struct Gathered {
 }
 
 // How many items with one octet were seen, and the first of them.
-pub struct Seen {
-    pub amount: usize,
-    pub part: Part,
+struct Seen {
+    amount: usize,
+    part: Part,
 }
 
+// A part that is not there.
 fn no_part() -> Part
     ensures { λ p. ⌜ p ≡ noPart ⌝ }
 {
@@ -87,6 +88,31 @@ fn no_part() -> Part
             room: 0,
         },
     }
+}
+
+// An item that was met. The run inside it is copied field by field: copied whole, a struct has its padding carried along, through
+// memory.
+fn part_of(octet: usize, first: usize, past: usize, inner: Run) -> Part
+    ensures { λ p. ⌜ p ≡ record { octet = octet; first = first; past = past; inner = inner } ⌝ }
+{
+    Part {
+        octet,
+        first,
+        past,
+        inner: Run {
+            at: inner.at,
+            limit: inner.limit,
+            marked: inner.marked,
+            room: inner.room,
+        },
+    }
+}
+
+// The same part, field by field.
+fn copied(p: Part) -> Part
+    ensures { λ q. ⌜ q ≡ p ⌝ }
+{
+    part_of(p.octet, p.first, p.past, p.inner)
 }
 
 // 2 if a run that follows two items ends here, 3 if it goes on.
@@ -129,18 +155,13 @@ fn opening_after(s: &[u8], one: Part, rest: Run) -> Opening
             Opening {
                 count: count_after_two(s, last),
                 one,
-                two: Part {
-                    octet,
-                    first,
-                    past,
-                    inner,
-                },
+                two: part_of(octet, first, past, inner),
             }
         }
     }
 }
 
-// The first two items of a run, and whether it has more. It never looks at a third item's value, and at no item after that.
+// The first two items of a run, and whether it has more. An element's own items are read by this, at most three of them.
 pub fn opening_of(s: &[u8], r: Run) -> Opening
     requires { ⌜ Fine (now s) r ⌝ }
     ensures { λ o. ⌜ Opens (now (s .entry)) r o ⌝ }
@@ -159,16 +180,7 @@ pub fn opening_of(s: &[u8], r: Run) -> Opening
             past,
             inner,
             rest,
-        } => opening_after(
-            s,
-            Part {
-                octet,
-                first,
-                past,
-                inner,
-            },
-            rest,
-        ),
+        } => opening_after(s, part_of(octet, first, past, inner), rest),
     }
 }
 
@@ -195,7 +207,8 @@ fn fills_either(octet: usize, one: Slot, two: Slot) -> bool
     fills_second(octet, one, two)
 }
 
-// Whether an opening has an item for each of two slots in order, or none where it is not needed, and no others.
+// Whether an opening has an item for each of two slots in order, or none where it is not needed, and no others. Contents that are
+// not as tabled fail this.
 pub fn fills(o: Opening, one: Slot, two: Slot) -> bool
     ensures { λ b. ⌜ ((s : List ℕ) (r : Run) → Opens s r o → b ≡ inOrder one two (treeIn s r)) ⌝ }
 {
@@ -220,7 +233,7 @@ pub fn fills(o: Opening, one: Slot, two: Slot) -> bool
     false
 }
 
-// The first of an opening's items with the octet.
+// The first of an opening's items with the octet: the object type, the run that names an element, the content.
 pub fn part_with(o: Opening, octet: usize) -> Found
     ensures { λ found. ⌜ Finds o octet found ⌝ }
 {
@@ -242,6 +255,7 @@ pub fn part_with(o: Opening, octet: usize) -> Found
     Found::Missing
 }
 
+// Nothing was seen.
 fn unseen_yet() -> Seen
     ensures { λ x. ⌜ x ≡ unseen ⌝ }
 {
@@ -251,21 +265,32 @@ fn unseen_yet() -> Seen
     }
 }
 
+// The first of the items with an octet, after one more.
+fn first_of(x: Seen, p: Part) -> Part
+    ensures { λ q. ⌜ q ≡ firstOf x p ⌝ }
+{
+    if x.amount == 0 {
+        return copied(p);
+    }
+    let first = x.part;
+    copied(first)
+}
+
 // One item more: it counts if it has the octet.
 fn seen_with(x: Seen, octet: usize, p: Part) -> Seen
     requires { ⌜ x .amount + 1 < 2 ^ 64 ⌝ }
     ensures { λ y. ⌜ y ≡ seenWith octet x p ⌝ }
 {
-    if p.octet != octet {
-        return x;
-    }
-    if x.amount == 0 {
-        return Seen { amount: 1, part: p };
+    if p.octet == octet {
+        return Seen {
+            amount: x.amount + 1,
+            part: first_of(x, p),
+        };
     }
     let part = x.part;
     Seen {
-        amount: x.amount + 1,
-        part,
+        amount: x.amount,
+        part: copied(part),
     }
 }
 
@@ -280,6 +305,7 @@ fn counted_with(n: usize, counted: usize, octet: usize) -> usize
     n
 }
 
+// The bounds of a part's value.
 fn span_of(p: Part) -> Span
     ensures { λ v. ⌜ v ≡ spanOf p ⌝ }
 {
@@ -289,6 +315,7 @@ fn span_of(p: Part) -> Span
     }
 }
 
+// What was seen, as the answer.
 fn gathered_from(identifier: Seen, logical: Seen, portions: Seen, barred: usize) -> Gathered
     ensures { λ g. ⌜ g ≡ gatheredFrom identifier logical portions barred ⌝ }
 {
@@ -306,15 +333,16 @@ fn gathered_from(identifier: Seen, logical: Seen, portions: Seen, barred: usize)
     }
 }
 
-// What of five octets stands in a run, in one pass.
+// How often each of five octets stands in a run, and the first value of three of them, in one pass: what names an element.
 pub fn gather(s: &[u8], r: Run, sought: Sought) -> Gathered
     requires { ⌜ Fine (now s) r ⌝ }
     ensures { λ g. ⌜ Gathers (now (s .entry)) r sought g ⌝ }
 {
     let mut cur = r;
-    let mut identifier = unseen_yet();
-    let mut logical = unseen_yet();
-    let mut portions = unseen_yet();
+    let none = unseen_yet();
+    let mut identifier = none;
+    let mut logical = none;
+    let mut portions = none;
     let mut barred: usize = 0;
     loop {
         match runs::meet(s, cur) {
@@ -326,17 +354,12 @@ pub fn gather(s: &[u8], r: Run, sought: Sought) -> Gathered
                 inner,
                 rest,
             } => {
-                let p = Part {
-                    octet,
-                    first,
-                    past,
-                    inner,
-                };
+                let p = part_of(octet, first, past, inner);
                 identifier = seen_with(identifier, sought.identifier, p);
                 logical = seen_with(logical, sought.logical, p);
                 portions = seen_with(portions, sought.portions, p);
-                barred = counted_with(barred, sought.never, octet);
-                barred = counted_with(barred, sought.neither, octet);
+                barred = counted_with(barred, sought.never, p.octet);
+                barred = counted_with(barred, sought.neither, p.octet);
                 cur = rest;
             }
         }

@@ -43,8 +43,8 @@ pub record Bounded (s rows : List ℕ) (column n : ℕ) : Type 0 where
   pub ordered : (j : ℕ) → j < n → firstAt rows column j ≤ pastAt rows column j
   pub inside : (j : ℕ) → j < n → pastAt rows column j ≤ length s
 
--- "No two classes or objects share an identifier, no two styles, no two units": the name space of each kind,
--- 1 of classes and objects (kinds 1, 2, 5 and 6), 2 of text units (3), 3 of styles (7 and 8), 0 of the others, which have no identifier
+-- "No two classes or objects share an identifier, no two styles, no two units a layout identifier, no two units a logical identifier": by kind,
+-- name space 1 of classes and objects (kinds 1, 2, 5 and 6), 2 of text units (3; each column has its own index), 3 of styles (7 and 8), 0 of the others
 abbrev pub spaces : List ℕ
 spaces = 0 ∷ 1 ∷ 1 ∷ 2 ∷ 0 ∷ 1 ∷ 1 ∷ 3 ∷ 3 ∷ []
 

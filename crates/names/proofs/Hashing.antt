@@ -1,15 +1,12 @@
 -- A hash goes on byte by byte, so in parts too, and stays below 2^32; its bucket is its share of the buckets. Assumes nothing.
 use mathlib.Core.Path.{_≡_, refl, sym, ap, _∙_}
-use mathlib.Core.Bool.{Bool, true, false}
 use mathlib.Core.List.{List, [], _∷_, _++_}
-use Prim.Native.Nat.{ℕ, _+_, _*_, _/_, _%_, _^_, _<_, _≤_}
+use Prim.Native.Nat.{ℕ, _+_, _*_, _^_, _<_, _≤_}
 use native.Mathlib.Nat.{lt-of-lt-of-le, mul-le-mul-left, mul-lt-mul-of-pos-right, div-lt-iff-lt-mul, mul-comm}
 use native.Mathlib.Omega.{arith}
 use lib.ListN.{length, getD}
 use lib.Seq.{slice}
-use Rattle.names.specs.declared.Asked.{Asked}
 use Rattle.names.specs.Names.{spaceByte}
-use Rattle.names.specs.Asked.{bytesOf}
 use Rattle.names.specs.Hash.{hashes, hashStep, hashFrom, hash, bucket}
 use Rattle.names.proofs.Parts.{slice-more}
 
@@ -28,15 +25,12 @@ unfolding hashFrom
 hash-below h [] l = l
 hash-below h (x ∷ xs) l = hash-below (hashStep h x) xs (omega arith)
 
--- what `hash_over`, and for a joined name `hash_space` and `hash_over` again, make of the name asked for
-module _ (s : List ℕ) (asked : Asked) where
-  pub hash-alone : asked .joined ≡ false → hash (bytesOf s asked) ≡ hash (slice (asked .first) (asked .past) s)
-  hash-alone e = rw e
-
-  pub hash-joined : asked .joined ≡ true → hash (bytesOf s asked)
-      ≡ hashFrom (hashFrom (hash (slice (asked .first) (asked .past) s)) (spaceByte ∷ [])) (slice (asked .from) (asked .to) s)
-  unfolding hashFrom
-  hash-joined e = rw e (hash-append 0 (slice (asked .first) (asked .past) s) (spaceByte ∷ slice (asked .from) (asked .to) s))
+-- the hash of a joined name, as `hash_over`, `hash_space` and `hash_over` again give it
+pub hash-joined : (xs ys : List ℕ) {h i j : ℕ} → h ≡ hash xs → i ≡ hashFrom h (spaceByte ∷ []) → j ≡ hashFrom i ys
+    → j ≡ hash (xs ++ spaceByte ∷ ys)
+unfolding hashFrom
+hash-joined xs ys p q r =
+    r ∙ ap (λ (k : ℕ). hashFrom k ys) (q ∙ ap (λ (k : ℕ). hashStep k spaceByte) p) ∙ sym (hash-append 0 xs (spaceByte ∷ ys))
 
 module _ (buckets h : ℕ) (some : 0 < buckets) where
   -- the product, which the code forms in 64 bits

@@ -10,7 +10,8 @@ use lib.ListN.{length, getD, take, drop, length-drop}
 use lib.Seq.{take-suc, getD-drop}
 use Rattle.octets.specs.Lengths.{bigEndian, bigEndianFrom}
 
-be-snoc : (n : ℕ) (xs : List ℕ) (x : ℕ) → bigEndianFrom n (xs ++ (x ∷ [])) ≡ bigEndianFrom n xs * 256 + x
+-- an octet more, at the end
+pub be-snoc : (n : ℕ) (xs : List ℕ) (x : ℕ) → bigEndianFrom n (xs ++ (x ∷ [])) ≡ bigEndianFrom n xs * 256 + x
 unfolding bigEndianFrom
 be-snoc n [] x = refl
 be-snoc n (y ∷ ys) x = be-snoc (n * 256 + y) ys x

@@ -5,5 +5,7 @@ pub mod Walks
 pub mod Turns
 pub mod Ones
 pub mod RulesHold
+pub mod Passed
 pub mod Half
+pub mod Numbers
 pub mod Examples

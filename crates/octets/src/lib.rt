@@ -6,7 +6,8 @@ ghost use Prim.Native.Nat.{ℕ, _+_, _-_, _*_, _<_, _≤_};
 ghost use lib.ListN.{length, getD, take, drop};
 ghost use Rattle.octets.specs.First.{number, permits, formAllowed};
 ghost use Rattle.octets.specs.Lengths.{misfits, bigEndian};
-ghost use Rattle.octets.specs.Head.{definiteAt, indefiniteAt, longAt, lengthAt, closingAt, headAt};
+ghost use Rattle.octets.specs.Head.{definiteAt, indefiniteAt, longAt, lengthAt, closingAt, headAt, Passed};
+ghost use Rattle.octets.specs.declared.Head.the-variants.{Item};
 ghost use Rattle.octets.specs.Walk.{run, valueOf, oneOf, answer, walkOf};
 
 // A header that passed. The value starts at `start`. A definite value ends at `bound`; an indefinite one (`marked`) ends at its
@@ -309,6 +310,49 @@ pub fn head_at(s: &[u8], at: usize, limit: usize, marked: bool, room: usize) -> 
         }
     }
     read_head(s, at, limit, marked, room)
+}
+
+// The header of an item with k further length octets that was passed before.
+fn passed_long(s: &[u8], octet: u8, at: usize, k: usize) -> Head
+    requires { ⌜ (at + 2 + k + bigEndian (take k (drop (at + 2) (now s))) ≤ length (now s)) × (k ≤ 4) ⌝ }
+    ensures { λ r. ⌜ r ≡ Item (record { octet = octet; start = at + 2 + k; bound = at + 2 + k + bigEndian (take k (drop (at + 2) (now (s .entry)))); marked = false }) ⌝ }
+{
+    let start = at + 2 + k;
+    Head::Item(Header {
+        octet: wide(octet),
+        start,
+        bound: start + big_endian(s, at + 2, k),
+        marked: false,
+    })
+}
+
+// What stands at `at` in a run whose walk ended: `head_at` again, for later passes, with nothing left to judge.
+pub fn passed_head(s: &[u8], at: usize, limit: usize, marked: bool, room: usize) -> Head
+    requires { ⌜ (at < limit) × (limit ≤ length (now s)) × Passed (headAt (now s) at limit marked room) ⌝ }
+    ensures { λ r. ⌜ r ≡ headAt (now (s .entry)) at limit marked room ⌝ }
+{
+    let octet = s[at];
+    if octet == 0 {
+        return Head::ClosingMark;
+    }
+    let first = s[at + 1];
+    if first < 0x80 {
+        return Head::Item(Header {
+            octet: wide(octet),
+            start: at + 2,
+            bound: at + 2 + wide(first),
+            marked: false,
+        });
+    }
+    if first == 0x80 {
+        return Head::Item(Header {
+            octet: wide(octet),
+            start: at + 2,
+            bound: limit,
+            marked: true,
+        });
+    }
+    passed_long(s, octet, at, wide(first - 0x80))
 }
 
 // Walks the value of the item with the header h: a constructed value is a run of items.

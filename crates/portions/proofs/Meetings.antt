@@ -2,7 +2,7 @@
 use mathlib.Core.Path.{_≡_, refl, ap, sym, _∙_}
 use mathlib.Core.Bool.{true, false, false≢true}
 use mathlib.Core.List.{List, [], _∷_}
-use Prim.Native.Nat.{ℕ}
+use Prim.Native.Nat.{ℕ, _<_}
 use borrow.Author.Tests.{ne-eqb, eqb-true, eqb-false}
 use borrow.Table.Steps.{cases}
 use lib.Dec.{eqb}
@@ -11,8 +11,9 @@ use Rattle.octets.specs.First.{constructed}
 use Rattle.octets.specs.Items.{Items, none, item}
 use Rattle.tree.specs.Tree.{Tree, formed, plain}
 use Rattle.runs.specs.declared.Run.{Run}
-use Rattle.runs.specs.Runs.{itemsOf, treeIn, allPrimitive, Meeting}
+use Rattle.runs.specs.Runs.{itemsOf, treeIn, definiteRun, allPrimitive, Fine, Meeting}
 use Rattle.runs.proofs.Laws.{tree-meets, tree-none}
+use Rattle.runs.proofs.Again.{again-fine, again-tree}
 use Rattle.portions.specs.Portions.{allPortions, values}
 
 -- an item with an octet, its value, the run inside it and what follows
@@ -34,6 +35,7 @@ module _ (octet : ℕ) (value : List ℕ) (inside after : Tree) where
   portion-formed t =
       cases (eqb octet 0x12) (λ e. eqb-true octet 0x12 e) (λ e. absurd (false≢true (sym (others-formed (eqb-false octet 0x12 e)) ∙ t)))
 
+-- an item that is met, and the rest of the run
 module _ {s : List ℕ} {r : Run} {octet first past : ℕ} {inner rest : Run} (met : Meeting s r octet first past inner rest) where
   pub portions-met : octet ≡ 0x12 → allPortions (treeIn s r) ≡ allPortions (treeIn s rest)
   portions-met e = ap allPortions (tree-meets met) ∙ portions-formed octet (slice first past s) (treeIn s inner) (treeIn s rest) e
@@ -65,10 +67,22 @@ module _ (s : List ℕ) (r : Run) (end : itemsOf s r ≡ none) where
   unfolding values
   values-end = ap values (tree-none s r end)
 
--- portions are primitive: a value of portions can be read again by its bounds
+-- portions are primitive
 pub portions-primitive : (s : List ℕ) (items : Items) → allPortions (plain s items) ≡ true → allPrimitive items ≡ true
 portions-primitive s none all = refl
 portions-primitive s (item at octet first past inside after) all =
     let e : octet ≡ 0x12 = portion-formed octet (slice first past s) (plain s inside) (plain s after) all in
     let left : allPortions (plain s after) ≡ true = sym (portions-formed octet (slice first past s) (plain s inside) (plain s after) e) ∙ all in
     rw e (portions-primitive s after left)
+
+-- so the portions inside an item can be read again by the bounds of its value alone
+module _ {s : List ℕ} {r : Run} {octet first past : ℕ} {inner rest : Run} (met : Meeting s r octet first past inner rest)
+    (c : constructed octet ≡ true) (all : allPortions (treeIn s inner) ≡ true) (levels : ℕ) (deep : 0 < inner .room → 0 < levels) where
+  primitive : allPrimitive (itemsOf s inner) ≡ true
+  primitive = portions-primitive s (itemsOf s inner) all
+
+  pub portions-fine : Fine s (definiteRun first past levels)
+  portions-fine = again-fine met c primitive levels deep
+
+  pub portions-again : treeIn s (definiteRun first past levels) ≡ treeIn s inner
+  portions-again = again-tree met c primitive levels deep

@@ -1,37 +1,61 @@
--- Numbers that bound values begin with the first value's pair, and a pair more at their end is a value more. Assumes nothing.
+-- Numbers that bound values begin with the first value's pair, so what is asked of the values goes on with those after it; and a pair
+-- stored at their end is a value more. Assumes nothing.
 use mathlib.Core.Path.{_≡_, refl, ap, _∙_, subst}
+use mathlib.Core.Bool.{false, _||_}
 use mathlib.Core.List.{List, [], _∷_, _++_, append-assoc}
 use Prim.Native.Nat.{ℕ, suc, _+_, _*_, _-_, _<_, _≤_}
 use native.Mathlib.Omega.{arith}
-use lib.ListN.{length, getD, take, set, length-set}
-use lib.Seq.{slice, take-suc-set}
+use lib.ListN.{length, take, set, length-set}
+use lib.Seq.{slice, slice-empty, take-suc-set}
 use Rattle.names.proofs.Parts.{slice-more}
-use Rattle.portions.specs.Bounds.{bounded, Inside}
+use Rattle.contents.specs.declared.Span.{Span}
+use Rattle.names.specs.Names.{same}
+use Rattle.portions.specs.Portions.{among, repeats}
+use Rattle.portions.specs.Bounds.{spanOf, valueOf, bounded, Inside}
 
--- the pair k, which is not the last
+-- the value k of so many, and those after it
 module _ (s numbers : List ℕ) (k count : ℕ) (some : k < count) (enough : 2 * count ≤ length numbers) where
-  abbrev first : ℕ
-  first = getD numbers (2 * k) 0
-
-  abbrev past : ℕ
-  past = getD numbers (2 * k + 1) 0
+  abbrev span : Span
+  span = spanOf numbers k
 
   abbrev rest : List ℕ
   rest = slice (2 * (k + 1)) (2 * count) numbers
 
-  pair-more : slice (2 * k) (2 * count) numbers ≡ first ∷ past ∷ rest
+  pair-more : slice (2 * k) (2 * count) numbers ≡ span .first ∷ span .past ∷ rest
   pair-more =
       let e : 2 * (k + 1) ≡ 2 * k + 1 + 1 = omega arith in
       slice-more numbers (2 * k) (2 * count) (omega arith) enough
-      ∙ rw e (ap (λ (l : List ℕ). first ∷ l) (slice-more numbers (2 * k + 1) (2 * count) (omega arith) enough))
+      ∙ rw e (ap (λ (l : List ℕ). span .first ∷ l) (slice-more numbers (2 * k + 1) (2 * count) (omega arith) enough))
 
-  pub bounded-more : bounded s (slice (2 * k) (2 * count) numbers) ≡ slice first past s ∷ bounded s rest
+  bounded-more : bounded s (slice (2 * k) (2 * count) numbers) ≡ valueOf s numbers k ∷ bounded s rest
   unfolding bounded
   bounded-more = ap (bounded s) pair-more
 
-  pub inside-more : Inside s (slice (2 * k) (2 * count) numbers) → (first ≤ past) × (past ≤ length s) × Inside s rest
+  pub inside-more : Inside s (slice (2 * k) (2 * count) numbers) → (span .first ≤ span .past) × (span .past ≤ length s) × Inside s rest
   unfolding Inside
-  inside-more i = subst (Inside s) pair-more i
+  inside-more inside = subst (Inside s) pair-more inside
+
+  pub among-more : (v : List ℕ) → among v (bounded s (slice (2 * k) (2 * count) numbers)) ≡ (same v (valueOf s numbers k) || among v (bounded s rest))
+  unfolding among
+  among-more v = ap (among v) bounded-more
+
+  pub repeats-more : repeats (bounded s (slice (2 * k) (2 * count) numbers)) ≡ (among (valueOf s numbers k) (bounded s rest) || repeats (bounded s rest))
+  unfolding repeats
+  repeats-more = ap repeats bounded-more
+
+-- no value is left
+module _ (s numbers : List ℕ) (count : ℕ) where
+  bounded-none : bounded s (slice (2 * count) (2 * count) numbers) ≡ []
+  unfolding bounded
+  bounded-none = ap (bounded s) (slice-empty (2 * count) numbers)
+
+  pub among-none : (v : List ℕ) → among v (bounded s (slice (2 * count) (2 * count) numbers)) ≡ false
+  unfolding among
+  among-none v = ap (among v) bounded-none
+
+  pub repeats-none : repeats (bounded s (slice (2 * count) (2 * count) numbers)) ≡ false
+  unfolding repeats
+  repeats-none = ap repeats bounded-none
 
 -- a pair stored after k others
 pub pair-stored : (numbers : List ℕ) (k first past : ℕ) → 2 * k + 1 < length numbers

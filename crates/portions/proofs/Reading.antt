@@ -51,7 +51,7 @@ module _ {s : List ℕ} {r left : Run} {count : ℕ} {misspelt : Bool} {numbers 
       }
 
   module _ {octet first past : ℕ} {inner rest : Run} (met : Meeting s left octet first past inner rest) where
-    pub other-read : (octet ≡ 0x12 → ⊥) → Lists s r (record { count = count; others = true; misspelt = misspelt }) numbers
+    pub other-read : (octet ≡ 0x12 → ⊥) → Lists s r (record { count = 0; others = true; misspelt = false }) numbers
     other-read n =
         record {
           others = sym (ap not (so-far .portions ∙ others-met met n));

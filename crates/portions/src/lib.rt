@@ -8,9 +8,10 @@ ghost use mathlib.Core.List.{[], _∷_, _++_};
 ghost use Prim.Native.Nat.{_+_, _*_, _<_, _≤_};
 ghost use lib.ListN.{length, getD, take};
 ghost use lib.Seq.{slice};
+ghost use Rattle.octets.specs.Walk.{streamLimit};
 ghost use Rattle.names.specs.Names.{isPortion};
 ghost use Rattle.runs.specs.Runs.{Fine};
-ghost use Rattle.portions.specs.Portions.{among, repeats};
+ghost use Rattle.portions.specs.Portions.{mostPortions, among, repeats};
 ghost use Rattle.portions.specs.Bounds.{spanOf, valueOf, bounded, Inside};
 ghost use Rattle.portions.specs.Lists.{Lists};
 
@@ -34,8 +35,8 @@ fn wide(x: u32) -> usize
 
 // Keeps the bounds of portion k, if it is one of the first 64.
 fn keep_bounds(bounds: &mut [u32], k: usize, first: usize, past: usize)
-    requires { ⌜ (128 ≤ length (now bounds)) × (first ≤ 1048576) × (past ≤ 1048576) ⌝ }
-    ensures { λ _. ⌜ (k < 64 → take (2 * (k + 1)) (now (bounds .exit)) ≡ take (2 * k) (now (bounds .entry)) ++ first ∷ past ∷ []) ⌝ }
+    requires { ⌜ (2 * mostPortions ≤ length (now bounds)) × (first ≤ streamLimit) × (past ≤ streamLimit) ⌝ }
+    ensures { λ _. ⌜ (k < mostPortions → take (2 * (k + 1)) (now (bounds .exit)) ≡ take (2 * k) (now (bounds .entry)) ++ first ∷ past ∷ []) ⌝ }
 {
     if k < MOST_PORTIONS {
         bounds[2 * k] = first as u32;
@@ -57,7 +58,7 @@ fn is_misspelt(s: &[u8], before: bool, first: usize, past: usize) -> bool
 // Reads the portions of an element, once: rules 12, 14 and 15 are judged by what it tells and by the numbers that it leaves, two for
 // each of the first 64. The numbers lent are for this alone.
 pub fn read_portions(s: &[u8], r: Run, bounds: &mut [u32]) -> Listed
-    requires { ⌜ Fine (now s) r × (length (now s) ≤ 1048576) × (128 ≤ length (now bounds)) ⌝ }
+    requires { ⌜ Fine (now s) r × (length (now s) ≤ streamLimit) × (2 * mostPortions ≤ length (now bounds)) ⌝ }
     ensures { λ listed. ⌜ Lists (now (s .entry)) r listed (now (bounds .exit)) ⌝ }
 {
     let mut left = r;
@@ -79,9 +80,9 @@ pub fn read_portions(s: &[u8], r: Run, bounds: &mut [u32]) -> Listed
             } => {
                 if octet != PORTION {
                     return Listed {
-                        count,
+                        count: 0,
                         others: true,
-                        misspelt,
+                        misspelt: false,
                     };
                 }
                 misspelt = is_misspelt(s, misspelt, first, past);

@@ -61,7 +61,7 @@ stream-count s at n p =
     let b : n ≡ count (itemsOf s (wholeStream s)) = cc in
     (a, b)
 
-starts-at : {s : List ℕ} {room at limit : ℕ} {marked : Bool} {i : Items} {e : End} → Runs s room at limit marked i e → marked ≡ false → Whole e
+pub starts-at : {s : List ℕ} {room at limit : ℕ} {marked : Bool} {i : Items} {e : End} → Runs s room at limit marked i e → marked ≡ false → Whole e
     → startOf limit i ≡ at
 starts-at (at-limit p) m w = sym p
 starts-at (unclosed p) m w = absurd w

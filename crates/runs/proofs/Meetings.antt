@@ -7,9 +7,10 @@ use native.Mathlib.Omega.{arith}
 use lib.ListN.{length}
 use borrow.Author.Tests.{le-leb}
 use Rattle.octets.specs.declared.Header.{Header}
-use Rattle.octets.specs.declared.Head.the-variants.{Item}
+use Rattle.octets.specs.declared.Head.{Head}
+use Rattle.octets.specs.declared.Head.the-variants.{Item, ClosingMark, Refusal}
 use Rattle.octets.specs.First.{constructed}
-use Rattle.octets.specs.Head.{octetAt, headAt}
+use Rattle.octets.specs.Head.{octetAt, headAt, Passed}
 use Rattle.octets.specs.Items.{Items, item, count}
 use Rattle.octets.specs.Walk.{End, ends, stops, Walked, ended, pastOf, follow, run, valueOf, answerOf}
 use Rattle.octets.proofs.Walks.{Lies, run-step}
@@ -60,6 +61,16 @@ inside-fine s h room false c p q w = rw c (record { order = omega arith; inside 
 inside-room : (h : Header) (room : ℕ) (b : Bool) → constructed (h .octet) ≡ b → insideOf h room .room ≡ room - 1
 inside-room h room true c = rw c
 inside-room h room false c = rw c
+
+-- where the walk of a run ended, what stands at its place was not refused
+passed-by : (s : List ℕ) (r : Run) → Fine s r → r .at < r .limit → (head : Head) → headAt s (r .at) (r .limit) (r .marked) (r .room) ≡ head → Passed head
+passed-by s r fine l (Item h) e = tt
+passed-by s r fine l ClosingMark e = tt
+passed-by s r fine l (Refusal number place) e =
+    subst (λ (w : Walked). Whole (w .how)) (at-head (r .room) s (r .at) (r .limit) (r .marked) l (Refusal number place) e) (fine .whole)
+
+pub passed : (s : List ℕ) (r : Run) → Fine s r → r .at < r .limit → Passed (headAt s (r .at) (r .limit) (r .marked) (r .room))
+passed s r fine l = passed-by s r fine l (headAt s (r .at) (r .limit) (r .marked) (r .room)) refl
 
 module _ (s : List ℕ) (r : Run) (fine : Fine s r) (l : r .at < r .limit) (h : Header)
     (e : headAt s (r .at) (r .limit) (r .marked) (r .room) ≡ Item h) where

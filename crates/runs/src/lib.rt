@@ -6,6 +6,7 @@ ghost use mathlib.Core.Path.{_≡_};
 ghost use mathlib.Core.Bool.{true};
 ghost use Prim.Native.Nat.{_<_, _≤_};
 ghost use lib.ListN.{length};
+ghost use Rattle.octets.specs.First.{constructed};
 ghost use Rattle.octets.specs.Walk.{ends, run};
 ghost use Rattle.runs.specs.Whole.{Whole};
 ghost use Rattle.runs.specs.Runs.{insideOf, wholeStream, Fine, Meets};
@@ -33,9 +34,10 @@ pub enum Met {
     End,
 }
 
-// The run inside an item: a primitive has an empty one, at its end.
+// The run inside an item: a primitive has an empty one, at its end. A primitive is never marked, so the mark is copied and not
+// chosen: to choose costs a stall at every item.
 fn inside_of(h: Header, room: usize) -> Run
-    requires { ⌜ 0 < room ⌝ }
+    requires { ⌜ (0 < room) × (h .marked ≡ true → constructed (h .octet) ≡ true) ⌝ }
     ensures { λ r. ⌜ r ≡ insideOf h room ⌝ }
 {
     let octet = h.octet;
@@ -50,7 +52,7 @@ fn inside_of(h: Header, room: usize) -> Run
         Run {
             at: h.bound,
             limit: h.bound,
-            marked: false,
+            marked: h.marked,
             room: room - 1,
         }
     }
@@ -83,7 +85,7 @@ pub fn meet(s: &[u8], r: Run) -> Met
     if at == limit {
         return Met::End;
     }
-    match octets::head_at(s, at, limit, marked, room) {
+    match octets::passed_head(s, at, limit, marked, room) {
         Head::ClosingMark => Met::End,
         Head::Refusal {
             number: _,

@@ -1,1 +1,4 @@
 pub mod Tree
+pub mod Codes
+pub mod ItemAndRun
+pub mod Accepts

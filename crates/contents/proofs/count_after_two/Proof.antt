@@ -1,17 +1,13 @@
--- `contents::count_after_two` meets its contract. Assumes nothing.
-use mathlib.Core.Path.{_≡_, refl, sym, ap, _∙_}
-use mathlib.Core.Bool.{Bool, true, false, not, _&&_, _||_}
-use Prim.Native.Nat.{ℕ, _+_, _-_, _<_, _≤_}
-use native.Mathlib.Omega.{arith}
-use borrow.Author.Tests.{eq-eqb, ne-eqb, not-true, not-false}
-use Rattle.contents.proofs.Firsts.{met}
-use Rattle.contents.specs.Opening.{ends-here, goes-on}
+-- `contents::count_after_two` meets its contract: what is met decides. Assumes nothing.
+use mathlib.Core.Path.{refl}
 use borrow.Author.Needs.{needs}
+use Rattle.contents.specs.Opening.{ends-here, goes-on}
+use Rattle.contents.proofs.Firsts.{met}
 use Rattle.contents.proofs.count_after_two.Statement.{statement}
 use Rattle.contents.proofs.count_after_two.Tie as tie
 
 meet-requires : tie.Need-meet-requires
-meet-requires c κs = search needs
+meet-requires c κs = c .before .pre
 
 enum-told : tie.Need-enum-told
 enum-told c = search needs
@@ -22,13 +18,12 @@ enum-told-2 c = search needs
 returns : tie.Need-returns
 returns c =
     let a = c .before .before .before .before .args in
-    ends-here refl (met (a .s .now) (a .last) _ _ (c .before .before .meet .ensures) (c .enum-told .given .1))
+    ends-here refl (met (a .s .now) (a .last) (c .before .before .meet .ensures) (c .enum-told .given .1))
 
 returns-2 : tie.Need-returns-2
 returns-2 c =
     let a = c .before .before .before .before .args in
-    let g = c .enum-told2 .given in
-    goes-on _ _ refl (met (a .s .now) (a .last) _ _ (c .before .before .meet .ensures) (g .1))
+    goes-on _ _ refl (met (a .s .now) (a .last) (c .before .before .meet .ensures) (c .enum-told2 .given .1))
 
 pub count-after-two-spec : {M : Type 1} → statement M
 count-after-two-spec = tie.close (tie.spec meet-requires enum-told enum-told-2 returns returns-2)

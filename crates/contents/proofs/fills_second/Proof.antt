@@ -1,10 +1,5 @@
--- `contents::fills_second` meets its contract. Assumes nothing.
-use mathlib.Core.Path.{_≡_, refl, sym, ap, _∙_}
-use mathlib.Core.Bool.{Bool, true, false, not, _&&_, _||_}
-use Prim.Native.Nat.{ℕ, _+_, _-_, _<_, _≤_}
-use native.Mathlib.Omega.{arith}
-use borrow.Author.Tests.{eq-eqb, ne-eqb, not-true, not-false}
-use borrow.Author.Needs.{needs}
+-- `contents::fills_second` meets its contract, by its one test. Assumes nothing.
+
 use Rattle.contents.proofs.fills_second.Statement.{statement}
 use Rattle.contents.proofs.fills_second.Tie as tie
 

@@ -1,44 +1,43 @@
--- `contents::opening_of` meets its contract. Assumes nothing.
-use mathlib.Core.Path.{_≡_, refl, sym, ap, _∙_}
-use mathlib.Core.Bool.{Bool, true, false, not, _&&_, _||_}
-use Prim.Native.Nat.{ℕ, _+_, _-_, _<_, _≤_}
-use native.Mathlib.Omega.{arith}
-use borrow.Author.Tests.{eq-eqb, ne-eqb, not-true, not-false}
-use Rattle.contents.proofs.Firsts.{met}
-use Rattle.contents.specs.Opening.{nothing}
+-- `contents::opening_of` meets its contract: what is met at the start decides. Assumes nothing.
+use mathlib.Core.Path.{refl}
 use borrow.Author.Needs.{needs}
+use Rattle.contents.specs.Opening.{nothing}
+use Rattle.contents.proofs.Firsts.{met}
 use Rattle.contents.proofs.opening_of.Statement.{statement}
 use Rattle.contents.proofs.opening_of.Tie as tie
 
 meet-requires : tie.Need-meet-requires
-meet-requires c κs = search needs
+meet-requires c κs = c .before .pre
 
 enum-told : tie.Need-enum-told
 enum-told c = search needs
 
 no-part-requires : tie.Need-no-part-requires
-no-part-requires c κs = search needs
+no-part-requires c κs = tt
 
 no-part-requires-2 : tie.Need-no-part-requires-2
-no-part-requires-2 c κs = search needs
+no-part-requires-2 c κs = tt
 
 enum-known-octet : tie.Need-enum-known-octet
 enum-known-octet c = search needs
 
+part-of-requires : tie.Need-part-of-requires
+part-of-requires c κs = tt
+
 opening-after-requires : tie.Need-opening-after-requires
 opening-after-requires c κs =
-    let a = c .before .before .before .before .before .args in
-    met (a .s .now) (a .r) _ _ (c .before .before .before .meet .ensures) (c .before .octet .given .1) .rest-fine
+    let a = c .before .before .before .before .before .before .args in met (a .s .now) (a .r) (c .before .before .before .before .meet .ensures) (c .before .before .octet .given .1) .rest-fine
 
 returns : tie.Need-returns
 returns c =
     let a = c .before .before .before .before .before .before .args in
-    nothing refl (met (a .s .now) (a .r) _ _ (c .before .before .before .before .meet .ensures) (c .before .before .enum-told .given .1))
+    nothing refl (met (a .s .now) (a .r) (c .before .before .before .before .meet .ensures) (c .before .before .enum-told .given .1))
 
 returns-2 : tie.Need-returns-2
 returns-2 c =
-    let a = c .before .before .before .before .before .before .args in
-    c .opening-after .ensures (a .r) (met (a .s .now) (a .r) _ _ (c .before .before .before .before .meet .ensures) (c .before .before .octet .given .1))
+    let a = c .before .before .before .before .before .before .before .args in
+    c .opening-after .ensures (a .r)
+    (rw (c .before .part-of .ensures) (met (a .s .now) (a .r) (c .before .before .before .before .before .meet .ensures) (c .before .before .before .octet .given .1)))
 
 pub opening-of-spec : {M : Type 1} → statement M
 opening-of-spec =
@@ -49,6 +48,7 @@ opening-of-spec =
     no-part-requires
     no-part-requires-2
     enum-known-octet
+    part-of-requires
     opening-after-requires
     returns
     returns-2)

@@ -1,9 +1,7 @@
+-- `portions::bounds_of` meets its contract: it reads the two numbers of the value k. Assumes nothing.
 use borrow.Author.Needs.{needs}
 use Rattle.portions.proofs.bounds_of.Statement.{statement}
 use Rattle.portions.proofs.bounds_of.Tie as tie
-use Rattle.portions.proofs.bounds_of.Reads as reads
-use Rattle.portions.proofs.bounds_of.Lts as lts
-use Rattle.portions.proofs.wide.Reads as wide-reads
 
 mul-wide : tie.Need-mul-wide
 mul-wide c = search needs

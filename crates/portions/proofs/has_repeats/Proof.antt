@@ -1,20 +1,15 @@
 -- `portions::has_repeats` meets its contract. The loop's invariant: all the values have a repeat exactly if those from k on have one.
 -- Assumes nothing.
-use mathlib.Core.Path.{_≡_, refl, sym, ap, _∙_}
-use mathlib.Core.Bool.{_||_}
+use mathlib.Core.Path.{_≡_, refl, sym, _∙_}
 use Prim.Native.Nat.{_+_, _*_, _-_, _≤_}
 use native.Mathlib.Omega.{arith}
-use borrow.Author.Needs.{needs}
 use lib.ListN.{take}
-use lib.Seq.{slice, slice-empty}
-use Rattle.portions.specs.Portions.{among, repeats}
-use Rattle.portions.specs.Bounds.{valueOf, bounded, Inside}
-use Rattle.portions.proofs.Pairs.{bounded-more, inside-more}
+use lib.Seq.{slice}
+use Rattle.portions.specs.Portions.{repeats}
+use Rattle.portions.specs.Bounds.{bounded, Inside}
+use Rattle.portions.proofs.Pairs.{inside-more, repeats-more, repeats-none}
 use Rattle.portions.proofs.has_repeats.Statement.{statement}
 use Rattle.portions.proofs.has_repeats.Tie as tie
-use Rattle.portions.proofs.has_repeats.Reads as reads
-use Rattle.portions.proofs.has_repeats.Lts as lts
-use Rattle.portions.proofs.is_among.Reads as is-among-reads
 
 abbrev Inv-loop : tie.InvT-loop
 Inv-loop s bounds count k₀ k =
@@ -24,19 +19,6 @@ Inv-loop s bounds count k₀ k =
 abbrev μ-loop : tie.MeasureT-loop
 μ-loop s bounds count k₀ k = count - k
 
--- what the value k decides
-turn : (c : tie.In-loop Inv-loop μ-loop) →
-    let a = c .before .before .before .before .args in
-    let k = c .before .loop .k in
-    repeats (bounded (a .s .now) (take (2 * a .count) (a .bounds .now)))
-    ≡ (among (valueOf (a .s .now) (a .bounds .now) k) (bounded (a .s .now) (slice (2 * (k + 1)) (2 * a .count) (a .bounds .now)))
-    || repeats (bounded (a .s .now) (slice (2 * (k + 1)) (2 * a .count) (a .bounds .now))))
-unfolding repeats
-turn c =
-    let a = c .before .before .before .before .args in
-    let l = c .before .loop in
-    l .inv .2 ∙ ap repeats (bounded-more (a .s .now) (a .bounds .now) (l .k) (a .count) (omega arith) (omega arith))
-
 loop-holds : tie.Need-loop-holds Inv-loop μ-loop
 loop-holds c = (omega arith, c .before .before .pre .1, refl)
 
@@ -44,7 +26,12 @@ is-among-requires : tie.Need-is-among-requires Inv-loop μ-loop
 is-among-requires c κs = (omega arith, omega arith, c .before .loop .inv .1)
 
 returns : tie.Need-returns Inv-loop μ-loop
-returns c = sym (turn (c .before .before) ∙ rw (sym (c .before .is-among .ensures) ∙ c .if1 .taken))
+returns c =
+    let a = c .before .before .before .before .before .before .args in
+    let l = c .before .before .before .loop in
+    sym (l .inv .2
+    ∙ repeats-more (a .s .now) (a .bounds .now) (l .k) (a .count) (omega arith) (omega arith)
+    ∙ rw (sym (c .before .is-among .ensures) ∙ c .if1 .taken))
 
 add-k : tie.Need-add-k Inv-loop μ-loop
 add-k c = omega arith
@@ -58,16 +45,17 @@ loop-again c =
     let l = c .before .before .before .loop in (
       omega arith,
       inside-more (a .s .now) (a .bounds .now) (l .k) (a .count) (omega arith) (omega arith) (l .inv .1) .2,
-      turn (c .before .before) ∙ rw (sym (c .before .is-among .ensures) ∙ c .if1 .left),
+      l .inv .2
+          ∙ repeats-more (a .s .now) (a .bounds .now) (l .k) (a .count) (omega arith) (omega arith)
+          ∙ rw (sym (c .before .is-among .ensures) ∙ c .if1 .left),
     )
 
 returns-2 : tie.Need-returns-2 Inv-loop μ-loop
-unfolding repeats bounded
 returns-2 c =
     let a = c .before .before .before .before .args in
     let l = c .before .loop in
     let e : l .k ≡ a .count = omega arith in
-    sym (l .inv .2 ∙ rw (e, slice-empty (2 * a .count) (a .bounds .now)))
+    sym (l .inv .2 ∙ rw e (repeats-none (a .s .now) (a .bounds .now) (a .count)))
 
 pub has-repeats-spec : {M : Type 1} → statement M
 has-repeats-spec =

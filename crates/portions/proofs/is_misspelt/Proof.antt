@@ -1,9 +1,7 @@
+-- `portions::is_misspelt` meets its contract: both ways round the test before. Assumes nothing.
 use borrow.Author.Needs.{needs}
 use Rattle.portions.proofs.is_misspelt.Statement.{statement}
 use Rattle.portions.proofs.is_misspelt.Tie as tie
-use Rattle.portions.proofs.is_misspelt.Reads as reads
-use Rattle.portions.proofs.is_misspelt.Lts as lts
-use Rattle.names.proofs.is_portion.Reads as is-portion-reads
 
 returns : tie.Need-returns
 returns c = search needs

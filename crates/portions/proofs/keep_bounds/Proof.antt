@@ -5,8 +5,6 @@ use Rattle.portions.proofs.Pairs.{pair-stored}
 use borrow.Author.Needs.{needs}
 use Rattle.portions.proofs.keep_bounds.Statement.{statement}
 use Rattle.portions.proofs.keep_bounds.Tie as tie
-use Rattle.portions.proofs.keep_bounds.Reads as reads
-use Rattle.portions.proofs.keep_bounds.Lts as lts
 
 cast-bounds : tie.Need-cast-bounds
 cast-bounds c = search needs

@@ -1,18 +1,14 @@
 -- `portions::read_portions` meets its contract. The loop's invariant: so many were read, and the rest of the run is left. Assumes nothing.
 use mathlib.Core.Path.{_≡_, refl, subst, _∙_}
-use Prim.Native.Nat.{_-_, _≤_}
+use Prim.Native.Nat.{_*_, _-_, _≤_}
 use native.Mathlib.Omega.{arith}
 use borrow.Author.Needs.{needs}
 use lib.ListN.{length}
 use Rattle.runs.specs.Runs.{Meeting, Meets}
+use Rattle.portions.specs.Portions.{mostPortions}
 use Rattle.portions.proofs.Reading.{Reads, starts, all-read, other-read, one-read}
 use Rattle.portions.proofs.read_portions.Statement.{statement}
 use Rattle.portions.proofs.read_portions.Tie as tie
-use Rattle.portions.proofs.read_portions.Reads as reads
-use Rattle.portions.proofs.read_portions.Lts as lts
-use Rattle.portions.proofs.is_misspelt.Reads as is-misspelt-reads
-use Rattle.portions.proofs.keep_bounds.Reads as keep-bounds-reads
-use Rattle.runs.proofs.meet.Reads as meet-reads
 
 abbrev Inv-loop : tie.InvT-loop
 Inv-loop s bounds₀ left₀ count₀ misspelt₀ bounds left count misspelt =
@@ -23,9 +19,12 @@ abbrev μ-loop : tie.MeasureT-loop
 
 -- the item that was met
 met : (c : tie.After-octet Inv-loop μ-loop) →
+    let s = c .before .before .before .before .before .before .args .s .now in
     let v = c .octet .given .0 in
-    Meeting (c .before .before .before .before .before .before .args .s .now) (c .before .before .before .loop .left) (v .0) (v .1 .0) (v .1 .1 .0) (v .1 .1 .1 .0) (v .1 .1 .1 .1 .0)
-met c = subst (Meets (c .before .before .before .before .before .before .args .s .now) (c .before .before .before .loop .left)) (c .octet .given .1) (c .before .before .meet .ensures)
+    Meeting s (c .before .before .before .loop .left) (v .0) (v .1 .0) (v .1 .1 .0) (v .1 .1 .1 .0) (v .1 .1 .1 .1 .0)
+met c =
+    let s = c .before .before .before .before .before .before .args .s .now in
+    subst (Meets s (c .before .before .before .loop .left)) (c .octet .given .1) (c .before .before .meet .ensures)
 
 loop-holds : tie.Need-loop-holds Inv-loop μ-loop
 loop-holds c = let a = c .before .before .args in (refl, starts (a .s .now) (a .r) (a .bounds .now) (c .before .before .pre .0))
@@ -54,7 +53,6 @@ same-length-2 c = c .before .before .before .before .before .loop .inv .0
 
 returns-2 : tie.Need-returns-2 Inv-loop μ-loop
 returns-2 c =
-    let a = c .before .before .before .before .before .before .before .before .args in
     let l = c .before .before .before .before .before .loop in
     other-read (l .inv .1) (met (c .before .before)) (c .if1 .taken)
 
@@ -71,19 +69,19 @@ keep-bounds-requires c κs =
 add-count : tie.Need-add-count Inv-loop μ-loop
 add-count c =
     let m = met (c .before .before .before .before .before .before .before) in
-    let f = c .before .before .before .before .before .before .before .before .before .before .before .before .before .pre .0 in
+    let p = c .before .before .before .before .before .before .before .before .before .before .before .before .before .pre in
     let l = c .before .before .before .before .before .before .before .before .before .before .loop in
-    omega (arith, m .less, l .inv .1 .short, f .inside, c .before .before .before .before .before .before .before .before .before .before .before .before .before .pre .1)
+    omega (arith, m .less, l .inv .1 .short, p .0 .inside, p .1)
 
 loop-less : tie.Need-loop-less Inv-loop μ-loop
 loop-less c = met (c .before .before .before .before .before .before .before) .less
 
 loop-again : tie.Need-loop-again Inv-loop μ-loop
 loop-again c =
-    let a = c .before .before .before .before .before .before .before .before .before .before .before .before .before .args in
+    let p = c .before .before .before .before .before .before .before .before .before .before .before .before .before .pre in
     let l = c .before .before .before .before .before .before .before .before .before .before .loop in
     let k = c .before .before .keep-bounds in
-    let enough : 128 ≤ length (l .bounds) = omega (arith, l .inv .0, c .before .before .before .before .before .before .before .before .before .before .before .before .before .pre .2) in (
+    let enough : 2 * mostPortions ≤ length (l .bounds) = omega (arith, l .inv .0, p .2) in (
       k .kept .0 ∙ l .inv .0,
       rw (c .before .before .before .before .is-misspelt .ensures)
           (one-read (l .inv .1) (met (c .before .before .before .before .before .before .before))

@@ -11,10 +11,10 @@ use Rattle.octets.specs.declared.Head.the-variants.{Item}
 use Rattle.octets.specs.Head.{octetAt, headAt}
 use Rattle.octets.specs.Walk.{pastOf}
 use Rattle.octets.proofs.Turns.{tree-ends, tree-closes, tree-refuses}
-use Rattle.octets.proofs.head_at.Reads as head-at-reads
+use Rattle.octets.proofs.passed_head.Reads as passed-head-reads
 use Rattle.runs.specs.declared.Run.{Run}
 use Rattle.runs.specs.Runs.{Fine}
-use Rattle.runs.proofs.Meetings.{lies, definite-ends, marked-value, marked-whole, marked-end, meets}
+use Rattle.runs.proofs.Meetings.{passed, lies, definite-ends, marked-value, marked-whole, marked-end, meets}
 use Rattle.runs.proofs.end_of_marked.Reads as end-of-marked-reads
 use Rattle.runs.proofs.inside_of.Reads as inside-of-reads
 use Rattle.runs.proofs.meet.Statement.{statement}
@@ -23,14 +23,14 @@ use Rattle.runs.proofs.meet.Reads as reads
 use Rattle.runs.proofs.meet.Lts as lts
 
 -- the place where a header passed
-abbrev Passed : Type 0
-Passed =
+abbrev Reached : Type 0
+Reached =
     lts.After-h
-    (head-at-reads.Asked, head-at-reads.Learnt, inside-of-reads.Asked, inside-of-reads.Learnt, end-of-marked-reads.Asked, end-of-marked-reads.Learnt)
+    (passed-head-reads.Asked, passed-head-reads.Learnt, inside-of-reads.Asked, inside-of-reads.Learnt, end-of-marked-reads.Asked, end-of-marked-reads.Learnt)
     reads.Pre
     reads.Post
 
-module _ (c : Passed) where
+module _ (c : Reached) where
   abbrev stream : List ℕ
   stream = c .before .before .before .before .before .args .s .now
 
@@ -47,7 +47,7 @@ module _ (c : Passed) where
   before-limit = omega (arith, its-fine .order)
 
   read : headAt stream (its-run .at) (its-run .limit) (its-run .marked) (its-run .room) ≡ Item header
-  read = sym (c .before .before .head-at .ensures) ∙ c .h .given .1
+  read = sym (c .before .before .passed-head .ensures) ∙ c .h .given .1
 
   octet-small : octetAt stream (its-run .at) < 256
   octet-small = omega (arith, c .before .before .before .before .shared-slice-known .given (its-run .at))
@@ -59,8 +59,12 @@ returns c =
     let e : r .at ≡ r .limit = c .if1 .taken in
     rw e (tree-ends (r .room) (a .s .now) (r .limit) (r .marked))
 
-head-at-requires : tie.Need-head-at-requires
-head-at-requires c κs = search needs
+passed-head-requires : tie.Need-passed-head-requires
+passed-head-requires c κs =
+    let a = c .before .before .args in
+    let fine = c .before .before .pre in
+    let l : a .r .at < a .r .limit = omega (arith, fine .order) in
+    (l, fine .inside, passed (a .s .now) (a .r) fine l)
 
 enum-told : tie.Need-enum-told
 enum-told c = search needs
@@ -74,7 +78,8 @@ enum-known-h c = search needs
 inside-of-requires : tie.Need-inside-of-requires
 inside-of-requires c κs =
     let p = c .before in
-    lies (stream p) (its-run p) (its-fine p) (before-limit p) (header p) (read p) .deep
+    let o = lies (stream p) (its-run p) (its-fine p) (before-limit p) (header p) (read p) in
+    (o .deep, o .mark)
 
 sub-end-of-marked : tie.Need-sub-end-of-marked
 sub-end-of-marked c =
@@ -109,14 +114,14 @@ returns-3 c =
     let a = c .before .before .before .before .before .args in
     let r = a .r in
     let o = c .before .before .before .before .before .pre .order in
-    tree-closes (r .room) (a .s .now) (r .at) (r .limit) (r .marked) (omega arith) (sym (c .before .before .head-at .ensures) ∙ c .enum-told .given .1)
+    tree-closes (r .room) (a .s .now) (r .at) (r .limit) (r .marked) (omega arith) (sym (c .before .before .passed-head .ensures) ∙ c .enum-told .given .1)
 
 returns-4 : tie.Need-returns-4
 returns-4 c =
     let a = c .before .before .before .before .before .args in
     let r = a .r in
     let o = c .before .before .before .before .before .pre .order in
-    tree-refuses (r .room) (a .s .now) (r .at) (r .limit) (r .marked) (omega arith) _ _ (sym (c .before .before .head-at .ensures) ∙ c .enum-told2 .given .1)
+    tree-refuses (r .room) (a .s .now) (r .at) (r .limit) (r .marked) (omega arith) _ _ (sym (c .before .before .passed-head .ensures) ∙ c .enum-told2 .given .1)
 
 returns-5 : tie.Need-returns-5
 returns-5 c =
@@ -131,7 +136,7 @@ meet-spec =
     tie.close
     (tie.spec
     returns
-    head-at-requires
+    passed-head-requires
     enum-told
     enum-told-2
     enum-known-h

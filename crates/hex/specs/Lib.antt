@@ -1,0 +1,5 @@
+pub mod Lines
+pub mod Blocks
+pub mod Promise
+pub mod Spelling
+pub mod Examples

@@ -1,0 +1,172 @@
+-- Where the judge stands between two elements: what is done is in the scratch, and the rest of the stream decides as the whole does.
+-- Assumes nothing.
+use mathlib.Core.Path.{_≡_, refl, ap, sym, _∙_}
+use mathlib.Core.Bool.{false}
+use mathlib.Core.List.{List, [], _∷_, _++_, append-assoc, append-nil}
+use Prim.Native.Nat.{ℕ, suc, _+_, _<_}
+use native.Mathlib.Omega.{arith}
+use borrow.Author.Tests.{eqb-true, eqb-false}
+use borrow.Table.Steps.{cases}
+use lib.Dec.{eqb}
+use lib.ListN.{length}
+use Rattle.octets.specs.Items.{Items, none, item}
+use Rattle.tree.specs.Tree.{plain, treeOf}
+use Rattle.runs.specs.declared.Run.{Run}
+use Rattle.runs.specs.Runs.{itemsOf, treeIn, wholeStream, startOf, tops, Fine, Meeting}
+use Rattle.runs.proofs.Laws.{start-at}
+use Rattle.names.specs.Hash.{hashes}
+use Rattle.index.specs.Rows.{identifierColumn, logicalColumn}
+use Rattle.index.proofs.Rows.{bounded-none, indexed-none}
+use Rattle.elements.specs.declared.Row.{Row}
+use Rattle.elements.specs.Shape.{edition1988}
+use Rattle.elements.specs.Element.{Element}
+use Rattle.elements.specs.Judge.{mostElements, judgeFrom, judge}
+use Rattle.elements.specs.Rows.{rowsOf, numbers, placeOf}
+use Rattle.letters.specs.declared.Hashes.{Hashes}
+use Rattle.letters.specs.declared.Item.{Item}
+use Rattle.letters.specs.declared.Judgement.the-variants.{Fails}
+use Rattle.letters.specs.Letter.{itemsOfStream, rowsOfStream}
+use Rattle.letters.specs.Scratch.{none, Holds, Filled, Stopped, Gives}
+use Rattle.letters.specs.Lent.{rowsNeeded, Lent, endVerdict}
+use Rattle.letters.specs.Judges.{Indexes, element1988, Passing, Judges}
+use Rattle.letters.proofs.Meetings.{nothing-inside}
+use Rattle.letters.proofs.Steps.{unrefused-few, judged-refused, judged-passed, judge-some}
+
+pub record Judging (s scratch head next head2 next2 : List ℕ) (n : ℕ) (cur : Run) : Type 0 where
+  pub fine : Fine s cur
+  pub unmarked : cur .marked ≡ false
+  pub to-end : cur .limit ≡ length s
+  pub table : List Row
+  pub done : List Element
+  pub holds : Holds s scratch head next head2 next2 n table done
+  pub judged : judgeFrom edition1988 [] (treeOf s) ≡ judgeFrom edition1988 done (treeIn s cur)
+  pub tabled : rowsOfStream edition1988 s ≡ table ++ rowsOf edition1988 s (itemsOf s cur)
+  pub counted : tops (itemsOfStream s) ≡ n + tops (itemsOf s cur)
+  pub placed : (k : ℕ) → placeOf (n + k) (itemsOfStream s) ≡ placeOf k (itemsOf s cur)
+
+-- its indexes
+pub indexes-of : {s scratch head next head2 next2 : List ℕ} {n : ℕ} {table : List Row} {done : List Element}
+    → Holds s scratch head next head2 next2 n table done → Indexes s scratch head next head2 next2 n
+indexes-of h = record {
+  identifiers = h .identifiers;
+  logicals = h .logicals;
+  by-identifier = h .by-identifier;
+  by-logical = h .by-logical;
+}
+
+-- nothing is done
+pub judging-none : (s scratch head next head2 next2 bounds : List ℕ) → Lent s scratch head next head2 next2 bounds → Fine s (wholeStream s)
+    → Judging s scratch head next head2 next2 0 (wholeStream s)
+unfolding numbers
+judging-none s scratch head next head2 next2 bounds lent fine = record {
+  fine = fine;
+  unmarked = refl;
+  to-end = refl;
+  table = [];
+  done = [];
+  holds = record {
+    counted = refl;
+    written = refl;
+    saying = none;
+    identifiers = bounded-none s scratch identifierColumn (omega arith);
+    logicals = bounded-none s scratch logicalColumn (omega arith);
+    by-identifier = indexed-none s scratch identifierColumn head next (lent .some-heads) (lent .few-heads) (lent .empty-heads);
+    by-logical = indexed-none s scratch logicalColumn head2 next2 (lent .some-heads2) (lent .few-heads2) (lent .empty-heads2);
+  };
+  judged = refl;
+  tabled = refl;
+  counted = omega arith;
+  placed = λ k. let e : 0 + k ≡ k = omega arith in ap (λ (i : ℕ). placeOf i (itemsOfStream s)) e;
+}
+
+no-tops : (items : Items) → tops items ≡ 0 → items ≡ none
+no-tops none e = refl
+no-tops (item at octet first past inside after) e = absurd (omega arith)
+
+module _ {s scratch head next head2 next2 : List ℕ} {n : ℕ} {cur : Run} (j : Judging s scratch head next head2 next2 n cur) where
+  -- no element is left
+  module _ (end : itemsOf s cur ≡ none) where
+    whole-count : tops (itemsOfStream s) ≡ n
+    whole-count = omega (arith, j .counted, ap tops end)
+
+    end-empty : n ≡ 0 → Stopped s 11 0
+    unfolding judge placeOf
+    end-empty e =
+        let empty-stream : itemsOfStream s ≡ none = no-tops (itemsOfStream s) (whole-count ∙ e) in
+        record { element = 0; judged = ap (λ (i : Items). judge edition1988 (plain s i)) empty-stream; placed = sym (ap (placeOf 0) empty-stream) }
+
+    end-filled : (n ≡ 0 → ⊥) → Filled s scratch head next head2 next2 n
+    unfolding judgeFrom rowsOf
+    end-filled some =
+        let all-rows : rowsOfStream edition1988 s ≡ j .table = j .tabled ∙ ap (λ (i : Items). j .table ++ rowsOf edition1988 s i) end ∙ append-nil (j .table) in
+        record {
+          elements = j .done;
+          judged = judge-some s (itemsOfStream s) (omega (arith, whole-count, some)) ∙ j .judged ∙ ap (λ (i : Items). judgeFrom edition1988 (j .done) (plain s i)) end;
+          holds = rw all-rows (j .holds);
+        }
+
+    pub end-gives : Gives s scratch head next head2 next2 (endVerdict n)
+    end-gives = cases (eqb n 0) (λ t. rw t (end-empty (eqb-true n 0 t))) (λ t. rw t (end-filled (eqb-false n 0 t)))
+
+  -- an element is met
+  module _ {octet first past : ℕ} {inner rest : Run} (m : Meeting s cur octet first past inner rest) where
+    abbrev here : Item
+    here = record { octet = octet; first = cur .at; past = rest .at; inner = inner }
+
+    some-left : 0 < tops (itemsOfStream s)
+    some-left = omega (arith, j .counted, ap tops (m .tree))
+
+    met-judged : judge edition1988 (treeOf s) ≡ judgeFrom edition1988 (j .done) (treeIn s cur)
+    met-judged = judge-some s (itemsOfStream s) some-left ∙ j .judged
+
+    met-tree : judgeFrom edition1988 (j .done) (treeIn s cur)
+        ≡ judgeFrom edition1988 (j .done) (plain s (item (cur .at) octet first past (itemsOf s inner) (itemsOf s rest)))
+    met-tree = ap (λ (i : Items). judgeFrom edition1988 (j .done) (plain s i)) (m .tree)
+
+    -- and refused: element n stands there
+    pub refused-at : (number : ℕ) → Judges s (j .done) here (Fails number) → Stopped s number (cur .at)
+    unfolding placeOf
+    refused-at number w =
+        let this : n + 0 ≡ length (j .done) = omega (arith, j .holds .counted) in
+        record {
+          element = length (j .done);
+          judged = met-judged ∙ met-tree
+              ∙ judged-refused s (j .done) (cur .at) octet first past (itemsOf s inner) (itemsOf s rest) (nothing-inside (j .fine) m) number (w .0) (w .1);
+          placed = sym (ap (λ (i : ℕ). placeOf i (itemsOfStream s)) (sym this) ∙ j .placed 0 ∙ ap (placeOf 0) (m .tree));
+        }
+
+    -- and passed: there is room for its row
+    module _ {row : Row} {hashes : Hashes} (w : Passing s (j .done) here row hashes) where
+      pub few : n < mostElements
+      few = omega (arith, unrefused-few (j .done) octet (treeIn s inner) (w .unrefused), j .holds .counted)
+
+      pub needed : n < rowsNeeded s
+      needed = omega (arith, few, j .counted, ap tops (m .tree))
+
+      ends-there : startOf (length s) (itemsOf s rest) ≡ rest .at
+      ends-there =
+          ap (λ (end : ℕ). startOf end (itemsOf s rest)) (sym (m .rest-limit ∙ j .to-end)) ∙ start-at (m .rest-fine) (m .rest-marked ∙ j .unmarked)
+
+      rows-here : rowsOf edition1988 s (itemsOf s cur) ≡ row ∷ rowsOf edition1988 s (itemsOf s rest)
+      unfolding rowsOf
+      rows-here = ap (rowsOf edition1988 s) (m .tree) ∙ rw (ends-there, ← w .row-is)
+
+      pub judging-more : {scratch' head' next' head2' next2' : List ℕ}
+          → Holds s scratch' head' next' head2' next2' (n + 1) (j .table ++ row ∷ []) (j .done ++ element1988 octet (treeIn s inner) ∷ [])
+          → Judging s scratch' head' next' head2' next2' (n + 1) rest
+      unfolding placeOf
+      judging-more holds = record {
+        fine = m .rest-fine;
+        unmarked = m .rest-marked ∙ j .unmarked;
+        to-end = m .rest-limit ∙ j .to-end;
+        table = j .table ++ row ∷ [];
+        done = j .done ++ element1988 octet (treeIn s inner) ∷ [];
+        holds = holds;
+        judged = j .judged ∙ met-tree
+            ∙ judged-passed s (j .done) (cur .at) octet first past (itemsOf s inner) (itemsOf s rest) (nothing-inside (j .fine) m) (w .unrefused);
+        tabled = j .tabled ∙ ap (λ (l : List Row). j .table ++ l) rows-here ∙ sym (append-assoc (j .table) (row ∷ []) (rowsOf edition1988 s (itemsOf s rest)));
+        counted = omega (arith, j .counted, ap tops (m .tree));
+        placed = λ k.
+            let e : n + 1 + k ≡ n + suc k = omega arith in
+            ap (λ (i : ℕ). placeOf i (itemsOfStream s)) e ∙ j .placed (suc k) ∙ ap (placeOf (suc k)) (m .tree);
+      }

@@ -1,0 +1,78 @@
+-- The table of a walked stream: its elements meet end to end, each pair lies in its element, and rows say what the elements of an
+-- accepted letter say. Assumes nothing.
+use mathlib.Core.Path.{_≡_, refl, subst}
+use mathlib.Core.List.{List, [], _∷_}
+use mathlib.Core.Option.{some}
+use Prim.Native.Nat.{ℕ, zero, suc}
+use native.Mathlib.Omega.{arith}
+use lib.ListN.{length, getElem?}
+use Rattle.octets.specs.Items.{Items, none, item}
+use Rattle.octets.proofs.RulesHold.{derives}
+use Rattle.tree.specs.Tree.{treeOf}
+use Rattle.runs.specs.Runs.{wholeStream, startOf, Fine}
+use Rattle.runs.proofs.Laws.{start-at}
+use Rattle.contents.specs.Search.{octets}
+use Rattle.elements.specs.declared.Row.{Row}
+use Rattle.elements.specs.declared.Shape.{Shape}
+use Rattle.elements.specs.Shape.{Edition, edition1988, shapeOf}
+use Rattle.elements.specs.Element.{Element}
+use Rattle.elements.specs.Rows.{bodyIn, rowOf, rowsOf}
+use Rattle.elements.specs.Says.{Bounds, Says}
+use Rattle.letters.specs.Letter.{itemsOfStream, rowsOfStream}
+use Rattle.letters.specs.Scratch.{Filled}
+use Rattle.letters.specs.Judges.{bytesIn}
+use Rattle.letters.specs.Table.{EndToEnd, PairsWithin, Apart}
+use Rattle.letters.proofs.Rows.{RowOf, row-of}
+use Rattle.letters.proofs.Nested.{Nested, Separate, separate, bounds-within, body-within}
+use Rattle.letters.proofs.Apart.{accepted-apart}
+
+rows-meet : (edition : Edition) (s : List ℕ) (items : Items) → EndToEnd (startOf (length s) items) (length s) (rowsOf edition s items)
+unfolding rowsOf rowOf
+rows-meet edition s none = refl
+rows-meet edition s (item at octet first past inside after) = (refl, rows-meet edition s after)
+
+-- "Elements meet end to end from 0 to the stream's length."
+pub end-to-end : (edition : Edition) (s : List ℕ) → Fine s (wholeStream s) → EndToEnd 0 (length s) (rowsOfStream edition s)
+end-to-end edition s fine =
+    subst (λ (from : ℕ). EndToEnd from (length s) (rowsOfStream edition s)) (start-at fine refl) (rows-meet edition s (itemsOfStream s))
+
+row-within : (shape : Shape) (s : List ℕ) (first past : ℕ) (items : Items) → Nested first past items → PairsWithin (rowOf shape s first past items)
+unfolding rowOf
+row-within shape s first past items nested =
+    let body = body-within first past shape items nested in record {
+      identifier = bounds-within first past (shape .identifier .octet) (bodyIn shape items) body;
+      logical = bounds-within first past (shape .logical) (bodyIn shape items) body;
+      portions = bounds-within first past (shape .portions) (bodyIn shape items) body;
+      content = bounds-within first past (shape .content) items nested;
+    }
+
+rows-within : (edition : Edition) (s : List ℕ) (items : Items) → Separate (length s) items → (j : ℕ) (row : Row)
+    → getElem? (rowsOf edition s items) j ≡ some row → PairsWithin row
+unfolding rowsOf
+rows-within edition s none w j row e = let z : _≡_ {A = ℕ} 0 1 = cc in absurd (omega arith)
+rows-within edition s (item at octet first past inside after) w zero row e =
+    let shape = shapeOf edition (octet ∷ []) in
+    let own : rowOf shape s at (startOf (length s) after) inside ≡ row = cc in
+    subst PairsWithin own (row-within shape s at (startOf (length s) after) inside (w .0))
+rows-within edition s (item at octet first past inside after) w (suc j) row e = rows-within edition s after (w .1) j row e
+
+-- every pair of a row lies in its element
+pub pairs-within : (edition : Edition) (s : List ℕ) → Fine s (wholeStream s) → (j : ℕ) (row : Row)
+    → getElem? (rowsOfStream edition s) j ≡ some row → PairsWithin row
+pairs-within edition s fine =
+    let r = wholeStream s in
+    rows-within edition s (itemsOfStream s) (separate (derives (r .room) s (r .at) (r .limit) (r .marked) (fine .order)) refl (fine .whole))
+
+-- an accepted letter
+module _ {s scratch head next head2 next2 : List ℕ} {count : ℕ} (filled : Filled s scratch head next head2 next2 count) where
+  -- no two of its elements share a name
+  pub filled-apart : Apart (filled .elements)
+  filled-apart = accepted-apart edition1988 (treeOf s) (filled .elements) (filled .judged)
+
+  -- each has its row
+  pub filled-row : (j : ℕ) (e : Element) → getElem? (filled .elements) j ≡ some e → RowOf s (rowsOfStream edition1988 s) j e
+  filled-row = row-of (filled .holds .saying)
+
+-- the content pair of a row bounds the content of its element
+pub content-bytes : {s : List ℕ} {row : Row} {e : Element} → Says s row e → (bytes : List ℕ) → e .content ≡ octets bytes → bytesIn s (row .content) ≡ bytes
+content-bytes {s} {row} says bytes e = subst (Bounds s (row .content)) e (says .content) .value

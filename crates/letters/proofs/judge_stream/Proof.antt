@@ -1,0 +1,217 @@
+-- `letters::judge_stream` meets its contract: the judge stands between two elements at each turn, and all that is lent keeps its
+-- length. Assumes nothing.
+use mathlib.Core.Path.{_≡_, refl, sym, subst}
+use Prim.Native.Nat.{_-_}
+use native.Mathlib.Omega.{arith}
+use borrow.Author.Needs.{needs}
+use lib.ListN.{length}
+use Rattle.runs.specs.Runs.{Meeting}
+use Rattle.letters.specs.declared.Item.{Item}
+use Rattle.letters.specs.declared.Judgement.{Judgement}
+use Rattle.letters.specs.Judges.{Judges, Passing}
+use Rattle.letters.proofs.Meetings.{met}
+use Rattle.letters.proofs.State.{Judging, judging-none, end-gives, refused-at, few, needed, judging-more, indexes-of}
+use Rattle.letters.proofs.judge_stream.Statement.{statement}
+use Rattle.letters.proofs.judge_stream.Tie as tie
+
+abbrev Inv-loop : tie.InvT-loop
+Inv-loop s rows₀ head₀ next₀ head2₀ next2₀ bounds₀ cur₀ n₀ rows head next head2 next2 bounds cur n =
+    Judging s rows head next head2 next2 n cur × (length rows ≡ length rows₀) × (length head ≡ length head₀) × (length next ≡ length next₀)
+    × (length head2 ≡ length head2₀) × (length next2 ≡ length next2₀) × (length bounds ≡ length bounds₀)
+
+abbrev μ-loop : tie.MeasureT-loop
+μ-loop s rows₀ head₀ next₀ head2₀ next2₀ bounds₀ cur₀ n₀ rows head next head2 next2 bounds cur n = cur .limit - cur .at
+
+-- an element is met
+meeting : (c : tie.After-known-told Inv-loop μ-loop) →
+    let g = c .before .octet .given .0 in
+    Meeting (c .before .before .before .before .before .before .before .before .before .before .before .before .before .args .s .now) (c .before .before .before .before .loop .cur) (g .0) (g .1 .0) (g .1 .1 .0) (g .1 .1 .1 .0) (g .1 .1 .1 .1 .0)
+meeting c = met (c .before .before .before .before .before .before .before .before .before .before .before .before .before .args .s .now) (c .before .before .before .before .loop .cur) _ _ (c .before .before .before .meet .ensures) (c .before .octet .given .1)
+
+abbrev item : tie.After-known-told Inv-loop μ-loop → Item
+item c =
+    let g = c .before .octet .given .0 in
+    record { octet = g .0; first = c .before .before .before .before .loop .cur .at; past = g .1 .1 .1 .1 .0 .at; inner = g .1 .1 .1 .0 }
+
+-- and judged
+judged : (c : tie.After-judge-element Inv-loop μ-loop) (y : Judgement) → c .judge-element .result ≡ y
+    → Judges (c .before .before .before .before .before .before .before .before .before .before .before .before .before .before .before .before .before .before .before .before .args .s .now) (c .before .before .before .before .before .before .before .before .before .before .before .loop .inv .0 .done) (item (c .before .before .before .before .before .before .before)) y
+judged c y e =
+    let state = c .before .before .before .before .before .before .before .before .before .before .before .loop .inv .0 in
+    subst (Judges (c .before .before .before .before .before .before .before .before .before .before .before .before .before .before .before .before .before .before .before .before .args .s .now) (state .done) (item (c .before .before .before .before .before .before .before))) e (c .judge-element .ensures (state .table) (state .done) (state .holds))
+
+-- and passed
+passing : (c : tie.After-known-told3 Inv-loop μ-loop) →
+    let p = c .before .row .given .0 in
+    Passing (c .before .before .before .before .before .before .before .before .before .before .before .before .before .before .before .before .before .before .before .before .before .before .before .before .before .args .s .now) (c .before .before .before .before .before .before .before .before .before .before .before .before .before .before .before .before .loop .inv .0 .done) (item (c .before .before .before .before .before .before .before .before .before .before .before .before)) (p .0) (p .1 .0)
+passing c = judged (c .before .before .before .before .before) _ (c .before .row .given .1)
+
+whole-stream-requires : tie.Need-whole-stream-requires Inv-loop μ-loop
+whole-stream-requires c κs = search needs
+
+loop-holds : tie.Need-loop-holds Inv-loop μ-loop
+loop-holds c =
+    let start = c .before .before .before .before .before .before .before .before in
+    let a = start .args in (
+      subst (Judging (a .s .now) (a .rows .now) (a .head .now) (a .next .now) (a .head2 .now) (a .next2 .now) 0) (sym (c .whole-stream .ensures))
+          (judging-none (a .s .now) (a .rows .now) (a .head .now) (a .next .now) (a .head2 .now) (a .next2 .now) (a .bounds .now) (start .pre .1) (start .pre .0 .0)),
+      refl,
+      refl,
+      refl,
+      refl,
+      refl,
+      refl,
+    )
+
+meet-requires : tie.Need-meet-requires Inv-loop μ-loop
+meet-requires c κs = c .loop .inv .0 .fine
+
+enum-told : tie.Need-enum-told Inv-loop μ-loop
+enum-told c = search needs
+
+at-end-requires : tie.Need-at-end-requires Inv-loop μ-loop
+at-end-requires c κs = search needs
+
+same-length : tie.Need-same-length Inv-loop μ-loop
+same-length c = search needs
+
+same-length-2 : tie.Need-same-length-2 Inv-loop μ-loop
+same-length-2 c = search needs
+
+same-length-3 : tie.Need-same-length-3 Inv-loop μ-loop
+same-length-3 c = search needs
+
+same-length-4 : tie.Need-same-length-4 Inv-loop μ-loop
+same-length-4 c = search needs
+
+same-length-5 : tie.Need-same-length-5 Inv-loop μ-loop
+same-length-5 c = search needs
+
+same-length-6 : tie.Need-same-length-6 Inv-loop μ-loop
+same-length-6 c = search needs
+
+returns : tie.Need-returns Inv-loop μ-loop
+returns c =
+    let s = c .before .before .before .before .before .before .before .before .before .before .before .before .before .args .s .now in
+    let l = c .before .before .before .before .loop in
+    let end = met s (l .cur) _ _ (c .before .before .before .meet .ensures) (c .before .enum-told .given .1) in
+    rw (c .at-end .ensures) (end-gives (l .inv .0) end)
+
+enum-known-octet : tie.Need-enum-known-octet Inv-loop μ-loop
+enum-known-octet c = search needs
+
+judge-element-requires : tie.Need-judge-element-requires Inv-loop μ-loop
+judge-element-requires c κs =
+    let start = c .before .before .before .before .before .before .before .before .before .before .before .before .before .before .before .before .before .before .before in
+    let l = c .before .before .before .before .before .before .before .before .before .before .loop in
+    let m = meeting (c .before .before .before .before .before .before) in (
+      indexes-of (l .inv .0 .holds),
+      (
+        m .inner-fine,
+        start .pre .0 .1,
+        omega (arith, m .starts, m .value-order, m .value-before),
+        omega (arith, m .rest-fine .order, m .rest-fine .inside),
+        omega (arith, start .pre .1 .portions, l .inv .6),
+      ),
+    )
+
+enum-known-number : tie.Need-enum-known-number Inv-loop μ-loop
+enum-known-number c = search needs
+
+same-length-7 : tie.Need-same-length-7 Inv-loop μ-loop
+same-length-7 c = search needs
+
+same-length-8 : tie.Need-same-length-8 Inv-loop μ-loop
+same-length-8 c = search needs
+
+same-length-9 : tie.Need-same-length-9 Inv-loop μ-loop
+same-length-9 c = search needs
+
+same-length-10 : tie.Need-same-length-10 Inv-loop μ-loop
+same-length-10 c = search needs
+
+same-length-11 : tie.Need-same-length-11 Inv-loop μ-loop
+same-length-11 c = search needs
+
+same-length-12 : tie.Need-same-length-12 Inv-loop μ-loop
+same-length-12 c = search needs
+
+returns-2 : tie.Need-returns-2 Inv-loop μ-loop
+returns-2 c =
+    let l = c .before .before .before .before .before .before .before .before .before .before .before .before .before .before .before .before .loop in
+    refused-at (l .inv .0) (meeting (c .before .before .before .before .before .before .before .before .before .before .before .before)) _ (judged (c .before .before .before .before .before) _ (c .before .number .given .1))
+
+enum-known-row : tie.Need-enum-known-row Inv-loop μ-loop
+enum-known-row c = search needs
+
+add-row-requires : tie.Need-add-row-requires Inv-loop μ-loop
+add-row-requires c κs =
+    let start = c .before .before .before .before .before .before .before .before .before .before .before .before .before .before .before .before .before .before .before .before .before .before .before .before .before .before .before .before .before .before in
+    let l = c .before .before .before .before .before .before .before .before .before .before .before .before .before .before .before .before .before .before .before .before .before .loop in
+    let w = passing (c .before .before .before .before .before) in
+    let some = needed (l .inv .0) (meeting (c .before .before .before .before .before .before .before .before .before .before .before .before .before .before .before .before .before)) w in
+    let lent = start .pre .1 in (
+      indexes-of (l .inv .0 .holds),
+      (
+        (w .placed, w .hashed, start .pre .0 .1),
+        (
+          omega (arith, some, lent .rows, l .inv .1),
+          omega (arith, some, lent .links, l .inv .3),
+          omega (arith, some, lent .links2, l .inv .5),
+          few (l .inv .0) (meeting (c .before .before .before .before .before .before .before .before .before .before .before .before .before .before .before .before .before)) w,
+        ),
+      ),
+    )
+
+add-n : tie.Need-add-n Inv-loop μ-loop
+add-n c = omega (arith, few (c .before .before .before .before .before .before .before .before .before .before .before .before .before .before .before .before .before .before .before .before .before .before .before .before .before .before .before .before .before .before .before .before .loop .inv .0) (meeting (c .before .before .before .before .before .before .before .before .before .before .before .before .before .before .before .before .before .before .before .before .before .before .before .before .before .before .before .before)) (passing (c .before .before .before .before .before .before .before .before .before .before .before .before .before .before .before .before)))
+
+loop-less : tie.Need-loop-less Inv-loop μ-loop
+loop-less c = meeting (c .before .before .before .before .before .before .before .before .before .before .before .before .before .before .before .before .before .before .before .before .before .before .before .before .before .before .before .before) .less
+
+loop-again : tie.Need-loop-again Inv-loop μ-loop
+loop-again c =
+    let l = c .before .before .before .before .before .before .before .before .before .before .before .before .before .before .before .before .before .before .before .before .before .before .before .before .before .before .before .before .before .before .before .before .loop in
+    let w = passing (c .before .before .before .before .before .before .before .before .before .before .before .before .before .before .before .before) in (
+      judging-more (l .inv .0) (meeting (c .before .before .before .before .before .before .before .before .before .before .before .before .before .before .before .before .before .before .before .before .before .before .before .before .before .before .before .before)) w (c .before .before .before .before .before .before .before .before .before .before .add-row .ensures (l .inv .0 .table) (l .inv .0 .done) _ (l .inv .0 .holds) (w .says)),
+      search needs,
+      search needs,
+      search needs,
+      search needs,
+      search needs,
+      search needs,
+    )
+
+pub judge-stream-spec : {M : Type 1} → statement M
+judge-stream-spec =
+    tie.close
+    (tie.spec
+    Inv-loop
+    μ-loop
+    whole-stream-requires
+    loop-holds
+    meet-requires
+    enum-told
+    at-end-requires
+    same-length
+    same-length-2
+    same-length-3
+    same-length-4
+    same-length-5
+    same-length-6
+    returns
+    enum-known-octet
+    judge-element-requires
+    enum-known-number
+    same-length-7
+    same-length-8
+    same-length-9
+    same-length-10
+    same-length-11
+    same-length-12
+    returns-2
+    enum-known-row
+    add-row-requires
+    add-n
+    loop-less
+    loop-again)

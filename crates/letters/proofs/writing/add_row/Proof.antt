@@ -1,0 +1,66 @@
+-- `letters::writing::add_row` meets its contract: the row is written, and then both indexes are one row longer. Assumes nothing.
+use mathlib.Core.Path.{sym, ap, _∙_}
+use native.Mathlib.Omega.{arith}
+use Rattle.names.specs.Hash.{hash}
+use Rattle.letters.specs.declared.Hashes.{Hashes}
+use Rattle.letters.proofs.Grow.{narrow, identifier-written, logical-written, holds-more}
+use borrow.Author.Needs.{needs}
+use Rattle.letters.proofs.writing.add_row.Statement.{statement}
+use Rattle.letters.proofs.writing.add_row.Tie as tie
+
+mul-put-row : tie.Need-mul-put-row
+mul-put-row c = search needs
+
+put-row-requires : tie.Need-put-row-requires
+put-row-requires c κs =
+    let start = c .before .before .before .before .before .before .before in
+    (start .pre .1 .1 .0, narrow (start .args .s .now) (start .args .row) (start .pre .1 .0 .2) (start .pre .1 .0 .0))
+
+insert-requires : tie.Need-insert-requires
+insert-requires c κs =
+    let start = c .before .before .before .before .before .before .before .before .before .before .before .before .before in
+    let room = start .pre .1 .1 in
+    let w = identifier-written (start .pre .0) (room .0) (start .pre .1 .0 .0) (c .before .before .before .before .before .put-row .ensures) in
+    (w .bounded, (w .indexed, (room .1, (omega (arith, room .3), ap (λ (h : Hashes). h .identifier) (start .pre .1 .0 .1) ∙ ap hash (sym (w .value))))))
+
+insert-requires-2 : tie.Need-insert-requires-2
+insert-requires-2 c κs =
+    let start = c .before .before .before .before .before .before .before .before .before .before .before .before .before .before .before .before .before .before .before .before .before in
+    let room = start .pre .1 .1 in
+    let w = logical-written (start .pre .0) (room .0) (start .pre .1 .0 .0) (c .before .before .before .before .before .before .before .before .before .before .before .before .before .put-row .ensures) in
+    (w .bounded, (w .indexed, (room .2, (omega (arith, room .3), ap (λ (h : Hashes). h .logical) (start .pre .1 .0 .1) ∙ ap hash (sym (w .value))))))
+
+same-length : tie.Need-same-length
+same-length c = search needs
+
+same-length-2 : tie.Need-same-length-2
+same-length-2 c = search needs
+
+same-length-3 : tie.Need-same-length-3
+same-length-3 c = search needs
+
+same-length-4 : tie.Need-same-length-4
+same-length-4 c = search needs
+
+same-length-5 : tie.Need-same-length-5
+same-length-5 c = search needs
+
+returns : tie.Need-returns
+returns c =
+    let start = c .before .before .before .before .before .before .before .before .before .before .before .before .before .before .before .before .before .before .before .before .before .before .before .before .before .before in
+    holds-more (start .pre .0) (start .pre .1 .1 .0) (start .pre .1 .0 .0) (c .before .before .before .before .before .before .before .before .before .before .before .before .before .before .before .before .before .before .put-row .ensures) (c .before .before .before .before .before .before .before .before .before .before .before .before .insert .ensures .0) (c .before .before .before .before .insert2 .ensures .0)
+
+pub add-row-spec : {M : Type 1} → statement M
+add-row-spec =
+    tie.close
+    (tie.spec
+    mul-put-row
+    put-row-requires
+    insert-requires
+    insert-requires-2
+    same-length
+    same-length-2
+    same-length-3
+    same-length-4
+    same-length-5
+    returns)

@@ -1,0 +1,134 @@
+// The judge of a whole stream: elements in order, rules 9 to 15 in order within each; and the rows of its table.
+use elements::Row;
+use runs::Met;
+use runs::Run;
+ghost use mathlib.Core.Path.{_≡_};
+ghost use mathlib.Core.List.{_++_};
+ghost use Prim.Native.Nat.{_*_, _≤_};
+ghost use lib.ListN.{length, take, drop};
+ghost use Rattle.octets.specs.Walk.{streamLimit};
+ghost use Rattle.runs.specs.Runs.{itemsOf, wholeStream, tops, Fine};
+ghost use Rattle.index.specs.Rows.{rowWidth};
+ghost use Rattle.letters.specs.Scratch.{Gives};
+ghost use Rattle.letters.specs.Lent.{Lent, endVerdict};
+
+mod rules; // rules.rt: rules 9 to 15 for one element
+mod writing; // writing.rt: rows, to the scratch and to a table
+
+// What the judge of a stream gives: accepted with so many elements, or refused by a number at a place.
+pub enum Verdict {
+    Accepted { count: usize },
+    Refused { number: usize, place: usize },
+}
+
+// An item of the stream that is to be judged: its octet, where it stands, and the run inside it.
+pub struct Item {
+    pub octet: usize,
+    pub first: usize,
+    pub past: usize,
+    pub inner: Run,
+}
+
+// What rules 9 to 15 say of an element: a refusal number, or its row.
+pub enum Judgement {
+    Fails { number: usize },
+    Passes { row: Row, hashes: Hashes },
+}
+
+// The hashes of a row's identifier and logical identifier: looked up by them, and then inserted.
+pub struct Hashes {
+    pub identifier: usize,
+    pub logical: usize,
+}
+
+// How many elements a stream has that the walk has passed. Whoever judges it sizes the scratch by that.
+pub fn count_elements(s: &[u8]) -> usize
+    requires { ⌜ Fine (now s) (wholeStream (now s)) ⌝ }
+    ensures { λ r. ⌜ r ≡ tops (itemsOf (now (s .entry)) (wholeStream (now (s .entry)))) ⌝ }
+{
+    let mut cur = runs::whole_stream(s);
+    let mut n: usize = 0;
+    loop {
+        match runs::meet(s, cur) {
+            Met::End => return n,
+            Met::Item {
+                octet: _,
+                first: _,
+                past: _,
+                inner: _,
+                rest,
+            } => {
+                n += 1;
+                cur = rest;
+            }
+        }
+    }
+}
+
+fn at_end(n: usize) -> Verdict
+    ensures { λ r. ⌜ r ≡ endVerdict n ⌝ }
+{
+    if n == 0 {
+        return Verdict::Refused {
+            number: 11,
+            place: 0,
+        };
+    }
+    Verdict::Accepted { count: n }
+}
+
+// Judges the elements of a stream that the walk has passed. The scratch then holds the rows of an accepted one and their indexes.
+pub fn judge_stream(
+    s: &[u8],
+    rows: &mut [u32],
+    head: &mut [u16],
+    next: &mut [u16],
+    head2: &mut [u16],
+    next2: &mut [u16],
+    bounds: &mut [u32],
+) -> Verdict
+    requires { ⌜ Fine (now s) (wholeStream (now s)) × (length (now s) ≤ streamLimit) ⌝ }
+    requires { ⌜ Lent (now s) (now rows) (now head) (now next) (now head2) (now next2) (now bounds) ⌝ }
+    ensures { λ r. ⌜ Gives (now (s .entry)) (now (rows .exit)) (now (head .exit)) (now (next .exit)) (now (head2 .exit)) (now (next2 .exit)) r ⌝ }
+{
+    let mut cur = runs::whole_stream(s);
+    let mut n: usize = 0;
+    loop {
+        match runs::meet(s, cur) {
+            Met::End => return at_end(n),
+            Met::Item {
+                octet,
+                first: _,
+                past: _,
+                inner,
+                rest,
+            } => {
+                let item = Item {
+                    octet,
+                    first: cur.at,
+                    past: rest.at,
+                    inner,
+                };
+                match rules::judge_element(s, rows, head, next, head2, next2, bounds, n, item) {
+                    Judgement::Fails { number } => return Verdict::Refused {
+                        number,
+                        place: cur.at,
+                    },
+                    Judgement::Passes { row, hashes } => {
+                        writing::add_row(s, rows, head, next, head2, next2, n, row, hashes);
+                        n += 1;
+                        cur = rest;
+                    }
+                }
+            }
+        }
+    }
+}
+
+// Copies the first n rows of the scratch to the table that is lent. Only an accepted stream's rows come this far.
+pub fn put_table(rows: &[u32], n: usize, table: &mut [u32])
+    requires { ⌜ (n * rowWidth ≤ length (now rows)) × (n * rowWidth ≤ length (now table)) ⌝ }
+    ensures { λ _. ⌜ now (table .exit) ≡ take (n * rowWidth) (now (rows .entry)) ++ drop (n * rowWidth) (now (table .entry)) ⌝ }
+{
+    writing::copy_numbers(rows, n * index::ROW_WIDTH, table, 0);
+}

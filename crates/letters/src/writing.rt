@@ -1,0 +1,82 @@
+// Writing rows: to the scratch, with both indexes, and to a table.
+use super::Hashes;
+use elements::Row;
+ghost use mathlib.Core.Path.{_≡_};
+ghost use Prim.Native.Nat.{_+_, _*_, _<_, _≤_};
+ghost use lib.ListN.{length};
+ghost use lib.Seq.{sets, paste};
+ghost use Rattle.octets.specs.Walk.{streamLimit};
+ghost use Rattle.index.specs.Rows.{rowWidth};
+ghost use Rattle.elements.specs.Judge.{mostElements};
+ghost use Rattle.elements.specs.Rows.{cells};
+ghost use Rattle.elements.specs.Says.{RowPlaced};
+ghost use Rattle.letters.specs.Numbers.{Narrow};
+ghost use Rattle.letters.specs.Judges.{Indexes, hashesOf, Grows};
+
+// Copies the first numbers of one slice to a place of another.
+pub fn copy_numbers(from: &[u32], count: usize, to: &mut [u32], at: usize)
+    requires { ⌜ (count ≤ length (now from)) × (at + count ≤ length (now to)) ⌝ }
+    ensures { λ _. ⌜ now (to .exit) ≡ paste (now (to .entry)) at (now (from .entry)) count ⌝ }
+{
+    let mut i: usize = 0;
+    while i < count {
+        to[at + i] = from[i];
+        i += 1;
+    }
+}
+
+fn cells_of(row: Row) -> [u32; 12]
+    requires { ⌜ Narrow row ⌝ }
+    ensures { λ r. ⌜ r ≡ cells row ⌝ }
+{
+    let whole = row.whole;
+    let identifier = row.identifier;
+    let logical = row.logical;
+    let portions = row.portions;
+    let content = row.content;
+    [
+        row.kind as u32,
+        row.object as u32,
+        whole.first as u32,
+        whole.past as u32,
+        identifier.first as u32,
+        identifier.past as u32,
+        logical.first as u32,
+        logical.past as u32,
+        portions.first as u32,
+        portions.past as u32,
+        content.first as u32,
+        content.past as u32,
+    ]
+}
+
+// Writes the twelve numbers of a row.
+fn put_row(rows: &mut [u32], at: usize, row: Row)
+    requires { ⌜ (at + rowWidth ≤ length (now rows)) × Narrow row ⌝ }
+    ensures { λ _. ⌜ now (rows .exit) ≡ sets (now (rows .entry)) at (cells row) ⌝ }
+{
+    let numbers = cells_of(row);
+    copy_numbers(&numbers, index::ROW_WIDTH, rows, at);
+}
+
+// Writes row n, and adds it to both indexes.
+pub fn add_row(
+    s: &[u8],
+    rows: &mut [u32],
+    head: &mut [u16],
+    next: &mut [u16],
+    head2: &mut [u16],
+    next2: &mut [u16],
+    n: usize,
+    row: Row,
+    hashes: Hashes,
+)
+    requires { ⌜ Indexes (now s) (now rows) (now head) (now next) (now head2) (now next2) n ⌝ }
+    requires { ⌜ RowPlaced (now s) row × (hashes ≡ hashesOf (now s) row) × (length (now s) ≤ streamLimit) ⌝ }
+    requires { ⌜ (n * rowWidth + rowWidth ≤ length (now rows)) × (n < length (now next)) × (n < length (now next2)) × (n < mostElements) ⌝ }
+    ensures { λ _. ⌜ Grows (now (s .entry)) (now (rows .entry)) (now (head .entry)) (now (next .entry)) (now (head2 .entry)) (now (next2 .entry)) (now (rows .exit)) (now (head .exit)) (now (next .exit)) (now (head2 .exit)) (now (next2 .exit)) n row ⌝ }
+{
+    put_row(rows, n * index::ROW_WIDTH, row);
+    index::insert(s, rows, head, next, n, index::IDENTIFIER, hashes.identifier);
+    index::insert(s, rows, head2, next2, n, index::LOGICAL, hashes.logical);
+}

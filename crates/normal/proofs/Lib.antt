@@ -1,0 +1,11 @@
+pub mod Lengths
+pub mod Normals
+pub mod RoundTrip
+pub mod Own
+pub mod Fewest
+pub mod Shorter
+pub mod Passes
+pub mod Measuring
+pub mod Putting
+pub mod Answers
+pub mod Examples

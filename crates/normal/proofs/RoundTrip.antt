@@ -1,0 +1,41 @@
+-- The normal form reads as the same tree, and is a normal form itself. It codes the tree (`normal-codes`), and what codes a tree is accepted
+-- with it (`accepts` of the crate tree). Assumes nothing.
+use mathlib.Core.Path.{_≡_, refl, ap, sym, _∙_}
+use mathlib.Core.List.{List}
+use Prim.Native.Nat.{ℕ, _<_, _≤_, _^_}
+use native.Mathlib.Omega.{arith}
+use lib.ListN.{length}
+use Rattle.octets.specs.Walk.{streamLimit}
+use Rattle.tree.specs.Tree.{Tree}
+use Rattle.tree.specs.Codes.{Codes, nothing, primitive, definite, indefinite}
+use Rattle.tree.specs.Accepts.{Accepts}
+use Rattle.tree.proofs.Meaning.{means, accepts}
+use Rattle.normal.specs.Normal.{normalOf, normalForm}
+use Rattle.normal.specs.Forms.{Shortest}
+use Rattle.normal.proofs.Normals.{normal-codes}
+
+-- The normal form of an accepted stream, if within the limit, is accepted, with the same tree.
+pub round-trip : (s : List ℕ) (t : Tree) → Accepts s t → length (normalOf t) ≤ streamLimit → Accepts (normalOf t) t
+round-trip s t a l = accepts (normalOf t) t (normal-codes (means s t a .0) (omega arith)) l
+
+-- The normal form of a normal form is itself.
+pub again : (s : List ℕ) (t : Tree) → Accepts s t → length (normalForm s) ≤ streamLimit → normalForm (normalForm s) ≡ normalForm s
+again s t a l =
+    let e : normalForm s ≡ normalOf t = ap normalOf (a .tree) in
+    let b = round-trip s t a (rw e at l) in
+    rw e (ap normalOf (b .tree))
+
+-- Two accepted streams have the same tree exactly when they have the same normal form.
+pub same-form : (s r : List ℕ) (t u : Tree) → Accepts s t → Accepts r u → length (normalOf t) ≤ streamLimit → normalOf t ≡ normalOf u → t ≡ u
+same-form s r t u a b l e =
+    let x = round-trip s t a l .tree in
+    let y = round-trip r u b (rw e at l) .tree in
+    sym x ∙ rw e y
+
+-- Octets whose items are all definite with the fewest length octets are the normal form.
+pub own-form : {room : ℕ} {t : Tree} {xs : List ℕ} (c : Codes room t xs) → Shortest c → normalOf t ≡ xs
+unfolding normalOf
+own-form nothing s = refl
+own-form (primitive g m l c) (e, s) = rw (e, own-form c s)
+own-form (definite g l i c) (e, s, r) = rw (e, own-form i s, own-form c r)
+own-form (indefinite g i c) s = absurd s

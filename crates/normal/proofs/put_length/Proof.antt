@@ -1,0 +1,84 @@
+-- `normal::put_length` meets its contract: the first length octet is written, and then the others. Assumes nothing.
+use mathlib.Core.Path.{_≡_, sym, _∙_}
+use borrow.Author.Needs.{needs}
+use native.Mathlib.Omega.{arith}
+use denote.Ref.{now}
+use lib.ListN.{length-set}
+use Rattle.normal.specs.Length.{furtherOctets}
+use Rattle.normal.proofs.Lengths.{length-length, further-le, put-short, put-long}
+use Rattle.normal.proofs.put_length.Statement.{statement}
+use Rattle.normal.proofs.put_length.Tie as tie
+
+further-octets-requires : tie.Need-further-octets-requires
+further-octets-requires c κs = search needs
+
+cast-out : tie.Need-cast-out
+cast-out c = search needs
+
+slice-write-out : tie.Need-slice-write-out
+slice-write-out c = search needs
+
+add-result : tie.Need-add-result
+add-result c = search needs
+
+cast-out-2 : tie.Need-cast-out-2
+cast-out-2 c = omega (arith, further-le (c .before .before .before .args .len))
+
+add-out : tie.Need-add-out
+add-out c = omega (arith, further-le (c .before .before .before .args .len))
+
+slice-write-out-2 : tie.Need-slice-write-out-2
+slice-write-out-2 c = search needs
+
+add-put-digits : tie.Need-add-put-digits
+add-put-digits c = search needs
+
+put-digits-requires : tie.Need-put-digits-requires
+put-digits-requires c κs = simp length-set (omega arith)
+
+add-result-2 : tie.Need-add-result-2
+add-result-2 c = search needs
+
+add-result-3 : tie.Need-add-result-3
+add-result-3 c = search needs
+
+same-length : tie.Need-same-length
+same-length c = search needs
+
+returns : tie.Need-returns
+returns c =
+    let a = c .before .before .before .args in
+    let none : furtherOctets (a .len) ≡ 0 = sym (c .before .further-octets .ensures) ∙ c .if1 .taken in
+    record { to = omega (arith, length-length (a .len)); written = put-short (now (a .out)) (a .at) (a .len) none }
+
+same-length-2 : tie.Need-same-length-2
+same-length-2 c = c .before .before .put-digits .kept .0 ∙ simp length-set
+
+returns-2 : tie.Need-returns-2
+returns-2 c =
+    let a = c .before .before .before .before .before .before .before .args in
+    let k = c .before .before .before .before .before .further-octets in
+    record {
+      to = omega (arith, length-length (a .len));
+      written = c .before .before .put-digits .ensures ∙ put-long (now (a .out)) (a .at) (a .len) (k .result) (k .ensures) (c .before .before .before .before .if1 .left);
+    }
+
+pub put-length-spec : {M : Type 1} → statement M
+put-length-spec =
+    tie.close
+    (tie.spec
+    further-octets-requires
+    cast-out
+    slice-write-out
+    add-result
+    cast-out-2
+    add-out
+    slice-write-out-2
+    add-put-digits
+    put-digits-requires
+    add-result-2
+    add-result-3
+    same-length
+    returns
+    same-length-2
+    returns-2)

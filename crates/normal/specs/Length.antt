@@ -1,0 +1,29 @@
+-- The fewest length octets that say a length. Document 01, "Table, list, part, normal form"; X.209, 6.3.3. That they are the fewest is
+-- `fewest` (proofs/Fewest). Definitions only: assumes nothing.
+use Prim.Native.Nat.{ℕ, zero, suc, _+_, _/_, _%_, _<_}
+use mathlib.Core.Bool.{cond}
+use mathlib.Core.List.{List, [], _∷_, _++_}
+use lib.Dec.{ltb}
+use Rattle.octets.specs.Head.{octetAt}
+
+-- how many length octets follow the first: none where the first is the length, else as many as it takes to hold it
+abbrev pub furtherOctets : ℕ → ℕ
+furtherOctets n = cond (ltb n 0x80) 0 (cond (ltb n 0x100) 1 (cond (ltb n 0x10000) 2 (cond (ltb n 0x1000000) 3 4)))
+
+-- n as k octets, most significant first
+unfoldable pub digits : (k n : ℕ) → List ℕ
+digits zero n = []
+digits (suc k) n = digits k (n / 256) ++ (n % 256 ∷ [])
+
+-- "00 to 7F is the length .. 81 to 84 say how many length octets follow"
+abbrev pub lengthBy : (further n : ℕ) → List ℕ
+lengthBy zero n = n ∷ []
+lengthBy (suc k) n = (0x80 + suc k) ∷ digits (suc k) n
+
+-- the length octets of a value of n octets
+abbrev pub lengthOctets : ℕ → List ℕ
+lengthOctets n = lengthBy (furtherOctets n) n
+
+-- numbers that are octets, as those of every slice of octets are
+abbrev pub Octets : List ℕ → Type 0
+Octets s = (i : ℕ) → octetAt s i < 256

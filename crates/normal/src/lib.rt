@@ -1,0 +1,292 @@
+// The normal form of a stream: each item in the same order, definite, with the fewest length octets.
+use octets::Head;
+use octets::Header;
+use octets::Outcome;
+ghost use mathlib.Core.Path.{_≡_};
+ghost use mathlib.Core.Bool.{true, false};
+ghost use mathlib.Core.List.{List, _∷_};
+ghost use Prim.Native.Nat.{ℕ, _+_, _-_, _<_, _≤_};
+ghost use lib.ListN.{length};
+ghost use lib.Seq.{slice, sets};
+ghost use Rattle.octets.specs.First.{constructed};
+ghost use Rattle.octets.specs.Walk.{streamLimit, deepest, run, valueOf};
+ghost use Rattle.tree.specs.Accepts.{Whole};
+ghost use Rattle.normal.specs.Length.{furtherOctets, digits, lengthOctets};
+ghost use Rattle.normal.specs.Normal.{normalForm};
+ghost use Rattle.normal.specs.Measure.{normalFrom, normalIn, metAt, headerSize, Measures, Puts};
+ghost use Rattle.normal.specs.Writes.{answerOf, answerFor, Gives};
+
+// What a pass over a run that was walked to its end meets at a place: an item, or the end of the run, with the place past it.
+pub enum Met {
+    Item(Header),
+    Last { past: usize },
+}
+
+// What is measured of a run, or of the value of an item: where it ends, how many octets its normal form has, and whether it is known that
+// its own octets are that.
+pub struct Measured {
+    pub next: usize,
+    pub size: usize,
+    pub shortest: bool,
+}
+
+// What the writer answers: how many octets it wrote, or a refusal, which leaves the output untouched.
+pub enum Answer {
+    Written { length: usize },
+    Refused { number: usize, place: usize },
+}
+
+const STREAM_LIMIT: usize = 1048576;
+
+const DEEPEST: usize = 16;
+
+// How many length octets follow the first: told by the leading zeros of the length.
+fn further_octets(len: u32) -> usize
+    ensures { λ r. ⌜ r ≡ furtherOctets len ⌝ }
+{
+    let zeros = u32::leading_zeros(len);
+    if 25 <= zeros {
+        return 0;
+    }
+    if 24 <= zeros {
+        return 1;
+    }
+    if 16 <= zeros {
+        return 2;
+    }
+    if 8 <= zeros {
+        return 3;
+    }
+    4
+}
+
+// Writes n as k octets, most significant first.
+fn put_digits(out: &mut [u8], at: usize, k: usize, n: u32)
+    requires { ⌜ at + k ≤ length (now out) ⌝ }
+    ensures { λ _. ⌜ now (out .exit) ≡ sets (now (out .entry)) at (digits k n) ⌝ }
+{
+    if 0 < k {
+        put_digits(out, at, k - 1, n / 256);
+        out[at + (k - 1)] = (n % 256) as u8;
+    }
+}
+
+// Writes the length octets of a value of `len` octets, and says the place past them.
+fn put_length(out: &mut [u8], at: usize, len: u32) -> usize
+    requires { ⌜ at + 1 + furtherOctets len ≤ length (now out) ⌝ }
+    ensures { λ r. ⌜ Puts (now (out .entry)) at (lengthOctets len) r (now (out .exit)) ⌝ }
+{
+    let further = further_octets(len);
+    if further == 0 {
+        out[at] = (len % 256) as u8;
+        at + 1
+    } else {
+        out[at] = 0x80 + (further as u8);
+        put_digits(out, at + 1, further, len);
+        at + 1 + further
+    }
+}
+
+// How many octets come before a value of `size` octets.
+fn header_size(size: usize) -> usize
+    requires { ⌜ size ≤ 4000000 ⌝ }
+    ensures { λ r. ⌜ r ≡ headerSize size ⌝ }
+{
+    2 + further_octets(size as u32)
+}
+
+// What stands at `at` in a run that was walked to its end.
+fn meet(s: &[u8], at: usize, limit: usize, marked: bool, room: usize) -> Met
+    requires { ⌜ (at ≤ limit) × (limit ≤ length (now s)) × Whole (run room (now s) at limit marked .how) ⌝ }
+    ensures { λ r. ⌜ r ≡ metAt room (now (s .entry)) at limit marked ⌝ }
+{
+    if limit <= at {
+        return Met::Last { past: limit };
+    }
+    match octets::passed_head(s, at, limit, marked, room) {
+        Head::Item(h) => Met::Item(h),
+        Head::ClosingMark => Met::Last { past: at + 2 },
+        Head::Refusal {
+            number: _,
+            place: _,
+        } => Met::Last { past: at },
+    }
+}
+
+// Whether the items so far and the one at `at` stand as in the normal form: its value does, and its header, which is definite, is as long
+// as `head`, the shortest.
+fn stays_shortest(shortest: bool, at: usize, h: Header, m: Measured, head: usize) -> bool
+    requires { ⌜ at ≤ h .start ⌝ }
+    ensures { λ r. ⌜ (r ≡ true → (shortest ≡ true) × (h .marked ≡ false) × (m .shortest ≡ true) × (h .start ≡ at + head)) ⌝ }
+{
+    let marked = h.marked;
+    let start = h.start;
+    let own = m.shortest;
+    if marked {
+        return false;
+    }
+    if own {
+        if start - at == head {
+            return shortest;
+        }
+    }
+    false
+}
+
+// Measures the value of the item with the header h.
+fn measure_item(s: &[u8], h: Header, room: usize) -> Measured
+    requires { ⌜ (0 < room) × (h .start ≤ h .bound) × (h .bound ≤ length (now s)) × (length (now s) ≤ streamLimit) × Whole (valueOf room (now s) h .how) × (h .marked ≡ true → constructed (h .octet) ≡ true) ⌝ }
+    ensures { λ r. ⌜ Measures (now (s .entry)) (h .start) (h .marked) (valueOf room (now (s .entry)) h .how) (normalIn room (now (s .entry)) h) r × (r .shortest ≡ false → constructed (h .octet) ≡ true) ⌝ }
+{
+    let octet = h.octet;
+    let start = h.start;
+    let bound = h.bound;
+    let marked = h.marked;
+    if octet / 32 % 2 == 1 {
+        measure_run(s, start, bound, marked, room - 1)
+    } else {
+        Measured {
+            next: bound,
+            size: bound - start,
+            shortest: true,
+        }
+    }
+}
+
+// Measures a run of items that was walked to its end.
+fn measure_run(s: &[u8], from: usize, limit: usize, marked: bool, room: usize) -> Measured
+    requires { ⌜ (from ≤ limit) × (limit ≤ length (now s)) × (length (now s) ≤ streamLimit) × Whole (run room (now s) from limit marked .how) ⌝ }
+    ensures { λ r. ⌜ Measures (now (s .entry)) from marked (run room (now (s .entry)) from limit marked .how) (normalFrom room (now (s .entry)) from limit marked) r ⌝ }
+{
+    let mut at = from;
+    let mut size: usize = 0;
+    let mut shortest = true;
+    loop {
+        match meet(s, at, limit, marked, room) {
+            Met::Item(h) => {
+                let m = measure_item(s, h, room);
+                let head = header_size(m.size);
+                shortest = stays_shortest(shortest, at, h, m, head);
+                size = size + head + m.size;
+                at = m.next;
+            }
+            Met::Last { past } => return Measured {
+                next: past,
+                size,
+                shortest,
+            },
+        }
+    }
+}
+
+// Copies the octets of s from start to bound, and says the place past them.
+fn put_value(s: &[u8], start: usize, bound: usize, out: &mut [u8], begin: usize) -> usize
+    requires { ⌜ (start ≤ bound) × (bound ≤ length (now s)) × (begin + (bound - start) ≤ length (now out)) ⌝ }
+    ensures { λ r. ⌜ Puts (now (out .entry)) begin (slice start bound (now (s .entry))) r (now (out .exit)) ⌝ }
+{
+    let mut at = start;
+    let mut pos = begin;
+    while at < bound {
+        out[pos] = s[at];
+        at += 1;
+        pos += 1;
+    }
+    pos
+}
+
+// Writes a type field and the length octets of a value of `size` octets, and says the place past them.
+fn put_header(out: &mut [u8], begin: usize, octet: u8, size: usize) -> usize
+    requires { ⌜ (size ≤ 4000000) × (begin + headerSize size ≤ length (now out)) ⌝ }
+    ensures { λ r. ⌜ Puts (now (out .entry)) begin (octet ∷ lengthOctets size) r (now (out .exit)) ⌝ }
+{
+    out[begin] = octet;
+    put_length(out, begin + 1, size as u32)
+}
+
+// Writes the normal form of the value of the item with the header h, which was measured as m.
+fn put_item(s: &[u8], h: Header, m: Measured, room: usize, out: &mut [u8], begin: usize) -> usize
+    requires { ⌜ (0 < room) × (h .start ≤ h .bound) × (h .bound ≤ length (now s)) × (length (now s) ≤ streamLimit) × Whole (valueOf room (now s) h .how) × Measures (now s) (h .start) (h .marked) (valueOf room (now s) h .how) (normalIn room (now s) h) m × (m .shortest ≡ false → constructed (h .octet) ≡ true) × (begin + length (normalIn room (now s) h) ≤ length (now out)) ⌝ }
+    ensures { λ r. ⌜ Puts (now (out .entry)) begin (normalIn room (now (s .entry)) h) r (now (out .exit)) ⌝ }
+{
+    let start = h.start;
+    let bound = h.bound;
+    let marked = h.marked;
+    let size = m.size;
+    let shortest = m.shortest;
+    if shortest {
+        put_value(s, start, start + size, out, begin)
+    } else {
+        put_run(s, start, bound, marked, room - 1, out, begin)
+    }
+}
+
+// Writes the normal form of a run of items that was walked to its end.
+fn put_run(
+    s: &[u8],
+    from: usize,
+    limit: usize,
+    marked: bool,
+    room: usize,
+    out: &mut [u8],
+    begin: usize,
+) -> usize
+    requires { ⌜ (from ≤ limit) × (limit ≤ length (now s)) × (length (now s) ≤ streamLimit) × Whole (run room (now s) from limit marked .how) × (begin + length (normalFrom room (now s) from limit marked) ≤ length (now out)) ⌝ }
+    ensures { λ r. ⌜ Puts (now (out .entry)) begin (normalFrom room (now (s .entry)) from limit marked) r (now (out .exit)) ⌝ }
+{
+    let mut at = from;
+    let mut pos = begin;
+    loop {
+        match meet(s, at, limit, marked, room) {
+            Met::Item(h) => {
+                let m = measure_item(s, h, room);
+                let octet = s[at];
+                let past = put_header(out, pos, octet, m.size);
+                pos = put_item(s, h, m, room, out, past);
+                at = m.next;
+            }
+            Met::Last { past: _ } => return pos,
+        }
+    }
+}
+
+// Writes the normal form of a stream whose walk ended: refusals 17 and 18 alone. A caller that has other refusals to give has given them.
+pub fn write(s: &[u8], out: &mut [u8]) -> Answer
+    requires { ⌜ (length (now s) ≤ streamLimit) × Whole (run deepest (now s) 0 (length (now s)) false .how) ⌝ }
+    ensures { λ r. ⌜ Gives (answerOf (normalForm (now (s .entry))) (now (out .entry))) (normalForm (now (s .entry))) (now (out .entry)) r (now (out .exit)) ⌝ }
+{
+    let m = measure_run(s, 0, s.len(), false, DEEPEST);
+    let length = m.size;
+    let shortest = m.shortest;
+    if STREAM_LIMIT < length {
+        return Answer::Refused {
+            number: 17,
+            place: 0,
+        };
+    }
+    if out.len() < length {
+        return Answer::Refused {
+            number: 18,
+            place: 0,
+        };
+    }
+    if shortest {
+        put_value(s, 0, length, out, 0);
+    } else {
+        put_run(s, 0, s.len(), false, DEEPEST, out, 0);
+    }
+    Answer::Written { length }
+}
+
+// Writes the normal form of any stream: refusals 1 to 8 of the walk, then 17 and 18.
+pub fn normal(s: &[u8], out: &mut [u8]) -> Answer
+    ensures { λ r. ⌜ Gives (answerFor (now (s .entry)) (now (out .entry))) (normalForm (now (s .entry))) (now (out .entry)) r (now (out .exit)) ⌝ }
+{
+    match octets::walk(s) {
+        Outcome::Ended { at: _, count: _ } => write(s, out),
+        Outcome::Refused {
+            number,
+            place,
+            count: _,
+        } => Answer::Refused { number, place },
+    }
+}

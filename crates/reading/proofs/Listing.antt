@@ -1,0 +1,213 @@
+-- What is known while the portions of an element are listed: what is put, and then what the portions that are left yield, is all.
+-- Assumes nothing.
+use mathlib.Core.Path.{_≡_, refl, ap, sym, _∙_, subst}
+use mathlib.Core.Bool.{Bool, true, false, _&&_, false≢true, true≢false, and-eq-true-iff}
+use mathlib.Core.Option.{some}
+use mathlib.Core.List.{List, [], _∷_, _++_}
+use Prim.Native.Nat.{ℕ, suc, _+_, _*_, _<_, _≤_}
+use native.Mathlib.Omega.{arith}
+use native.Mathlib.Numerals.{add-one}
+use lib.Dec.{ltb}
+use lib.ListN.{length, getElem?, length-append}
+use lib.Seq.{slice}
+use borrow.Author.Tests.{ltb-true, ltb-false, lt-ltb}
+use borrow.Table.Steps.{cases}
+use Rattle.octets.specs.First.{isIn}
+use Rattle.octets.specs.Items.{none}
+use Rattle.octets.specs.Walk.{Walked}
+use Rattle.octets.specs.Rules.{at-limit}
+use Rattle.octets.proofs.RulesHold.{derived}
+use Rattle.names.specs.Names.{spaceByte}
+use Rattle.contents.specs.Search.{absent, octets}
+use Rattle.runs.specs.declared.Run.{Run}
+use Rattle.runs.specs.Runs.{itemsOf, treeIn, Fine, Meeting}
+use Rattle.portions.specs.Portions.{mostPortions, allPortions, values}
+use Rattle.portions.proofs.Meetings.{values-next, portions-left, values-end}
+use Rattle.index.specs.declared.Found.{Found}
+use Rattle.index.specs.declared.Found.the-variants.{At, Nothing}
+use Rattle.index.specs.Rows.{identifierColumn, kindAt, firstAt, pastAt}
+use Rattle.index.specs.Index.{Finds}
+use Rattle.elements.specs.Element.{Element}
+use Rattle.elements.specs.Judge.{mostElements}
+use Rattle.reading.specs.declared.Match.{Match}
+use Rattle.reading.specs.declared.Side.{Side}
+use Rattle.reading.specs.Match.{kindsOf, forEach, portionMatches, elementMatches}
+use Rattle.reading.specs.Records.{Puts}
+use Rattle.reading.specs.Ready.{columnOf, unitSpace, portionsAt, Tells, Ready, listed, portionsColumn, nameIn, Set, Room, PutsElement, foundMatches, FoundBelow, elementAt, noElement}
+use Rattle.reading.proofs.Lists.{at-getD}
+use Rattle.reading.proofs.OnePlace.{few-portions}
+use Rattle.reading.proofs.Matches.{joins-told}
+use Rattle.reading.proofs.Single.{unread}
+use Rattle.reading.proofs.Putting.{puts-none, puts-then, puts-length}
+use Rattle.reading.proofs.Looking.{found-matches, finds-below}
+
+-- what was found at the column of the side, by the bounds of the identifier
+pub finds-on : (side : Side) (s rows : List ℕ) (n element : ℕ) (portion : List ℕ) {column first past : ℕ} (found : Found) → column ≡ columnOf side
+    → first ≡ firstAt rows identifierColumn element → past ≡ pastAt rows identifierColumn element
+    → Finds s rows column n unitSpace (slice first past s ++ spaceByte ∷ portion) found
+    → Finds s rows (columnOf side) n unitSpace (slice (firstAt rows identifierColumn element) (pastAt rows identifierColumn element) s ++ spaceByte ∷ portion) found
+finds-on side s rows n element portion found e f g finds = rw (e, f, g) at finds
+
+-- the matches of the portions that are left
+abbrev pub toCome : Side → (s : List ℕ) → List Element → (element : ℕ) → (left : Run) → (place : ℕ) → List Match
+toCome side s elements element left place = forEach place (values (treeIn s left)) (portionMatches side elements element (elementAt elements element))
+
+-- an element that is listed is read on the side, and has an identifier
+record Named (side : Side) (rows : List ℕ) (n e : ℕ) : Type 0 where
+  below : e < n
+  on-side : isIn (kindAt rows e) (kindsOf side) ≡ true
+  named : firstAt rows identifierColumn e < pastAt rows identifierColumn e
+
+listed-named : (side : Side) (rows : List ℕ) (n e : ℕ) → e < n → listed side rows e ≡ true → Named side rows n e
+unfolding listed
+listed-named side rows n e l t =
+    let on = isIn (kindAt rows e) (kindsOf side) in
+    let there = ltb (firstAt rows identifierColumn e) (pastAt rows identifierColumn e) in
+    let a = and-eq-true-iff (on && there) (ltb (firstAt rows portionsColumn e) (pastAt rows portionsColumn e)) .0 t in
+    let b = and-eq-true-iff on there .0 (a .0) in
+    record { below = l; on-side = b .0; named = ltb-true _ _ (b .1) }
+
+pub record Listing (side : Side) (s rows : List ℕ) (n element : ℕ) (flat₀ : List ℕ) (count : ℕ) (flat : List ℕ) (left : Run) (place total : ℕ) : Type 0 where
+  pub fine : Fine s left
+  pub only-portions : allPortions (treeIn s left) ≡ true
+  pub placed : place + length (values (treeIn s left)) ≤ mostPortions
+  pub kept : length flat ≡ length flat₀
+  pub room : (elements : List Element) → Ready s rows n elements → 3 * (total + length (toCome side s elements element left place)) ≤ length flat
+  pub goes-on : (elements : List Element) → Ready s rows n elements → (after : List ℕ) (end : ℕ)
+      → Puts flat total (toCome side s elements element left place) after end
+      → Puts flat₀ count (elementMatches side elements element (elementAt elements element)) after end
+
+module _ (s rows : List ℕ) (n element : ℕ) (below : element < n) (elements : List Element) (ready : Ready s rows n elements) where
+  pub element-there : getElem? elements element ≡ some (elementAt elements element)
+  element-there = at-getD elements element noElement (omega (arith, ready .counted))
+
+  pub element-told : Tells s rows element (elementAt elements element)
+  element-told = ready .tells element (elementAt elements element) element-there
+
+  all-to-come : (side : Side) → toCome side s elements element (portionsAt rows element) 0 ≡ elementMatches side elements element (elementAt elements element)
+  unfolding elementMatches
+  all-to-come side = ap (λ (vs : List (List ℕ)). forEach 0 vs (portionMatches side elements element (elementAt elements element))) (element-told .portions)
+
+module _ {side : Side} {s rows head next : List ℕ} {n element : ℕ} (known : Set side s rows head next n) (below : element < n) (is-listed : listed side rows element ≡ true) where
+  abbrev named : Named side rows n element
+  named = listed-named side rows n element below is-listed
+
+  abbrev there : Tells s rows element (elementAt (known .elements) element)
+  there = element-told s rows n element (named .below) (known .elements) (known .ready)
+
+  -- at the start all are left
+  pub listing-all : (flat : List ℕ) (count : ℕ) → Room side s rows n element flat count → Listing side s rows n element flat count flat (portionsAt rows element) 0 count
+  listing-all flat count room =
+      let spelt = known .ready .apart .spelt element (elementAt (known .elements) element) (element-there s rows n element (named .below) (known .elements) (known .ready)) in
+      record {
+        fine = there .portions-fine;
+        only-portions = there .only-portions;
+        placed = omega (arith, ap length (there .portions), few-portions (elementAt (known .elements) element) spelt);
+        kept = refl;
+        room = λ elements ready. rw (all-to-come s rows n element (named .below) elements ready side) (room elements ready);
+        goes-on = λ elements ready after end p. subst (λ (ms : List Match). Puts flat count ms after end) (all-to-come s rows n element (named .below) elements ready side) p;
+      }
+
+  module _ {flat₀ : List ℕ} {count : ℕ} {flat : List ℕ} {left : Run} {place total : ℕ} (listing : Listing side s rows n element flat₀ count flat left place total) where
+    -- at the end all are put
+    pub listing-none : itemsOf s left ≡ none → PutsElement side s rows n element flat₀ count flat total
+    unfolding forEach
+    listing-none e elements ready =
+        listing .goes-on elements ready flat total
+        (subst (λ (vs : List (List ℕ)). Puts flat total (forEach place vs (portionMatches side elements element (elementAt elements element))) flat total)
+        (sym (values-end s left e)) (puts-none flat total))
+
+    module _ {octet from to : ℕ} {inner rest : Run} (met : Meeting s left octet from to inner rest) (found : Found)
+        (finds : Finds s rows (columnOf side) n unitSpace
+        (slice (firstAt rows identifierColumn element) (pastAt rows identifierColumn element) s ++ spaceByte ∷ slice from to s) found) where
+      -- a portion that is met yields what was found, and then come the others
+      one-more : (elements : List Element) → Ready s rows n elements
+          → toCome side s elements element left place ≡ foundMatches element place found ++ toCome side s elements element rest (place + 1)
+      unfolding forEach
+      one-more elements ready =
+          let x = elementAt elements element in
+          let told = element-told s rows n element (named .below) elements ready in
+          let on-side : isIn (x .kind) (kindsOf side) ≡ true = ap (λ (k : ℕ). isIn k (kindsOf side)) (sym (told .kind)) ∙ named .on-side in
+          let name : x .identifier ≡ octets (slice (firstAt rows identifierColumn element) (pastAt rows identifierColumn element) s) =
+          told .identifier ∙ rw (lt-ltb (firstAt rows identifierColumn element) (pastAt rows identifierColumn element) (named .named)) in
+          let first = found-matches ready side x (slice (firstAt rows identifierColumn element) (pastAt rows identifierColumn element) s) (slice from to s)
+          on-side name element place found finds in
+          ap (λ (vs : List (List ℕ)). forEach place vs (portionMatches side elements element x)) (values-next met (listing .only-portions))
+          ∙ rw (first, add-one place)
+
+      some-left : length (values (treeIn s left)) ≡ suc (length (values (treeIn s rest)))
+      some-left = ap length (values-next met (listing .only-portions))
+
+      -- so there is room for it, and its numbers are small,
+      pub room-for-one : 3 * (total + length (foundMatches element place found)) ≤ length flat
+      room-for-one =
+          let r = listing .room (known .elements) (known .ready) in
+          let e = ap length (one-more (known .elements) (known .ready)) ∙ length-append (foundMatches element place found) (toCome side s (known .elements) element rest (place + 1)) in
+          omega arith
+
+      pub small-element : element < 4294967296
+      small-element = omega (arith, named .below, known .ready .counted, known .ready .apart .few)
+
+      pub small-place : place < mostPortions
+      small-place = omega (arith, listing .placed, some-left)
+
+      pub found-small : FoundBelow 4294967296 found
+      found-small = smaller found (finds-below s rows (columnOf side) n unitSpace (slice (firstAt rows identifierColumn element) (pastAt rows identifierColumn element) s ++ spaceByte ∷ slice from to s) found finds)
+        where
+          smaller : (f : Found) → FoundBelow n f → FoundBelow 4294967296 f
+          smaller (At u) b = omega (arith, known .ready .counted, known .ready .apart .few)
+          smaller Nothing b = tt
+
+      -- and once it is put, the others are left
+      pub listing-more : {flat' : List ℕ} {total' : ℕ} → Puts flat total (foundMatches element place found) flat' total'
+          → Listing side s rows n element flat₀ count flat' rest (place + 1) total'
+      listing-more {flat'} {total'} put = record {
+        fine = met .rest-fine;
+        only-portions = portions-left met (listing .only-portions);
+        placed = omega (arith, listing .placed, some-left);
+        kept = puts-length put ∙ listing .kept;
+        room = λ elements ready.
+            let r = listing .room elements ready in
+            let e = ap length (one-more elements ready) ∙ length-append (foundMatches element place found) (toCome side s elements element rest (place + 1)) in
+            omega (arith, put .counted, puts-length put);
+        goes-on = λ elements ready after end p.
+            listing .goes-on elements ready after end
+            (subst (λ (ms : List Match). Puts flat total ms after end) (sym (one-more elements ready))
+            (puts-then (foundMatches element place found) (toCome side s elements element rest (place + 1)) put p));
+      }
+
+-- an element that is not listed has no match
+module _ (side : Side) (s rows : List ℕ) (n e : ℕ) (below : e < n) (elements : List Element) (ready : Ready s rows n elements) where
+  abbrev x : Element
+  x = elementAt elements e
+
+  abbrev told : Tells s rows e x
+  told = element-told s rows n e below elements ready
+
+  other-kind : isIn (kindAt rows e) (kindsOf side) ≡ false → elementMatches side elements e x ≡ []
+  other-kind t =
+      unread side elements e x (λ portion unit j.
+      true≢false (sym (joins-told side x portion unit j .on-side) ∙ ap (λ (k : ℕ). isIn k (kindsOf side)) (sym (told .kind)) ∙ t))
+
+  no-name : ltb (firstAt rows identifierColumn e) (pastAt rows identifierColumn e) ≡ false → elementMatches side elements e x ≡ []
+  no-name t =
+      unread side elements e x (λ portion unit j.
+      let a : absent ≡ octets (joins-told side x portion unit j .identifier) = sym (told .identifier ∙ rw t) ∙ joins-told side x portion unit j .named in
+      let z : _≡_ {A = ℕ} 0 1 = cc in
+      omega arith)
+
+  no-portion : ltb (firstAt rows portionsColumn e) (pastAt rows portionsColumn e) ≡ false → elementMatches side elements e x ≡ []
+  unfolding elementMatches forEach
+  no-portion t =
+      let fine = told .portions-fine in
+      let at : firstAt rows portionsColumn e ≡ pastAt rows portionsColumn e = omega (arith, ltb-false (firstAt rows portionsColumn e) (pastAt rows portionsColumn e) t, fine .order) in
+      let empty : itemsOf s (portionsAt rows e) ≡ none = ap (λ (w : Walked). w .items) (sym (derived (at-limit at))) in
+      let none-left : x .portions ≡ [] = sym (told .portions) ∙ values-end s (portionsAt rows e) empty in
+      rw none-left
+
+  pub unlisted : listed side rows e ≡ false → elementMatches side elements e x ≡ []
+  unfolding listed
+  unlisted t =
+      cases (isIn (kindAt rows e) (kindsOf side))
+      (λ a. cases (ltb (firstAt rows identifierColumn e) (pastAt rows identifierColumn e)) (λ b. no-portion (rw (a, b) at t)) no-name)
+      other-kind

@@ -1,0 +1,70 @@
+-- `reading::is_listed` meets its contract: the tests are the definition's, in its order. Assumes nothing.
+use mathlib.Core.Path.{_≡_, sym, ap, _∙_}
+use Prim.Native.Nat.{ℕ}
+use borrow.Author.Tests.{not-true, not-false, le-ltb, lt-ltb}
+use Rattle.octets.specs.First.{isIn}
+use Rattle.index.specs.Rows.{kindAt}
+use Rattle.reading.specs.Match.{kindsOf}
+use Rattle.reading.specs.Ready.{listed}
+use borrow.Author.Needs.{needs}
+use Rattle.reading.proofs.is_listed.Statement.{statement}
+use Rattle.reading.proofs.is_listed.Tie as tie
+
+mul-wide : tie.Need-mul-wide
+mul-wide c = search needs
+
+mul-wide-2 : tie.Need-mul-wide-2
+mul-wide-2 c = search needs
+
+shared-slice-read-wide : tie.Need-shared-slice-read-wide
+shared-slice-read-wide c = search needs
+
+wide-requires : tie.Need-wide-requires
+wide-requires c κs = search needs
+
+is-read-requires : tie.Need-is-read-requires
+is-read-requires c κs = search needs
+
+-- the kind was tested
+kind-read : (c : tie.After-is-read) → isIn (kindAt (c .before .before .before .before .args .rows .now) (c .before .before .before .before .args .j)) (kindsOf (c .before .before .before .before .args .side)) ≡ c .is-read .result
+kind-read c = ap (λ (k : ℕ). isIn k (kindsOf (c .before .before .before .before .args .side))) (sym (c .before .wide .ensures)) ∙ sym (c .is-read .ensures)
+
+returns : tie.Need-returns
+unfolding listed
+returns c = rw (kind-read (c .before) ∙ not-true _ (c .if1 .taken))
+
+bounds-at-requires : tie.Need-bounds-at-requires
+bounds-at-requires c κs = search needs
+
+returns-2 : tie.Need-returns-2
+unfolding listed
+returns-2 c =
+    let read = c .before .before .before in
+    let name = c .before .before .bounds-at .ensures in
+    rw (kind-read (read .before) ∙ not-false _ (read .if1 .left), ← name .0, ← name .1, le-ltb _ _ (c .if2 .taken))
+
+bounds-at-requires-2 : tie.Need-bounds-at-requires-2
+bounds-at-requires-2 c κs = search needs
+
+returns-3 : tie.Need-returns-3
+unfolding listed
+returns-3 c =
+    let read = c .before .before .before .before .before in
+    let name = c .before .before .before .before .bounds-at .ensures in
+    let portions = c .before .bounds-at2 .ensures in
+    rw (kind-read (read .before) ∙ not-false _ (read .if1 .left), ← name .0, ← name .1, lt-ltb _ _ (c .before .before .if2 .left), portions .0, portions .1)
+
+pub is-listed-spec : {M : Type 1} → statement M
+is-listed-spec =
+    tie.close
+    (tie.spec
+    mul-wide
+    mul-wide-2
+    shared-slice-read-wide
+    wide-requires
+    is-read-requires
+    returns
+    bounds-at-requires
+    returns-2
+    bounds-at-requires-2
+    returns-3)

@@ -1,0 +1,40 @@
+-- `reading::list_element` meets its contract: an element that is not listed has no match. Assumes nothing.
+use mathlib.Core.Path.{sym, _∙_, subst}
+use mathlib.Core.List.{List}
+use native.Mathlib.Omega.{arith}
+use borrow.Author.Tests.{not-true, not-false}
+use Rattle.reading.specs.declared.Match.{Match}
+use Rattle.reading.specs.Records.{Puts}
+use Rattle.reading.proofs.Putting.{puts-none}
+use Rattle.reading.proofs.Listing.{unlisted}
+use borrow.Author.Needs.{needs}
+use Rattle.reading.proofs.list_element.Statement.{statement}
+use Rattle.reading.proofs.list_element.Tie as tie
+
+is-listed-requires : tie.Need-is-listed-requires
+is-listed-requires c κs =
+    let start = c .before .before .before .before .before in
+    omega (arith, start .pre .1 .0, start .pre .0 .bounded .in-table)
+
+returns : tie.Need-returns
+returns c elements ready =
+    let start = c .before .before .before .before .before .before .before in
+    let a = start .args in
+    let none = unlisted (a .side) (a .s .now) (a .rows .now) (a .n) (a .element) (start .pre .1 .0) elements ready
+    (sym (c .before .is-listed .ensures) ∙ not-true _ (c .if1 .taken)) in
+    subst (λ (ms : List Match). Puts (a .flat .now) (a .count) ms (a .flat .now) (a .count)) (sym none) (puts-none (a .flat .now) (a .count))
+
+list-portions-requires : tie.Need-list-portions-requires
+list-portions-requires c κs =
+    let start = c .before .before .before .before .before .before .before .before in
+    (start .pre .0, ((start .pre .1 .0, sym (c .before .before .is-listed .ensures) ∙ not-false _ (c .before .if1 .left)), start .pre .1 .1))
+
+same-length : tie.Need-same-length
+same-length c = search needs
+
+returns-2 : tie.Need-returns-2
+returns-2 c = search needs
+
+pub list-element-spec : {M : Type 1} → statement M
+list-element-spec =
+    tie.close (tie.spec is-listed-requires returns list-portions-requires same-length returns-2)

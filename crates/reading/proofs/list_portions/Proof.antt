@@ -1,0 +1,170 @@
+-- `reading::list_portions` meets its contract: each portion that is met yields its match, if there is one. The measure is what is left of
+-- the run. Assumes nothing.
+use mathlib.Core.Path.{_≡_, refl, sym, ap, _∙_, subst}
+use Prim.Native.Nat.{ℕ, _-_}
+use native.Mathlib.Omega.{arith}
+use mathlib.Core.List.{[], _∷_, _++_}
+use lib.Seq.{slice}
+use borrow.Author.Needs.{needs}
+use Rattle.reading.proofs.Listing.{Listing, listing-all, listing-none, listing-more, room-for-one, small-element, small-place, found-small, finds-on}
+use Rattle.runs.specs.Runs.{Meets, Meeting}
+use Rattle.names.specs.Names.{spaceByte}
+use Rattle.names.specs.Hash.{hashFrom}
+use Rattle.index.specs.Rows.{identifierColumn, firstAt, pastAt}
+use Rattle.index.specs.Index.{Finds}
+use Rattle.reading.specs.Ready.{columnOf, unitSpace}
+use Rattle.reading.proofs.list_portions.Statement.{statement}
+use Rattle.reading.proofs.list_portions.Tie as tie
+
+abbrev Inv-loop : tie.InvT-loop
+Inv-loop s rows head next n side element flat₀ count first past hashed left₀ place₀ total₀ flat left place total =
+    Listing side s rows n element flat₀ count flat left place total
+
+abbrev μ-loop : tie.MeasureT-loop
+μ-loop s rows head next n side element flat₀ count first past hashed left₀ place₀ total₀ flat left place total =
+    left .limit - left .at
+
+-- what is known at the entry, from the loop's head
+abbrev entry : tie.At-loop Inv-loop μ-loop → tie.Start Inv-loop μ-loop
+entry c = c .before .before .before .before .before .before .before .before .before .before
+
+-- the portion that is met
+meeting : (c : tie.After-known-told Inv-loop μ-loop) →
+    let g = c .before .from .given .0 in
+    Meeting (entry (c .before .before .before .before) .args .s .now) (c .before .before .before .before .loop .left) (g .0) (g .1 .0) (g .1 .1 .0) (g .1 .1 .1 .0) (g .1 .1 .1 .1 .0)
+meeting c =
+    let at = c .before .before .before .before in
+    subst (Meets (entry at .args .s .now) (at .loop .left)) (c .before .from .given .1) (c .before .before .before .meet .ensures)
+
+-- what is found for it
+finds : (c : tie.After-unit-of Inv-loop μ-loop) →
+    let start = entry (c .before .before .before .before .before .before) in
+    let s = start .args .s .now in
+    let rows = start .args .rows .now in
+    let element = start .args .element in
+    let g = c .before .before .before .from .given .0 in
+    Finds s rows (columnOf (start .args .side)) (start .args .n) unitSpace (slice (firstAt rows identifierColumn element) (pastAt rows identifierColumn element) s ++ spaceByte ∷ slice (g .1 .0) (g .1 .1 .0) s) (c .unit-of .result)
+finds c =
+    let at = c .before .before .before .before .before .before in
+    let a = entry at .args in
+    let g = c .before .before .before .from .given .0 in
+    let name = at .before .before .before .before .bounds-at .ensures in
+    finds-on (a .side) (a .s .now) (a .rows .now) (a .n) (a .element) (slice (g .1 .0) (g .1 .1 .0) (a .s .now)) (c .unit-of .result) (c .before .column-of .ensures) (name .0) (name .1) (c .unit-of .ensures)
+
+bounds-at-requires : tie.Need-bounds-at-requires Inv-loop μ-loop
+bounds-at-requires c κs =
+    let start = c .before .before .before .before .before in
+    (omega arith, omega (arith, start .pre .1 .0 .0, start .pre .0 .bounded .in-table))
+
+hash-over-requires : tie.Need-hash-over-requires Inv-loop μ-loop
+hash-over-requires c κs =
+    let start = c .before .before .before .before .before .before in
+    let name = c .bounds-at .ensures in
+    let bounded = start .pre .0 .bounded in
+    (omega (arith, bounded .ordered (start .args .element) (start .pre .1 .0 .0)), omega (arith, bounded .inside (start .args .element) (start .pre .1 .0 .0)), omega arith)
+
+hash-space-requires : tie.Need-hash-space-requires Inv-loop μ-loop
+hash-space-requires c κs = c .hash-over .ensures .1
+
+portions-at-requires : tie.Need-portions-at-requires Inv-loop μ-loop
+portions-at-requires c κs =
+    let start = c .before .before .before .before .before .before .before .before in
+    omega (arith, start .pre .1 .0 .0, start .pre .0 .bounded .in-table)
+
+loop-holds : tie.Need-loop-holds Inv-loop μ-loop
+loop-holds c =
+    let start = c .before .before .before .before .before .before .before .before .before in
+    rw (c .portions-at .ensures) (listing-all (start .pre .0) (start .pre .1 .0 .0) (start .pre .1 .0 .1) (start .args .flat .now) (start .args .count) (start .pre .1 .1))
+
+meet-requires : tie.Need-meet-requires Inv-loop μ-loop
+meet-requires c κs = c .loop .inv .fine
+
+enum-told : tie.Need-enum-told Inv-loop μ-loop
+enum-told c = search needs
+
+same-length : tie.Need-same-length Inv-loop μ-loop
+same-length c = c .before .before .before .loop .inv .kept
+
+returns : tie.Need-returns Inv-loop μ-loop
+returns c =
+    let at = c .before .before .before in
+    let start = entry at in
+    listing-none (start .pre .0) (start .pre .1 .0 .0) (start .pre .1 .0 .1) (at .loop .inv)
+    (subst (Meets (start .args .s .now) (at .loop .left)) (c .enum-told .given .1) (c .before .before .meet .ensures))
+
+enum-known-from : tie.Need-enum-known-from Inv-loop μ-loop
+enum-known-from c = search needs
+
+column-of-requires : tie.Need-column-of-requires Inv-loop μ-loop
+column-of-requires c κs = search needs
+
+unit-of-requires : tie.Need-unit-of-requires Inv-loop μ-loop
+unit-of-requires c κs =
+    let at = c .before .before .before .before .before in
+    let start = entry at in
+    let name = at .before .before .before .before .bounds-at .ensures in
+    let bounded = start .pre .0 .bounded in
+    let hashed = at .before .before .before .hash-over .ensures in
+    let spaced = at .before .before .hash-space .ensures in
+    let met = meeting (c .before) in (
+      rw (c .column-of .ensures) (start .pre .0 .bounded-on),
+      (
+        rw (c .column-of .ensures) (start .pre .0 .indexed),
+        (
+          (rw (← hashed .0) (spaced .0), spaced .1),
+          (omega (arith, bounded .ordered (start .args .element) (start .pre .1 .0 .0)), omega (arith, bounded .inside (start .args .element) (start .pre .1 .0 .0)), met .value-order, met .value-inside),
+        ),
+      ),
+    )
+
+put-found-requires : tie.Need-put-found-requires Inv-loop μ-loop
+put-found-requires c κs =
+    let at = c .before .before .before .before .before .before .before in
+    let start = entry at in
+    let known = start .pre .0 in
+    let met = meeting (c .before .before .before) in
+    let found = c .before .unit-of .result in
+    let one = finds (c .before) in (
+      room-for-one known (start .pre .1 .0 .0) (start .pre .1 .0 .1) (at .loop .inv) met found one,
+      (small-element known (start .pre .1 .0 .0) (start .pre .1 .0 .1) (at .loop .inv) met found one, omega (arith, small-place known (start .pre .1 .0 .0) (start .pre .1 .0 .1) (at .loop .inv) met found one), found-small known (start .pre .1 .0 .0) (start .pre .1 .0 .1) (at .loop .inv) met found one),
+    )
+
+add-place : tie.Need-add-place Inv-loop μ-loop
+add-place c =
+    let at = c .before .before .before .before .before .before .before .before .before .before in
+    let start = entry at in
+    let unit = c .before .before .before .before in
+    omega (arith, small-place (start .pre .0) (start .pre .1 .0 .0) (start .pre .1 .0 .1) (at .loop .inv) (meeting (unit .before .before)) (unit .unit-of .result) (finds unit))
+
+loop-less : tie.Need-loop-less Inv-loop μ-loop
+loop-less c = meeting (c .before .before .before .before .before .before) .less
+
+loop-again : tie.Need-loop-again Inv-loop μ-loop
+loop-again c =
+    let at = c .before .before .before .before .before .before .before .before .before .before in
+    let start = entry at in
+    let unit = c .before .before .before .before in
+    listing-more (start .pre .0) (start .pre .1 .0 .0) (start .pre .1 .0 .1) (at .loop .inv) (meeting (unit .before .before)) (unit .unit-of .result) (finds unit) (c .before .before .put-found .ensures)
+
+pub list-portions-spec : {M : Type 1} → statement M
+list-portions-spec =
+    tie.close
+    (tie.spec
+    Inv-loop
+    μ-loop
+    bounds-at-requires
+    hash-over-requires
+    hash-space-requires
+    portions-at-requires
+    loop-holds
+    meet-requires
+    enum-told
+    same-length
+    returns
+    enum-known-from
+    column-of-requires
+    unit-of-requires
+    put-found-requires
+    add-place
+    loop-less
+    loop-again)

@@ -1,0 +1,13 @@
+-- `reading::portions_at` meets its contract. Assumes nothing.
+use borrow.Author.Needs.{needs}
+use Rattle.reading.proofs.portions_at.Statement.{statement}
+use Rattle.reading.proofs.portions_at.Tie as tie
+
+bounds-at-requires : tie.Need-bounds-at-requires
+bounds-at-requires c κs = search needs
+
+returns : tie.Need-returns
+returns c = rw (c .bounds-at .ensures .0, c .bounds-at .ensures .1)
+
+pub portions-at-spec : {M : Type 1} → statement M
+portions-at-spec = tie.close (tie.spec bounds-at-requires returns)

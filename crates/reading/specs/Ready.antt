@@ -1,0 +1,107 @@
+-- What is known of an accepted letter when its matches are looked up: its elements, their rows, and the index of the text units by the
+-- identifier of the side. Of any edition. Definitions only: assumes nothing.
+use mathlib.Core.Path.{_≡_}
+use mathlib.Core.Bool.{Bool, true, false, cond, _&&_}
+use mathlib.Core.Option.{some}
+use mathlib.Core.List.{List, [], _∷_}
+use Prim.Native.Nat.{ℕ, _+_, _*_, _<_, _≤_}
+use lib.Dec.{ltb}
+use lib.ListN.{length, getD, getElem?}
+use lib.Seq.{slice}
+use Rattle.octets.specs.First.{isIn}
+use Rattle.runs.specs.declared.Run.{Run}
+use Rattle.runs.specs.Runs.{treeIn, definiteRun, Fine}
+use Rattle.contents.specs.Search.{Value, absent, octets}
+use Rattle.portions.specs.Portions.{allPortions, values}
+use Rattle.index.specs.declared.Found.{Found}
+use Rattle.index.specs.declared.Found.the-variants.{At, Nothing}
+use Rattle.index.specs.Rows.{identifierColumn, logicalColumn, kindAt, firstAt, pastAt, Bounded}
+use Rattle.index.specs.Index.{Indexed}
+use Rattle.elements.specs.Element.{Element}
+use Rattle.letters.specs.Table.{Apart}
+use Rattle.reading.specs.declared.Match.{Match}
+use Rattle.reading.specs.declared.Side.{Side}
+use Rattle.reading.specs.declared.Side.the-variants.{Layout, Logical}
+use Rattle.reading.specs.Match.{kindsOf, elementMatches, matches}
+use Rattle.reading.specs.Records.{Puts}
+
+-- where a row has the portions, and the identifier of a side
+abbrev pub portionsColumn : ℕ
+portionsColumn = 8
+
+abbrev pub columnOf : Side → ℕ
+columnOf Layout = identifierColumn
+columnOf Logical = logicalColumn
+
+-- the name space of text units
+abbrev pub unitSpace : ℕ
+unitSpace = 2
+
+-- the identifier that a pair of numbers bounds; none is empty
+abbrev pub nameIn : List ℕ → (first past : ℕ) → Value
+nameIn s first past = cond (ltb first past) (octets (slice first past s)) absent
+
+-- the run of the portions of row j: its items are primitive, which takes one level
+abbrev pub portionsAt : (rows : List ℕ) → (j : ℕ) → Run
+portionsAt rows j = definiteRun (firstAt rows portionsColumn j) (pastAt rows portionsColumn j) 1
+
+-- row j tells what its element says
+pub record Tells (s rows : List ℕ) (j : ℕ) (element : Element) : Type 0 where
+  pub kind : kindAt rows j ≡ element .kind
+  pub identifier : element .identifier ≡ nameIn s (firstAt rows identifierColumn j) (pastAt rows identifierColumn j)
+  pub logical : element .logical ≡ nameIn s (firstAt rows logicalColumn j) (pastAt rows logicalColumn j)
+  pub portions-fine : Fine s (portionsAt rows j)
+  pub only-portions : allPortions (treeIn s (portionsAt rows j)) ≡ true
+  pub portions : values (treeIn s (portionsAt rows j)) ≡ element .portions
+
+-- the first n rows tell of the elements of an accepted letter
+pub record Ready (s rows : List ℕ) (n : ℕ) (elements : List Element) : Type 0 where
+  pub apart : Apart elements
+  pub counted : length elements ≡ n
+  pub tells : (j : ℕ) (element : Element) → getElem? elements j ≡ some element → Tells s rows j element
+
+-- the elements need not be known, and the rows are indexed by the identifier of the side
+pub record Set (side : Side) (s rows head next : List ℕ) (n : ℕ) : Type 0 where
+  pub elements : List Element
+  pub ready : Ready s rows n elements
+  pub bounded : Bounded s rows identifierColumn n
+  pub bounded-on : Bounded s rows (columnOf side) n
+  pub indexed : Indexed s rows (columnOf side) head next n
+
+-- the matches that a look-up of a portion yields
+abbrev pub foundMatches : (e p : ℕ) → Found → List Match
+foundMatches e p (At u) = record { element = e; portion = p; unit = u } ∷ []
+foundMatches e p Nothing = []
+
+-- a unit that was found has a number below n
+abbrev pub FoundBelow : (n : ℕ) → Found → Type 0
+FoundBelow n (At u) = u < n
+FoundBelow n Nothing = Unit {0}
+
+-- the element past the last
+abbrev pub noElement : Element
+noElement = record { kind = 0; object = 0; identifier = absent; logical = absent; portions = []; content = absent }
+
+abbrev pub elementAt : List Element → (e : ℕ) → Element
+elementAt elements e = getD elements e noElement
+
+-- whether element e is read on the side and has an identifier and portions
+unfoldable pub listed : (side : Side) (rows : List ℕ) (e : ℕ) → Bool
+listed side rows e =
+    isIn (kindAt rows e) (kindsOf side)
+    && ltb (firstAt rows identifierColumn e) (pastAt rows identifierColumn e)
+    && ltb (firstAt rows portionsColumn e) (pastAt rows portionsColumn e)
+
+-- there is room for the matches of element e after so many
+abbrev pub Room : (side : Side) (s rows : List ℕ) (n e : ℕ) (flat : List ℕ) (count : ℕ) → Type 0
+Room side s rows n e flat count =
+    (elements : List Element) → Ready s rows n elements → 3 * (count + length (elementMatches side elements e (elementAt elements e))) ≤ length flat
+
+-- the matches of element e are put after so many
+abbrev pub PutsElement : (side : Side) (s rows : List ℕ) (n e : ℕ) (before : List ℕ) (count : ℕ) (after : List ℕ) (total : ℕ) → Type 0
+PutsElement side s rows n e before count after total =
+    (elements : List Element) → Ready s rows n elements → Puts before count (elementMatches side elements e (elementAt elements e)) after total
+
+-- all matches of the side are put
+abbrev pub PutsAll : (side : Side) (s rows : List ℕ) (n : ℕ) (before after : List ℕ) (total : ℕ) → Type 0
+PutsAll side s rows n before after total = (elements : List Element) → Ready s rows n elements → Puts before 0 (matches side elements) after total

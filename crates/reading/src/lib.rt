@@ -1,0 +1,334 @@
+// The reading list of a side.
+use contents::Span;
+use index::Found;
+use names::Asked;
+use runs::Met;
+use runs::Run;
+ghost use mathlib.Core.Path.{_≡_};
+ghost use mathlib.Core.Bool.{true};
+ghost use mathlib.Core.List.{List, [], _∷_, _++_};
+ghost use Prim.Native.Nat.{ℕ, _+_, _*_, _<_, _≤_};
+ghost use lib.ListN.{length, drop, getD};
+ghost use lib.Seq.{slice};
+ghost use Rattle.octets.specs.First.{isIn};
+ghost use Rattle.names.specs.Names.{spaceByte};
+ghost use Rattle.names.specs.Hash.{hash, hashFrom, hashes};
+ghost use Rattle.index.specs.Rows.{rowWidth, identifierColumn, kindAt, firstAt, pastAt, Bounded};
+ghost use Rattle.index.specs.Index.{Indexed, Finds};
+ghost use Rattle.tree.specs.Tree.{treeOf};
+ghost use Rattle.elements.specs.Shape.{edition1988};
+ghost use Rattle.elements.specs.Element.{Element};
+ghost use Rattle.elements.specs.Judge.{accepted, judge};
+ghost use Rattle.letters.specs.Scratch.{Filled};
+ghost use Rattle.reading.specs.Match.{kindsOf};
+ghost use Rattle.reading.specs.Records.{recordAt, records, Puts, Lists};
+ghost use Rattle.reading.specs.Ready.{columnOf, unitSpace, portionsAt, listed, Set, Room, PutsElement, PutsAll, foundMatches, FoundBelow};
+
+const ROW_WIDTH: usize = 12;
+
+const IDENTIFIER: usize = 4;
+
+const LOGICAL: usize = 6;
+
+const PORTIONS: usize = 8;
+
+// The name space of text units.
+const UNITS: u8 = 2;
+
+// Which objects and classes are read, and by which identifier of a text unit.
+pub enum Side {
+    Layout,
+    Logical,
+}
+
+// One record of the reading list: an element, a place in its portions and a text unit, all from 0.
+#[repr(C)]
+pub struct Match {
+    pub element: u32,
+    pub portion: u32,
+    pub unit: u32,
+}
+
+// The record k of a list of numbers, three a record.
+fn record_at(flat: &[u32], k: usize) -> Match
+    requires { ⌜ 3 * k + 2 < length (now flat) ⌝ }
+    ensures { λ r. ⌜ r ≡ recordAt (now (flat .entry)) k ⌝ }
+{
+    let at = 3 * k;
+    Match {
+        element: flat[at],
+        portion: flat[at + 1],
+        unit: flat[at + 2],
+    }
+}
+
+// Fills the list that is lent with the first records; those past them keep theirs.
+pub fn fill(flat: &[u32], count: usize, list: &mut [Match])
+    requires { ⌜ (3 * count ≤ length (now flat)) × (count ≤ length (now list)) ⌝ }
+    ensures { λ _. ⌜ now (list .exit) ≡ records (now (flat .entry)) count ++ drop count (now (list .entry)) ⌝ }
+{
+    let mut k: usize = 0;
+    while k < count {
+        let m = record_at(flat, k);
+        list[k] = m;
+        k += 1;
+    }
+}
+
+fn wide(x: u32) -> usize
+    ensures { λ r. ⌜ r ≡ x ⌝ }
+{
+    x as usize
+}
+
+fn column_of(side: Side) -> usize
+    ensures { λ r. ⌜ r ≡ columnOf side ⌝ }
+{
+    match side {
+        Side::Layout => IDENTIFIER,
+        Side::Logical => LOGICAL,
+    }
+}
+
+fn is_either(x: usize, a: usize, b: usize) -> bool
+    ensures { λ r. ⌜ r ≡ isIn x (a ∷ b ∷ []) ⌝ }
+{
+    if x == a {
+        return true;
+    }
+    x == b
+}
+
+// Whether elements of a kind are read on a side.
+fn is_read(side: Side, kind: usize) -> bool
+    ensures { λ r. ⌜ r ≡ isIn kind (kindsOf side) ⌝ }
+{
+    match side {
+        Side::Layout => is_either(kind, 1, 2),
+        Side::Logical => is_either(kind, 5, 6),
+    }
+}
+
+// The bounds of row j at a column.
+fn bounds_at(rows: &[u32], j: usize, column: usize) -> Span
+    requires { ⌜ (column + 1 < rowWidth) × (j * rowWidth + rowWidth ≤ length (now rows)) ⌝ }
+    ensures { λ r. ⌜ (r .first ≡ firstAt (now (rows .entry)) column j) × (r .past ≡ pastAt (now (rows .entry)) column j) ⌝ }
+{
+    let at = j * ROW_WIDTH + column;
+    let first = wide(rows[at]);
+    let past = wide(rows[at + 1]);
+    Span { first, past }
+}
+
+// The run of the portions of row j.
+fn portions_at(rows: &[u32], j: usize) -> Run
+    requires { ⌜ j * rowWidth + rowWidth ≤ length (now rows) ⌝ }
+    ensures { λ r. ⌜ r ≡ portionsAt (now (rows .entry)) j ⌝ }
+{
+    let bounds = bounds_at(rows, j, PORTIONS);
+    Run {
+        at: bounds.first,
+        limit: bounds.past,
+        marked: false,
+        room: 1,
+    }
+}
+
+// Whether element j is read on the side and has an identifier and portions.
+fn is_listed(rows: &[u32], side: Side, j: usize) -> bool
+    requires { ⌜ j * rowWidth + rowWidth ≤ length (now rows) ⌝ }
+    ensures { λ r. ⌜ r ≡ listed side (now (rows .entry)) j ⌝ }
+{
+    let kind = wide(rows[j * ROW_WIDTH]);
+    if !is_read(side, kind) {
+        return false;
+    }
+    let name = bounds_at(rows, j, IDENTIFIER);
+    if name.past <= name.first {
+        return false;
+    }
+    let portions = bounds_at(rows, j, PORTIONS);
+    portions.first < portions.past
+}
+
+// The text unit whose identifier is s[first..past], one space and s[from..to]; `hashed` is the hash up to the space.
+fn unit_of(
+    s: &[u8],
+    rows: &[u32],
+    head: &[u16],
+    next: &[u16],
+    n: usize,
+    column: usize,
+    hashed: usize,
+    first: usize,
+    past: usize,
+    from: usize,
+    to: usize,
+) -> Found
+    requires { ⌜ Bounded (now s) (now rows) column n ⌝ }
+    requires { ⌜ Indexed (now s) (now rows) column (now head) (now next) n ⌝ }
+    requires { ⌜ (hashed ≡ hashFrom (hash (slice first past (now s))) (spaceByte ∷ [])) × (hashed < hashes) ⌝ }
+    requires { ⌜ (first ≤ past) × (past ≤ length (now s)) × (from ≤ to) × (to ≤ length (now s)) ⌝ }
+    ensures { λ r. ⌜ Finds (now (s .entry)) (now (rows .entry)) column n unitSpace (slice first past (now (s .entry)) ++ spaceByte ∷ slice from to (now (s .entry))) r ⌝ }
+{
+    let asked = Asked {
+        first,
+        past,
+        joined: true,
+        from,
+        to,
+    };
+    let whole = names::hash_over(s, from, to, hashed);
+    index::find(s, rows, head, next, n, column, UNITS, whole, asked)
+}
+
+// Puts one record in its place.
+fn put_record(flat: &mut [u32], k: usize, element: usize, portion: usize, unit: usize)
+    requires { ⌜ 3 * k + 3 ≤ length (now flat) ⌝ }
+    requires { ⌜ (element < 4294967296) × (portion < 4294967296) × (unit < 4294967296) ⌝ }
+    ensures { λ _. ⌜ Puts (now (flat .entry)) k (foundMatches element portion (Found.At unit)) (now (flat .exit)) (k + 1) ⌝ }
+{
+    let at = 3 * k;
+    flat[at] = element as u32;
+    flat[at + 1] = portion as u32;
+    flat[at + 2] = unit as u32;
+}
+
+// Puts the record of a portion whose unit was found.
+fn put_found(flat: &mut [u32], count: usize, element: usize, portion: usize, found: Found) -> usize
+    requires { ⌜ 3 * (count + length (foundMatches element portion found)) ≤ length (now flat) ⌝ }
+    requires { ⌜ (element < 4294967296) × (portion < 4294967296) × FoundBelow 4294967296 found ⌝ }
+    ensures { λ r. ⌜ Puts (now (flat .entry)) count (foundMatches element portion found) (now (flat .exit)) r ⌝ }
+{
+    match found {
+        Found::At(unit) => {
+            put_record(flat, count, element, portion, unit);
+            count + 1
+        }
+        Found::Nothing => count,
+    }
+}
+
+// Puts the matches of an element that is listed. The identifier is hashed once, and no joined name is written out.
+fn list_portions(
+    s: &[u8],
+    rows: &[u32],
+    head: &[u16],
+    next: &[u16],
+    n: usize,
+    side: Side,
+    element: usize,
+    flat: &mut [u32],
+    count: usize,
+) -> usize
+    requires { ⌜ Set side (now s) (now rows) (now head) (now next) n ⌝ }
+    requires { ⌜ (element < n) × (listed side (now rows) element ≡ true) ⌝ }
+    requires { ⌜ Room side (now s) (now rows) n element (now flat) count ⌝ }
+    ensures { λ r. ⌜ PutsElement side (now (s .entry)) (now (rows .entry)) n element (now (flat .entry)) count (now (flat .exit)) r ⌝ }
+{
+    let name = bounds_at(rows, element, IDENTIFIER);
+    let first = name.first;
+    let past = name.past;
+    let hashed = names::hash_space(names::hash_over(s, first, past, 0));
+    let mut left = portions_at(rows, element);
+    let mut place: usize = 0;
+    let mut total = count;
+    loop {
+        match runs::meet(s, left) {
+            Met::End => return total,
+            Met::Item {
+                octet: _,
+                first: from,
+                past: to,
+                inner: _,
+                rest,
+            } => {
+                let column = column_of(side);
+                let found = unit_of(
+                    s,
+                    rows,
+                    head,
+                    next,
+                    n,
+                    column,
+                    hashed,
+                    first,
+                    past,
+                    from,
+                    to,
+                );
+                total = put_found(flat, total, element, place, found);
+                place += 1;
+                left = rest;
+            }
+        }
+    }
+}
+
+// Puts the matches of one element.
+fn list_element(
+    s: &[u8],
+    rows: &[u32],
+    head: &[u16],
+    next: &[u16],
+    n: usize,
+    side: Side,
+    element: usize,
+    flat: &mut [u32],
+    count: usize,
+) -> usize
+    requires { ⌜ Set side (now s) (now rows) (now head) (now next) n ⌝ }
+    requires { ⌜ element < n ⌝ }
+    requires { ⌜ Room side (now s) (now rows) n element (now flat) count ⌝ }
+    ensures { λ r. ⌜ PutsElement side (now (s .entry)) (now (rows .entry)) n element (now (flat .entry)) count (now (flat .exit)) r ⌝ }
+{
+    if !is_listed(rows, side, element) {
+        return count;
+    }
+    list_portions(s, rows, head, next, n, side, element, flat, count)
+}
+
+// Puts all matches of a side, by the index of its identifiers.
+fn list_side(
+    s: &[u8],
+    rows: &[u32],
+    head: &[u16],
+    next: &[u16],
+    n: usize,
+    side: Side,
+    flat: &mut [u32],
+) -> usize
+    requires { ⌜ Set side (now s) (now rows) (now head) (now next) n ⌝ }
+    requires { ⌜ 3 * n ≤ length (now flat) ⌝ }
+    ensures { λ r. ⌜ PutsAll side (now (s .entry)) (now (rows .entry)) n (now (flat .entry)) (now (flat .exit)) r ⌝ }
+{
+    let mut element: usize = 0;
+    let mut count: usize = 0;
+    while element < n {
+        count = list_element(s, rows, head, next, n, side, element, flat, count);
+        element += 1;
+    }
+    count
+}
+
+// Lists the matches of a side of an accepted letter, of which the judge filled the scratch: three numbers a record, and how many.
+pub fn list_matches(
+    s: &[u8],
+    rows: &[u32],
+    head: &[u16],
+    next: &[u16],
+    head2: &[u16],
+    next2: &[u16],
+    n: usize,
+    side: Side,
+    flat: &mut [u32],
+) -> usize
+    requires { ⌜ Filled (now s) (now rows) (now head) (now next) (now head2) (now next2) n ⌝ }
+    requires { ⌜ 3 * n ≤ length (now flat) ⌝ }
+    ensures { λ r. ⌜ ((elements : List Element) → judge edition1988 (treeOf (now (s .entry))) ≡ accepted elements → Lists side elements (now (flat .entry)) (now (flat .exit)) r) ⌝ }
+{
+    match side {
+        Side::Layout => list_side(s, rows, head, next, n, Side::Layout, flat),
+        Side::Logical => list_side(s, rows, head2, next2, n, Side::Logical, flat),
+    }
+}

@@ -1,0 +1,127 @@
+/* odif.h: a reader of ODIF letters (CCITT T.415, ISO 8613-5, 1988), proved to its contracts.
+
+   Link with target/staticlib/libodif.a. The functions keep no state, allocate nothing and may be called from any
+   number of threads at once. They take any octets whatever and read no octet outside the stream that is lent.
+
+   Every answer begins with a number and a place. Number 0 is accepted or answered, with place 0. Any other number is
+   a refusal; places count octets of the stream from 0.
+
+   no.  when                                                                          place
+    1   the stream is over 1,048,576 octets                                           0
+    2   00 where no indefinite item is innermost, or 00 followed within the limit     the 00
+        by another octet than 00
+    3   an item at level 17                                                           the item
+    4   number bits 11111                                                             the item
+    5   a universal number in a form that it never has                                the item
+    6   a first length octet of 85 to FF, or 80 on a primitive                        the item
+    7   a header, a value or the second 00 of a closing mark passes the limit;        the item, the 00,
+        or an indefinite item reaches it unclosed                                     or the limit
+    8   universal primitive: 1 not one octet, 5 not empty, 2 or 10 empty              the item
+    9   the 4,097th element                                                           the element
+   10   an octet that begins no element                                               the element
+   11   the first element is no profile, a later one is, or the stream is empty       the element, or 0
+   12   the contents of an element are not as tabled                                  the element
+   13   an object type outside its range or not one octet                             the element
+   14   an identifier or portion misspelt, or a 65th portion                          the element
+   15   an identifier or portion twice                                                the later element
+   16   the table has fewer rows than there are elements                              0
+   17   the normal form is over 1,048,576 octets                                      0
+   18   the output is shorter than the normal form                                    0
+   19   the list is shorter than the matches                                          0
+   20   the asked element is no text unit or does not exist                           0
+
+   1 comes first, then the first fault of 2 to 8 in stream order, then the elements in order, 9 to 15 in order within
+   each, then 16, 17, 18, 19 or 20 where the question can give it. A refusal leaves the lent table, list and output as
+   they were, except that 19 leaves the finished table. Counts are 0 with a refusal, except that 19 keeps the element
+   count and the check's header count comes with every answer. */
+#ifndef ODIF_H
+#define ODIF_H
+
+#include <stddef.h>
+#include <stdint.h>
+
+#ifdef __cplusplus
+extern "C" {
+#endif
+
+#define ODIF_STREAM_LIMIT  1048576 /* the most octets of a stream, and of a normal form */
+#define ODIF_MOST_ELEMENTS 4096    /* so many rows are always enough */
+#define ODIF_ROW_WIDTH     12      /* the numbers of a row */
+
+/* What each number of a table row is. Each pair is first and past; every pair but the element's bounds a value. An
+   absent one is 0 and 0. */
+enum {
+    ODIF_KIND             = 0,  /* 0 document profile, 1 layout class, 2 layout object, 3 text unit, 5 logical class,
+                                   6 logical object, 7 presentation style, 8 layout style */
+    ODIF_OBJECT_TYPE      = 1,  /* 0 to 4 for layout, 0 to 2 for logical, 255 if none */
+    ODIF_FIRST            = 2,  /* the element, with its header and its closing mark */
+    ODIF_PAST             = 3,
+    ODIF_IDENTIFIER_FIRST = 4,  /* its identifier; for a text unit the layout identifier */
+    ODIF_IDENTIFIER_PAST  = 5,
+    ODIF_LOGICAL_FIRST    = 6,  /* a text unit's logical identifier */
+    ODIF_LOGICAL_PAST     = 7,
+    ODIF_PORTIONS_FIRST   = 8,  /* the portions of a class or object */
+    ODIF_PORTIONS_PAST    = 9,
+    ODIF_CONTENT_FIRST    = 10, /* a text unit's content */
+    ODIF_CONTENT_PAST     = 11
+};
+
+typedef struct {
+    uint32_t number;   /* 0, or the refusal: 1 to 16 */
+    uint32_t place;    /* the refusal's place */
+    uint32_t headers;  /* the items that passed 2 to 8, also with a refusal; 0 after 1 */
+    uint32_t elements; /* the rows filled */
+} odif_checked;
+
+typedef struct {
+    uint32_t number;   /* 0, or the refusal: 1 to 15, 17, 18 */
+    uint32_t place;    /* the refusal's place */
+    uint32_t length;   /* the octets written */
+} odif_written;
+
+typedef struct {
+    uint32_t number;   /* 0, or the refusal: 1 to 16, 19 */
+    uint32_t place;    /* the refusal's place */
+    uint32_t elements; /* the rows filled, also with 19 */
+    uint32_t matches;  /* the records filled */
+} odif_listed;
+
+typedef struct {
+    uint32_t number;   /* 0, or the refusal: 1 to 15, 20 */
+    uint32_t place;    /* the refusal's place */
+    uint32_t first;    /* the content is stream[first] to stream[past - 1]; both are 0 with a refusal */
+    uint32_t past;
+} odif_found;
+
+/* One match: the text unit's identifier is the element's identifier, one space, the portion. All count from 0. */
+typedef struct {
+    uint32_t element;  /* the row of the class or object */
+    uint32_t portion;  /* the portion's place in it */
+    uint32_t unit;     /* the row of the text unit */
+} odif_match;
+
+/* Checks a stream and fills one row an element. table_len counts numbers; numbers past the last row filled stay, and
+   an incomplete last row is not used. */
+odif_checked odif_check(const uint8_t *stream, size_t stream_len, uint32_t *table, size_t table_len);
+
+/* Writes the normal form: the same items in the same order, each length definite and as short as can be. Octets of out
+   past it stay. */
+odif_written odif_normal(const uint8_t *stream, size_t stream_len, uint8_t *out, size_t out_len);
+
+/* Fills the table and the reading list of the layout side: every match, in stream order of the elements and then in
+   the order of their portions. list_len counts records; records past the last one filled stay. */
+odif_listed odif_layout(const uint8_t *stream, size_t stream_len, uint32_t *table, size_t table_len,
+                        odif_match *list, size_t list_len);
+
+/* The same for the logical side. */
+odif_listed odif_logical(const uint8_t *stream, size_t stream_len, uint32_t *table, size_t table_len,
+                         odif_match *list, size_t list_len);
+
+/* Finds the content of the text unit in row `element`, which may be any number. */
+odif_found odif_content(const uint8_t *stream, size_t stream_len, uint32_t element);
+
+#ifdef __cplusplus
+}
+#endif
+
+#endif

@@ -1,0 +1,87 @@
+//! The examples of document 01, X.209 and Annex D: each with what is said of it in `vectors/`.
+
+use odif::{ROW_WIDTH, raw};
+
+use crate::coding::{indefinite, item};
+use crate::hold::Holder;
+use crate::rng::Rng;
+use crate::tally::Origin;
+
+const DOCUMENT_01: &str = include_str!("../../../vectors/document-01.txt");
+const X209: &str = include_str!("../../../vectors/x209.txt");
+const LISTED: [(&str, &str, &str); 3] = [
+    ("the lister's example", include_str!("../../../vectors/lister.hex"), include_str!("../../../vectors/lister.out")),
+    ("annex D, 1", include_str!("../../../vectors/annex-d-1.hex"), include_str!("../../../vectors/annex-d-1.out")),
+    ("annex D, 2", include_str!("../../../vectors/annex-d-2.hex"), include_str!("../../../vectors/annex-d-2.out")),
+];
+
+/// Octets from pairs of hexadecimal digits; white space is left out.
+pub fn octets(text: &str) -> Vec<u8> {
+    let digits: Vec<u32> = text.chars().filter_map(|digit| digit.to_digit(16)).collect();
+    digits.chunks_exact(2).map(|pair| (pair[0] << 4 | pair[1]) as u8).collect()
+}
+
+/// The streams with what a lister writes of them.
+pub fn listed() -> impl Iterator<Item = (&'static str, Vec<u8>, &'static str)> {
+    LISTED.into_iter().map(|(name, hex, out)| (name, octets(hex), out))
+}
+
+/// The lines of a table whose fields stand between semicolons.
+fn lines(table: &str) -> impl Iterator<Item = Vec<&str>> {
+    table.lines().filter(|line| !line.starts_with('#')).map(|line| line.split(';').map(str::trim).collect())
+}
+
+/// Holds both readers to the examples.
+pub fn hold(holder: &mut Holder) {
+    for fields in lines(DOCUMENT_01) {
+        let [name, hex, answer, normal] = fields[..] else { panic!("a line of four fields: {fields:?}") };
+        let normal = (normal != "-").then(|| octets(normal));
+        example(holder, name, &octets(hex), answer, normal.as_deref());
+    }
+    for fields in lines(X209) {
+        let [name, hex, alone, within, normal] = fields[..] else { panic!("a line of five fields: {fields:?}") };
+        let (value, normal) = (octets(hex), octets(normal));
+        example(holder, &format!("{name}, alone"), &value, alone, None);
+        example(holder, &format!("{name}, in a profile"), &item(0xA0, &value), within, None);
+        example(holder, &format!("{name}, in an indefinite profile"), &indefinite(0xA0, &value), within, Some(&normal));
+    }
+    for (name, stream, out) in listed() {
+        holder.hold(&stream, Origin::Fixed(name.into()), &mut Rng::new(1));
+        let written = lister(&stream);
+        holder.tally.expect(written == out, || format!("{name}: listed as\n{written}"));
+    }
+}
+
+/// Holds the library to one example; the reader is held to the library as for any stream.
+fn example(holder: &mut Holder, name: &str, stream: &[u8], answer: &str, normal: Option<&[u8]>) {
+    holder.hold(stream, Origin::Fixed(name.into()), &mut Rng::new(1));
+    let mut table = [0; 16 * ROW_WIDTH];
+    let checked = raw::check(stream, &mut table);
+    let given = format!("{} {} {}", checked.number, checked.place, checked.headers);
+    holder.tally.expect(given == answer, || format!("{name}: {given}, not {answer}"));
+    if let Some(normal) = normal {
+        let mut out = vec![0; normal.len()];
+        let written = raw::normal(stream, &mut out);
+        holder.tally.expect(written.number == 0 && out == normal, || format!("{name}: the normal form is {out:02X?}"));
+    }
+}
+
+/// What the lister of document 01 writes of a stream.
+fn lister(stream: &[u8]) -> String {
+    let mut table = vec![0; 1_024 * ROW_WIDTH];
+    let mut list = vec![raw::Match::default(); 1_024];
+    let checked = raw::check(stream, &mut table);
+    let mut text = format!("accepted {} {}\n", checked.elements, checked.headers);
+    for (number, row) in table.chunks_exact(ROW_WIDTH).take(checked.elements as usize).enumerate() {
+        text += &format!("{number} {} {} {}\n", row[2], row[3], row[0]);
+    }
+    let layout = raw::layout(stream, &mut table, &mut list);
+    text += &match_lines("layout", &list[..layout.matches as usize]);
+    let logical = raw::logical(stream, &mut table, &mut list);
+    text += &match_lines("logical", &list[..logical.matches as usize]);
+    text
+}
+
+fn match_lines(side: &str, list: &[raw::Match]) -> String {
+    list.iter().map(|found| format!("{side} {} {} {}\n", found.element, found.portion, found.unit)).collect()
+}

@@ -1,0 +1,215 @@
+//! One stream: every question put to the library and to the reader, with the same memory lent, long enough, exact and
+//! one short.
+
+use odif::{ROW_WIDTH, STREAM_LIMIT, raw};
+use reader::{Reading, Side};
+
+use crate::lent::{self, Lent};
+use crate::openssl::Batch;
+use crate::rng::Rng;
+use crate::tally::{Origin, Tally, hex};
+
+/// Compares streams and keeps count.
+#[derive(Default)]
+pub struct Holder {
+    /// The counts so far.
+    pub tally: Tally,
+    batch: Batch,
+}
+
+impl Holder {
+    /// Holds the library against the reader on one stream. What is lent is chosen by `rng` where there is a choice.
+    pub fn hold(&mut self, stream: &[u8], origin: Origin, rng: &mut Rng) {
+        let reading = Reading::of(stream);
+        let before = stream.to_vec();
+        let mut one = One { stream, reading: &reading, origin: &origin, tally: &mut self.tally };
+        one.tally.streams += 1;
+        one.ask_check(rng);
+        one.ask_list(Side::Layout, rng);
+        one.ask_list(Side::Logical, rng);
+        one.ask_normal(rng);
+        one.ask_content(rng);
+        one.expect(before == stream, "the stream itself", || "it was written to".into());
+        if reading.refusal().is_none() {
+            one.tally.accepted += 1;
+            one.ask_round_trip();
+            self.batch.add(stream, &reading, origin, &mut self.tally);
+        }
+    }
+
+    /// Ends the comparisons and gives the counts.
+    pub fn finish(mut self) -> Tally {
+        self.batch.flush(&mut self.tally);
+        self.tally
+    }
+}
+
+/// The comparisons on one stream.
+struct One<'a> {
+    stream: &'a [u8],
+    reading: &'a Reading<'a>,
+    origin: &'a Origin,
+    tally: &'a mut Tally,
+}
+
+impl One<'_> {
+    fn expect(&mut self, holds: bool, question: &str, tell: impl FnOnce() -> String) {
+        let (origin, stream) = (self.origin, self.stream);
+        self.tally.expect(holds, || format!("{origin}: {question}: {}\n  {}", tell(), hex(stream)));
+    }
+
+    /// Lengths of tables to lend: for an accepted stream exact, one number short, and with a part of a row more.
+    fn table_lengths(&self, rng: &mut Rng) -> Vec<usize> {
+        match self.reading.element_count() * ROW_WIDTH {
+            0 => vec![0, rng.below(4 * ROW_WIDTH)],
+            exact => vec![
+                exact,
+                exact - 1,
+                exact - 1 - rng.below(ROW_WIDTH),
+                exact + rng.between(1, ROW_WIDTH - 1),
+                exact + 2 * ROW_WIDTH + 5,
+                0,
+            ],
+        }
+    }
+
+    fn ask_check(&mut self, rng: &mut Rng) {
+        for length in self.table_lengths(rng) {
+            let before = Lent::new(length, lent::numbers);
+            let (mut ours, mut theirs) = (before.clone(), before.clone());
+            let answer = raw::check(self.stream, ours.lend());
+            let wanted = self.reading.check(theirs.lend());
+            self.tally.meet(answer.number);
+            let question = format!("check with a table of {length} numbers");
+            let same = [answer.number, answer.place, answer.headers, answer.elements]
+                == [wanted.number, wanted.place, wanted.headers, wanted.elements];
+            self.expect(same, &question, || format!("{answer:?}, not {wanted:?}"));
+            self.expect(ours == theirs, &question, || "the tables differ".into());
+            let used = answer.elements as usize * ROW_WIDTH;
+            self.expect(ours.is_untouched_past(used, &before), &question, || "written past the rows".into());
+            self.expect(answer.headers as usize * 2 <= self.stream.len(), &question, || "too many headers".into());
+            if answer.number == 0 {
+                let rows = &ours.cells()[..used];
+                self.expect(meet_end_to_end(rows, self.stream.len()), &question, || "the elements do not meet".into());
+            }
+        }
+    }
+
+    fn ask_list(&mut self, side: Side, rng: &mut Rng) {
+        let matches = self.reading.matches(side).len();
+        let tables = self.table_lengths(rng);
+        let lists = [matches, matches.saturating_sub(1), 0, matches + rng.between(1, 4)];
+        for list_length in lists {
+            self.ask_list_with(side, tables[0], list_length);
+        }
+        for &table_length in &tables[1..] {
+            self.ask_list_with(side, table_length, *rng.pick(&lists));
+        }
+    }
+
+    fn ask_list_with(&mut self, side: Side, table_length: usize, list_length: usize) {
+        let table_before = Lent::new(table_length, lent::numbers);
+        let list_before = Lent::new(list_length, pattern_match);
+        let (mut our_table, mut their_table) = (table_before.clone(), table_before.clone());
+        let mut our_list = list_before.clone();
+        let mut their_list = Lent::new(list_length, |place| to_reader(pattern_match(place)));
+        let answer = match side {
+            Side::Layout => raw::layout(self.stream, our_table.lend(), our_list.lend()),
+            Side::Logical => raw::logical(self.stream, our_table.lend(), our_list.lend()),
+        };
+        let wanted = self.reading.list(side, their_table.lend(), their_list.lend());
+        self.tally.meet(answer.number);
+        let question = format!("{side:?} list with a table of {table_length} numbers and {list_length} records");
+        let same = [answer.number, answer.place, answer.elements, answer.matches]
+            == [wanted.number, wanted.place, wanted.elements, wanted.matches];
+        self.expect(same, &question, || format!("{answer:?}, not {wanted:?}"));
+        self.expect(our_table == their_table, &question, || "the tables differ".into());
+        let same = our_list.cells().iter().zip(their_list.cells()).all(|(ours, theirs)| to_reader(*ours) == *theirs);
+        self.expect(same, &question, || format!("{:?}, not {:?}", our_list.cells(), their_list.cells()));
+        let used = answer.elements as usize * ROW_WIDTH;
+        self.expect(our_table.is_untouched_past(used, &table_before), &question, || "written past the rows".into());
+        let used = answer.matches as usize;
+        self.expect(our_list.is_untouched_past(used, &list_before), &question, || "written past the matches".into());
+    }
+
+    fn ask_normal(&mut self, rng: &mut Rng) {
+        let lengths = match self.reading.normal_size() {
+            0 => vec![rng.below(40)],
+            over if over > STREAM_LIMIT => vec![0, STREAM_LIMIT, over],
+            exact => vec![exact, exact - 1, exact + rng.between(1, 9), rng.below(exact)],
+        };
+        for length in lengths {
+            let before = Lent::new(length, lent::octets);
+            let (mut ours, mut theirs) = (before.clone(), before.clone());
+            let answer = raw::normal(self.stream, ours.lend());
+            let wanted = self.reading.normal(theirs.lend());
+            self.tally.meet(answer.number);
+            let question = format!("normal form with an output of {length} octets");
+            let same = [answer.number, answer.place, answer.length] == [wanted.number, wanted.place, wanted.length];
+            self.expect(same, &question, || format!("{answer:?}, not {wanted:?}"));
+            self.expect(ours == theirs, &question, || format!("{}, not {}", hex(ours.cells()), hex(theirs.cells())));
+            let used = answer.length as usize;
+            self.expect(ours.is_untouched_past(used, &before), &question, || "written past its end".into());
+        }
+    }
+
+    fn ask_content(&mut self, rng: &mut Rng) {
+        let count = self.reading.element_count();
+        let mut elements = vec![0, count, count + rng.below(5_000), rng.number() as u32 as usize, u32::MAX as usize];
+        elements.extend((0..4).map(|_| rng.below(count + 1)));
+        // Numbers that only their high bits tell from an element's.
+        elements.extend((0..3).map(|_| rng.below(count + 1) | 1 << rng.between(12, 31)));
+        if count <= 8 {
+            elements.extend(0..count);
+        }
+        for element in elements {
+            let element = element as u32;
+            let answer = raw::content(self.stream, element);
+            let wanted = self.reading.content(element);
+            self.tally.meet(answer.number);
+            let same = [answer.number, answer.place, answer.first, answer.past]
+                == [wanted.number, wanted.place, wanted.first, wanted.past];
+            self.expect(same, &format!("content of {element}"), || format!("{answer:?}, not {wanted:?}"));
+        }
+    }
+
+    /// The library's normal form is accepted, is its own normal form, and has the same elements and matches.
+    fn ask_round_trip(&mut self) {
+        let mut out = vec![0; self.reading.normal_size().min(STREAM_LIMIT)];
+        if raw::normal(self.stream, &mut out).number != 0 {
+            return;
+        }
+        let mut again = vec![0; out.len()];
+        let written = raw::normal(&out, &mut again);
+        self.expect(written.number == 0 && again == out, "the normal form's own", || hex(&again));
+        let (mine, normal) = (answers_of(self.stream), answers_of(&out));
+        self.expect(mine == normal, "the normal form's answers", || format!("{normal:?}, not {mine:?}"));
+    }
+}
+
+/// What the library says of a stream apart from places: counts, kinds, object types and matches.
+fn answers_of(stream: &[u8]) -> (u32, u32, Vec<u32>, Vec<raw::Match>) {
+    let mut table = vec![0; (stream.len() / 2).min(odif::MOST_ELEMENTS) * ROW_WIDTH];
+    let mut list = vec![raw::Match::default(); 2 * odif::MOST_ELEMENTS];
+    let checked = raw::check(stream, &mut table);
+    let layout = raw::layout(stream, &mut table, &mut list).matches as usize;
+    let logical = raw::logical(stream, &mut table, &mut list[layout..]).matches as usize;
+    list.truncate(layout + logical);
+    let rows = table.chunks_exact(ROW_WIDTH).take(checked.elements as usize);
+    (checked.number, checked.headers, rows.flat_map(|row| [row[0], row[1]]).collect(), list)
+}
+
+/// "Elements meet end to end from 0 to the stream's length."
+fn meet_end_to_end(rows: &[u32], length: usize) -> bool {
+    let end = rows.chunks_exact(ROW_WIDTH).try_fold(0, |at, row| (row[2] == at && row[3] > at).then_some(row[3]));
+    end == Some(length as u32)
+}
+
+fn pattern_match(place: usize) -> raw::Match {
+    let number = lent::numbers(place);
+    raw::Match { element: number, portion: number ^ 1, unit: number ^ 2 }
+}
+
+fn to_reader(found: raw::Match) -> reader::Match {
+    reader::Match { element: found.element, portion: found.portion, unit: found.unit }
+}

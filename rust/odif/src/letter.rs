@@ -1,0 +1,253 @@
+//! Letters: the questions of the library with the memory they need, answered as Rust values.
+
+use std::fmt;
+use std::ops::Range;
+
+use crate::raw;
+use crate::refusal::Refusal;
+use crate::{MOST_ELEMENTS, ROW_WIDTH, STREAM_LIMIT};
+
+/// One side of a letter.
+#[derive(Clone, Copy, Debug, PartialEq, Eq)]
+pub enum Side {
+    /// Layout classes and objects, and the units' layout identifiers.
+    Layout,
+    /// Logical classes and objects, and the units' logical identifiers.
+    Logical,
+}
+
+impl fmt::Display for Side {
+    fn fmt(&self, f: &mut fmt::Formatter<'_>) -> fmt::Result {
+        f.write_str(match self {
+            Side::Layout => "layout",
+            Side::Logical => "logical",
+        })
+    }
+}
+
+/// The kind of an element.
+#[derive(Clone, Copy, Debug, PartialEq, Eq, Hash)]
+#[non_exhaustive]
+pub enum Kind {
+    /// A0
+    DocumentProfile,
+    /// A1
+    LayoutClass,
+    /// A2
+    LayoutObject,
+    /// A3
+    TextUnit,
+    /// A5
+    LogicalClass,
+    /// A6
+    LogicalObject,
+    /// A7
+    PresentationStyle,
+    /// A8
+    LayoutStyle,
+}
+
+impl Kind {
+    /// The kind of a number of the table, 0 to 8.
+    pub fn from_number(number: u32) -> Option<Kind> {
+        Some(match number {
+            0 => Kind::DocumentProfile,
+            1 => Kind::LayoutClass,
+            2 => Kind::LayoutObject,
+            3 => Kind::TextUnit,
+            5 => Kind::LogicalClass,
+            6 => Kind::LogicalObject,
+            7 => Kind::PresentationStyle,
+            8 => Kind::LayoutStyle,
+            _ => return None,
+        })
+    }
+
+    /// The kind in words.
+    pub fn name(self) -> &'static str {
+        match self {
+            Kind::DocumentProfile => "document profile",
+            Kind::LayoutClass => "layout class",
+            Kind::LayoutObject => "layout object",
+            Kind::TextUnit => "text unit",
+            Kind::LogicalClass => "logical class",
+            Kind::LogicalObject => "logical object",
+            Kind::PresentationStyle => "presentation style",
+            Kind::LayoutStyle => "layout style",
+        }
+    }
+}
+
+impl fmt::Display for Kind {
+    fn fmt(&self, f: &mut fmt::Formatter<'_>) -> fmt::Result {
+        f.write_str(self.name())
+    }
+}
+
+/// One element: a row of the table. The ranges are of the stream; all but the element's own bound a value.
+#[derive(Clone, Debug, PartialEq, Eq)]
+pub struct Element {
+    /// What it is.
+    pub kind: Kind,
+    /// Its object type, if it has one.
+    pub object_type: Option<u8>,
+    /// The whole element.
+    pub place: Range<usize>,
+    /// Its identifier; of a text unit the layout identifier.
+    pub identifier: Option<Range<usize>>,
+    /// A text unit's logical identifier.
+    pub logical_identifier: Option<Range<usize>>,
+    /// The portions of a class or object.
+    pub portions: Option<Range<usize>>,
+    /// A text unit's content.
+    pub content: Option<Range<usize>>,
+}
+
+impl Element {
+    fn from_row(row: &[u32]) -> Self {
+        let range = |at: usize| row[at] as usize..row[at + 1] as usize;
+        let value = |at: usize| (row[at + 1] != 0).then(|| range(at));
+        Element {
+            kind: Kind::from_number(row[0]).expect("a kind of the table"),
+            object_type: u8::try_from(row[1]).ok().filter(|&number| number != u8::MAX),
+            place: range(2),
+            identifier: value(4),
+            logical_identifier: value(6),
+            portions: value(8),
+            content: value(10),
+        }
+    }
+}
+
+/// One record of a reading list, all numbers from 0.
+#[derive(Clone, Copy, Debug, PartialEq, Eq)]
+pub struct Match {
+    /// The class or object.
+    pub element: usize,
+    /// The portion's place in it.
+    pub portion: usize,
+    /// The text unit.
+    pub unit: usize,
+}
+
+/// The outcome of a check. The header count comes with a refusal too.
+#[derive(Clone, Copy, Debug, PartialEq, Eq)]
+pub struct Checked {
+    /// How many items passed the octet rules, 2 to 8.
+    pub headers: usize,
+    /// The number of elements, or the refusal.
+    pub verdict: Result<usize, Refusal>,
+}
+
+/// Checks a stream by the rules 1 to 15.
+pub fn check(stream: &[u8]) -> Checked {
+    check_with_table(stream, &mut new_table(stream))
+}
+
+fn check_with_table(stream: &[u8], table: &mut [u32]) -> Checked {
+    let answer = raw::check(stream, table);
+    let verdict = Refusal::unless_accepted(answer.number, answer.place).map(|()| answer.elements as usize);
+    Checked { headers: answer.headers as usize, verdict }
+}
+
+/// Fetches the content of a text unit, a part of the stream, from the library itself. For many units of one letter
+/// [`Letter::content`] is quicker: it does not check the stream again.
+pub fn content(stream: &[u8], element: usize) -> Result<&[u8], Refusal> {
+    let answer = raw::content(stream, u32::try_from(element).unwrap_or(u32::MAX));
+    Refusal::unless_accepted(answer.number, answer.place)?;
+    Ok(&stream[answer.first as usize..answer.past as usize])
+}
+
+/// Makes the normal form of a stream.
+pub fn normal_form(stream: &[u8]) -> Result<Vec<u8>, Refusal> {
+    // An item's header grows by at most one octet, and only where its value is over 65,535 octets.
+    let longest = (stream.len() + stream.len() / 4_096 + 16).min(STREAM_LIMIT);
+    let mut out = vec![0; longest];
+    let answer = raw::normal(stream, &mut out);
+    Refusal::unless_accepted(answer.number, answer.place)?;
+    out.truncate(answer.length as usize);
+    Ok(out)
+}
+
+/// A table that is long enough for any accepted stream of this length: an element has at least two octets.
+fn new_table(stream: &[u8]) -> Vec<u32> {
+    vec![0; (stream.len() / 2).min(MOST_ELEMENTS) * ROW_WIDTH]
+}
+
+/// An accepted letter: the caller's stream with its table.
+#[derive(Clone, Debug)]
+pub struct Letter<'a> {
+    stream: &'a [u8],
+    headers: usize,
+    elements: Vec<Element>,
+}
+
+impl<'a> Letter<'a> {
+    /// Checks a stream and takes up its elements.
+    pub fn read(stream: &'a [u8]) -> Result<Self, Refusal> {
+        let mut table = new_table(stream);
+        let checked = check_with_table(stream, &mut table);
+        let count = checked.verdict?;
+        let elements = table.chunks_exact(ROW_WIDTH).take(count).map(Element::from_row).collect();
+        Ok(Letter { stream, headers: checked.headers, elements })
+    }
+
+    /// The stream it was read from.
+    pub fn stream(&self) -> &'a [u8] {
+        self.stream
+    }
+
+    /// How many items it has.
+    pub fn headers(&self) -> usize {
+        self.headers
+    }
+
+    /// The elements in stream order.
+    pub fn elements(&self) -> &[Element] {
+        &self.elements
+    }
+
+    /// The content of a text unit, a part of the caller's own stream; `None` where the element is no text unit or does
+    /// not exist.
+    pub fn content(&self, element: usize) -> Option<&'a [u8]> {
+        let bounds = self.elements.get(element)?.content.clone()?;
+        Some(&self.stream[bounds])
+    }
+
+    /// The identifier of an element; of a text unit the layout identifier.
+    pub fn identifier(&self, element: usize) -> Option<&'a [u8]> {
+        let bounds = self.elements.get(element)?.identifier.clone()?;
+        Some(&self.stream[bounds])
+    }
+
+    /// The logical identifier of a text unit.
+    pub fn logical_identifier(&self, element: usize) -> Option<&'a [u8]> {
+        let bounds = self.elements.get(element)?.logical_identifier.clone()?;
+        Some(&self.stream[bounds])
+    }
+
+    /// The reading list of a side, in stream order of the elements and then in the order of their portions.
+    pub fn reading_list(&self, side: Side) -> Result<Vec<Match>, Refusal> {
+        // A unit is in at most one match of a side.
+        let units = self.elements.iter().filter(|element| element.kind == Kind::TextUnit).count();
+        let mut table = vec![0; self.elements.len() * ROW_WIDTH];
+        let mut list = vec![raw::Match::default(); units];
+        let answer = match side {
+            Side::Layout => raw::layout(self.stream, &mut table, &mut list),
+            Side::Logical => raw::logical(self.stream, &mut table, &mut list),
+        };
+        Refusal::unless_accepted(answer.number, answer.place)?;
+        list.truncate(answer.matches as usize);
+        let widened = list.into_iter().map(|found| Match {
+            element: found.element as usize,
+            portion: found.portion as usize,
+            unit: found.unit as usize,
+        });
+        Ok(widened.collect())
+    }
+
+    /// Makes the normal form.
+    pub fn normal_form(&self) -> Result<Vec<u8>, Refusal> {
+        normal_form(self.stream)
+    }
+}

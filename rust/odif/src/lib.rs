@@ -1,0 +1,34 @@
+//! A safe binding of the proved reader of ODIF letters.
+//!
+//! [`Letter::read`] checks a stream and keeps its table; the letter then gives its elements, the reading list of either
+//! side, the content of its text units as parts of the caller's own stream, and its normal form. What is refused comes
+//! back as a [`Refusal`], with the rule, its number, a sentence and the place.
+//!
+//! ```
+//! # fn main() -> Result<(), odif::Refusal> {
+//! let stream = b"\xA0\x00\
+//!     \xA2\x11\x02\x01\x04\x31\x0C\x41\x051 0 2\xA1\x03\x12\x010\
+//!     \xA3\x0F\x31\x09\x40\x071 0 2 0\x04\x02Hi";
+//! let letter = odif::Letter::read(stream)?;
+//! for found in letter.reading_list(odif::Side::Layout)? {
+//!     assert_eq!(letter.content(found.unit), Some(&b"Hi"[..]));
+//! }
+//! # Ok(())
+//! # }
+//! ```
+//!
+//! [`raw`] has the functions of the C header as they stand, for callers who lend their own memory.
+
+mod letter;
+pub mod raw;
+mod refusal;
+
+pub use letter::{Checked, Element, Kind, Letter, Match, Side, check, content, normal_form};
+pub use refusal::{Refusal, Rule};
+
+/// The most octets of a stream, and of a normal form.
+pub const STREAM_LIMIT: usize = 1_048_576;
+/// The most elements of a letter.
+pub const MOST_ELEMENTS: usize = 4_096;
+/// The numbers of one table row.
+pub const ROW_WIDTH: usize = 12;

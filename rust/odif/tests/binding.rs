@@ -1,0 +1,100 @@
+//! The binding: letters, refusals, and parts of the caller's own stream.
+
+use std::error::Error;
+
+use odif::{Kind, Letter, Refusal, Rule, Side};
+
+const LETTER: &[u8] = b"\xA0\x00\
+    \xA2\x11\x02\x01\x04\x31\x0C\x41\x051 0 2\xA1\x03\x12\x010\
+    \xA3\x0F\x31\x09\x40\x071 0 2 0\x04\x02Hi";
+
+fn refused(stream: &[u8]) -> Refusal {
+    Letter::read(stream).expect_err("a refusal")
+}
+
+#[test]
+fn the_elements_of_a_letter() {
+    let letter = Letter::read(LETTER).unwrap();
+    assert_eq!(letter.headers(), 11);
+    assert_eq!(letter.stream(), LETTER);
+    let kinds: Vec<Kind> = letter.elements().iter().map(|element| element.kind).collect();
+    assert_eq!(kinds, [Kind::DocumentProfile, Kind::LayoutObject, Kind::TextUnit]);
+    let [profile, object, unit] = letter.elements() else { panic!("three elements") };
+    assert_eq!((profile.place.clone(), profile.object_type, profile.identifier.clone()), (0..2, None, None));
+    assert_eq!((object.place.clone(), object.object_type, object.portions.clone()), (2..21, Some(4), Some(18..21)));
+    assert_eq!((unit.place.clone(), unit.object_type, unit.content.clone()), (21..38, None, Some(36..38)));
+    assert_eq!(letter.identifier(1), Some(&b"1 0 2"[..]));
+    assert_eq!(letter.identifier(2), Some(&b"1 0 2 0"[..]));
+    assert_eq!(letter.logical_identifier(2), None);
+    assert_eq!(letter.identifier(3), None);
+}
+
+#[test]
+fn contents_are_parts_of_the_caller_s_own_stream() {
+    let letter = Letter::read(LETTER).unwrap();
+    let content = letter.content(2).unwrap();
+    assert_eq!(content, b"Hi");
+    assert_eq!(content.as_ptr(), LETTER[36..].as_ptr());
+    assert_eq!(odif::content(LETTER, 2).unwrap().as_ptr(), content.as_ptr());
+    assert_eq!((letter.content(1), letter.content(3)), (None, None));
+    for element in [0, 1, 3, 4_096, usize::MAX] {
+        assert_eq!(odif::content(LETTER, element), Err(Refusal { rule: Rule::NoTextUnit, place: 0 }), "{element}");
+    }
+}
+
+#[test]
+fn the_reading_lists() {
+    let letter = Letter::read(LETTER).unwrap();
+    let list = letter.reading_list(Side::Layout).unwrap();
+    assert_eq!(list, [odif::Match { element: 1, portion: 0, unit: 2 }]);
+    assert_eq!(letter.reading_list(Side::Logical).unwrap(), []);
+}
+
+#[test]
+fn refusals_with_number_place_and_sentence() {
+    let refusal = refused(b"\xA0\x00\xA4\x00");
+    assert_eq!((refusal.rule, refusal.number(), refusal.place), (Rule::NoSuchElement, 10, 2));
+    assert_eq!(refusal.to_string(), "number 10 at 2: no element begins with this octet");
+    let error: Box<dyn Error> = Box::new(refusal);
+    assert!(error.source().is_none());
+    assert_eq!(refused(b"").rule, Rule::ProfilePlace);
+    assert_eq!(refused(&vec![0; odif::STREAM_LIMIT + 1]).rule, Rule::StreamTooLong);
+}
+
+#[test]
+fn the_header_count_comes_with_a_refusal_too() {
+    let checked = odif::check(b"\xA0\x02\x01\x00");
+    assert_eq!(checked.headers, 1);
+    assert_eq!(checked.verdict, Err(Refusal { rule: Rule::WrongLength, place: 2 }));
+    assert_eq!(odif::check(LETTER).verdict, Ok(3));
+}
+
+#[test]
+fn normal_forms() {
+    assert_eq!(odif::normal_form(b"\xA0\x80\x00\x00"), Ok(vec![0xA0, 0x00]));
+    assert_eq!(Letter::read(LETTER).unwrap().normal_form().unwrap(), LETTER);
+    assert_eq!(odif::normal_form(b"\xA0").map_err(|refusal| refusal.rule), Err(Rule::PastLimit));
+}
+
+/// Each indefinite item of over 65,535 octets grows by one; the binding lends enough for all of them.
+#[test]
+fn a_normal_form_that_is_longer_than_its_stream() {
+    let value = vec![b'x'; 65_536];
+    let header = [0x04, 0x83, 0x01, 0x00, 0x00];
+    let levels = 15;
+    let part = [&[0xA5, 0x80].repeat(levels - 1)[..], &header, &value, &[0, 0].repeat(levels - 1)].concat();
+    let stream = [&[0xA0, 0x80][..], &part.repeat(15), &[0, 0]].concat();
+    let normal = odif::normal_form(&stream).unwrap();
+    assert_eq!(normal.len(), stream.len() + 15 * (levels - 1) + 1);
+    assert_eq!(odif::check(&normal).headers, odif::check(&stream).headers);
+}
+
+#[test]
+fn letters_of_all_lengths_need_no_thought_about_memory() {
+    for elements in [1, 2, 511, 512, 513, 4_095, 4_096] {
+        let stream = [&[0xA0, 0x00][..], &[0xA2, 0x00].repeat(elements - 1)].concat();
+        assert_eq!(Letter::read(&stream).unwrap().elements().len(), elements);
+    }
+    let stream = [&[0xA0, 0x00][..], &[0xA2, 0x00].repeat(4_096)].concat();
+    assert_eq!(refused(&stream), Refusal { rule: Rule::TooManyElements, place: 8_192 });
+}

@@ -1,0 +1,31 @@
+//! The C header with the archive: a C program compiles without a warning, links, and gets the right answers.
+
+use std::path::Path;
+use std::process::Command;
+
+#[test]
+fn a_c_program_over_the_header() {
+    let folder = Path::new(env!("CARGO_MANIFEST_DIR"));
+    let program = Path::new(env!("CARGO_TARGET_TMPDIR")).join("header");
+    let compiled = Command::new("cc")
+        .args(["-std=c99", "-Wall", "-Wextra", "-pedantic", "-Werror", "-I"])
+        .arg(folder.join("../../include"))
+        .arg(folder.join("tests/header.c"))
+        .arg(env!("ODIF_ARCHIVE"))
+        .arg("-o")
+        .arg(&program)
+        .output()
+        .expect("a C compiler");
+    assert!(compiled.status.success(), "{}", String::from_utf8_lossy(&compiled.stderr));
+    let output = Command::new(&program).output().unwrap();
+    let wanted = "check 0 0 11 3
+0 255 0 2 0 0 0 0 0 0 0 0 2 4 2 21 11 16 0 0 18 21 0 0 3 255 21 38 27 34 0 0 0 0 36 38 4008636142 
+layout 0 0 3 1: 1 0 2
+logical 0 0 3 0
+content 0 0 Hi
+normal 0 0 38 same
+empty 11 0
+short 16 0 11 0
+";
+    assert_eq!(String::from_utf8_lossy(&output.stdout), wanted);
+}

@@ -1,0 +1,154 @@
+//! `odif survey` over folders with all that can lie in them.
+
+#[path = "support/mod.rs"]
+mod support;
+
+use std::fs;
+use std::os::unix::fs::symlink;
+use std::os::unix::net::UnixListener;
+
+use support::{Scratch, letter, odif};
+
+/// A folder with two good letters, three refused ones, and nothing unreadable.
+fn archive(name: &str) -> Scratch {
+    let scratch = Scratch::new(name);
+    scratch.write("a/good-1.odif", &letter(b"one"));
+    scratch.write("a/b/good-2.odif", &letter(b"two"));
+    scratch.write("a/cut.odif", &letter(b"three")[..30]);
+    scratch.write("empty.odif", b"");
+    scratch.write("z,\"z\".odif", b"\xA0\x00\xA4\x00");
+    scratch
+}
+
+#[test]
+fn counts_and_first_files() {
+    let scratch = archive("survey-counts");
+    let folder = scratch.word("");
+    let run = odif(&["survey", &folder]);
+    assert_eq!(run.status, 1);
+    let text = run.text().replace(&folder, "");
+    let (first, rest) = text.split_once('\n').unwrap();
+    assert!(first.starts_with("5 files in ") && first.ends_with(" a second"), "{first}");
+    let wanted = "2 accepted
+3 refused
+  number 7, 1 file: a header, a value or a closing mark passes its limit, or an indefinite item reaches it unclosed
+    a/cut.odif at octet 21
+  number 10, 1 file: no element begins with this octet
+    z,\"z\".odif at octet 2
+  number 11, 1 file: the document profile is not first, stands again later, or the stream is empty
+    empty.odif at octet 0
+0 unreadable
+";
+    assert_eq!(rest, wanted);
+}
+
+#[test]
+fn one_line_of_csv_a_file_in_order_with_any_number_of_jobs() {
+    let scratch = archive("survey-csv");
+    for number in 0..300 {
+        scratch.write(&format!("more/{number}.odif"), &letter(b"more")[..number % 41]);
+    }
+    let folder = scratch.word("");
+    let mut written = Vec::new();
+    for jobs in ["1", "2", "7"] {
+        let csv = scratch.word("survey.csv");
+        let run = odif(&["survey", &folder, "--csv", &csv, "--jobs", jobs]);
+        assert_eq!(run.status, 1);
+        assert!(run.text().starts_with("305 files in "), "the CSV file itself is left out: {}", run.text());
+        written.push(fs::read_to_string(&csv).unwrap().replace(&folder, ""));
+    }
+    assert_eq!(written[0], written[1]);
+    assert_eq!(written[0], written[2]);
+    let lines: Vec<&str> = written[0].lines().collect();
+    assert_eq!(lines.len(), 306);
+    assert_eq!(lines[0], "file,outcome,number,place,octets,headers,elements,reason");
+    assert_eq!(lines[1], "a/b/good-2.odif,accepted,0,0,39,11,3,");
+    assert!(lines[2].starts_with("a/cut.odif,refused,7,21,30,7,0,\"a header, a value"), "{}", lines[2]);
+    assert_eq!(*lines.last().unwrap(), "\"z,\"\"z\"\".odif\",refused,10,2,4,2,0,no element begins with this octet");
+}
+
+#[test]
+fn csv_on_standard_output() {
+    let scratch = archive("survey-stdout");
+    let run = odif(&["survey", &scratch.word("a"), "--csv", "-"]);
+    assert_eq!(run.text().lines().count(), 4);
+    assert!(run.stderr.starts_with("3 files in "), "{}", run.stderr);
+}
+
+#[test]
+fn json() {
+    let scratch = archive("survey-json");
+    let folder = scratch.word("");
+    let run = odif(&["survey", "--json", &folder]);
+    assert_eq!(run.status, 1);
+    let json = run.text().replace(&folder, "");
+    assert!(json.starts_with("{\"files\":5,\"seconds\":"), "{json}");
+    assert!(json.contains("\"accepted\":2,\"refused\":3,\"unreadable\":0,\"numbers\":[{\"number\":7,"), "{json}");
+    assert!(json.contains("\"count\":1,\"first\":[{\"file\":\"a/cut.odif\",\"place\":21}]}"), "{json}");
+}
+
+#[test]
+fn unreadable_files_are_counted_and_never_stop_it() {
+    let scratch = archive("survey-unreadable");
+    symlink("nowhere", scratch.path("dangling.odif")).unwrap();
+    symlink(".", scratch.path("a/around")).unwrap();
+    symlink("../a/good-1.odif", scratch.path("a/link.odif")).unwrap();
+    let _socket = UnixListener::bind(scratch.path("s")).unwrap();
+    let folder = scratch.word("");
+    let run = odif(&["survey", &folder]);
+    assert_eq!(run.status, 2);
+    let text = run.text().replace(&folder, "");
+    assert!(text.contains("\n3 accepted\n3 refused\n"), "{text}");
+    assert!(text.contains("2 unreadable\n    dangling.odif: No such file or directory (os error 2)\n"), "{text}");
+    assert!(text.ends_with("    s: neither a file nor a folder\n"), "{text}");
+}
+
+#[test]
+fn a_huge_file_costs_no_more_than_its_front() {
+    let scratch = Scratch::new("survey-huge");
+    scratch.write_huge("huge.odif");
+    let run = odif(&["survey", &scratch.word("")]);
+    assert_eq!(run.status, 1);
+    assert!(run.text().contains("number 1, 1 file: the stream is over"), "{}", run.text());
+}
+
+#[test]
+fn the_first_few_and_how_many_more() {
+    let scratch = Scratch::new("survey-first");
+    for number in 0..12 {
+        scratch.write(&format!("{number:02}.odif"), b"");
+    }
+    let run = odif(&["survey", &scratch.word("")]);
+    assert!(run.text().contains("02.odif at octet 0\n    and 9 more\n"), "{}", run.text());
+    let run = odif(&["survey", "--first", "11", &scratch.word("")]);
+    assert!(run.text().contains("10.odif at octet 0\n    and 1 more\n"), "{}", run.text());
+}
+
+#[test]
+fn good_empty_missing_and_several_folders() {
+    let scratch = Scratch::new("survey-folders");
+    fs::create_dir(scratch.path("none")).unwrap();
+    scratch.write("one/a.odif", &letter(b"a"));
+    scratch.write("two/b.odif", &letter(b"b"));
+    let run = odif(&["survey", &scratch.word("one"), &scratch.word("two"), &scratch.word("two/b.odif")]);
+    assert_eq!(run.status, 0);
+    assert!(run.text().contains("\n3 accepted\n0 refused\n0 unreadable\n"), "{}", run.text());
+    let run = odif(&["survey", &scratch.word("none")]);
+    assert_eq!(run.status, 0);
+    assert!(run.text().starts_with("0 files in "), "{}", run.text());
+    let run = odif(&["survey", &scratch.word("missing")]);
+    assert_eq!(run.status, 2);
+    assert!(run.stderr.contains("missing: No such file"), "{}", run.stderr);
+    let run = odif(&["survey", &scratch.word("one"), "--csv", &scratch.word("missing/out.csv")]);
+    assert_eq!(run.status, 2);
+    assert!(run.stderr.contains("missing/out.csv: No such file"), "{}", run.stderr);
+}
+
+#[test]
+fn hexadecimal_files() {
+    let run = odif(&["survey", "--hex", "vectors/annex-d-1.hex", "vectors/lister.hex"]);
+    assert_eq!(run.status, 0);
+    let run = odif(&["survey", "--hex", "vectors/x209.txt"]);
+    assert_eq!(run.status, 2);
+    assert!(run.text().contains("vectors/x209.txt: line 1: "), "{}", run.text());
+}

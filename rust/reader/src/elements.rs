@@ -1,0 +1,219 @@
+//! One element: its contents as tabled (12), its object type (13), the spelling of its names (14).
+
+use std::ops::Range;
+
+use crate::ROW_WIDTH;
+use crate::items::{Item, Run, Tree};
+use crate::names;
+use crate::refusal::Why;
+
+/// The most portions of one element.
+const MOST_PORTIONS: usize = 64;
+/// What a row has as its object type where there is none.
+const NO_OBJECT_TYPE: u32 = 255;
+
+/// The octets of the items that document 01 names.
+mod octet {
+    pub const OBJECT_TYPE: u8 = 0x02;
+    pub const CONTENT: u8 = 0x04;
+    pub const PORTION: u8 = 0x12;
+    pub const DESCRIPTOR: u8 = 0x31;
+    pub const UNIT_LAYOUT_IDENTIFIER: u8 = 0x40;
+    pub const IDENTIFIER: u8 = 0x41;
+    pub const STYLE_IDENTIFIER: u8 = 0x45;
+    pub const UNIT_LOGICAL_IDENTIFIER: u8 = 0x84;
+    pub const PORTIONS: u8 = 0xA1;
+}
+
+/// The kinds of element: the number bits of its octet.
+pub(crate) mod kind {
+    pub const PROFILE: u8 = 0;
+    pub const LAYOUT_CLASS: u8 = 1;
+    pub const LAYOUT_OBJECT: u8 = 2;
+    pub const TEXT_UNIT: u8 = 3;
+    pub const LOGICAL_CLASS: u8 = 5;
+    pub const LOGICAL_OBJECT: u8 = 6;
+    pub const PRESENTATION_STYLE: u8 = 7;
+    pub const LAYOUT_STYLE: u8 = 8;
+}
+
+/// The kind of the element that begins with this octet, if one does.
+pub(crate) fn kind_of(octet: u8) -> Option<u8> {
+    matches!(octet, 0xA0..=0xA3 | 0xA5..=0xA8).then_some(octet & 0x1F)
+}
+
+/// First and past; an absent one is 0 and 0, where no value can lie.
+#[derive(Clone, Copy, Debug, Default, PartialEq, Eq)]
+pub(crate) struct Span {
+    pub first: u32,
+    pub past: u32,
+}
+
+impl Span {
+    fn of_value(item: Option<&Item>) -> Self {
+        item.map_or(Span::default(), |item| Span { first: item.start(), past: item.end() })
+    }
+
+    /// The octets, or `None` where it is absent.
+    pub fn octets(self, stream: &[u8]) -> Option<&[u8]> {
+        (self.past != 0).then(|| &stream[self.first as usize..self.past as usize])
+    }
+}
+
+/// What the table tells of one element, and where its portions stand in the letter's list of them.
+#[derive(Clone, Debug)]
+pub(crate) struct Row {
+    pub kind: u8,
+    pub object_type: Option<u8>,
+    pub element: Span,
+    pub identifier: Span,
+    pub logical_identifier: Span,
+    pub portions: Span,
+    pub content: Span,
+    pub keys: Range<u32>,
+}
+
+impl Row {
+    /// The twelve numbers in the table's order.
+    pub fn numbers(&self) -> [u32; ROW_WIDTH] {
+        let spans = [self.element, self.identifier, self.logical_identifier, self.portions, self.content];
+        let mut numbers = [0; ROW_WIDTH];
+        numbers[0] = u32::from(self.kind);
+        numbers[1] = self.object_type.map_or(NO_OBJECT_TYPE, u32::from);
+        for (pair, span) in numbers[2..].chunks_exact_mut(2).zip(spans) {
+            pair.copy_from_slice(&[span.first, span.past]);
+        }
+        numbers
+    }
+}
+
+/// The items of an element that the later rules look at.
+#[derive(Default)]
+struct Parts<'t> {
+    object_type: Option<&'t Item>,
+    identifier: Option<&'t Item>,
+    logical_identifier: Option<&'t Item>,
+    portions: Option<(usize, &'t Item)>,
+    content: Option<&'t Item>,
+}
+
+/// Judges the element at this place of the tree by 12, 13 and 14, and adds its portions to `keys`.
+pub(crate) fn judge(stream: &[u8], tree: &Tree, place: usize, keys: &mut Vec<u64>) -> Result<Row, Why> {
+    let element = &tree.items()[place];
+    let kind = element.number();
+    let parts = contents(tree, place, kind)?;
+    let object_type = parts.object_type.map(|item| object_type(&stream[item.value()], kind)).transpose()?;
+    for item in [parts.identifier, parts.logical_identifier].into_iter().flatten() {
+        if !names::is_identifier(&stream[item.value()]) {
+            return Err(Why::IdentifierMisspelt);
+        }
+    }
+    let first_key = keys.len();
+    if let Some((portions, _)) = parts.portions {
+        for (count, (_, item)) in tree.run(portions).enumerate() {
+            if count == MOST_PORTIONS {
+                return Err(Why::TooManyPortions);
+            }
+            keys.push(names::portion_key(&stream[item.value()]).ok_or(Why::PortionMisspelt)?);
+        }
+    }
+    Ok(Row {
+        kind,
+        object_type,
+        element: Span { first: element.first() as u32, past: element.past() },
+        identifier: Span::of_value(parts.identifier),
+        logical_identifier: Span::of_value(parts.logical_identifier),
+        portions: Span::of_value(parts.portions.map(|(_, item)| item)),
+        content: Span::of_value(parts.content),
+        keys: first_key as u32..keys.len() as u32,
+    })
+}
+
+/// Rule 13: "The 02 has one value octet: 0 to 4 for layout, 0 to 2 for logical."
+fn object_type(value: &[u8], kind: u8) -> Result<u8, Why> {
+    let greatest = if matches!(kind, kind::LAYOUT_CLASS | kind::LAYOUT_OBJECT) { 4 } else { 2 };
+    match *value {
+        [number] if number <= greatest => Ok(number),
+        [_] => Err(Why::ObjectTypeRange),
+        _ => Err(Why::ObjectTypeLength),
+    }
+}
+
+/// Rule 12: the element's items, if they are as tabled.
+fn contents(tree: &Tree, place: usize, kind: u8) -> Result<Parts<'_>, Why> {
+    match kind {
+        kind::PROFILE => Ok(Parts::default()),
+        kind::TEXT_UNIT => unit(tree, place),
+        kind::PRESENTATION_STYLE | kind::LAYOUT_STYLE => style(tree.run(place)),
+        kind::LAYOUT_CLASS | kind::LOGICAL_CLASS => {
+            let parts = class_or_object(tree, place)?;
+            // An identifier lies in the 31, so where there is one the 31 is there too.
+            let whole = parts.object_type.is_some() && parts.identifier.is_some();
+            if whole { Ok(parts) } else { Err(Why::ItemMissing) }
+        }
+        _ => class_or_object(tree, place),
+    }
+}
+
+/// "02 or nothing, then 31 or nothing."
+fn class_or_object(tree: &Tree, place: usize) -> Result<Parts<'_>, Why> {
+    let mut run = tree.run(place).peekable();
+    let object_type = run.next_if(|(_, item)| item.octet() == octet::OBJECT_TYPE);
+    let descriptor = run.next_if(|(_, item)| item.octet() == octet::DESCRIPTOR);
+    if run.next().is_some() {
+        return Err(Why::ItemOutOfPlace);
+    }
+    let mut parts = Parts { object_type: object_type.map(|(_, item)| item), ..Parts::default() };
+    if let Some((descriptor, _)) = descriptor {
+        let [identifier, portions] = sift(tree.run(descriptor), [octet::IDENTIFIER, octet::PORTIONS], &[0x61, 0x81])?;
+        parts.identifier = identifier.map(|(_, item)| item);
+        parts.portions = portions;
+    }
+    if let Some((portions, _)) = parts.portions
+        && tree.run(portions).any(|(_, item)| item.octet() != octet::PORTION)
+    {
+        return Err(Why::NotAPortion);
+    }
+    Ok(parts)
+}
+
+/// "31 or nothing, then 04."
+fn unit(tree: &Tree, place: usize) -> Result<Parts<'_>, Why> {
+    let mut run = tree.run(place).peekable();
+    let descriptor = run.next_if(|(_, item)| item.octet() == octet::DESCRIPTOR);
+    let (_, content) = run.next().ok_or(Why::ItemMissing)?;
+    if content.octet() != octet::CONTENT || run.next().is_some() {
+        return Err(Why::ItemOutOfPlace);
+    }
+    let mut parts = Parts { content: Some(content), ..Parts::default() };
+    if let Some((descriptor, _)) = descriptor {
+        let once = [octet::UNIT_LAYOUT_IDENTIFIER, octet::UNIT_LOGICAL_IDENTIFIER];
+        let [layout, logical] = sift(tree.run(descriptor), once, &[0x60, 0xA4])?;
+        parts.identifier = layout.map(|(_, item)| item);
+        parts.logical_identifier = logical.map(|(_, item)| item);
+    }
+    Ok(parts)
+}
+
+/// "exactly one 45, other items free", and no 65.
+fn style(run: Run<'_>) -> Result<Parts<'_>, Why> {
+    let [identifier] = sift(run, [octet::STYLE_IDENTIFIER], &[0x65])?;
+    let (_, identifier) = identifier.ok_or(Why::ItemMissing)?;
+    Ok(Parts { identifier: Some(identifier), ..Parts::default() })
+}
+
+/// The items of a run with the octets of `once`, each at most one, where none has an octet of `never`.
+fn sift<'t, const N: usize>(run: Run<'t>, once: [u8; N], never: &[u8]) -> Result<[Option<(usize, &'t Item)>; N], Why> {
+    let mut found = [None; N];
+    for (place, item) in run {
+        if never.contains(&item.octet()) {
+            return Err(Why::ItemForbidden);
+        }
+        if let Some(which) = once.iter().position(|&octet| octet == item.octet())
+            && found[which].replace((place, item)).is_some()
+        {
+            return Err(Why::ItemAgain);
+        }
+    }
+    Ok(found)
+}
