@@ -159,7 +159,7 @@ pub fn judge_element(
     requires { ⌜ Fine (now s) (item .inner) × (length (now s) ≤ streamLimit) × (item .first ≤ item .past) × (item .past ≤ length (now s)) × (2 * mostPortions ≤ length (now bounds)) ⌝ }
     ensures { λ r. ⌜ JudgesAfter (now (s .entry)) (now (rows .entry)) (now (head .entry)) (now (next .entry)) (now (head2 .entry)) (now (next2 .entry)) n item r ⌝ }
 {
-    let shape = elements::shapes::shape_1988(item.octet);
+    let shape = elements::shape_1988(item.octet);
     let number = early(n, item.octet, shape.octet);
     if number != 0 {
         return Judgement::Fails { number };
