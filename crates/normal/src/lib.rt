@@ -16,17 +16,17 @@ ghost use Rattle.normal.specs.Passes.{RunEnds, ValueEnds, normalFrom, no
 ghost use Rattle.normal.specs.Writes.{answerOf, answerFor, Gives};
 
 // What a pass over a run that was walked to its end meets at a place: an item, or the end of the run, with the place past it.
-pub enum Met {
+enum Met {
     Item(Header),
     Last { past: usize },
 }
 
 // What is measured of a run, or of the value of an item: where it ends, how many octets its normal form has, and whether it is known that
 // its own octets are that.
-pub struct Measured {
-    pub next: usize,
-    pub size: usize,
-    pub shortest: bool,
+struct Measured {
+    next: usize,
+    size: usize,
+    shortest: bool,
 }
 
 // What the writer answers: how many octets it wrote, or a refusal, which leaves the output untouched.
@@ -88,7 +88,7 @@ fn put_length(out: &mut [u8], at: usize, len: u32) -> usize
 
 // How many octets come before a value of `size` octets.
 fn header_size(size: usize) -> usize
-    requires { ⌜ size ≤ 4000000 ⌝ }
+    requires { ⌜ size < 4294967296 ⌝ }
     ensures { λ r. ⌜ r ≡ headerSize size ⌝ }
 {
     2 + further_octets(size as u32)
@@ -195,7 +195,7 @@ fn put_value(s: &[u8], start: usize, bound: usize, out: &mut [u8], begin: usize)
 
 // Writes a type field and the length octets of a value of `size` octets, and says the place past them.
 fn put_header(out: &mut [u8], begin: usize, octet: u8, size: usize) -> usize
-    requires { ⌜ (size ≤ 4000000) × (begin + headerSize size ≤ length (now out)) ⌝ }
+    requires { ⌜ (size < 4294967296) × (begin + headerSize size ≤ length (now out)) ⌝ }
     ensures { λ r. ⌜ Puts (now (out .entry)) begin (octet ∷ lengthOctets size) r (now (out .exit)) ⌝ }
 {
     out[begin] = octet;

@@ -144,7 +144,7 @@ complete (leaf-coding {room} {len = len} {value} {rest} {after} (oneOctet {octet
       items = item at octet start bound none (o .items);
       runs = primitive {h = record { octet = octet; start = start; bound = bound; marked = false }} lt
           (headed s at limit room marked octet low tabled l (first s at head (value ++ rest) here) start refl (omega arith) m) q (o .runs);
-      same = rw (q, v, o .same);
+      same = rw q (ap (λ (x : List ℕ). leaf (octet ∷ []) x (plain s (o .items))) v ∙ ap (leaf (octet ∷ []) value) (o .same));
     }
 complete (definite {room} {len = len} {value} {rest} {inside} {after} (oneOctet {octet} low tabled q) l ci c) s at limit marked here f i e r =
     let head = octet ∷ len in
