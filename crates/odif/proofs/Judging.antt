@@ -12,15 +12,16 @@ use Rattle.runs.proofs.Laws.{stream-within}
 use Rattle.index.specs.Rows.{rowWidth}
 use Rattle.elements.specs.Shape.{edition1988}
 use Rattle.elements.specs.Element.{Element}
-use Rattle.elements.specs.Judge.{mostElements}
+use Rattle.elements.specs.Judge.{mostElements, accepted, judge}
 use Rattle.elements.specs.declared.Row.{Row}
 use Rattle.elements.specs.Rows.{cells, numbers}
 use Rattle.letters.specs.declared.Verdict.{Verdict}
 use Rattle.letters.specs.declared.Verdict.the-variants.{Accepted, Refused}
 use Rattle.letters.specs.Letter.{letter, refusal}
-use Rattle.letters.specs.Scratch.{Saying, Holds, Filled, Stopped}
+use Rattle.letters.specs.Scratch.{Saying, Holds, Filled, Stopped, Gives}
+use Rattle.letters.specs.Table.{Apart}
 use Rattle.letters.proofs.Rows.{cell-at}
-use Rattle.reading.proofs.Accepted.{lawful}
+use Rattle.letters.proofs.Apart.{accepted-apart}
 use Rattle.odif.specs.Answers.{letterIn, rowsIn}
 use Rattle.odif.specs.Asking.{Judged, IsLetter, IsRefused, Decides}
 use Rattle.odif.proofs.Letters.{refused-element, accepted-letter}
@@ -35,6 +36,8 @@ pub record Refusing (s : List ℕ) (number place headers : ℕ) : Type 0 where
 pub record Accepting (s rows : List ℕ) (count headers : ℕ) : Type 0 where
   pub elements : List Element
   pub judged : letterIn s ≡ letter headers elements
+  pub judge-accepted : judge edition1988 (treeOf s) ≡ accepted elements
+  pub apart : Apart elements
   pub counted : length elements ≡ count
   pub few : count ≤ mostElements
   pub within-limit : length s ≤ streamLimit
@@ -48,7 +51,7 @@ module _ {s rows : List ℕ} {verdict : Verdict} {at headers : ℕ} (walked : wa
   refused-judged {number} {place} e =
       let stopped : Stopped s number place = subst (Judged s rows) e j .gives in
       let told : letterIn s ≡ refusal number place headers =
-          refused-element edition1988 s at headers number (stopped .element) walked (stopped .judged) ∙ rw (sym (stopped .placed)) in
+      refused-element edition1988 s at headers number (stopped .element) walked (stopped .judged) ∙ rw (sym (stopped .placed)) in
       record { judged = told; small = refusal-small edition1988 s number place headers told }
 
   pub accepted-judged : {count : ℕ} → verdict ≡ Accepted count → Accepting s rows count headers
@@ -59,14 +62,20 @@ module _ {s rows : List ℕ} {verdict : Verdict} {at headers : ℕ} (walked : wa
       record {
         elements = filled .elements;
         judged = accepted-letter edition1988 s at headers (filled .elements) walked (filled .judged);
+        judge-accepted = filled .judged;
+        apart = accepted-apart edition1988 (treeOf s) (filled .elements) (filled .judged);
         counted = holds .counted;
-        few = subst (λ (n : ℕ). n ≤ mostElements) (holds .counted) (lawful edition1988 _ (filled .elements) (filled .judged) .few);
+        few = subst (λ (n : ℕ). n ≤ mostElements) (holds .counted) (accepted-apart edition1988 (treeOf s) (filled .elements) (filled .judged) .few);
         within-limit = stream-within s at headers walked;
         within = holds .identifiers .in-table;
         written = holds .written;
         saying = holds .saying;
         cells-at = λ j row stands c l. cell-at holds j row stands c l;
       }
+
+-- what was judged, whatever the indexes hold
+pub judged-in : (s rows head next head2 next2 : List ℕ) (verdict : Verdict) → Gives s rows head next head2 next2 verdict → Judged s rows verdict
+judged-in s rows head next head2 next2 verdict gives = record { head = head; next = next; head2 = head2; next2 = next2; gives = gives }
 
 -- the verdict is that of rules 1 to 15
 pub decides : {s rows : List ℕ} {at headers : ℕ} → walkOf s ≡ Ended at headers → (verdict : Verdict) → Judged s rows verdict → Decides s verdict

@@ -6,3 +6,4 @@ pub mod Checks
 pub mod Scratch
 pub mod Fetching
 pub mod Writing
+pub mod Listing

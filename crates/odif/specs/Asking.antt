@@ -2,9 +2,10 @@
 -- nothing.
 use mathlib.Core.Path.{_≡_}
 use mathlib.Core.Bool.{cond}
-use mathlib.Core.List.{List}
-use Prim.Native.Nat.{ℕ, _≤_}
+use mathlib.Core.List.{List, []}
+use Prim.Native.Nat.{ℕ, _*_, _≤_}
 use lib.Dec.{eqb}
+use lib.ListN.{length}
 use Rattle.octets.specs.Walk.{streamLimit}
 use Rattle.index.specs.Rows.{kindAt, firstAt, pastAt}
 use Rattle.elements.specs.Element.{Element}
@@ -12,11 +13,14 @@ use Rattle.letters.specs.declared.Verdict.{Verdict}
 use Rattle.letters.specs.declared.Verdict.the-variants.{Accepted, Refused}
 use Rattle.letters.specs.Letter.{letter, refusal}
 use Rattle.letters.specs.Scratch.{Gives}
+use Rattle.reading.specs.declared.Side.{Side}
 use Rattle.reading.specs.Match.{unitKind}
+use Rattle.reading.specs.Records.{records}
+use Rattle.odif.specs.declared.Listed.{Listed}
 use Rattle.odif.specs.declared.Located.{Located}
 use Rattle.odif.specs.declared.asking.Found.{Found}
 use Rattle.odif.specs.declared.asking.Found.the-variants.{Refused as Not, NoUnit, Content}
-use Rattle.odif.specs.Answers.{letterIn, nowhere, Fetches}
+use Rattle.odif.specs.Answers.{letterIn, nowhere, Fetches, listed, listedTable, matchesIn}
 
 -- a stream was judged with this verdict, and these are its rows in scratch, whatever the indexes hold
 pub record Judged (s rows : List ℕ) (verdict : Verdict) : Type 0 where
@@ -62,3 +66,11 @@ pub record Finds (s : List ℕ) (asked : ℕ) (told : Located) : Type 0 where
   pub low-number : told .number ≤ 20
   pub near-place : told .place ≤ streamLimit
   pub near-past : told .past ≤ streamLimit
+
+-- the reading list as numbers, three a record: as many as are answered, all matches if the number is 0
+pub record ListsFlat (side : Side) (s table : List ℕ) (room : ℕ) (answer : Listed) (tableAfter flat : List ℕ) : Type 0 where
+  pub answered : answer ≡ listed side s table room
+  pub tabled : tableAfter ≡ listedTable side s table room
+  pub stored : records flat (answer .matches) ≡ cond (eqb (answer .number) 0) (matchesIn side s) []
+  pub fits : 3 * answer .matches ≤ length flat
+  pub enough : answer .matches ≤ room

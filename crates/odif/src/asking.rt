@@ -1,8 +1,10 @@
 // The work behind the questions: scratch sized to the stream that is judged in it, and what each question does with a judged stream.
 // Nothing that was lent to a question is written before all that can refuse it is known.
 use crate::Checked;
+use crate::Listed;
 use letters::Verdict;
 use octets::Outcome;
+use reading::Side;
 ghost use mathlib.Core.Path.{_≡_};
 ghost use mathlib.Core.List.{List};
 ghost use Prim.Native.Nat.{_+_, _*_, _<_, _≤_};
@@ -12,8 +14,9 @@ ghost use Rattle.tree.specs.Tree.{treeOf};
 ghost use Rattle.tree.specs.Accepts.{Accepts};
 ghost use Rattle.index.specs.Rows.{rowWidth};
 ghost use Rattle.letters.specs.Lent.{rowsNeeded};
+ghost use Rattle.letters.specs.Scratch.{Gives};
 ghost use Rattle.odif.specs.Answers.{checked, checkedTable};
-ghost use Rattle.odif.specs.Asking.{Judged, Decides, contentAt, toldOf, Finds};
+ghost use Rattle.odif.specs.Asking.{Judged, Decides, contentAt, toldOf, Finds, ListsFlat};
 
 const ROW_WIDTH: usize = 12;
 
@@ -290,5 +293,173 @@ pub fn fetch(stream: &[u8], element: usize) -> Found
             place,
             count: _,
         } => Found::Refused { number, place },
+    }
+}
+
+// The reading list of a stream that was judged, as numbers: 16, then the table, then 19.
+fn list_judged(
+    stream: &[u8],
+    side: Side,
+    room: usize,
+    rows: &[u32],
+    head: &[u16],
+    next: &[u16],
+    head2: &[u16],
+    next2: &[u16],
+    verdict: Verdict,
+    table: &mut [u32],
+    flat: &mut [u32],
+) -> Listed
+    requires { ⌜ Accepts (now stream) (treeOf (now stream)) ⌝ }
+    requires { ⌜ Gives (now stream) (now rows) (now head) (now next) (now head2) (now next2) verdict ⌝ }
+    requires { ⌜ 12288 ≤ length (now flat) ⌝ }
+    ensures { λ r. ⌜ ListsFlat side (now (stream .entry)) (now (table .entry)) room r (now (table .exit)) (now (flat .exit)) ⌝ }
+{
+    match verdict {
+        Verdict::Refused { number, place } => Listed {
+            number: number as u32,
+            place: place as u32,
+            elements: 0,
+            matches: 0,
+        },
+        Verdict::Accepted { count } => {
+            if table.len() / ROW_WIDTH < count {
+                return Listed {
+                    number: 16,
+                    place: 0,
+                    elements: 0,
+                    matches: 0,
+                };
+            }
+            letters::put_table(rows, count, table);
+            let matches = reading::list_matches(
+                stream,
+                rows,
+                head,
+                next,
+                head2,
+                next2,
+                count,
+                side,
+                flat,
+            );
+            if room < matches {
+                return Listed {
+                    number: 19,
+                    place: 0,
+                    elements: count as u32,
+                    matches: 0,
+                };
+            }
+            Listed {
+                number: 0,
+                place: 0,
+                elements: count as u32,
+                matches: matches as u32,
+            }
+        }
+    }
+}
+
+fn list_few(stream: &[u8], side: Side, room: usize, table: &mut [u32], flat: &mut [u32]) -> Listed
+    requires { ⌜ Accepts (now stream) (treeOf (now stream)) ⌝ }
+    requires { ⌜ rowsNeeded (now stream) ≤ 512 ⌝ }
+    requires { ⌜ 12288 ≤ length (now flat) ⌝ }
+    ensures { λ r. ⌜ ListsFlat side (now (stream .entry)) (now (table .entry)) room r (now (table .exit)) (now (flat .exit)) ⌝ }
+{
+    let mut rows = [0u32; 6144];
+    let mut head = [0u16; 1024];
+    let mut next = [0u16; 512];
+    let mut head2 = [0u16; 1024];
+    let mut next2 = [0u16; 512];
+    let mut bounds = [0u32; 128];
+    let verdict = letters::judge_stream(
+        stream,
+        &mut rows,
+        &mut head,
+        &mut next,
+        &mut head2,
+        &mut next2,
+        &mut bounds,
+    );
+    list_judged(
+        stream,
+        side,
+        room,
+        &rows,
+        &head,
+        &next,
+        &head2,
+        &next2,
+        verdict,
+        table,
+        flat,
+    )
+}
+
+fn list_many(stream: &[u8], side: Side, room: usize, table: &mut [u32], flat: &mut [u32]) -> Listed
+    requires { ⌜ Accepts (now stream) (treeOf (now stream)) ⌝ }
+    requires { ⌜ 12288 ≤ length (now flat) ⌝ }
+    ensures { λ r. ⌜ ListsFlat side (now (stream .entry)) (now (table .entry)) room r (now (table .exit)) (now (flat .exit)) ⌝ }
+{
+    let mut rows = [0u32; 49152];
+    let mut head = [0u16; 8192];
+    let mut next = [0u16; 4096];
+    let mut head2 = [0u16; 8192];
+    let mut next2 = [0u16; 4096];
+    let mut bounds = [0u32; 128];
+    let verdict = letters::judge_stream(
+        stream,
+        &mut rows,
+        &mut head,
+        &mut next,
+        &mut head2,
+        &mut next2,
+        &mut bounds,
+    );
+    list_judged(
+        stream,
+        side,
+        room,
+        &rows,
+        &head,
+        &next,
+        &head2,
+        &next2,
+        verdict,
+        table,
+        flat,
+    )
+}
+
+// The reading list of a side, as numbers, for a list with room for so many records.
+pub fn list_flat(
+    stream: &[u8],
+    side: Side,
+    room: usize,
+    table: &mut [u32],
+    flat: &mut [u32],
+) -> Listed
+    requires { ⌜ 12288 ≤ length (now flat) ⌝ }
+    ensures { λ r. ⌜ ListsFlat side (now (stream .entry)) (now (table .entry)) room r (now (table .exit)) (now (flat .exit)) ⌝ }
+{
+    match octets::walk(stream) {
+        Outcome::Ended { at: _, count: _ } => {
+            let elements = letters::count_elements(stream);
+            if elements <= FEW {
+                return list_few(stream, side, room, table, flat);
+            }
+            list_many(stream, side, room, table, flat)
+        }
+        Outcome::Refused {
+            number,
+            place,
+            count: _,
+        } => Listed {
+            number: number as u32,
+            place: place as u32,
+            elements: 0,
+            matches: 0,
+        },
     }
 }

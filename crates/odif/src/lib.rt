@@ -5,7 +5,6 @@ use asking::Found;
 use letters::Verdict;
 use normal::Answer;
 use octets::Outcome;
-
 ghost use mathlib.Core.Path.{_≡_};
 ghost use mathlib.Core.List.{List};
 ghost use Rattle.odif.specs.Answers.{checked, checkedTable, written, writtenOutput, fetched, whyNot, Fetches};
