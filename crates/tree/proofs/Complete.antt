@@ -1,5 +1,5 @@
 -- What is coded so the walk accepts: by induction on `Codes`, each case of which is a rule of the walk (`complete`). Assumes nothing.
-use mathlib.Core.Path.{_≡_, refl, ap, sym, _∙_, subst}
+use mathlib.Core.Path.{_≡_, refl, ap, _∙_, subst}
 use mathlib.Core.Bool.{Bool, true, false, false≢true}
 use mathlib.Core.List.{List, [], _∷_, _++_}
 use Prim.Native.Nat.{ℕ, suc, _+_, _-_, _/_, _%_, _<_, _≤_}
@@ -16,7 +16,7 @@ use Rattle.octets.specs.Items.{Items, none, item}
 use Rattle.octets.specs.Walk.{End, ends, pastOf}
 use Rattle.octets.specs.Rules.{Runs, at-limit, closes, primitive, passes}
 use Rattle.tree.specs.Tree.{Tree, empty, leaf, branch, plain}
-use Rattle.tree.specs.Codes.{TypeField, oneOctet, Length, short, long, Codes, nothing, primitive as leaf-coding, definite, indefinite}
+use Rattle.tree.specs.Codes.{oneOctet, Length, short, long, Codes, nothing, primitive as leaf-coding, definite, indefinite}
 use Rattle.tree.proofs.Here.{Here, first, second, tail, octet-at, taken, sliced, moved, three-length}
 
 -- no type field begins with 00

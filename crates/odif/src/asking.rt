@@ -1,0 +1,294 @@
+// The work behind the questions: scratch sized to the stream that is judged in it, and what each question does with a judged stream.
+// Nothing that was lent to a question is written before all that can refuse it is known.
+use crate::Checked;
+use letters::Verdict;
+use octets::Outcome;
+ghost use mathlib.Core.Path.{_≡_};
+ghost use mathlib.Core.List.{List};
+ghost use Prim.Native.Nat.{_+_, _*_, _<_, _≤_};
+ghost use lib.ListN.{length};
+ghost use Rattle.octets.specs.Walk.{walkOf};
+ghost use Rattle.tree.specs.Tree.{treeOf};
+ghost use Rattle.tree.specs.Accepts.{Accepts};
+ghost use Rattle.index.specs.Rows.{rowWidth};
+ghost use Rattle.letters.specs.Lent.{rowsNeeded};
+ghost use Rattle.odif.specs.Answers.{checked, checkedTable};
+ghost use Rattle.odif.specs.Asking.{Judged, Decides, contentAt, toldOf, Finds};
+
+const ROW_WIDTH: usize = 12;
+
+// Where a row has the bounds of the content.
+const CONTENT: usize = 10;
+
+const TEXT_UNIT: u32 = 3;
+
+// Scratch for so many elements is soon cleared, and most letters have no more.
+const FEW: usize = 512;
+
+// What a fetch of content finds.
+pub enum Found {
+    Refused { number: usize, place: usize },
+    NoUnit,
+    Content { first: usize, past: usize },
+}
+
+fn wide(x: u32) -> usize
+    ensures { λ r. ⌜ r ≡ x ⌝ }
+{
+    x as usize
+}
+
+// The check of a stream that was judged: 16, or the table.
+fn check_judged(
+    stream: &[u8],
+    headers: u32,
+    rows: &[u32],
+    verdict: Verdict,
+    table: &mut [u32],
+) -> Checked
+    requires { ⌜ walkOf (now stream) ≡ Outcome.Ended (length (now stream)) headers ⌝ }
+    requires { ⌜ Judged (now stream) (now rows) verdict ⌝ }
+    ensures { λ r. ⌜ (r ≡ checked (now (stream .entry)) (now (table .entry))) × (now (table .exit) ≡ checkedTable (now (stream .entry)) (now (table .entry))) ⌝ }
+{
+    match verdict {
+        Verdict::Refused { number, place } => Checked {
+            number: number as u32,
+            place: place as u32,
+            headers,
+            elements: 0,
+        },
+        Verdict::Accepted { count } => {
+            if table.len() / ROW_WIDTH < count {
+                return Checked {
+                    number: 16,
+                    place: 0,
+                    headers,
+                    elements: 0,
+                };
+            }
+            letters::put_table(rows, count, table);
+            Checked {
+                number: 0,
+                place: 0,
+                headers,
+                elements: count as u32,
+            }
+        }
+    }
+}
+
+fn check_few(stream: &[u8], headers: u32, table: &mut [u32]) -> Checked
+    requires { ⌜ walkOf (now stream) ≡ Outcome.Ended (length (now stream)) headers ⌝ }
+    requires { ⌜ rowsNeeded (now stream) ≤ 512 ⌝ }
+    ensures { λ r. ⌜ (r ≡ checked (now (stream .entry)) (now (table .entry))) × (now (table .exit) ≡ checkedTable (now (stream .entry)) (now (table .entry))) ⌝ }
+{
+    let mut rows = [0u32; 6144];
+    let mut head = [0u16; 1024];
+    let mut next = [0u16; 512];
+    let mut head2 = [0u16; 1024];
+    let mut next2 = [0u16; 512];
+    let mut bounds = [0u32; 128];
+    let verdict = letters::judge_stream(
+        stream,
+        &mut rows,
+        &mut head,
+        &mut next,
+        &mut head2,
+        &mut next2,
+        &mut bounds,
+    );
+    check_judged(stream, headers, &rows, verdict, table)
+}
+
+fn check_many(stream: &[u8], headers: u32, table: &mut [u32]) -> Checked
+    requires { ⌜ walkOf (now stream) ≡ Outcome.Ended (length (now stream)) headers ⌝ }
+    ensures { λ r. ⌜ (r ≡ checked (now (stream .entry)) (now (table .entry))) × (now (table .exit) ≡ checkedTable (now (stream .entry)) (now (table .entry))) ⌝ }
+{
+    let mut rows = [0u32; 49152];
+    let mut head = [0u16; 8192];
+    let mut next = [0u16; 4096];
+    let mut head2 = [0u16; 8192];
+    let mut next2 = [0u16; 4096];
+    let mut bounds = [0u32; 128];
+    let verdict = letters::judge_stream(
+        stream,
+        &mut rows,
+        &mut head,
+        &mut next,
+        &mut head2,
+        &mut next2,
+        &mut bounds,
+    );
+    check_judged(stream, headers, &rows, verdict, table)
+}
+
+// The check of a stream that the walk has passed.
+pub fn check_walked(stream: &[u8], headers: u32, table: &mut [u32]) -> Checked
+    requires { ⌜ walkOf (now stream) ≡ Outcome.Ended (length (now stream)) headers ⌝ }
+    ensures { λ r. ⌜ (r ≡ checked (now (stream .entry)) (now (table .entry))) × (now (table .exit) ≡ checkedTable (now (stream .entry)) (now (table .entry))) ⌝ }
+{
+    let elements = letters::count_elements(stream);
+    if elements <= FEW {
+        return check_few(stream, headers, table);
+    }
+    check_many(stream, headers, table)
+}
+
+fn judge_few(stream: &[u8]) -> Verdict
+    requires { ⌜ Accepts (now stream) (treeOf (now stream)) ⌝ }
+    requires { ⌜ rowsNeeded (now stream) ≤ 512 ⌝ }
+    ensures { λ r. ⌜ Decides (now (stream .entry)) r ⌝ }
+{
+    let mut rows = [0u32; 6144];
+    let mut head = [0u16; 1024];
+    let mut next = [0u16; 512];
+    let mut head2 = [0u16; 1024];
+    let mut next2 = [0u16; 512];
+    let mut bounds = [0u32; 128];
+    letters::judge_stream(
+        stream,
+        &mut rows,
+        &mut head,
+        &mut next,
+        &mut head2,
+        &mut next2,
+        &mut bounds,
+    )
+}
+
+fn judge_many(stream: &[u8]) -> Verdict
+    requires { ⌜ Accepts (now stream) (treeOf (now stream)) ⌝ }
+    ensures { λ r. ⌜ Decides (now (stream .entry)) r ⌝ }
+{
+    let mut rows = [0u32; 49152];
+    let mut head = [0u16; 8192];
+    let mut next = [0u16; 4096];
+    let mut head2 = [0u16; 8192];
+    let mut next2 = [0u16; 4096];
+    let mut bounds = [0u32; 128];
+    letters::judge_stream(
+        stream,
+        &mut rows,
+        &mut head,
+        &mut next,
+        &mut head2,
+        &mut next2,
+        &mut bounds,
+    )
+}
+
+// Rules 1 to 15 for a stream.
+pub fn judge(stream: &[u8]) -> Verdict
+    ensures { λ r. ⌜ Decides (now (stream .entry)) r ⌝ }
+{
+    match octets::walk(stream) {
+        Outcome::Ended { at: _, count: _ } => {
+            let elements = letters::count_elements(stream);
+            if elements <= FEW {
+                return judge_few(stream);
+            }
+            judge_many(stream)
+        }
+        Outcome::Refused {
+            number,
+            place,
+            count: _,
+        } => Verdict::Refused { number, place },
+    }
+}
+
+// The content of the element whose row is given, if it is a text unit.
+fn content_at(rows: &[u32], element: usize) -> Found
+    requires { ⌜ (element < 4096) × (element * rowWidth + rowWidth ≤ length (now rows)) ⌝ }
+    ensures { λ r. ⌜ r ≡ contentAt (now (rows .entry)) element ⌝ }
+{
+    let at = element * ROW_WIDTH;
+    if rows[at] != TEXT_UNIT {
+        return Found::NoUnit;
+    }
+    let first = wide(rows[at + CONTENT]);
+    let past = wide(rows[at + CONTENT + 1]);
+    Found::Content { first, past }
+}
+
+// The content of an element of a stream that was judged: 20, or where it stands.
+fn fetch_judged(stream: &[u8], element: usize, rows: &[u32], verdict: Verdict) -> Found
+    requires { ⌜ Accepts (now stream) (treeOf (now stream)) ⌝ }
+    requires { ⌜ Judged (now stream) (now rows) verdict ⌝ }
+    ensures { λ r. ⌜ Finds (now (stream .entry)) element (toldOf r) ⌝ }
+{
+    match verdict {
+        Verdict::Refused { number, place } => Found::Refused { number, place },
+        Verdict::Accepted { count } => {
+            if element < count {
+                return content_at(rows, element);
+            }
+            Found::NoUnit
+        }
+    }
+}
+
+fn fetch_few(stream: &[u8], element: usize) -> Found
+    requires { ⌜ Accepts (now stream) (treeOf (now stream)) ⌝ }
+    requires { ⌜ rowsNeeded (now stream) ≤ 512 ⌝ }
+    ensures { λ r. ⌜ Finds (now (stream .entry)) element (toldOf r) ⌝ }
+{
+    let mut rows = [0u32; 6144];
+    let mut head = [0u16; 1024];
+    let mut next = [0u16; 512];
+    let mut head2 = [0u16; 1024];
+    let mut next2 = [0u16; 512];
+    let mut bounds = [0u32; 128];
+    let verdict = letters::judge_stream(
+        stream,
+        &mut rows,
+        &mut head,
+        &mut next,
+        &mut head2,
+        &mut next2,
+        &mut bounds,
+    );
+    fetch_judged(stream, element, &rows, verdict)
+}
+
+fn fetch_many(stream: &[u8], element: usize) -> Found
+    requires { ⌜ Accepts (now stream) (treeOf (now stream)) ⌝ }
+    ensures { λ r. ⌜ Finds (now (stream .entry)) element (toldOf r) ⌝ }
+{
+    let mut rows = [0u32; 49152];
+    let mut head = [0u16; 8192];
+    let mut next = [0u16; 4096];
+    let mut head2 = [0u16; 8192];
+    let mut next2 = [0u16; 4096];
+    let mut bounds = [0u32; 128];
+    let verdict = letters::judge_stream(
+        stream,
+        &mut rows,
+        &mut head,
+        &mut next,
+        &mut head2,
+        &mut next2,
+        &mut bounds,
+    );
+    fetch_judged(stream, element, &rows, verdict)
+}
+
+// The content of an element of a stream, by rules 1 to 15 and then 20.
+pub fn fetch(stream: &[u8], element: usize) -> Found
+    ensures { λ r. ⌜ Finds (now (stream .entry)) element (toldOf r) ⌝ }
+{
+    match octets::walk(stream) {
+        Outcome::Ended { at: _, count: _ } => {
+            let elements = letters::count_elements(stream);
+            if elements <= FEW {
+                return fetch_few(stream, element);
+            }
+            fetch_many(stream, element)
+        }
+        Outcome::Refused {
+            number,
+            place,
+            count: _,
+        } => Found::Refused { number, place },
+    }
+}
