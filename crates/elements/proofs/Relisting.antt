@@ -41,23 +41,27 @@ not-primitive s room at limit marked h p q octet (inl z) e = let o = item-octet 
 not-primitive s room at limit marked h p q octet (inr c) e = false≢true (sym q ∙ ap constructed e ∙ c)
 
 again-in : {s : List ℕ} {room at limit : ℕ} {marked : Bool} {i : Items} {e : End} → Runs s room at limit marked i e → Whole e
-    → (octet : ℕ) → (octet ≡ 0) ⊎ (constructed octet ≡ true) → allPrimitive (itemsIn octet i) ≡ true → Again s (boundsOf octet i) (itemsIn octet i)
+    → (octet : ℕ) → (octet ≡ 0) ⊎ (constructed octet ≡ true) → allPrimitive (itemsIn octet i) ≡ true
+    → Again s (boundsOf octet i) (itemsIn octet i)
 unfolding boundsOf itemsIn
 again-in (at-limit p) w octet k = λ _. at-limit refl
 again-in (unclosed p) w octet k = absurd w
 again-in (closes l h) w octet k = λ _. at-limit refl
 again-in (refuses l h) w octet k = absurd w
 again-in {s} (primitive {room} {at} {limit} {marked} {h} {after} l p q r) w octet k =
-    choose s (eqb (h .octet) octet) (record { first = h .start; past = pastOf (h .marked) (h .bound) }) (boundsOf octet after) none (itemsIn octet after)
+    choose s (eqb (h .octet) octet) (record { first = h .start; past = pastOf (h .marked) (h .bound) }) (boundsOf octet after)
+    none (itemsIn octet after)
     (λ e. absurd (not-primitive s room at limit marked h p q octet k (eqb-true (h .octet) octet e)))
     (λ _. again-in r w octet k)
 again-in {s} (passes {room} {at} {limit} {marked} {h} {inside} {after} {next} l p q v r) w octet k =
-    choose s (eqb (h .octet) octet) (record { first = h .start; past = pastOf (h .marked) next }) (boundsOf octet after) inside (itemsIn octet after)
+    choose s (eqb (h .octet) octet) (record { first = h .start; past = pastOf (h .marked) next }) (boundsOf octet after)
+    inside (itemsIn octet after)
     (λ _. value-again v 1 (λ _. omega arith))
     (λ _. again-in r w octet k)
 again-in (breaks l p q v) w octet k = absurd w
 
-module _ {s : List ℕ} {r : Run} {octet n : ℕ} {v : Span} (fine : Fine s r) (c : Counted s r octet n v) (k : (octet ≡ 0) ⊎ (constructed octet ≡ true))
+module _ {s : List ℕ} {r : Run} {octet n : ℕ} {v : Span} (fine : Fine s r) (c : Counted s r octet n v)
+    (k : (octet ≡ 0) ⊎ (constructed octet ≡ true))
     (all : allPrimitive (itemsIn octet (itemsOf s r)) ≡ true) where
   walked-again : walkIn s (portionsRun v) ≡ record { items = itemsIn octet (itemsOf s r); how = ends (v .past) }
   walked-again =
