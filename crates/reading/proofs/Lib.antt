@@ -10,3 +10,4 @@ pub mod Looking
 pub mod Listing
 pub mod Turning
 pub mod Scratch
+pub mod Wrong

@@ -33,7 +33,7 @@ use Rattle.reading.specs.declared.Match.{Match}
 use Rattle.reading.specs.declared.Side.{Side}
 use Rattle.reading.specs.Match.{kindsOf, forEach, portionMatches, elementMatches}
 use Rattle.reading.specs.Records.{Puts}
-use Rattle.reading.specs.Ready.{columnOf, unitSpace, portionsAt, Tells, Ready, listed, portionsColumn, nameIn, Set, Room, PutsElement, foundMatches, FoundBelow, elementAt, noElement}
+use Rattle.reading.specs.Ready.{columnOf, unitSpace, portionsAt, Tells, Ready, listed, portionsColumn, nameIn, Searchable, Room, PutsElement, foundMatches, FoundBelow, elementAt, noElement}
 use Rattle.reading.proofs.Lists.{at-getD}
 use Rattle.reading.proofs.OnePlace.{few-portions}
 use Rattle.reading.proofs.Matches.{joins-told}
@@ -88,7 +88,7 @@ module _ (s rows : List ℕ) (n element : ℕ) (below : element < n) (elements :
   unfolding elementMatches
   all-to-come side = ap (λ (vs : List (List ℕ)). forEach 0 vs (portionMatches side elements element (elementAt elements element))) (element-told .portions)
 
-module _ {side : Side} {s rows head next : List ℕ} {n element : ℕ} (known : Set side s rows head next n) (below : element < n) (is-listed : listed side rows element ≡ true) where
+module _ {side : Side} {s rows head next : List ℕ} {n element : ℕ} (known : Searchable side s rows head next n) (below : element < n) (is-listed : listed side rows element ≡ true) where
   abbrev named : Named side rows n element
   named = listed-named side rows n element below is-listed
 

@@ -29,7 +29,7 @@ use Rattle.reading.specs.declared.Side.{Side}
 use Rattle.reading.specs.declared.Side.the-variants.{Layout, Logical}
 use Rattle.reading.specs.Match.{matches}
 use Rattle.reading.specs.Records.{numbersOf, records, Puts, Lists}
-use Rattle.reading.specs.Ready.{portionsColumn, nameIn, portionsAt, Tells, Ready, Set, PutsAll}
+use Rattle.reading.specs.Ready.{portionsColumn, nameIn, portionsAt, Tells, Ready, Searchable, PutsAll}
 use Rattle.reading.proofs.Putting.{puts-length, puts-count, puts-all, records-back}
 use Rattle.reading.proofs.Single.{no-more-than-elements}
 
@@ -73,7 +73,7 @@ module _ {s rows head next head2 next2 : List ℕ} {n : ℕ} (filled : Filled s 
   pub filled-ready : Ready s rows n (filled .elements)
   filled-ready = record { apart = filled-apart filled; counted = filled .holds .counted; tells = filled-tells }
 
-  pub layout-set : Set Layout s rows head next n
+  pub layout-set : Searchable Layout s rows head next n
   layout-set = record {
     elements = filled .elements;
     ready = filled-ready;
@@ -82,7 +82,7 @@ module _ {s rows head next head2 next2 : List ℕ} {n : ℕ} (filled : Filled s 
     indexed = filled .holds .by-identifier;
   }
 
-  pub logical-set : Set Logical s rows head2 next2 n
+  pub logical-set : Searchable Logical s rows head2 next2 n
   logical-set = record {
     elements = filled .elements;
     ready = filled-ready;

@@ -12,7 +12,7 @@ use Rattle.reading.specs.declared.Match.{Match}
 use Rattle.reading.specs.declared.Side.{Side}
 use Rattle.reading.specs.Match.{forEach, elementMatches, matches}
 use Rattle.reading.specs.Records.{Puts}
-use Rattle.reading.specs.Ready.{Ready, Set, Room, PutsElement, PutsAll, elementAt, noElement}
+use Rattle.reading.specs.Ready.{Ready, Searchable, Room, PutsElement, PutsAll, elementAt, noElement}
 use Rattle.reading.proofs.Putting.{puts-none, puts-then, puts-length}
 use Rattle.reading.proofs.Single.{no-more-than-elements}
 

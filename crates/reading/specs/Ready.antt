@@ -61,7 +61,7 @@ pub record Ready (s rows : List ℕ) (n : ℕ) (elements : List Element) : Type 
   pub tells : (j : ℕ) (element : Element) → getElem? elements j ≡ some element → Tells s rows j element
 
 -- the elements need not be known, and the rows are indexed by the identifier of the side
-pub record Set (side : Side) (s rows head next : List ℕ) (n : ℕ) : Type 0 where
+pub record Searchable (side : Side) (s rows head next : List ℕ) (n : ℕ) : Type 0 where
   pub elements : List Element
   pub ready : Ready s rows n elements
   pub bounded : Bounded s rows identifierColumn n

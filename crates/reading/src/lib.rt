@@ -22,7 +22,7 @@ ghost use Rattle.elements.specs.Judge.{accepted, judge};
 ghost use Rattle.letters.specs.Scratch.{Filled};
 ghost use Rattle.reading.specs.Match.{kindsOf};
 ghost use Rattle.reading.specs.Records.{recordAt, records, Puts, Lists};
-ghost use Rattle.reading.specs.Ready.{columnOf, unitSpace, portionsAt, listed, Set, Room, PutsElement, PutsAll, foundMatches, FoundBelow};
+ghost use Rattle.reading.specs.Ready.{columnOf, unitSpace, portionsAt, listed, Searchable, Room, PutsElement, PutsAll, foundMatches, FoundBelow};
 
 const ROW_WIDTH: usize = 12;
 
@@ -221,7 +221,7 @@ fn list_portions(
     flat: &mut [u32],
     count: usize,
 ) -> usize
-    requires { ⌜ Set side (now s) (now rows) (now head) (now next) n ⌝ }
+    requires { ⌜ Searchable side (now s) (now rows) (now head) (now next) n ⌝ }
     requires { ⌜ (element < n) × (listed side (now rows) element ≡ true) ⌝ }
     requires { ⌜ Room side (now s) (now rows) n element (now flat) count ⌝ }
     ensures { λ r. ⌜ PutsElement side (now (s .entry)) (now (rows .entry)) n element (now (flat .entry)) count (now (flat .exit)) r ⌝ }
@@ -277,7 +277,7 @@ fn list_element(
     flat: &mut [u32],
     count: usize,
 ) -> usize
-    requires { ⌜ Set side (now s) (now rows) (now head) (now next) n ⌝ }
+    requires { ⌜ Searchable side (now s) (now rows) (now head) (now next) n ⌝ }
     requires { ⌜ element < n ⌝ }
     requires { ⌜ Room side (now s) (now rows) n element (now flat) count ⌝ }
     ensures { λ r. ⌜ PutsElement side (now (s .entry)) (now (rows .entry)) n element (now (flat .entry)) count (now (flat .exit)) r ⌝ }
@@ -298,7 +298,7 @@ fn list_side(
     side: Side,
     flat: &mut [u32],
 ) -> usize
-    requires { ⌜ Set side (now s) (now rows) (now head) (now next) n ⌝ }
+    requires { ⌜ Searchable side (now s) (now rows) (now head) (now next) n ⌝ }
     requires { ⌜ 3 * n ≤ length (now flat) ⌝ }
     ensures { λ r. ⌜ PutsAll side (now (s .entry)) (now (rows .entry)) n (now (flat .entry)) (now (flat .exit)) r ⌝ }
 {
