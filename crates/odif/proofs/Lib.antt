@@ -7,3 +7,4 @@ pub mod Scratch
 pub mod Fetching
 pub mod Writing
 pub mod Listing
+pub mod Lending

@@ -6,8 +6,9 @@ use mathlib.Core.List.{List, [], _∷_, _++_}
 use Prim.Native.Nat.{ℕ, _*_, _/_, _<_, _≤_}
 use native.Mathlib.Omega.{arith}
 use lib.Dec.{eqb, ltb}
-use lib.ListN.{length}
+use lib.ListN.{length, drop}
 use borrow.Author.Tests.{ne-eqb, lt-ltb, le-ltb}
+use borrow.Table.Steps.{cases}
 use Rattle.octets.specs.First.{isIn}
 use Rattle.index.specs.Rows.{rowWidth}
 use Rattle.elements.specs.Shape.{edition1988}
@@ -17,9 +18,10 @@ use Rattle.reading.specs.declared.Match.{Match}
 use Rattle.reading.specs.declared.Side.{Side}
 use Rattle.reading.specs.Match.{matches}
 use Rattle.reading.specs.Records.{records, Lists}
+use Rattle.reading.proofs.Made.{length-records}
 use Rattle.reading.proofs.Scratch.{lists-records}
 use Rattle.odif.specs.declared.Listed.{Listed}
-use Rattle.odif.specs.Answers.{letterIn, tableOf, listed, listedTable}
+use Rattle.odif.specs.Answers.{letterIn, tableOf, listed, listedTable, matchesIn, listedList}
 use Rattle.odif.specs.Asking.{ListsFlat}
 use Rattle.odif.proofs.Small.{refusal-small}
 
@@ -69,3 +71,23 @@ module _ (side : Side) (s table flat : List ℕ) (room : ℕ) where
 pub retabled : {side : Side} {s table : List ℕ} {room : ℕ} {answer : Listed} {after finished flat : List ℕ} → after ≡ finished
     → ListsFlat side s table room answer finished flat → ListsFlat side s table room answer after flat
 retabled e l = record { answered = l .answered; tabled = e ∙ l .tabled; stored = l .stored; fits = l .fits; enough = l .enough }
+
+-- the records that were answered, in front of what the list held, are the list at exit
+pub listed-list : (list : List Match) {side : Side} {s table : List ℕ} {answer : Listed} {after flat : List ℕ}
+    → ListsFlat side s table (length list) answer after flat
+    → records flat (answer .matches) ++ drop (answer .matches) list ≡ listedList side s table list
+unfolding listedList
+listed-list list {side} {s} {table} {answer} {after} {flat} l =
+    let n = answer .matches in
+    let told : eqb (listed side s table (length list) .number) 0 ≡ eqb (answer .number) 0 = ap (λ (a : Listed). eqb (a .number) 0) (sym (l .answered)) in
+    let size = length-records flat n in
+    let stored = l .stored in
+    cases (eqb (answer .number) 0)
+    (λ t.
+    let all : records flat n ≡ matchesIn side s = rw t at stored in
+    let many : n ≡ length (matchesIn side s) = sym size ∙ ap length all in
+    rw (told, t, all) (ap (λ (k : ℕ). matchesIn side s ++ drop k list) many))
+    (λ t.
+    let no : records flat n ≡ [] = rw t at stored in
+    let zero-matches : n ≡ 0 = sym size ∙ ap length no in
+    rw (told, t, no) (ap (λ (k : ℕ). drop k list) zero-matches))

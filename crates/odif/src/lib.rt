@@ -5,9 +5,12 @@ use asking::Found;
 use letters::Verdict;
 use normal::Answer;
 use octets::Outcome;
+use reading::Match;
+use reading::Side;
 ghost use mathlib.Core.Path.{_≡_};
 ghost use mathlib.Core.List.{List};
-ghost use Rattle.odif.specs.Answers.{checked, checkedTable, written, writtenOutput, fetched, whyNot, Fetches};
+ghost use lib.ListN.{length};
+ghost use Rattle.odif.specs.Answers.{checked, checkedTable, written, writtenOutput, listed, listedTable, listedList, fetched, whyNot, Fetches};
 
 // What the check answers. Number 0 is accepted.
 #[repr(C)]
@@ -93,6 +96,17 @@ pub fn normal(stream: &[u8], out: &mut [u8]) -> Written
             },
         },
     }
+}
+
+// Lists the matches of a side, and fills the element table. The viewer reads the letter in this order.
+pub fn list(stream: &[u8], side: Side, table: &mut [u32], list: &mut [Match]) -> Listed
+    ensures { λ r. ⌜ (r ≡ listed side (now (stream .entry)) (now (table .entry)) (length (now (list .entry)))) × (now (table .exit) ≡ listedTable side (now (stream .entry)) (now (table .entry)) (length (now (list .entry)))) × (now (list .exit) ≡ listedList side (now (stream .entry)) (now (table .entry)) (now (list .entry))) ⌝ }
+{
+    let mut flat = [0u32; 12288];
+    let answer = asking::list_flat(stream, side, list.len(), table, &mut flat);
+    let count = answer.matches as usize;
+    reading::fill(&flat, count, list);
+    answer
 }
 
 // The content of a text unit: a part of the caller's own stream, and an empty part if the stream or the element is refused. The viewer
