@@ -1,0 +1,51 @@
+-- The check's answer and table, case by case: what the stream is decides both. Assumes nothing.
+use mathlib.Core.Path.{_≡_, refl, ap, sym, _∙_}
+use mathlib.Core.Bool.{true, false}
+use mathlib.Core.List.{List, _++_}
+use Prim.Native.Nat.{ℕ, _*_, _/_, _<_, _≤_}
+use native.Mathlib.Omega.{arith}
+use lib.Dec.{eqb, ltb}
+use lib.ListN.{length, take, drop}
+use lib.Seq.{length-take-le}
+use borrow.Author.Tests.{ne-eqb, lt-ltb, le-ltb}
+use Rattle.index.specs.Rows.{rowWidth}
+use Rattle.elements.specs.Shape.{edition1988}
+use Rattle.elements.specs.Element.{Element}
+use Rattle.elements.specs.Rows.{numbers}
+use Rattle.letters.specs.Letter.{letter, refusal}
+use Rattle.odif.specs.declared.Checked.{Checked}
+use Rattle.odif.specs.Answers.{letterIn, rowsIn, tableOf, checked, checkedTable}
+use Rattle.odif.proofs.Small.{refusal-small}
+
+-- a stream's rows in scratch, in front of what the table held, are the finished table
+pub table-filled : (s table scratch : List ℕ) (n : ℕ) → take (n * rowWidth) scratch ≡ numbers (rowsIn s) → n * rowWidth ≤ length scratch
+    → take (n * rowWidth) scratch ++ drop (n * rowWidth) table ≡ tableOf s table
+table-filled s table scratch n w long =
+    let size : length (numbers (rowsIn s)) ≡ n * rowWidth = ap length (sym w) ∙ length-take-le (n * rowWidth) scratch long in
+    rw (w, size)
+
+module _ (s table : List ℕ) where
+  abbrev Checks : Checked → List ℕ → Type 0
+  Checks answer after = (answer ≡ checked s table) × (after ≡ checkedTable s table)
+
+  pub checks-refused : (number place headers : ℕ) → letterIn s ≡ refusal number place headers
+      → Checks (record { number = number; place = place; headers = headers; elements = 0 }) table
+  unfolding checked checkedTable
+  checks-refused number place headers e =
+      let low = refusal-small edition1988 s number place headers e .low in
+      let some : eqb number 0 ≡ false = ne-eqb number 0 (λ z. omega arith) in
+      (rw e, rw (e, some))
+
+  pub checks-16 : (headers : ℕ) (elements : List Element) → letterIn s ≡ letter headers elements → length table / rowWidth < length elements
+      → Checks (record { number = 16; place = 0; headers = headers; elements = 0 }) table
+  unfolding checked checkedTable
+  checks-16 headers elements e few =
+      let t : ltb (length table / rowWidth) (length elements) ≡ true = lt-ltb _ _ few in
+      (rw (e, t), rw (e, t))
+
+  pub checks-letter : (headers count : ℕ) (elements : List Element) → letterIn s ≡ letter headers elements → length elements ≡ count
+      → count ≤ length table / rowWidth → Checks (record { number = 0; place = 0; headers = headers; elements = count }) (tableOf s table)
+  unfolding checked checkedTable
+  checks-letter headers count elements e counted enough =
+      let t : ltb (length table / rowWidth) (length elements) ≡ false = le-ltb (length table / rowWidth) (length elements) (omega arith) in
+      (rw (e, t, counted), rw (e, t))

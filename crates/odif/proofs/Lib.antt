@@ -1,0 +1,9 @@
+-- Small: the numbers and places of refusals. Letters: what a stream is, by its walk and its judge.
+pub mod Small
+pub mod Letters
+pub mod Judging
+pub mod Checks
+pub mod Scratch
+pub mod Fetching
+pub mod Writing
+pub mod Listing

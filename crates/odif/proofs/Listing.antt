@@ -1,0 +1,71 @@
+-- The lister's answer, table and numbers, case by case: what the stream is decides them, and the matches were counted before. Assumes
+-- nothing.
+use mathlib.Core.Path.{_≡_, refl, ap, sym, _∙_}
+use mathlib.Core.Bool.{Bool, true, false, cond}
+use mathlib.Core.List.{List, [], _∷_, _++_}
+use Prim.Native.Nat.{ℕ, _*_, _/_, _<_, _≤_}
+use native.Mathlib.Omega.{arith}
+use lib.Dec.{eqb, ltb}
+use lib.ListN.{length}
+use borrow.Author.Tests.{ne-eqb, lt-ltb, le-ltb}
+use Rattle.octets.specs.First.{isIn}
+use Rattle.index.specs.Rows.{rowWidth}
+use Rattle.elements.specs.Shape.{edition1988}
+use Rattle.elements.specs.Element.{Element}
+use Rattle.letters.specs.Letter.{letter, refusal}
+use Rattle.reading.specs.declared.Match.{Match}
+use Rattle.reading.specs.declared.Side.{Side}
+use Rattle.reading.specs.Match.{matches}
+use Rattle.reading.specs.Records.{records, Lists}
+use Rattle.reading.proofs.Scratch.{lists-records}
+use Rattle.odif.specs.declared.Listed.{Listed}
+use Rattle.odif.specs.Answers.{letterIn, tableOf, listed, listedTable}
+use Rattle.odif.specs.Asking.{ListsFlat}
+use Rattle.odif.proofs.Small.{refusal-small}
+
+-- no records
+no-records : (flat : List ℕ) → records flat 0 ≡ []
+unfolding records
+no-records flat = refl
+
+module _ (side : Side) (s table flat : List ℕ) (room : ℕ) where
+  pub lists-refused : (number place headers : ℕ) → letterIn s ≡ refusal number place headers
+      → ListsFlat side s table room (record { number = number; place = place; elements = 0; matches = 0 }) table flat
+  unfolding listed listedTable
+  lists-refused number place headers e =
+      let small = refusal-small edition1988 s number place headers e in
+      let some : eqb number 0 ≡ false = ne-eqb number 0 (λ z. omega arith) in
+      let no-19 : eqb number 19 ≡ false = ne-eqb number 19 (λ z. omega arith) in
+      record { answered = rw e; tabled = rw (e, some, no-19); stored = rw some (no-records flat); fits = omega arith; enough = omega arith }
+
+  module _ (headers : ℕ) (elements : List Element) (e : letterIn s ≡ letter headers elements) where
+    pub lists-16 : length table / rowWidth < length elements
+        → ListsFlat side s table room (record { number = 16; place = 0; elements = 0; matches = 0 }) table flat
+    unfolding listed listedTable
+    lists-16 few =
+        let t : ltb (length table / rowWidth) (length elements) ≡ true = lt-ltb _ _ few in
+        record { answered = rw (e, t); tabled = rw (e, t); stored = no-records flat; fits = omega arith; enough = omega arith }
+
+    module _ (count : ℕ) (counted : length elements ≡ count) (enough-rows : count ≤ length table / rowWidth) (before : List ℕ) (m : ℕ) (lists : Lists side elements before flat m) where
+      rows-enough : ltb (length table / rowWidth) (length elements) ≡ false
+      rows-enough = le-ltb (length table / rowWidth) (length elements) (omega arith)
+
+      pub lists-19 : room < m → ListsFlat side s table room (record { number = 19; place = 0; elements = count; matches = 0 }) (tableOf s table) flat
+      unfolding listed listedTable
+      lists-19 short =
+          let t = rows-enough in
+          let u : ltb room (length (matches side elements)) ≡ true = lt-ltb room (length (matches side elements)) (omega (arith, lists .counted)) in
+          record { answered = rw (e, t, u, counted); tabled = rw (e, t, u); stored = no-records flat; fits = omega arith; enough = omega arith }
+
+      pub lists-letter : m ≤ room → ListsFlat side s table room (record { number = 0; place = 0; elements = count; matches = m }) (tableOf s table) flat
+      unfolding listed listedTable
+      lists-letter enough =
+          let t = rows-enough in
+          let u : ltb room (length (matches side elements)) ≡ false = le-ltb room (length (matches side elements)) (omega (arith, lists .counted)) in
+          let c = lists .counted in
+          record { answered = rw (e, t, u, counted, c); tabled = rw (e, t, u); stored = lists-records lists ∙ rw e; fits = lists .fits; enough = enough }
+
+-- the table is the finished one by another name
+pub retabled : {side : Side} {s table : List ℕ} {room : ℕ} {answer : Listed} {after finished flat : List ℕ} → after ≡ finished
+    → ListsFlat side s table room answer finished flat → ListsFlat side s table room answer after flat
+retabled e l = record { answered = l .answered; tabled = e ∙ l .tabled; stored = l .stored; fits = l .fits; enough = l .enough }

@@ -1,0 +1,68 @@
+-- The writer's answer and output, case by case: the tests are those of the crate that writes, in other words. Assumes nothing.
+use mathlib.Core.Path.{_≡_, refl, ap, sym, _∙_, subst}
+use mathlib.Core.Bool.{Bool, true, false, cond}
+use mathlib.Core.List.{List, _++_}
+use Prim.Native.Nat.{ℕ, _<_, _≤_}
+use native.Mathlib.Omega.{arith}
+use lib.Dec.{eqb, leb, ltb}
+use lib.ListN.{length, drop}
+use borrow.Author.Tests.{ne-eqb, leb-true, leb-false, lt-ltb, le-ltb}
+use borrow.Table.Steps.{cases}
+use Rattle.octets.specs.Walk.{streamLimit}
+use Rattle.normal.specs.declared.Answer.{Answer}
+use Rattle.normal.specs.declared.Answer.the-variants.{Written as Wrote, Refused as Not}
+use Rattle.normal.specs.Normal.{normalForm}
+use Rattle.normal.specs.Writes.{answerOf, outputOf, Gives}
+use Rattle.elements.specs.Shape.{edition1988}
+use Rattle.elements.specs.Element.{Element}
+use Rattle.letters.specs.Letter.{letter, refusal}
+use Rattle.odif.specs.declared.Written.{Written}
+use Rattle.odif.specs.Answers.{letterIn, onto, written, writtenOutput}
+use Rattle.odif.proofs.Small.{refusal-small}
+
+-- the number, place and length of each answer
+abbrev pub toldAs : Answer → Written
+toldAs (Wrote n) = record { number = 0; place = 0; length = n }
+toldAs (Not number place) = record { number = number; place = place; length = 0 }
+
+-- what is answered fits 32 bits
+pub record Fits (answer : Written) : Type 0 where
+  pub low-number : answer .number ≤ 18
+  pub low-place : answer .place ≤ 0
+  pub short : answer .length ≤ streamLimit
+
+module _ (s out : List ℕ) where
+  abbrev Writes : Written → List ℕ → Type 0
+  Writes answer after = (answer ≡ written s out) × (after ≡ writtenOutput s out)
+
+  pub writes-refused : (number place headers : ℕ) → letterIn s ≡ refusal number place headers
+      → Writes (record { number = number; place = place; length = 0 }) out
+  unfolding written writtenOutput
+  writes-refused number place headers e =
+      let low = refusal-small edition1988 s number place headers e .low in
+      let some : eqb number 0 ≡ false = ne-eqb number 0 (λ z. omega arith) in
+      (rw e, rw (e, some))
+
+  -- the answer of the crate that writes, of a letter
+  abbrev expected : Answer
+  expected = answerOf (normalForm s) out
+
+  pub writes-letter : (headers : ℕ) (elements : List Element) → letterIn s ≡ letter headers elements
+      → Writes (toldAs expected) (outputOf expected (normalForm s) out) × Fits (toldAs expected)
+  unfolding written writtenOutput answerOf
+  writes-letter headers elements e =
+      let form = normalForm s in
+      cases (leb (length form) streamLimit)
+      (λ within.
+      let a : ltb streamLimit (length form) ≡ false = le-ltb streamLimit (length form) (leb-true _ _ within) in
+      cases (leb (length form) (length out))
+      (λ room.
+      let b : ltb (length out) (length form) ≡ false = le-ltb (length out) (length form) (leb-true _ _ room) in
+      let l = leb-true (length form) streamLimit within in
+      rw (e, a, b, within, room) ((refl, refl), record { low-number = omega arith; low-place = omega arith; short = l }))
+      (λ room.
+      let b : ltb (length out) (length form) ≡ true = lt-ltb (length out) (length form) (leb-false _ _ room) in
+      rw (e, a, b, within, room) ((refl, refl), record { low-number = omega arith; low-place = omega arith; short = omega arith })))
+      (λ over.
+      let a : ltb streamLimit (length form) ≡ true = lt-ltb streamLimit (length form) (leb-false _ _ over) in
+      rw (e, a, over) ((refl, refl), record { low-number = omega arith; low-place = omega arith; short = omega arith }))

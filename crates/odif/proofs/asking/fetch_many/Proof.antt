@@ -1,0 +1,71 @@
+-- `odif::asking::fetch_many` meets its contract: the arrays are what the judge asks for. Assumes nothing.
+use borrow.Author.Needs.{needs}
+use native.Mathlib.Omega.{arith}
+use denote.Ref.{now}
+use Rattle.odif.proofs.Scratch.{walked-lent}
+use Rattle.odif.proofs.asking.fetch_many.Statement.{statement}
+use Rattle.odif.proofs.asking.fetch_many.Tie as tie
+use Rattle.odif.proofs.asking.fetch_many.Reads as reads
+use Rattle.odif.proofs.asking.fetch_many.Lts as lts
+use Rattle.letters.proofs.judge_stream.Reads as judge-stream-reads
+use Rattle.odif.proofs.asking.fetch_judged.Reads as fetch-judged-reads
+
+-- src/asking.rt:258:9
+slice-aggregate-judge-stream : tie.Need-slice-aggregate-judge-stream
+slice-aggregate-judge-stream c = search needs
+
+-- src/asking.rt:259:9
+slice-aggregate-judge-stream-2 : tie.Need-slice-aggregate-judge-stream-2
+slice-aggregate-judge-stream-2 c = search needs
+
+-- src/asking.rt:260:9
+slice-aggregate-judge-stream-3 : tie.Need-slice-aggregate-judge-stream-3
+slice-aggregate-judge-stream-3 c = search needs
+
+-- src/asking.rt:261:9
+slice-aggregate-judge-stream-4 : tie.Need-slice-aggregate-judge-stream-4
+slice-aggregate-judge-stream-4 c = search needs
+
+-- src/asking.rt:262:9
+slice-aggregate-judge-stream-5 : tie.Need-slice-aggregate-judge-stream-5
+slice-aggregate-judge-stream-5 c = search needs
+
+-- src/asking.rt:263:9
+slice-aggregate-judge-stream-6 : tie.Need-slice-aggregate-judge-stream-6
+slice-aggregate-judge-stream-6 c = search needs
+
+-- src/asking.rt:256:9
+judge-stream-requires : tie.Need-judge-stream-requires
+judge-stream-requires c κs =
+    let a = c .before .before .before .before .before .before .before in
+    walked-lent (now (a .args .stream)) _ _ (a .pre .ended) 49152 8192 4096 (omega arith) (omega arith) (omega arith) (omega arith)
+
+-- src/asking.rt:265:35
+slice-aggregate-fetch-judged : tie.Need-slice-aggregate-fetch-judged
+slice-aggregate-fetch-judged c = search needs
+
+-- src/asking.rt:265:5
+fetch-judged-requires : tie.Need-fetch-judged-requires
+fetch-judged-requires c κs =
+    let a = c .before .before .before .before .before .before .before .before .before .before .before .before .before .before .before in
+    let j = c .before .before .before .before .before .before .before .judge-stream in
+    (a .pre, record { head = j .last .1 .1 .0; next = j .last .1 .1 .1 .0; head2 = j .last .1 .1 .1 .1 .0; next2 = j .last .1 .1 .1 .1 .1 .0; gives = j .ensures })
+
+-- src/asking.rt:246:1
+returns : tie.Need-returns
+returns c = search needs
+
+pub fetch-many-spec : {M : Type 1} → statement M
+fetch-many-spec =
+    tie.close
+    (tie.spec
+    slice-aggregate-judge-stream
+    slice-aggregate-judge-stream-2
+    slice-aggregate-judge-stream-3
+    slice-aggregate-judge-stream-4
+    slice-aggregate-judge-stream-5
+    slice-aggregate-judge-stream-6
+    judge-stream-requires
+    slice-aggregate-fetch-judged
+    fetch-judged-requires
+    returns)

@@ -1,0 +1,13 @@
+-- `odif::why` meets its contract: number and place are those of the fetch. Assumes nothing.
+use borrow.Author.Needs.{needs}
+use Rattle.odif.proofs.why.Statement.{statement}
+use Rattle.odif.proofs.why.Tie as tie
+
+locate-requires : tie.Need-locate-requires
+locate-requires c κs = search needs
+
+returns : tie.Need-returns
+returns c = rw (c .locate .ensures .number, c .locate .ensures .place)
+
+pub why-spec : {M : Type 1} → statement M
+why-spec = tie.close (tie.spec locate-requires returns)

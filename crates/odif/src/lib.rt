@@ -1,0 +1,170 @@
+// The public questions, and nothing else. None has a `requires`: any caller may ask, of any octets, with any buffers.
+mod asking;
+
+use asking::Found;
+use letters::Verdict;
+use normal::Answer;
+use octets::Outcome;
+ghost use mathlib.Core.Path.{_≡_};
+ghost use mathlib.Core.List.{List};
+ghost use Rattle.odif.specs.Answers.{checked, checkedTable, written, writtenOutput, fetched, whyNot, Fetches};
+
+// What the check answers. Number 0 is accepted.
+#[repr(C)]
+pub struct Checked {
+    pub number: u32,
+    pub place: u32,
+    pub headers: u32,
+    pub elements: u32,
+}
+
+// What the writer of the normal form answers.
+#[repr(C)]
+pub struct Written {
+    pub number: u32,
+    pub place: u32,
+    pub length: u32,
+}
+
+// What the lister of a side answers.
+#[repr(C)]
+pub struct Listed {
+    pub number: u32,
+    pub place: u32,
+    pub elements: u32,
+    pub matches: u32,
+}
+
+// Why a fetch of content gave nothing: number 0 if it was answered.
+#[repr(C)]
+pub struct Reason {
+    pub number: u32,
+    pub place: u32,
+}
+
+// The bounds of a text unit's content, for callers to whom no part can be handed back.
+#[repr(C)]
+pub struct Located {
+    pub number: u32,
+    pub place: u32,
+    pub first: u32,
+    pub past: u32,
+}
+
+// Checks a stream and fills the element table, twelve numbers a row. The viewer asks this first.
+pub fn check(stream: &[u8], table: &mut [u32]) -> Checked
+    ensures { λ r. ⌜ (r ≡ checked (now (stream .entry)) (now (table .entry))) × (now (table .exit) ≡ checkedTable (now (stream .entry)) (now (table .entry))) ⌝ }
+{
+    match octets::walk(stream) {
+        Outcome::Ended { at: _, count } => asking::check_walked(stream, count as u32, table),
+        Outcome::Refused {
+            number,
+            place,
+            count,
+        } => Checked {
+            number: number as u32,
+            place: place as u32,
+            headers: count as u32,
+            elements: 0,
+        },
+    }
+}
+
+// Writes the normal form of a stream. The archive asks this, and keeps what is written.
+pub fn normal(stream: &[u8], out: &mut [u8]) -> Written
+    ensures { λ r. ⌜ (r ≡ written (now (stream .entry)) (now (out .entry))) × (now (out .exit) ≡ writtenOutput (now (stream .entry)) (now (out .entry))) ⌝ }
+{
+    match asking::judge(stream) {
+        Verdict::Refused { number, place } => Written {
+            number: number as u32,
+            place: place as u32,
+            length: 0,
+        },
+        Verdict::Accepted { count: _ } => match normal::write(stream, out) {
+            Answer::Written { length } => Written {
+                number: 0,
+                place: 0,
+                length: length as u32,
+            },
+            Answer::Refused { number, place } => Written {
+                number: number as u32,
+                place: place as u32,
+                length: 0,
+            },
+        },
+    }
+}
+
+// The content of a text unit: a part of the caller's own stream, and an empty part if the stream or the element is refused. The viewer
+// asks this of an element of a match, and `why` if the part is empty.
+pub fn content<'a>(stream: &'a [u8], element: usize) -> &'a [u8]
+    ensures { λ r. ⌜ now r ≡ fetched (now (stream .entry)) element .part ⌝ }
+{
+    match asking::fetch(stream, element) {
+        Found::Content { first, past } => &stream[first..past],
+        Found::Refused {
+            number: _,
+            place: _,
+        } => &stream[..0],
+        Found::NoUnit => &stream[..0],
+    }
+}
+
+// Why the content of an element was refused: 0 at 0 if it was not.
+pub fn why(stream: &[u8], element: usize) -> Reason
+    ensures { λ r. ⌜ r ≡ whyNot (now (stream .entry)) element ⌝ }
+{
+    let located = locate(stream, element);
+    Reason {
+        number: located.number,
+        place: located.place,
+    }
+}
+
+// Where the content of an element stands in the stream, with the number and place of a refusal.
+fn locate(stream: &[u8], element: usize) -> Located
+    ensures { λ r. ⌜ Fetches (now (stream .entry)) element r ⌝ }
+{
+    match asking::fetch(stream, element) {
+        Found::Content { first, past } => Located {
+            number: 0,
+            place: 0,
+            first: first as u32,
+            past: past as u32,
+        },
+        Found::Refused { number, place } => Located {
+            number: number as u32,
+            place: place as u32,
+            first: 0,
+            past: 0,
+        },
+        Found::NoUnit => Located {
+            number: 20,
+            place: 0,
+            first: 0,
+            past: 0,
+        },
+    }
+}
+
+// The same questions for C, as include/odif.h declares them: a slice is a pointer and a length, and a null pointer with length 0 is fine.
+#[no_mangle]
+pub extern "C" fn odif_check(stream: &[u8], table: &mut [u32]) -> Checked
+    ensures { λ r. ⌜ (r ≡ checked (now (stream .entry)) (now (table .entry))) × (now (table .exit) ≡ checkedTable (now (stream .entry)) (now (table .entry))) ⌝ }
+{
+    check(stream, table)
+}
+
+#[no_mangle]
+pub extern "C" fn odif_normal(stream: &[u8], out: &mut [u8]) -> Written
+    ensures { λ r. ⌜ (r ≡ written (now (stream .entry)) (now (out .entry))) × (now (out .exit) ≡ writtenOutput (now (stream .entry)) (now (out .entry))) ⌝ }
+{
+    normal(stream, out)
+}
+
+#[no_mangle]
+pub extern "C" fn odif_content(stream: &[u8], element: u32) -> Located
+    ensures { λ r. ⌜ Fetches (now (stream .entry)) element r ⌝ }
+{
+    locate(stream, element as usize)
+}
