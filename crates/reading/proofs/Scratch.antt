@@ -83,18 +83,18 @@ module _ {s rows head next head2 next2 : List ℕ} {n : ℕ} (filled : Filled s 
     indexed = filled .holds .by-logical;
   }
 
-  -- all matches are put: that is the list
-  pub puts-list : (side : Side) (before after : List ℕ) (count : ℕ) → 3 * n ≤ length before → PutsAll side s rows n before after count
+  -- all matches of a side are put: that is its list
+  pub puts-list : (side given : Side) → side ≡ given → (before after : List ℕ) (count : ℕ) → 3 * n ≤ length before → PutsAll given s rows n before after count
       → (elements : List Element) → judge edition1988 (treeOf s) ≡ accepted elements → Lists side elements before after count
-  puts-list side before after count enough puts elements judged =
+  puts-list side given same-side before after count enough puts elements judged =
       let e : accepted (filled .elements) ≡ accepted elements = sym (filled .judged) ∙ judged in
       let same : filled .elements ≡ elements = cc in
       let put = puts (filled .elements) filled-ready in
-      let ms = matches side (filled .elements) in
-      let few = no-more-than-elements (filled .elements) (filled-apart filled) side in
+      let ms = matches given (filled .elements) in
+      let few = no-more-than-elements (filled .elements) (filled-apart filled) given in
       let room : 3 * length ms ≤ length before = omega (arith, filled .holds .counted) in
       let counted = puts-count ms put room in
-      subst (λ (es : List Element). Lists side es before after count) same (record {
+      rw (same-side, ← same) (record {
         counted = counted;
         fits = omega (arith, puts-length put);
         stored = puts-all ms put room ∙ ap (λ (k : ℕ). numbersOf ms ++ drop (3 * k) before) (sym counted);
