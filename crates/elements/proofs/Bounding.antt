@@ -32,7 +32,8 @@ bounds-placed s v (octets bytes) b = b .placed
 pub bounding-placed : {s : List ℕ} {r : Run} {octet : ℕ} {v : Span} → Bounding s r octet v → Placed s v
 bounding-placed {s} {r} {octet} {v} b = bounds-placed s v (firstValue octet (treeIn s r)) (b .value)
 
-pub held-bounding : {s : List ℕ} {r : Run} {octet : ℕ} {p : Part} → Holds s r octet p → constructed octet ≡ false → Bounding s r octet (spanOf p)
+pub held-bounding : {s : List ℕ} {r : Run} {octet : ℕ} {p : Part} → Holds s r octet p → constructed octet ≡ false
+    → Bounding s r octet (spanOf p)
 held-bounding {s} {r} {octet} {p} h c =
     let there : 0 < p .past = omega (arith, h .starts, h .order) in
     record {
@@ -50,7 +51,8 @@ not-here true n e = absurd (omega arith)
 not-here false n e = (refl, omega arith)
 
 -- where no item has the octet, the pair is that of what is absent, and nothing is inside
-nothing-there : (s : List ℕ) (octet : ℕ) (i : Items) → amount octet (plain s i) ≡ 0 → (boundsOf octet i ≡ noSpan) × (itemsIn octet i ≡ none)
+nothing-there : (s : List ℕ) (octet : ℕ) (i : Items) → amount octet (plain s i) ≡ 0
+    → (boundsOf octet i ≡ noSpan) × (itemsIn octet i ≡ none)
 unfolding boundsOf itemsIn
 nothing-there s octet none e = (refl, refl)
 nothing-there s octet (item at type start past inside after) e =
@@ -83,7 +85,8 @@ empty-items s room = sym (ap (λ (w : Walked). w .items) (derived {s = s} {room 
 
 pub empty-fine : (s : List ℕ) (room : ℕ) → Fine s (definiteRun 0 0 room)
 empty-fine s room =
-    record { order = omega arith; inside = omega arith; whole = subst (λ (w : Walked). Whole (w .how)) (derived {s = s} {room = room} (at-limit {limit = 0} refl)) tt }
+    let whole = subst (λ (w : Walked). Whole (w .how)) (derived {s = s} {room = room} (at-limit {limit = 0} refl)) tt in
+    record { order = omega arith; inside = omega arith; whole = whole }
 
 pub held-inner : {s : List ℕ} {r : Run} {octet : ℕ} {p : Part} → Holds s r octet p → constructed octet ≡ true → Inner s r octet (p .inner)
 held-inner h c = record { fine = h .inner-fine; items = sym (h .items); tree = sym (h .tree c) }

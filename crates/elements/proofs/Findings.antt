@@ -29,7 +29,8 @@ use Rattle.elements.specs.WellMade.{WellMade}
 use Rattle.elements.proofs.Bounding.{counted-bounding}
 
 -- what was found: the top of the element, what names it, its portions and its object type
-pub record Findings (s : List ℕ) (shape : Shape) (r : Run) (frame : Frame) (g : Gathered) (listed : Listed) (numbers : List ℕ) (typed : Typed) : Type 0 where
+pub record Findings (s : List ℕ) (shape : Shape) (r : Run) (frame : Frame) (g : Gathered) (listed : Listed) (numbers : List ℕ)
+    (typed : Typed) : Type 0 where
   pub made : WellMade shape
   pub framed : Framed s shape r frame
   pub gathers : Gathers s (frame .body) (soughtOf shape) g

@@ -16,6 +16,7 @@ use Rattle.contents.specs.Search.{itemsIn}
 use Rattle.portions.specs.declared.Listed.{Listed}
 use Rattle.portions.specs.Portions.{all, allPortions, values, mostPortions}
 use Rattle.portions.proofs.Judging.{only-portions}
+use Rattle.portions.proofs.Meetings.{portions-primitive}
 use Rattle.elements.specs.declared.Frame.{Frame}
 use Rattle.elements.specs.declared.Shape.{Shape}
 use Rattle.elements.specs.declared.Typed.{Typed}
@@ -24,7 +25,7 @@ use Rattle.elements.specs.Rows.{rowOf}
 use Rattle.elements.specs.Says.{Says, portionsRun}
 use Rattle.elements.specs.Sees.{listSpelt, speltBy, rowBy, Passes}
 use Rattle.elements.proofs.Findings.{Findings, elementIn, identifier-bounds, logical-bounds, portions-are, names-by}
-use Rattle.elements.proofs.Relisting.{portions-primitive, relisted-fine, relisted-items}
+use Rattle.elements.proofs.Relisting.{relisted-fine, relisted-items}
 use Rattle.elements.proofs.Values.{named}
 
 all-three : (a b c : Bool) → all (a ∷ b ∷ c ∷ []) ≡ true → (a ≡ true) × (b ≡ true) × (c ≡ true)

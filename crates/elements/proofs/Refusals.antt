@@ -43,4 +43,5 @@ module _ (edition : Edition) (done : List Element) (type : List ℕ) (run : Tree
       refusal-by-shape e =
           let shape = shapeOf edition type in
           rw (few, known, e)
-          (then-last (asTabled shape run) (typeFits (shape .types) (firstValue (shape .object) run)) (namesFit (elementOf shape run)) (twice done (elementOf shape run)))
+          (then-last (asTabled shape run) (typeFits (shape .types) (firstValue (shape .object) run)) (namesFit (elementOf shape run))
+          (twice done (elementOf shape run)))

@@ -1,49 +1,29 @@
 -- The portions of an element can be read again by the bounds of their value alone: they are primitive items. Assumes nothing.
 use mathlib.Core.Path.{_≡_, refl, sym, ap, _∙_, subst}
-use mathlib.Core.Bool.{Bool, true, false, cond, _&&_, false≢true}
-use mathlib.Core.List.{List, [], _∷_}
+use mathlib.Core.Bool.{Bool, true, false, cond, false≢true}
+use mathlib.Core.List.{List}
 use mathlib.Core.Logic.{_⊎_, inl, inr}
 use Prim.Native.Nat.{ℕ}
 use native.Mathlib.Omega.{arith}
 use lib.Dec.{eqb}
-use lib.Seq.{slice}
 use borrow.Author.Tests.{eqb-true}
 use Rattle.octets.specs.declared.Header.{Header}
 use Rattle.octets.specs.declared.Head.the-variants.{Item}
 use Rattle.octets.specs.First.{constructed}
 use Rattle.octets.specs.Head.{headAt}
-use Rattle.octets.specs.Items.{Items, none, item}
+use Rattle.octets.specs.Items.{Items, none}
 use Rattle.octets.specs.Walk.{End, ends, Walked, pastOf}
 use Rattle.octets.specs.Rules.{Runs, at-limit, unclosed, closes, refuses, primitive, passes, breaks}
 use Rattle.octets.proofs.RulesHold.{derived, derives}
-use Rattle.tree.specs.Tree.{Tree, formed, plain}
 use Rattle.runs.specs.Whole.{Whole}
 use Rattle.runs.specs.declared.Run.{Run}
 use Rattle.runs.specs.Runs.{walkIn, itemsOf, allPrimitive, Fine}
 use Rattle.runs.proofs.Heads.{item-octet}
 use Rattle.runs.proofs.Again.{value-again}
 use Rattle.contents.specs.declared.Span.{Span}
-use Rattle.contents.specs.Search.{is, boundsOf, itemsIn}
+use Rattle.contents.specs.Search.{boundsOf, itemsIn}
 use Rattle.contents.specs.Gather.{Counted}
-use Rattle.portions.specs.Portions.{allPortions}
 use Rattle.elements.specs.Says.{portionsRun}
-
-both : (a b : Bool) → a && b ≡ true → b ≡ true
-both true b t = t
-both false b t = absurd (false≢true t)
-
--- portions are primitive
-form-known : (b : Bool) (type : ℕ) (value : List ℕ) (inside after : Tree) → allPortions (formed b (type ∷ []) value inside after) ≡ true
-    → (b ≡ false) × (allPortions after ≡ true)
-unfolding allPortions
-form-known true type value inside after t = absurd (false≢true t)
-form-known false type value inside after t = (refl, both (is 0x12 (type ∷ [])) (allPortions after) t)
-
-pub portions-primitive : (s : List ℕ) (i : Items) → allPortions (plain s i) ≡ true → allPrimitive i ≡ true
-portions-primitive s none t = refl
-portions-primitive s (item at octet start past inside after) t =
-    let k = form-known (constructed octet) octet (slice start past s) (plain s inside) (plain s after) t in
-    rw (k .0) (portions-primitive s after (k .1))
 
 -- by the rules, the items are a run of one level between the bounds
 abbrev Again : List ℕ → Span → Items → Type 0
@@ -61,23 +41,27 @@ not-primitive s room at limit marked h p q octet (inl z) e = let o = item-octet 
 not-primitive s room at limit marked h p q octet (inr c) e = false≢true (sym q ∙ ap constructed e ∙ c)
 
 again-in : {s : List ℕ} {room at limit : ℕ} {marked : Bool} {i : Items} {e : End} → Runs s room at limit marked i e → Whole e
-    → (octet : ℕ) → (octet ≡ 0) ⊎ (constructed octet ≡ true) → allPrimitive (itemsIn octet i) ≡ true → Again s (boundsOf octet i) (itemsIn octet i)
+    → (octet : ℕ) → (octet ≡ 0) ⊎ (constructed octet ≡ true) → allPrimitive (itemsIn octet i) ≡ true
+    → Again s (boundsOf octet i) (itemsIn octet i)
 unfolding boundsOf itemsIn
 again-in (at-limit p) w octet k = λ _. at-limit refl
 again-in (unclosed p) w octet k = absurd w
 again-in (closes l h) w octet k = λ _. at-limit refl
 again-in (refuses l h) w octet k = absurd w
 again-in {s} (primitive {room} {at} {limit} {marked} {h} {after} l p q r) w octet k =
-    choose s (eqb (h .octet) octet) (record { first = h .start; past = pastOf (h .marked) (h .bound) }) (boundsOf octet after) none (itemsIn octet after)
+    choose s (eqb (h .octet) octet) (record { first = h .start; past = pastOf (h .marked) (h .bound) }) (boundsOf octet after)
+    none (itemsIn octet after)
     (λ e. absurd (not-primitive s room at limit marked h p q octet k (eqb-true (h .octet) octet e)))
     (λ _. again-in r w octet k)
 again-in {s} (passes {room} {at} {limit} {marked} {h} {inside} {after} {next} l p q v r) w octet k =
-    choose s (eqb (h .octet) octet) (record { first = h .start; past = pastOf (h .marked) next }) (boundsOf octet after) inside (itemsIn octet after)
+    choose s (eqb (h .octet) octet) (record { first = h .start; past = pastOf (h .marked) next }) (boundsOf octet after)
+    inside (itemsIn octet after)
     (λ _. value-again v 1 (λ _. omega arith))
     (λ _. again-in r w octet k)
 again-in (breaks l p q v) w octet k = absurd w
 
-module _ {s : List ℕ} {r : Run} {octet n : ℕ} {v : Span} (fine : Fine s r) (c : Counted s r octet n v) (k : (octet ≡ 0) ⊎ (constructed octet ≡ true))
+module _ {s : List ℕ} {r : Run} {octet n : ℕ} {v : Span} (fine : Fine s r) (c : Counted s r octet n v)
+    (k : (octet ≡ 0) ⊎ (constructed octet ≡ true))
     (all : allPrimitive (itemsIn octet (itemsOf s r)) ≡ true) where
   walked-again : walkIn s (portionsRun v) ≡ record { items = itemsIn octet (itemsOf s r); how = ends (v .past) }
   walked-again =

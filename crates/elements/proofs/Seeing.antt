@@ -15,6 +15,8 @@ use Rattle.contents.specs.declared.Span.{Span}
 use Rattle.contents.specs.Order.{inOrder}
 use Rattle.portions.specs.declared.Listed.{Listed}
 use Rattle.elements.specs.declared.Frame.{Frame}
+use Rattle.elements.specs.declared.Row.{Row}
+use Rattle.elements.specs.declared.Seen.{Seen}
 use Rattle.elements.specs.declared.Shape.{Shape}
 use Rattle.elements.specs.declared.Typed.{Typed}
 use Rattle.elements.specs.Element.{asTabled}
@@ -61,9 +63,9 @@ module _ {s : List ℕ} {shape : Shape} {r : Run} {frame : Frame} {g : Gathered}
 
   module _ (tabled fit : Bool) (p : tabled ≡ tabledBy (shape .identifier .needed) g (listed .others))
       (q : fit ≡ speltBy (elementIn shape s r .identifier) (elementIn shape s r .logical) listed) where
-    pub sees-by : Sees s shape r (whole .first) (whole .past) numbers
+    sees-either : Sees s shape r (whole .first) (whole .past) numbers
         (seenBy (numberOf tabled (typed .fits) fit) (rowBy shape frame (typed .value) g whole) (listed .count))
-    sees-by =
+    sees-either =
         let number = number-by f tabled fit p (λ none. q ∙ names-by f none) in
         cond-holds (Sees s shape r (whole .first) (whole .past) numbers) (eqb (numberOf tabled (typed .fits) fit) 0)
         (λ e.
@@ -72,3 +74,8 @@ module _ {s : List ℕ} {shape : Shape} {r : Run} {frame : Frame} {g : Gathered}
         let none = no-others (shape .identifier .needed) g (listed .others) (sym p ∙ k .0) in
         record { refusal = sym zero ∙ number; placed = row-placed; passes = λ _. passes-by f whole none (k .1) (sym q ∙ k .2) })
         (λ e. record { refusal = number; placed = no-row-placed s; passes = λ z. absurd (eqb-false (numberOf tabled (typed .fits) fit) 0 e z) })
+
+    -- the same of what the code has, step by step
+    pub sees-by : (number : ℕ) → number ≡ numberOf tabled (typed .fits) fit → (row : Row) → row ≡ rowBy shape frame (typed .value) g whole
+        → (seen : Seen) → seen ≡ seenBy number row (listed .count) → Sees s shape r (whole .first) (whole .past) numbers seen
+    sees-by number n row w seen e = rw (e, n, w) sees-either

@@ -54,7 +54,7 @@ fn is_once(needed: bool, amount: usize) -> bool
     if amount == 0 {
         return !needed;
     }
-    amount == 1
+    amount <= 1
 }
 
 // Rule 12, in an element whose items stand in order, by what was gathered.

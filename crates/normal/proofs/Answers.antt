@@ -8,13 +8,12 @@ use lib.ListN.{length}
 use lib.Seq.{slice}
 use borrow.Author.Tests.{le-leb, lt-leb}
 use Rattle.octets.specs.declared.Outcome.the-variants.{Ended, Refused}
-use Rattle.octets.specs.Walk.{streamLimit, deepest, run, walkOf}
-use Rattle.tree.specs.Accepts.{Whole}
+use Rattle.octets.specs.Walk.{streamLimit, deepest, walkOf}
 use Rattle.normal.specs.declared.Measured.{Measured}
 use Rattle.normal.specs.declared.Answer.{Answer}
 use Rattle.normal.specs.declared.Answer.the-variants.{Written, Refused as Not}
 use Rattle.normal.specs.Normal.{normalForm}
-use Rattle.normal.specs.Measure.{normalFrom, Measures, Puts}
+use Rattle.normal.specs.Passes.{RunEnds, normalFrom, RunMeasures, Puts}
 use Rattle.normal.specs.Writes.{answerOf, outputOf, answerFor, Gives}
 use Rattle.normal.proofs.Passes.{form-end}
 use Rattle.normal.proofs.Putting.{put-front}
@@ -25,16 +24,15 @@ unfolding normalFrom
 form-is s = refl
 
 -- what was measured of a whole stream: how long its normal form is, and if it is its own, that
-pub stream-measured : (s : List ℕ) → Whole (run deepest s 0 (length s) false .how)
-    → (m : Measured) → Measures s 0 false (run deepest s 0 (length s) false .how) (normalFrom deepest s 0 (length s) false) m
+pub stream-measured : (s : List ℕ) → RunEnds deepest s 0 (length s) false → (m : Measured) → RunMeasures deepest s 0 (length s) false m
     → (m .size ≡ length (normalForm s)) × (m .shortest ≡ true → (m .size ≤ length s) × (normalForm s ≡ slice 0 (m .size) s))
 unfolding normalFrom
-stream-measured s w m v =
+stream-measured s r m v =
     let z : 0 + m .size ≡ m .size = omega arith in (
       v .size,
       λ b.
           let (form, e) = v .own b in
-          let to : m .next ≡ length s = v .past ∙ form-end deepest s 0 (length s) false (omega arith) (omega arith) w refl in
+          let to : m .next ≡ length s = v .past ∙ form-end deepest s 0 (length s) false r refl in
           (omega arith, form ∙ ap (λ (k : ℕ). slice 0 k s) z),
     )
 

@@ -3,12 +3,11 @@
 use mathlib.Core.Path.{_≡_, refl, ap, sym, _∙_, subst}
 use mathlib.Core.Bool.{Bool, true, false}
 use mathlib.Core.List.{List, [], _∷_, _++_, append-assoc, append-nil}
-use mathlib.Core.Logic.{_⊎_, inl, inr}
-use Prim.Native.Nat.{ℕ, zero, suc, _+_, _-_, _*_, _/_, _%_, _<_, _≤_}
+use Prim.Native.Nat.{ℕ, suc, _+_, _-_, _*_, _/_, _%_, _<_, _≤_}
 use native.Mathlib.Omega.{arith}
 use native.Mathlib.Nat.{zero-add}
 use lib.Dec.{ltb}
-use lib.ListN.{length, getD, take, drop, List·getD-append, List·getD-eq-default}
+use lib.ListN.{length, take, drop, List·getD-append, List·getD-eq-default}
 use lib.Seq.{getD-drop, getD-append-add, take-add, drop-drop, slice}
 use borrow.Author.Tests.{ltb-true, ltb-false, lt-ltb}
 use Rattle.octets.specs.declared.Header.{Header}
@@ -18,7 +17,7 @@ use Rattle.tree.specs.Codes.{Length, short, long}
 use Rattle.tree.proofs.Here.{Here, slice-is, sliced}
 use Rattle.tree.proofs.Heads.{Sized, ReadFrom}
 use Rattle.normal.specs.Length.{furtherOctets, digits, lengthBy, lengthOctets, Octets}
-use Rattle.normal.specs.Measure.{headerSize}
+use Rattle.normal.specs.Passes.{headerSize}
 use Rattle.normal.proofs.Lengths.{by-some}
 
 -- an octet of the first of two lists, or past it

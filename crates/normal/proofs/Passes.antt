@@ -27,7 +27,7 @@ use Rattle.normal.specs.declared.Measured.{Measured}
 use Rattle.normal.specs.declared.Met.{Met}
 use Rattle.normal.specs.declared.Met.the-variants.{Item as Inner, Last}
 use Rattle.normal.specs.Normal.{coded, normalOf}
-use Rattle.normal.specs.Measure.{endOf, normalFrom, normalIn, metBy, metAt, headerSize, Measures}
+use Rattle.normal.specs.Passes.{RunEnds, ValueEnds, endOf, normalFrom, normalIn, metBy, metAt, headerSize, ValueMeasures}
 use Rattle.normal.proofs.Normals.{small, coded-length}
 
 -- ---- a run that ended
@@ -43,12 +43,12 @@ run-is s room at limit false t (ends next) (xs, c, (rest, e), p) w =
     let l : length s - at ≡ length xs + length rest = sym (length-drop at s) ∙ ap length e ∙ length-append xs rest in
     (omega (arith, small c), λ _. p .1)
 
-module _ (room : ℕ) (s : List ℕ) (at limit : ℕ) (marked : Bool) (a : at ≤ limit) (f : limit ≤ length s) (w : Whole (run room s at limit marked .how)) where
+module _ (room : ℕ) (s : List ℕ) (at limit : ℕ) (marked : Bool) (r : RunEnds room s at limit marked) where
   run-facts : (length (normalFrom room s at limit marked) ≤ 3 * length s) × (marked ≡ false → endOf (run room s at limit marked .how) ≡ limit)
   unfolding normalFrom
   run-facts =
       run-is s room at limit marked (plain s (run room s at limit marked .items)) (run room s at limit marked .how)
-      (sound (derives room s at limit marked a) f) w
+      (sound (derives room s at limit marked (r .order)) (r .within)) (r .whole)
 
   pub form-small : length (normalFrom room s at limit marked) ≤ 3 * length s
   form-small = run-facts .0
@@ -73,6 +73,10 @@ module _ (room : ℕ) (s : List ℕ) (h : Header) where
   unfolding valueOf normalIn
   value-plain e = (rw e, rw e)
 
+  -- a constructed value is a run that ended
+  pub value-run-ends : ValueEnds room s h → constructed (h .octet) ≡ true → RunEnds (room - 1) s (h .start) (h .bound) (h .marked)
+  value-run-ends v e = record { order = v .order; within = v .within; small = v .small; whole = subst Whole (value-run e .0) (v .whole) }
+
   -- it ends within its bounds
   pub value-past : h .start ≤ h .bound → Whole (valueOf room s h .how) → (h .start ≤ endOf (valueOf room s h .how)) × (endOf (valueOf room s h .how) ≤ h .bound)
   unfolding valueOf
@@ -82,12 +86,10 @@ module _ (room : ℕ) (s : List ℕ) (h : Header) where
       (λ g b. run-ok (room - 1) s (g .start) (g .bound) (g .marked) b)) w
 
   -- a definite one ends where its length says
-  value-end : h .start ≤ h .bound → h .bound ≤ length s → Whole (valueOf room s h .how) → (b : Bool) → constructed (h .octet) ≡ b
-      → h .marked ≡ false → endOf (valueOf room s h .how) ≡ h .bound
-  value-end a f w true e m =
-      let p = value-run e .0 in
-      ap endOf p ∙ form-end (room - 1) s (h .start) (h .bound) (h .marked) a f (subst Whole p w) m
-  value-end a f w false e m = ap endOf (value-plain e .0)
+  value-end : ValueEnds room s h → (b : Bool) → constructed (h .octet) ≡ b → h .marked ≡ false → endOf (valueOf room s h .how) ≡ h .bound
+  value-end v true e m =
+      ap endOf (value-run e .0) ∙ form-end (room - 1) s (h .start) (h .bound) (h .marked) (value-run-ends v e) m
+  value-end v false e m = ap endOf (value-plain e .0)
 
 -- ---- an item that is met
 
@@ -124,7 +126,7 @@ module _ (room : ℕ) (s : List ℕ) (at limit : ℕ) (marked : Bool) where
   pub record Turn (h : Header) : Type 0 where
     pub lies : Lies at limit room h
     pub read : ReadFrom s at limit room h
-    pub inside : Whole (valueOf room s h .how)
+    pub inside : ValueEnds room s h
     pub later : at + 2 ≤ endOf (valueOf room s h .how)
     pub within : endOf (valueOf room s h .how) ≤ limit
     pub definite : h .marked ≡ false → endOf (valueOf room s h .how) ≡ h .bound
@@ -137,20 +139,21 @@ module _ (room : ℕ) (s : List ℕ) (at limit : ℕ) (marked : Bool) where
   Meets (Inner h) = Turn h
   Meets (Last past) = (run room s at limit marked .how ≡ ends past) × (normalFrom room s at limit marked ≡ []) × (pastOf marked past ≡ at)
 
-  module _ (f : limit ≤ length s) (w : Whole (run room s at limit marked .how)) where
+  module _ (r : RunEnds room s at limit marked) where
     turn : at < limit → (h : Header) → headAt s at limit marked room ≡ Item h → Turn h
     unfolding valueOf normalFrom normalIn
     turn l h e =
         let v = valueOf room s h in
         let next = endOf (v .how) in
         let o = header-ok s at limit room marked h e in
-        let (i, k, t) = turn-of at h (v .items) (v .how) (λ n. run room s n limit marked) (run room s at limit marked) (at-head room s at limit marked l (Item h) e) w in
+        let (i, k, t) = turn-of at h (v .items) (v .how) (λ n. run room s n limit marked) (run room s at limit marked) (at-head room s at limit marked l (Item h) e) (r .whole) in
         let b = value-past room s h (o .order) i in
-        let definite = value-end room s h (o .order) (omega arith) i (constructed (h .octet)) refl in
+        let inside : ValueEnds room s h = record { deep = o .deep; order = o .order; within = omega arith; small = r .small; whole = i; mark = o .mark } in
+        let definite = value-end room s h inside (constructed (h .octet)) refl in
         record {
           lies = o;
-          read = read-from s at limit room marked l f h e;
-          inside = i;
+          read = read-from s at limit room marked l (r .within) h e;
+          inside = inside;
           later = omega arith;
           within = omega arith;
           definite = definite;
@@ -168,14 +171,14 @@ module _ (room : ℕ) (s : List ℕ) (at limit : ℕ) (marked : Bool) where
     unfolding normalFrom normalOf
     at-mark l e =
         let p = at-head room s at limit marked l ClosingMark e in
-        let m = subst (Tells s at limit room marked) e (head-tells s at limit room marked f l) .0 in
+        let m = subst (Tells s at limit room marked) e (head-tells s at limit room marked (r .within) l) .0 in
         let back : at + 2 - 2 ≡ at = omega arith in
         (ap (λ (x : Walked). x .how) p, ap (λ (x : Walked). normalOf (plain s (x .items))) p, rw m back)
 
     meets-head : at < limit → (head : Head) → headAt s at limit marked room ≡ head → Meets (metBy at head)
     meets-head l (Item h) e = turn l h e
     meets-head l ClosingMark e = at-mark l e
-    meets-head l (Refusal number place) e = absurd (subst Passed e (passed room s at limit marked l w))
+    meets-head l (Refusal number place) e = absurd (subst Passed e (passed room s at limit marked l (r .whole)))
 
 at-end : (room : ℕ) (s : List ℕ) (at limit : ℕ) (marked : Bool) → at ≡ limit → Whole (run room s at limit marked .how) → Meets room s at limit marked (Last limit)
 unfolding normalFrom normalOf
@@ -186,23 +189,26 @@ at-end room s at limit false e w =
     let p : run room s at limit false ≡ ended limit = run-step room s at limit false (omega arith) ∙ rw (le-leb limit at (omega arith)) in
     (ap (λ (x : Walked). x .how) p, ap (λ (x : Walked). normalOf (plain s (x .items))) p, sym e)
 
-module _ (room : ℕ) (s : List ℕ) (at limit : ℕ) (marked : Bool) where
-  meets-at : at ≤ limit → limit ≤ length s → Whole (run room s at limit marked .how) → (b : Bool) → leb limit at ≡ b
-      → Meets room s at limit marked (cond b (Last limit) (metBy at (headAt s at limit marked room)))
-  meets-at a f w true e = let l = leb-true limit at e in at-end room s at limit marked (omega arith) w
-  meets-at a f w false e = meets-head room s at limit marked f w (leb-false limit at e) (headAt s at limit marked room) refl
+module _ (room : ℕ) (s : List ℕ) (at limit : ℕ) (marked : Bool) (r : RunEnds room s at limit marked) where
+  meets-at : (b : Bool) → leb limit at ≡ b → Meets room s at limit marked (cond b (Last limit) (metBy at (headAt s at limit marked room)))
+  meets-at true e = let l = leb-true limit at e in at-end room s at limit marked (omega (arith, r .order)) (r .whole)
+  meets-at false e = meets-head room s at limit marked r (leb-false limit at e) (headAt s at limit marked room) refl
 
-  pub meets : at ≤ limit → limit ≤ length s → Whole (run room s at limit marked .how) → (x : Met) → metAt room s at limit marked ≡ x
-      → Meets room s at limit marked x
+  pub meets : (x : Met) → metAt room s at limit marked ≡ x → Meets room s at limit marked x
   unfolding metAt
-  meets a f w x e = subst (Meets room s at limit marked) e (meets-at a f w (leb limit at) refl)
+  meets x e = subst (Meets room s at limit marked) e (meets-at (leb limit at) refl)
+
+-- what is left of a run that ended
+pub run-left : (room : ℕ) (s : List ℕ) (at limit : ℕ) (marked : Bool) → RunEnds room s at limit marked → (next : ℕ) → next ≤ limit
+    → run room s at limit marked .how ≡ run room s next limit marked .how → RunEnds room s next limit marked
+run-left room s at limit marked r next l e = record { order = l; within = r .within; small = r .small; whole = subst Whole e (r .whole) }
 
 -- what follows an item whose value was measured, and the octets of the item with what follows it
 pub turned : (room : ℕ) (s : List ℕ) (at limit : ℕ) (marked : Bool) (h : Header) → Turn room s at limit marked h
-    → (m : Measured) → Measures s (h .start) (h .marked) (valueOf room s h .how) (normalIn room s h) m
+    → (m : Measured) → ValueMeasures room s h m
     → (at + 2 ≤ m .next) × (m .next ≤ limit) × (run room s at limit marked .how ≡ run room s (m .next) limit marked .how)
     × (normalFrom room s at limit marked ≡ coded (h .octet ∷ []) (normalIn room s h) (normalFrom room s (m .next) limit marked))
     × (length (normalFrom room s at limit marked) ≡ headerSize (m .size) + m .size + length (normalFrom room s (m .next) limit marked))
 turned room s at limit marked h u m v =
     let e = ap length (u .form) ∙ coded-length (h .octet ∷ []) (normalIn room s h) (normalFrom room s (endOf (valueOf room s h .how)) limit marked) in
-    rw (v .past, v .size) (u .later, u .within, u .rest, u .form, omega arith)
+    rw (v .measures .past, v .measures .size) (u .later, u .within, u .rest, u .form, omega arith)

@@ -1,33 +1,31 @@
 -- The writing of a run: what is left to write from `at` makes of the output what all of it made of the output as it was, and a turn keeps
 -- that. Assumes nothing.
 use mathlib.Core.Path.{_≡_, refl, ap, sym, _∙_, subst}
-use mathlib.Core.Bool.{Bool, true, false}
+use mathlib.Core.Bool.{Bool, true}
 use mathlib.Core.List.{List, [], _∷_, _++_}
-use Prim.Native.Nat.{ℕ, _+_, _-_, _*_, _<_, _≤_}
+use Prim.Native.Nat.{ℕ, _+_, _*_, _≤_}
 use native.Mathlib.Omega.{arith}
 use lib.ListN.{length, drop}
 use lib.Seq.{slice, sets, length-sets, sets-eq}
 use Rattle.octets.specs.declared.Header.{Header}
-use Rattle.octets.specs.Walk.{pastOf, run, valueOf}
+use Rattle.octets.specs.Walk.{pastOf}
 use Rattle.octets.proofs.Walks.{cond-holds}
-use Rattle.tree.specs.Accepts.{Whole}
 use Rattle.normal.specs.declared.Measured.{Measured}
 use Rattle.normal.specs.declared.Met.the-variants.{Last}
 use Rattle.normal.specs.Length.{lengthOctets}
 use Rattle.normal.specs.Normal.{coded}
-use Rattle.normal.specs.Measure.{normalFrom, normalIn, headerSize, Measures, Puts}
+use Rattle.normal.specs.Passes.{RunEnds, ValueEnds, normalFrom, normalIn, headerSize, ValueMeasures, Puts}
 use Rattle.normal.proofs.Lengths.{length-length, sets-append}
-use Rattle.normal.proofs.Passes.{Turn, Meets, turned, form-small, value-past}
+use Rattle.normal.proofs.Passes.{Turn, Meets, turned, run-left, form-small, value-past}
 
 -- a value that is its own normal form is copied from within its bounds
-pub copies : (room : ℕ) (s : List ℕ) (h : Header) → h .start ≤ h .bound → Whole (valueOf room s h .how)
-    → (m : Measured) → Measures s (h .start) (h .marked) (valueOf room s h .how) (normalIn room s h) m → m .shortest ≡ true
+pub copies : (room : ℕ) (s : List ℕ) (h : Header) → ValueEnds room s h → (m : Measured) → ValueMeasures room s h m → m .shortest ≡ true
     → (h .start + m .size ≤ h .bound) × (normalIn room s h ≡ slice (h .start) (h .start + m .size) s)
-copies room s h a w m v b =
-    let (form, e) = v .own b in
-    let p = value-past room s h a w in
+copies room s h w m v b =
+    let (form, e) = v .measures .own b in
+    let p = value-past room s h (w .order) (w .whole) in
     let l : pastOf (h .marked) (m .next) ≤ m .next = cond-holds (λ (k : ℕ). k ≤ m .next) (h .marked) (λ _. omega arith) (λ _. omega arith) in
-    (omega (arith, v .past), form)
+    (omega (arith, v .measures .past), form)
 
 -- an item: its header, its value, and what follows it
 put-coded : (out mid last : List ℕ) (pos octet : ℕ) (value after : List ℕ) (past next : ℕ)
@@ -45,14 +43,13 @@ put-coded out mid last pos octet value after past next p q =
 module _ (room : ℕ) (s : List ℕ) (from limit : ℕ) (marked : Bool) (out₀ : List ℕ) (begin : ℕ) where
   -- the normal form from `from` to `at` is written, up to pos
   pub record PutSoFar (at pos : ℕ) (out : List ℕ) : Type 0 where
-    pub within : at ≤ limit
-    pub whole : Whole (run room s at limit marked .how)
+    pub left : RunEnds room s at limit marked
     pub kept : length out ≡ length out₀
     pub to : begin + length (normalFrom room s from limit marked) ≡ pos + length (normalFrom room s at limit marked)
     pub written : sets out₀ begin (normalFrom room s from limit marked) ≡ sets out pos (normalFrom room s at limit marked)
 
-  pub none-put : from ≤ limit → Whole (run room s from limit marked .how) → PutSoFar from begin out₀
-  none-put l w = record { within = l; whole = w; kept = refl; to = refl; written = refl }
+  pub none-put : RunEnds room s from limit marked → PutSoFar from begin out₀
+  none-put r = record { left = r; kept = refl; to = refl; written = refl }
 
   module _ (at pos : ℕ) (out : List ℕ) (c : PutSoFar at pos out) where
     -- at the end of the run all is written
@@ -62,14 +59,13 @@ module _ (room : ℕ) (s : List ℕ) (from limit : ℕ) (marked : Bool) (out₀ 
       written = sym (c .written ∙ ap (sets out pos) f);
     }
 
-    module _ (h : Header) (u : Turn room s at limit marked h) (m : Measured)
-        (v : Measures s (h .start) (h .marked) (valueOf room s h .how) (normalIn room s h) m) where
+    module _ (h : Header) (u : Turn room s at limit marked h) (m : Measured) (v : ValueMeasures room s h m) where
       -- there is room for the item, and it is not too long
-      pub fits : limit ≤ length s → begin + length (normalFrom room s from limit marked) ≤ length out₀
+      pub fits : begin + length (normalFrom room s from limit marked) ≤ length out₀
           → (pos + (headerSize (m .size) + m .size) ≤ length out) × (m .size ≤ 3 * length s)
-      fits f l =
+      fits l =
           let t = turned room s at limit marked h u m v in
-          let k = form-small room s at limit marked (c .within) f (c .whole) in
+          let k = form-small room s at limit marked (c .left) in
           (omega (arith, c .to, c .kept), omega arith)
 
       -- a turn writes the item
@@ -77,18 +73,17 @@ module _ (room : ℕ) (s : List ℕ) (from limit : ℕ) (marked : Bool) (out₀ 
           → Puts out pos (octet ∷ lengthOctets (m .size)) past mid → Puts mid past (normalIn room s h) pos′ out′ → PutSoFar (m .next) pos′ out′
       item-put octet o past pos′ mid out′ p q =
           let (later, within, rest, form, len) = turned room s at limit marked h u m v in
-          let p′ = subst (λ (k : ℕ). Puts out pos (octet ∷ lengthOctets k) past mid) (v .size) p in
+          let p′ = subst (λ (k : ℕ). Puts out pos (octet ∷ lengthOctets k) past mid) (v .measures .size) p in
           let after = normalFrom room s (m .next) limit marked in
           let same : normalFrom room s at limit marked ≡ coded (octet ∷ []) (normalIn room s h) after =
           form ∙ ap (λ (k : ℕ). coded (k ∷ []) (normalIn room s h) after) (sym o) in
           let put = put-coded out mid out′ pos octet (normalIn room s h) after past pos′ p′ q in
           record {
-            within = within;
-            whole = subst Whole rest (c .whole);
+            left = run-left room s at limit marked (c .left) (m .next) within rest;
             kept = ap length (q .written ∙ ap (λ (l : List ℕ). sets l past (normalIn room s h)) (p .written))
                 ∙ length-sets (sets out pos (octet ∷ lengthOctets (m .size))) past (normalIn room s h)
                 ∙ length-sets out pos (octet ∷ lengthOctets (m .size)) ∙ c .kept;
-            to = omega (arith, c .to, p .to, q .to, v .size, length-length (m .size));
+            to = omega (arith, c .to, p .to, q .to, v .measures .size, length-length (m .size));
             written = c .written ∙ ap (sets out pos) same ∙ put;
           }
 

@@ -3,7 +3,7 @@
 use mathlib.Core.Path.{_≡_, refl}
 use mathlib.Core.Bool.{Bool, true, false, cond, false≢true}
 use mathlib.Core.List.{List, [], _∷_, _++_}
-use Prim.Native.Nat.{ℕ, _+_, _^_, _<_, _≤_}
+use Prim.Native.Nat.{ℕ, _≤_}
 use native.Mathlib.Omega.{arith}
 use lib.Dec.{ltb}
 use lib.ListN.{length, length-append}
@@ -12,11 +12,10 @@ use Rattle.octets.specs.Walk.{deepest}
 use Rattle.octets.proofs.Walks.{cond-holds}
 use Rattle.tree.specs.Tree.{Tree}
 use Rattle.tree.specs.Codes.{Codes, nothing, primitive, definite, indefinite}
-use Rattle.normal.specs.Length.{furtherOctets, lengthOctets, Octets}
+use Rattle.normal.specs.Length.{furtherOctets, Octets}
 use Rattle.normal.specs.Normal.{normalOf}
 use Rattle.normal.specs.Forms.{Definite}
 use Rattle.normal.proofs.Lengths.{length-length}
-use Rattle.normal.proofs.Normals.{coded-length}
 use Rattle.normal.proofs.Own.{octets-first, octets-second}
 use Rattle.normal.proofs.Fewest.{enough, fewest}
 

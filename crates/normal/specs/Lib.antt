@@ -1,6 +1,6 @@
 pub mod Length
 pub mod Normal
 pub mod Forms
-pub mod Measure
+pub mod Passes
 pub mod Writes
 pub mod Examples

@@ -8,26 +8,25 @@ ghost use mathlib.Core.List.{List, _∷_};
 ghost use Prim.Native.Nat.{ℕ, _+_, _-_, _<_, _≤_};
 ghost use lib.ListN.{length};
 ghost use lib.Seq.{slice, sets};
-ghost use Rattle.octets.specs.First.{constructed};
-ghost use Rattle.octets.specs.Walk.{streamLimit, deepest, run, valueOf};
+ghost use Rattle.octets.specs.Walk.{streamLimit, deepest, run};
 ghost use Rattle.tree.specs.Accepts.{Whole};
 ghost use Rattle.normal.specs.Length.{furtherOctets, digits, lengthOctets};
 ghost use Rattle.normal.specs.Normal.{normalForm};
-ghost use Rattle.normal.specs.Measure.{normalFrom, normalIn, metAt, headerSize, Measures, Puts};
+ghost use Rattle.normal.specs.Passes.{RunEnds, ValueEnds, normalFrom, normalIn, metAt, headerSize, RunMeasures, ValueMeasures, Puts};
 ghost use Rattle.normal.specs.Writes.{answerOf, answerFor, Gives};
 
 // What a pass over a run that was walked to its end meets at a place: an item, or the end of the run, with the place past it.
-pub enum Met {
+enum Met {
     Item(Header),
     Last { past: usize },
 }
 
 // What is measured of a run, or of the value of an item: where it ends, how many octets its normal form has, and whether it is known that
 // its own octets are that.
-pub struct Measured {
-    pub next: usize,
-    pub size: usize,
-    pub shortest: bool,
+struct Measured {
+    next: usize,
+    size: usize,
+    shortest: bool,
 }
 
 // What the writer answers: how many octets it wrote, or a refusal, which leaves the output untouched.
@@ -89,7 +88,7 @@ fn put_length(out: &mut [u8], at: usize, len: u32) -> usize
 
 // How many octets come before a value of `size` octets.
 fn header_size(size: usize) -> usize
-    requires { ⌜ size ≤ 4000000 ⌝ }
+    requires { ⌜ size < 4294967296 ⌝ }
     ensures { λ r. ⌜ r ≡ headerSize size ⌝ }
 {
     2 + further_octets(size as u32)
@@ -97,7 +96,7 @@ fn header_size(size: usize) -> usize
 
 // What stands at `at` in a run that was walked to its end.
 fn meet(s: &[u8], at: usize, limit: usize, marked: bool, room: usize) -> Met
-    requires { ⌜ (at ≤ limit) × (limit ≤ length (now s)) × Whole (run room (now s) at limit marked .how) ⌝ }
+    requires { ⌜ RunEnds room (now s) at limit marked ⌝ }
     ensures { λ r. ⌜ r ≡ metAt room (now (s .entry)) at limit marked ⌝ }
 {
     if limit <= at {
@@ -135,8 +134,8 @@ fn stays_shortest(shortest: bool, at: usize, h: Header, m: Measured, head: usize
 
 // Measures the value of the item with the header h.
 fn measure_item(s: &[u8], h: Header, room: usize) -> Measured
-    requires { ⌜ (0 < room) × (h .start ≤ h .bound) × (h .bound ≤ length (now s)) × (length (now s) ≤ streamLimit) × Whole (valueOf room (now s) h .how) × (h .marked ≡ true → constructed (h .octet) ≡ true) ⌝ }
-    ensures { λ r. ⌜ Measures (now (s .entry)) (h .start) (h .marked) (valueOf room (now (s .entry)) h .how) (normalIn room (now (s .entry)) h) r × (r .shortest ≡ false → constructed (h .octet) ≡ true) ⌝ }
+    requires { ⌜ ValueEnds room (now s) h ⌝ }
+    ensures { λ r. ⌜ ValueMeasures room (now (s .entry)) h r ⌝ }
 {
     let octet = h.octet;
     let start = h.start;
@@ -155,8 +154,8 @@ fn measure_item(s: &[u8], h: Header, room: usize) -> Measured
 
 // Measures a run of items that was walked to its end.
 fn measure_run(s: &[u8], from: usize, limit: usize, marked: bool, room: usize) -> Measured
-    requires { ⌜ (from ≤ limit) × (limit ≤ length (now s)) × (length (now s) ≤ streamLimit) × Whole (run room (now s) from limit marked .how) ⌝ }
-    ensures { λ r. ⌜ Measures (now (s .entry)) from marked (run room (now (s .entry)) from limit marked .how) (normalFrom room (now (s .entry)) from limit marked) r ⌝ }
+    requires { ⌜ RunEnds room (now s) from limit marked ⌝ }
+    ensures { λ r. ⌜ RunMeasures room (now (s .entry)) from limit marked r ⌝ }
 {
     let mut at = from;
     let mut size: usize = 0;
@@ -196,7 +195,7 @@ fn put_value(s: &[u8], start: usize, bound: usize, out: &mut [u8], begin: usize)
 
 // Writes a type field and the length octets of a value of `size` octets, and says the place past them.
 fn put_header(out: &mut [u8], begin: usize, octet: u8, size: usize) -> usize
-    requires { ⌜ (size ≤ 4000000) × (begin + headerSize size ≤ length (now out)) ⌝ }
+    requires { ⌜ (size < 4294967296) × (begin + headerSize size ≤ length (now out)) ⌝ }
     ensures { λ r. ⌜ Puts (now (out .entry)) begin (octet ∷ lengthOctets size) r (now (out .exit)) ⌝ }
 {
     out[begin] = octet;
@@ -205,7 +204,7 @@ fn put_header(out: &mut [u8], begin: usize, octet: u8, size: usize) -> usize
 
 // Writes the normal form of the value of the item with the header h, which was measured as m.
 fn put_item(s: &[u8], h: Header, m: Measured, room: usize, out: &mut [u8], begin: usize) -> usize
-    requires { ⌜ (0 < room) × (h .start ≤ h .bound) × (h .bound ≤ length (now s)) × (length (now s) ≤ streamLimit) × Whole (valueOf room (now s) h .how) × Measures (now s) (h .start) (h .marked) (valueOf room (now s) h .how) (normalIn room (now s) h) m × (m .shortest ≡ false → constructed (h .octet) ≡ true) × (begin + length (normalIn room (now s) h) ≤ length (now out)) ⌝ }
+    requires { ⌜ ValueEnds room (now s) h × ValueMeasures room (now s) h m × (begin + length (normalIn room (now s) h) ≤ length (now out)) ⌝ }
     ensures { λ r. ⌜ Puts (now (out .entry)) begin (normalIn room (now (s .entry)) h) r (now (out .exit)) ⌝ }
 {
     let start = h.start;
@@ -230,7 +229,7 @@ fn put_run(
     out: &mut [u8],
     begin: usize,
 ) -> usize
-    requires { ⌜ (from ≤ limit) × (limit ≤ length (now s)) × (length (now s) ≤ streamLimit) × Whole (run room (now s) from limit marked .how) × (begin + length (normalFrom room (now s) from limit marked) ≤ length (now out)) ⌝ }
+    requires { ⌜ RunEnds room (now s) from limit marked × (begin + length (normalFrom room (now s) from limit marked) ≤ length (now out)) ⌝ }
     ensures { λ r. ⌜ Puts (now (out .entry)) begin (normalFrom room (now (s .entry)) from limit marked) r (now (out .exit)) ⌝ }
 {
     let mut at = from;

@@ -1,5 +1,5 @@
 -- What stands where nothing is refused: each test of `headAt` that could have refused went the other way. Assumes nothing.
-use mathlib.Core.Path.{_≡_, refl, ap, sym, _∙_, subst}
+use mathlib.Core.Path.{_≡_, refl}
 use mathlib.Core.Bool.{Bool, true, false}
 use mathlib.Core.List.{List}
 use Prim.Native.Nat.{ℕ, _+_, _-_, _<_, _≤_}
@@ -7,9 +7,8 @@ use native.Mathlib.Omega.{arith}
 use lib.Dec.{leb, ltb, eqb}
 use lib.ListN.{take, drop}
 use borrow.Author.Tests.{leb-true, ltb-true, eq-eqb, ne-eqb, lt-ltb, le-ltb}
-use Rattle.octets.specs.declared.Header.{Header}
 use Rattle.octets.specs.declared.Head.{Head}
-use Rattle.octets.specs.declared.Head.the-variants.{Item, ClosingMark, Refusal}
+use Rattle.octets.specs.declared.Head.the-variants.{Item, ClosingMark}
 use Rattle.octets.specs.First.{number, constructed, formAllowed}
 use Rattle.octets.specs.Lengths.{bigEndian, misfits}
 use Rattle.octets.specs.Head.{octetAt, definiteAt, indefiniteAt, longAt, byFirst, lengthAt, closingAt, itemAt, headAt, Passed}

@@ -1,4 +1,8 @@
--- Made: the list while it is filled. Putting: records put one after another. Lists: lists in order, with nothing twice. Each: what is listed for each of a list.
+-- The theorems: Matches: the list holds the matches, in order, none twice. Single: in an accepted letter a portion has one unit and a unit
+-- one match; no more matches than units, or portions. Wrong: what the contract rules out. Examples: small letters, computed.
+-- Laws: Lists: lists in order, with nothing twice. Each: what is listed for each of a list. OnePlace: what a name tells in an accepted letter.
+-- Made: the list while it is filled. Putting: records put one after another. Looking: a look-up yields the matches of a portion.
+-- Listing, Turning: what is known while the portions, and the elements, are taken in turn. Scratch: what the judge filled is enough.
 pub mod Made
 pub mod Putting
 pub mod Lists
@@ -10,3 +14,5 @@ pub mod Looking
 pub mod Listing
 pub mod Turning
 pub mod Scratch
+pub mod Wrong
+pub mod Examples

@@ -1,7 +1,7 @@
 -- What is known while the portions of an element are listed: what is put, and then what the portions that are left yield, is all.
 -- Assumes nothing.
 use mathlib.Core.Path.{_≡_, refl, ap, sym, _∙_, subst}
-use mathlib.Core.Bool.{Bool, true, false, _&&_, false≢true, true≢false, and-eq-true-iff}
+use mathlib.Core.Bool.{true, false, _&&_, true≢false, and-eq-true-iff}
 use mathlib.Core.Option.{some}
 use mathlib.Core.List.{List, [], _∷_, _++_}
 use Prim.Native.Nat.{ℕ, suc, _+_, _*_, _<_, _≤_}
@@ -25,15 +25,16 @@ use Rattle.portions.specs.Portions.{mostPortions, allPortions, values}
 use Rattle.portions.proofs.Meetings.{values-next, portions-left, values-end}
 use Rattle.index.specs.declared.Found.{Found}
 use Rattle.index.specs.declared.Found.the-variants.{At, Nothing}
-use Rattle.index.specs.Rows.{identifierColumn, kindAt, firstAt, pastAt}
+use Rattle.index.specs.Rows.{identifierColumn, kindAt, firstAt, pastAt, Bounded}
 use Rattle.index.specs.Index.{Finds}
 use Rattle.elements.specs.Element.{Element}
-use Rattle.elements.specs.Judge.{mostElements}
+use Rattle.elements.specs.Says.{Placed}
+use Rattle.letters.specs.Judges.{bytesIn}
 use Rattle.reading.specs.declared.Match.{Match}
 use Rattle.reading.specs.declared.Side.{Side}
 use Rattle.reading.specs.Match.{kindsOf, forEach, portionMatches, elementMatches}
 use Rattle.reading.specs.Records.{Puts}
-use Rattle.reading.specs.Ready.{columnOf, unitSpace, portionsAt, Tells, Ready, listed, portionsColumn, nameIn, Set, Room, PutsElement, foundMatches, FoundBelow, elementAt, noElement}
+use Rattle.reading.specs.Ready.{columnOf, unitSpace, spanAt, portionsAt, Tells, Ready, listed, portionsColumn, Searchable, Room, PutsElement, foundMatches, FoundBelow, elementAt, noElement}
 use Rattle.reading.proofs.Lists.{at-getD}
 use Rattle.reading.proofs.OnePlace.{few-portions}
 use Rattle.reading.proofs.Matches.{joins-told}
@@ -41,12 +42,9 @@ use Rattle.reading.proofs.Single.{unread}
 use Rattle.reading.proofs.Putting.{puts-none, puts-then, puts-length}
 use Rattle.reading.proofs.Looking.{found-matches, finds-below}
 
--- what was found at the column of the side, by the bounds of the identifier
-pub finds-on : (side : Side) (s rows : List ℕ) (n element : ℕ) (portion : List ℕ) {column first past : ℕ} (found : Found) → column ≡ columnOf side
-    → first ≡ firstAt rows identifierColumn element → past ≡ pastAt rows identifierColumn element
-    → Finds s rows column n unitSpace (slice first past s ++ spaceByte ∷ portion) found
-    → Finds s rows (columnOf side) n unitSpace (slice (firstAt rows identifierColumn element) (pastAt rows identifierColumn element) s ++ spaceByte ∷ portion) found
-finds-on side s rows n element portion found e f g finds = rw (e, f, g) at finds
+-- a pair of a row lies in the stream
+pub span-placed : {s rows : List ℕ} {column n j : ℕ} → Bounded s rows column n → j < n → Placed s (spanAt rows column j)
+span-placed {j = j} bounded l = record { order = bounded .ordered j l; inside = bounded .inside j l }
 
 -- the matches of the portions that are left
 abbrev pub toCome : Side → (s : List ℕ) → List Element → (element : ℕ) → (left : Run) → (place : ℕ) → List Match
@@ -88,7 +86,7 @@ module _ (s rows : List ℕ) (n element : ℕ) (below : element < n) (elements :
   unfolding elementMatches
   all-to-come side = ap (λ (vs : List (List ℕ)). forEach 0 vs (portionMatches side elements element (elementAt elements element))) (element-told .portions)
 
-module _ {side : Side} {s rows head next : List ℕ} {n element : ℕ} (known : Set side s rows head next n) (below : element < n) (is-listed : listed side rows element ≡ true) where
+module _ {side : Side} {s rows head next : List ℕ} {n element : ℕ} (known : Searchable side s rows head next n) (below : element < n) (is-listed : listed side rows element ≡ true) where
   abbrev named : Named side rows n element
   named = listed-named side rows n element below is-listed
 
@@ -119,7 +117,7 @@ module _ {side : Side} {s rows head next : List ℕ} {n element : ℕ} (known : 
 
     module _ {octet from to : ℕ} {inner rest : Run} (met : Meeting s left octet from to inner rest) (found : Found)
         (finds : Finds s rows (columnOf side) n unitSpace
-        (slice (firstAt rows identifierColumn element) (pastAt rows identifierColumn element) s ++ spaceByte ∷ slice from to s) found) where
+        (bytesIn s (spanAt rows identifierColumn element) ++ spaceByte ∷ slice from to s) found) where
       -- a portion that is met yields what was found, and then come the others
       one-more : (elements : List Element) → Ready s rows n elements
           → toCome side s elements element left place ≡ foundMatches element place found ++ toCome side s elements element rest (place + 1)
@@ -128,9 +126,9 @@ module _ {side : Side} {s rows head next : List ℕ} {n element : ℕ} (known : 
           let x = elementAt elements element in
           let told = element-told s rows n element (named .below) elements ready in
           let on-side : isIn (x .kind) (kindsOf side) ≡ true = ap (λ (k : ℕ). isIn k (kindsOf side)) (sym (told .kind)) ∙ named .on-side in
-          let name : x .identifier ≡ octets (slice (firstAt rows identifierColumn element) (pastAt rows identifierColumn element) s) =
+          let name : x .identifier ≡ octets (bytesIn s (spanAt rows identifierColumn element)) =
           told .identifier ∙ rw (lt-ltb (firstAt rows identifierColumn element) (pastAt rows identifierColumn element) (named .named)) in
-          let first = found-matches ready side x (slice (firstAt rows identifierColumn element) (pastAt rows identifierColumn element) s) (slice from to s)
+          let first = found-matches ready side x (bytesIn s (spanAt rows identifierColumn element)) (slice from to s)
           on-side name element place found finds in
           ap (λ (vs : List (List ℕ)). forEach place vs (portionMatches side elements element x)) (values-next met (listing .only-portions))
           ∙ rw (first, add-one place)
@@ -152,7 +150,7 @@ module _ {side : Side} {s rows head next : List ℕ} {n element : ℕ} (known : 
       small-place = omega (arith, listing .placed, some-left)
 
       pub found-small : FoundBelow 4294967296 found
-      found-small = smaller found (finds-below s rows (columnOf side) n unitSpace (slice (firstAt rows identifierColumn element) (pastAt rows identifierColumn element) s ++ spaceByte ∷ slice from to s) found finds)
+      found-small = smaller found (finds-below s rows (columnOf side) n unitSpace (bytesIn s (spanAt rows identifierColumn element) ++ spaceByte ∷ slice from to s) found finds)
         where
           smaller : (f : Found) → FoundBelow n f → FoundBelow 4294967296 f
           smaller (At u) b = omega (arith, known .ready .counted, known .ready .apart .few)

@@ -1,30 +1,31 @@
 -- Looking a joined name up among the text units yields the matches of a portion: a row has the name exactly when its element joins, and
 -- no two units have it. Assumes nothing.
 use mathlib.Core.Path.{_≡_, refl, ap, sym, _∙_}
-use mathlib.Core.Bool.{Bool, true, false, cond, false≢true}
+use mathlib.Core.Bool.{Bool, true, false}
 use mathlib.Core.Option.{some}
 use mathlib.Core.List.{List, [], _∷_, _++_}
 use Prim.Native.Nat.{ℕ, zero, suc, _+_, _<_}
 use native.Mathlib.Omega.{arith}
 use lib.Dec.{ltb}
-use lib.ListN.{length, getElem?}
-use lib.Seq.{slice}
+use lib.ListN.{getElem?}
 use borrow.Author.Tests.{ltb-true, lt-ltb}
 use Rattle.octets.specs.First.{isIn}
 use Rattle.names.specs.Names.{spaceByte}
-use Rattle.contents.specs.Search.{Value, absent, octets}
+use Rattle.contents.specs.declared.Span.{Span}
+use Rattle.contents.specs.Search.{absent, octets}
 use Rattle.index.specs.declared.Found.{Found}
 use Rattle.index.specs.declared.Found.the-variants.{At, Nothing}
-use Rattle.index.specs.Rows.{kindAt, firstAt, pastAt, valueAt, space}
+use Rattle.index.specs.Rows.{kindAt, firstAt, pastAt, space}
 use Rattle.index.specs.Index.{Has, Finds}
 use Rattle.elements.specs.Element.{Element}
+use Rattle.letters.specs.Judges.{bytesIn}
 use Rattle.letters.proofs.Lists.{below-length}
 use Rattle.reading.specs.declared.Match.{Match}
 use Rattle.reading.specs.declared.Side.{Side}
 use Rattle.reading.specs.declared.Side.the-variants.{Layout, Logical}
 use Rattle.reading.specs.Match.{unitKind, kindsOf, nameOn, joins, portionMatches}
 use Rattle.reading.specs.Promises.{Joined}
-use Rattle.reading.specs.Ready.{columnOf, unitSpace, nameIn, Tells, Ready, foundMatches, FoundBelow, elementAt, noElement}
+use Rattle.reading.specs.Ready.{columnOf, unitSpace, spanAt, nameIn, Tells, Ready, foundMatches, FoundBelow, elementAt, noElement}
 use Rattle.reading.proofs.Lists.{at-getD}
 use Rattle.reading.proofs.Each.{none-passes, one-passes}
 use Rattle.reading.proofs.Matches.{joins-told, joined-joins}
@@ -49,17 +50,20 @@ unfolding space
 unit-space = refl
 
 -- a name that is there
-name-there : (s : List ℕ) (first past : ℕ) (bytes : List ℕ) → nameIn s first past ≡ octets bytes → (first < past) × (slice first past s ≡ bytes)
-name-there s first past bytes e = by-test (ltb first past) refl
+name-there : (s : List ℕ) (pair : Span) (bytes : List ℕ) → nameIn s pair ≡ octets bytes → (pair .first < pair .past) × (bytesIn s pair ≡ bytes)
+name-there s pair bytes e = by-test (ltb (pair .first) (pair .past)) refl
   where
-    by-test : (t : Bool) → ltb first past ≡ t → (first < past) × (slice first past s ≡ bytes)
-    by-test true t = let f : octets (slice first past s) ≡ octets bytes = rw t at e in let g : slice first past s ≡ bytes = cc in (ltb-true first past t, g)
+    by-test : (t : Bool) → ltb (pair .first) (pair .past) ≡ t → (pair .first < pair .past) × (bytesIn s pair ≡ bytes)
+    by-test true t =
+        let f : octets (bytesIn s pair) ≡ octets bytes = rw t at e in
+        let g : bytesIn s pair ≡ bytes = cc in
+        (ltb-true (pair .first) (pair .past) t, g)
     by-test false t = let f : absent ≡ octets bytes = rw t at e in let z : _≡_ {A = ℕ} 0 1 = cc in absurd (omega arith)
 
 module _ {s rows : List ℕ} {n : ℕ} {elements : List Element} (ready : Ready s rows n elements) (side : Side) where
   -- what a row has at the column of the side is the name on that side
   name-told : (side : Side) (j : ℕ) (unit : Element) → Tells s rows j unit
-      → nameOn side unit ≡ nameIn s (firstAt rows (columnOf side) j) (pastAt rows (columnOf side) j)
+      → nameOn side unit ≡ nameIn s (spanAt rows (columnOf side) j)
   name-told Layout j unit t = t .identifier
   name-told Logical j unit t = t .logical
 
@@ -79,7 +83,7 @@ module _ {s rows : List ℕ} {n : ℕ} {elements : List Element} (ready : Ready 
           let e : octets (joined .identifier) ≡ octets identifier = sym (joined .named) ∙ named in
           let f : joined .identifier ≡ identifier = cc in
           let g : nameOn side unit ≡ octets bytes = joined .spelt ∙ ap (λ (l : List ℕ). octets (l ++ spaceByte ∷ portion)) f in
-          let h = name-there s (firstAt rows (columnOf side) j) (pastAt rows (columnOf side) j) bytes (sym (name-told side j unit tells) ∙ g) in
+          let h = name-there s (spanAt rows (columnOf side) j) bytes (sym (name-told side j unit tells) ∙ g) in
           record {
             below = omega (arith, below-length elements j unit there, ready .counted);
             present = h .0;

@@ -1,16 +1,16 @@
 -- The reading list holds a record exactly when it is a match, in stream order and then portion order, and so none twice: it is listed for
 -- each element, each of its portions and each unit in their order. Of any elements. Assumes nothing.
 use mathlib.Core.Path.{_≡_, refl, ap, sym, _∙_}
-use mathlib.Core.Logic.{_⊎_, inl, inr}
-use mathlib.Core.Bool.{Bool, true, false, _&&_, false≢true, and-eq-true-iff}
-use mathlib.Core.List.{List, [], _∷_, _++_, List·Memᴰ}
-use Prim.Native.Nat.{ℕ, _+_, _<_}
+use mathlib.Core.Logic.{inl, inr}
+use mathlib.Core.Bool.{true, false, _&&_, false≢true, and-eq-true-iff}
+use mathlib.Core.List.{List, _∷_, _++_, List·Memᴰ}
+use Prim.Native.Nat.{ℕ, _+_}
 use native.Mathlib.Omega.{arith}
 use lib.Dec.{eqb}
 use lib.ListN.{getElem?}
 use borrow.Author.Tests.{eqb-true, eq-eqb}
 use Rattle.octets.specs.First.{isIn}
-use Rattle.names.specs.Names.{spaceByte, same}
+use Rattle.names.specs.Names.{spaceByte}
 use Rattle.names.proofs.Same.{same-eq, same-refl}
 use Rattle.contents.specs.Search.{Value, absent, octets}
 use Rattle.elements.specs.Element.{Element}
@@ -19,7 +19,7 @@ use Rattle.reading.specs.declared.Side.{Side}
 use Rattle.reading.specs.Match.{unitKind, kindsOf, nameOn, spells, joins, only, portionMatches, elementMatches, matches}
 use Rattle.reading.specs.Promises.{Joined, IsMatch, Before}
 use Rattle.reading.proofs.Lists.{Sorted, Once, sorted-once}
-use Rattle.reading.proofs.Each.{From, only-in, only-out, only-sorted, each-out, each-in, each-sorted}
+use Rattle.reading.proofs.Each.{only-in, only-out, only-sorted, each-out, each-in, each-sorted}
 
 -- the test of the definition is what it is to be joined
 record Spelt (whole identifier : Value) (portion : List ℕ) : Type 0 where

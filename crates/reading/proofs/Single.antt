@@ -2,22 +2,21 @@
 -- since a portion number is all after the last space, so that the unit's identifier tells the element's and the portion. So there are no
 -- more matches than units, nor than portions. Assumes nothing.
 use mathlib.Core.Path.{_≡_, refl, ap, sym, _∙_, subst}
-use mathlib.Core.Logic.{_⊎_, inl, inr}
-use mathlib.Core.Bool.{Bool, true, false, cond, _||_, false≢true, true≢false}
+use mathlib.Core.Bool.{true, false, cond, false≢true, true≢false, or-true}
 use mathlib.Core.Option.{some}
-use mathlib.Core.List.{List, [], _∷_, _++_, map, List·Memᴰ, List·Memᴰ·head, List·Memᴰ·tail, List·Memᴰ·not-nil, Memᴰ·of-map}
-use Prim.Native.Nat.{ℕ, zero, suc, _+_, _<_, _≤_}
+use mathlib.Core.List.{List, [], _∷_, _++_, map, List·Memᴰ, List·Memᴰ·head, List·Memᴰ·tail, Memᴰ·of-map}
+use Prim.Native.Nat.{ℕ, zero, suc, _+_, _≤_}
 use native.Mathlib.Omega.{arith}
 use lib.Dec.{eqb}
 use lib.ListN.{length, getElem?, length-append, length-map}
 use borrow.Author.Tests.{eqb-true, eq-eqb}
 use borrow.Table.Steps.{cases}
 use Rattle.octets.specs.First.{isIn}
-use Rattle.names.specs.Names.{spaceByte, same, isPortion}
+use Rattle.names.specs.Names.{spaceByte}
 use Rattle.names.proofs.Same.{same-refl}
 use Rattle.names.proofs.Joined.{joined-parts}
 use Rattle.index.specs.Rows.{space}
-use Rattle.contents.specs.Search.{Value, octets}
+use Rattle.contents.specs.Search.{octets}
 use Rattle.elements.specs.Element.{Element}
 use Rattle.elements.specs.Judge.{shares, clash}
 use Rattle.letters.specs.Table.{Apart}
@@ -25,8 +24,8 @@ use Rattle.reading.specs.declared.Match.{Match}
 use Rattle.reading.specs.declared.Side.{Side}
 use Rattle.reading.specs.declared.Side.the-variants.{Layout, Logical}
 use Rattle.reading.specs.Match.{unitKind, kindsOf, nameOn, joins, forEach, portionMatches, elementMatches, matches}
-use Rattle.reading.specs.Promises.{Joined, IsMatch, units, portionsOn}
-use Rattle.reading.proofs.Lists.{Once, once-fits, once-map}
+use Rattle.reading.specs.Promises.{IsMatch, units, portionsOn}
+use Rattle.reading.proofs.Lists.{once-fits, once-map}
 use Rattle.reading.proofs.Each.{none-passes, few-pass, each-none, each-few}
 use Rattle.reading.proofs.OnePlace.{portion-spelt, one-place, one-element}
 use Rattle.reading.proofs.Matches.{joins-told, matches-are, matches-once}
@@ -41,10 +40,6 @@ side-space Logical kind e =
     cases (eqb kind 5) (λ t. rw (eqb-true kind 5 t))
     (λ t. cases (eqb kind 6) (λ u. rw (eqb-true kind 6 u)) (λ u. absurd (false≢true (rw (t, u) at e))))
 
-or-second : (a : Bool) → a || true ≡ true
-or-second true = refl
-or-second false = refl
-
 -- two of a name space that have the same name clash: by their identifiers, or by the name of a side
 clash-identifier : (d e : Element) (bytes : List ℕ) → space (d .kind) ≡ space (e .kind) → d .identifier ≡ octets bytes → e .identifier ≡ octets bytes
     → clash d e ≡ true
@@ -55,7 +50,7 @@ clash-side : (side : Side) (d e : Element) (bytes : List ℕ) → space (d .kind
     → clash d e ≡ true
 unfolding clash
 clash-side Layout d e bytes s p q = rw (eq-eqb _ _ s, p, q, same-refl bytes)
-clash-side Logical d e bytes s p q = rw (eq-eqb _ _ s, p, q, same-refl bytes) (or-second (shares (d .identifier) (e .identifier)))
+clash-side Logical d e bytes s p q = rw (eq-eqb _ _ s, p, q, same-refl bytes) (or-true (shares (d .identifier) (e .identifier)))
 
 abbrev made : (e p u : ℕ) → Match
 made e p u = record { element = e; portion = p; unit = u }

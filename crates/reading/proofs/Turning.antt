@@ -1,8 +1,8 @@
 -- What is known while the elements are taken in turn: what is put, and then what the elements that are left yield, is all. There is room,
 -- since there are no more matches than elements. Assumes nothing.
 use mathlib.Core.Path.{_≡_, refl, ap, sym, _∙_, subst}
-use mathlib.Core.List.{List, [], _∷_, _++_}
-use Prim.Native.Nat.{ℕ, suc, _+_, _*_, _<_, _≤_}
+use mathlib.Core.List.{List, _++_}
+use Prim.Native.Nat.{ℕ, _+_, _*_, _<_, _≤_}
 use native.Mathlib.Omega.{arith}
 use native.Mathlib.Numerals.{add-one}
 use lib.ListN.{length, drop, length-append, drop-of-length-le}
@@ -12,8 +12,8 @@ use Rattle.reading.specs.declared.Match.{Match}
 use Rattle.reading.specs.declared.Side.{Side}
 use Rattle.reading.specs.Match.{forEach, elementMatches, matches}
 use Rattle.reading.specs.Records.{Puts}
-use Rattle.reading.specs.Ready.{Ready, Set, Room, PutsElement, PutsAll, elementAt, noElement}
-use Rattle.reading.proofs.Putting.{puts-none, puts-then, puts-length}
+use Rattle.reading.specs.Ready.{Ready, Room, PutsElement, PutsAll, elementAt, noElement}
+use Rattle.reading.proofs.Putting.{puts-none, puts-then}
 use Rattle.reading.proofs.Single.{no-more-than-elements}
 
 -- the matches of the elements that are left

@@ -2,7 +2,7 @@
 -- portions and a unit, where the unit's layout identifier is the element's identifier, one space, the portion. The logical side takes kinds
 -- 5 and 6 and the logical identifier." Over what the elements say: no places, no length octets. Definitions only: assumes nothing.
 use Prim.Native.Nat.{ℕ, suc}
-use mathlib.Core.Bool.{Bool, true, false, cond, _&&_}
+use mathlib.Core.Bool.{Bool, false, cond, _&&_}
 use mathlib.Core.List.{List, [], _∷_, _++_}
 use lib.Dec.{eqb}
 use Rattle.octets.specs.First.{isIn}

@@ -1,16 +1,16 @@
 -- What is known of an accepted letter when its matches are looked up: its elements, their rows, and the index of the text units by the
 -- identifier of the side. Of any edition. Definitions only: assumes nothing.
 use mathlib.Core.Path.{_≡_}
-use mathlib.Core.Bool.{Bool, true, false, cond, _&&_}
+use mathlib.Core.Bool.{Bool, true, cond, _&&_}
 use mathlib.Core.Option.{some}
 use mathlib.Core.List.{List, [], _∷_}
 use Prim.Native.Nat.{ℕ, _+_, _*_, _<_, _≤_}
 use lib.Dec.{ltb}
 use lib.ListN.{length, getD, getElem?}
-use lib.Seq.{slice}
 use Rattle.octets.specs.First.{isIn}
 use Rattle.runs.specs.declared.Run.{Run}
-use Rattle.runs.specs.Runs.{treeIn, definiteRun, Fine}
+use Rattle.runs.specs.Runs.{treeIn, Fine}
+use Rattle.contents.specs.declared.Span.{Span}
 use Rattle.contents.specs.Search.{Value, absent, octets}
 use Rattle.portions.specs.Portions.{allPortions, values}
 use Rattle.index.specs.declared.Found.{Found}
@@ -18,6 +18,8 @@ use Rattle.index.specs.declared.Found.the-variants.{At, Nothing}
 use Rattle.index.specs.Rows.{identifierColumn, logicalColumn, kindAt, firstAt, pastAt, Bounded}
 use Rattle.index.specs.Index.{Indexed}
 use Rattle.elements.specs.Element.{Element}
+use Rattle.elements.specs.Says.{portionsRun}
+use Rattle.letters.specs.Judges.{bytesIn}
 use Rattle.letters.specs.Table.{Apart}
 use Rattle.reading.specs.declared.Match.{Match}
 use Rattle.reading.specs.declared.Side.{Side}
@@ -37,19 +39,27 @@ columnOf Logical = logicalColumn
 abbrev pub unitSpace : ℕ
 unitSpace = 2
 
--- the identifier that a pair of numbers bounds; none is empty
-abbrev pub nameIn : List ℕ → (first past : ℕ) → Value
-nameIn s first past = cond (ltb first past) (octets (slice first past s)) absent
+-- the pair that row j has at a column
+abbrev pub spanAt : (rows : List ℕ) (column j : ℕ) → Span
+spanAt rows column j = record { first = firstAt rows column j; past = pastAt rows column j }
 
--- the run of the portions of row j: its items are primitive, which takes one level
+-- whether a pair bounds a value that is not empty
+abbrev pub there : Span → Bool
+there pair = ltb (pair .first) (pair .past)
+
+-- the identifier that a pair bounds; none is empty
+abbrev pub nameIn : List ℕ → Span → Value
+nameIn s pair = cond (there pair) (octets (bytesIn s pair)) absent
+
+-- the run of the portions of row j
 abbrev pub portionsAt : (rows : List ℕ) → (j : ℕ) → Run
-portionsAt rows j = definiteRun (firstAt rows portionsColumn j) (pastAt rows portionsColumn j) 1
+portionsAt rows j = portionsRun (spanAt rows portionsColumn j)
 
 -- row j tells what its element says
 pub record Tells (s rows : List ℕ) (j : ℕ) (element : Element) : Type 0 where
   pub kind : kindAt rows j ≡ element .kind
-  pub identifier : element .identifier ≡ nameIn s (firstAt rows identifierColumn j) (pastAt rows identifierColumn j)
-  pub logical : element .logical ≡ nameIn s (firstAt rows logicalColumn j) (pastAt rows logicalColumn j)
+  pub identifier : element .identifier ≡ nameIn s (spanAt rows identifierColumn j)
+  pub logical : element .logical ≡ nameIn s (spanAt rows logicalColumn j)
   pub portions-fine : Fine s (portionsAt rows j)
   pub only-portions : allPortions (treeIn s (portionsAt rows j)) ≡ true
   pub portions : values (treeIn s (portionsAt rows j)) ≡ element .portions
@@ -61,7 +71,7 @@ pub record Ready (s rows : List ℕ) (n : ℕ) (elements : List Element) : Type 
   pub tells : (j : ℕ) (element : Element) → getElem? elements j ≡ some element → Tells s rows j element
 
 -- the elements need not be known, and the rows are indexed by the identifier of the side
-pub record Set (side : Side) (s rows head next : List ℕ) (n : ℕ) : Type 0 where
+pub record Searchable (side : Side) (s rows head next : List ℕ) (n : ℕ) : Type 0 where
   pub elements : List Element
   pub ready : Ready s rows n elements
   pub bounded : Bounded s rows identifierColumn n
@@ -88,9 +98,7 @@ elementAt elements e = getD elements e noElement
 -- whether element e is read on the side and has an identifier and portions
 unfoldable pub listed : (side : Side) (rows : List ℕ) (e : ℕ) → Bool
 listed side rows e =
-    isIn (kindAt rows e) (kindsOf side)
-    && ltb (firstAt rows identifierColumn e) (pastAt rows identifierColumn e)
-    && ltb (firstAt rows portionsColumn e) (pastAt rows portionsColumn e)
+    isIn (kindAt rows e) (kindsOf side) && there (spanAt rows identifierColumn e) && there (spanAt rows portionsColumn e)
 
 -- there is room for the matches of element e after so many
 abbrev pub Room : (side : Side) (s rows : List ℕ) (n e : ℕ) (flat : List ℕ) (count : ℕ) → Type 0

@@ -1,35 +1,34 @@
 // The reading list of a side.
 use contents::Span;
 use index::Found;
+use index::IDENTIFIER;
+use index::LOGICAL;
+use index::ROW_WIDTH;
 use names::Asked;
 use runs::Met;
 use runs::Run;
 ghost use mathlib.Core.Path.{_≡_};
 ghost use mathlib.Core.Bool.{true};
 ghost use mathlib.Core.List.{List, [], _∷_, _++_};
-ghost use Prim.Native.Nat.{ℕ, _+_, _*_, _<_, _≤_};
-ghost use lib.ListN.{length, drop, getD};
-ghost use lib.Seq.{slice};
+ghost use Prim.Native.Nat.{_+_, _*_, _<_, _≤_};
+ghost use lib.ListN.{length, drop};
 ghost use Rattle.octets.specs.First.{isIn};
 ghost use Rattle.names.specs.Names.{spaceByte};
 ghost use Rattle.names.specs.Hash.{hash, hashFrom, hashes};
-ghost use Rattle.index.specs.Rows.{rowWidth, identifierColumn, kindAt, firstAt, pastAt, Bounded};
+ghost use Rattle.index.specs.Rows.{rowWidth, Bounded};
 ghost use Rattle.index.specs.Index.{Indexed, Finds};
 ghost use Rattle.tree.specs.Tree.{treeOf};
 ghost use Rattle.elements.specs.Shape.{edition1988};
 ghost use Rattle.elements.specs.Element.{Element};
 ghost use Rattle.elements.specs.Judge.{accepted, judge};
+ghost use Rattle.elements.specs.Says.{Placed};
+ghost use Rattle.letters.specs.Judges.{bytesIn};
 ghost use Rattle.letters.specs.Scratch.{Filled};
 ghost use Rattle.reading.specs.Match.{kindsOf};
 ghost use Rattle.reading.specs.Records.{recordAt, records, Puts, Lists};
-ghost use Rattle.reading.specs.Ready.{columnOf, unitSpace, portionsAt, listed, Set, Room, PutsElement, PutsAll, foundMatches, FoundBelow};
+ghost use Rattle.reading.specs.Ready.{columnOf, unitSpace, spanAt, there, portionsAt, listed, Searchable, Room, PutsElement, PutsAll, foundMatches, FoundBelow};
 
-const ROW_WIDTH: usize = 12;
-
-const IDENTIFIER: usize = 4;
-
-const LOGICAL: usize = 6;
-
+// Where a row has its portions.
 const PORTIONS: usize = 8;
 
 // The name space of text units.
@@ -112,12 +111,19 @@ fn is_read(side: Side, kind: usize) -> bool
 // The bounds of row j at a column.
 fn bounds_at(rows: &[u32], j: usize, column: usize) -> Span
     requires { ⌜ (column + 1 < rowWidth) × (j * rowWidth + rowWidth ≤ length (now rows)) ⌝ }
-    ensures { λ r. ⌜ (r .first ≡ firstAt (now (rows .entry)) column j) × (r .past ≡ pastAt (now (rows .entry)) column j) ⌝ }
+    ensures { λ r. ⌜ r ≡ spanAt (now (rows .entry)) column j ⌝ }
 {
     let at = j * ROW_WIDTH + column;
     let first = wide(rows[at]);
     let past = wide(rows[at + 1]);
     Span { first, past }
+}
+
+// Whether bounds are those of a value that is not empty.
+fn is_there(bounds: Span) -> bool
+    ensures { λ r. ⌜ r ≡ there bounds ⌝ }
+{
+    bounds.first < bounds.past
 }
 
 // The run of the portions of row j.
@@ -143,15 +149,13 @@ fn is_listed(rows: &[u32], side: Side, j: usize) -> bool
     if !is_read(side, kind) {
         return false;
     }
-    let name = bounds_at(rows, j, IDENTIFIER);
-    if name.past <= name.first {
+    if !is_there(bounds_at(rows, j, IDENTIFIER)) {
         return false;
     }
-    let portions = bounds_at(rows, j, PORTIONS);
-    portions.first < portions.past
+    is_there(bounds_at(rows, j, PORTIONS))
 }
 
-// The text unit whose identifier is s[first..past], one space and s[from..to]; `hashed` is the hash up to the space.
+// The text unit whose identifier is a name, one space and a portion, given by their bounds; `hashed` is the hash up to the space.
 fn unit_of(
     s: &[u8],
     rows: &[u32],
@@ -160,25 +164,23 @@ fn unit_of(
     n: usize,
     column: usize,
     hashed: usize,
-    first: usize,
-    past: usize,
-    from: usize,
-    to: usize,
+    name: Span,
+    portion: Span,
 ) -> Found
     requires { ⌜ Bounded (now s) (now rows) column n ⌝ }
     requires { ⌜ Indexed (now s) (now rows) column (now head) (now next) n ⌝ }
-    requires { ⌜ (hashed ≡ hashFrom (hash (slice first past (now s))) (spaceByte ∷ [])) × (hashed < hashes) ⌝ }
-    requires { ⌜ (first ≤ past) × (past ≤ length (now s)) × (from ≤ to) × (to ≤ length (now s)) ⌝ }
-    ensures { λ r. ⌜ Finds (now (s .entry)) (now (rows .entry)) column n unitSpace (slice first past (now (s .entry)) ++ spaceByte ∷ slice from to (now (s .entry))) r ⌝ }
+    requires { ⌜ (hashed ≡ hashFrom (hash (bytesIn (now s) name)) (spaceByte ∷ [])) × (hashed < hashes) ⌝ }
+    requires { ⌜ Placed (now s) name × Placed (now s) portion ⌝ }
+    ensures { λ r. ⌜ Finds (now (s .entry)) (now (rows .entry)) column n unitSpace (bytesIn (now (s .entry)) name ++ spaceByte ∷ bytesIn (now (s .entry)) portion) r ⌝ }
 {
     let asked = Asked {
-        first,
-        past,
+        first: name.first,
+        past: name.past,
         joined: true,
-        from,
-        to,
+        from: portion.first,
+        to: portion.past,
     };
-    let whole = names::hash_over(s, from, to, hashed);
+    let whole = names::hash_over(s, portion.first, portion.past, hashed);
     index::find(s, rows, head, next, n, column, UNITS, whole, asked)
 }
 
@@ -221,15 +223,13 @@ fn list_portions(
     flat: &mut [u32],
     count: usize,
 ) -> usize
-    requires { ⌜ Set side (now s) (now rows) (now head) (now next) n ⌝ }
+    requires { ⌜ Searchable side (now s) (now rows) (now head) (now next) n ⌝ }
     requires { ⌜ (element < n) × (listed side (now rows) element ≡ true) ⌝ }
     requires { ⌜ Room side (now s) (now rows) n element (now flat) count ⌝ }
     ensures { λ r. ⌜ PutsElement side (now (s .entry)) (now (rows .entry)) n element (now (flat .entry)) count (now (flat .exit)) r ⌝ }
 {
     let name = bounds_at(rows, element, IDENTIFIER);
-    let first = name.first;
-    let past = name.past;
-    let hashed = names::hash_space(names::hash_over(s, first, past, 0));
+    let hashed = names::hash_space(names::hash_over(s, name.first, name.past, 0));
     let mut left = portions_at(rows, element);
     let mut place: usize = 0;
     let mut total = count;
@@ -238,25 +238,14 @@ fn list_portions(
             Met::End => return total,
             Met::Item {
                 octet: _,
-                first: from,
-                past: to,
+                first,
+                past,
                 inner: _,
                 rest,
             } => {
                 let column = column_of(side);
-                let found = unit_of(
-                    s,
-                    rows,
-                    head,
-                    next,
-                    n,
-                    column,
-                    hashed,
-                    first,
-                    past,
-                    from,
-                    to,
-                );
+                let portion = Span { first, past };
+                let found = unit_of(s, rows, head, next, n, column, hashed, name, portion);
                 total = put_found(flat, total, element, place, found);
                 place += 1;
                 left = rest;
@@ -277,7 +266,7 @@ fn list_element(
     flat: &mut [u32],
     count: usize,
 ) -> usize
-    requires { ⌜ Set side (now s) (now rows) (now head) (now next) n ⌝ }
+    requires { ⌜ Searchable side (now s) (now rows) (now head) (now next) n ⌝ }
     requires { ⌜ element < n ⌝ }
     requires { ⌜ Room side (now s) (now rows) n element (now flat) count ⌝ }
     ensures { λ r. ⌜ PutsElement side (now (s .entry)) (now (rows .entry)) n element (now (flat .entry)) count (now (flat .exit)) r ⌝ }
@@ -298,7 +287,7 @@ fn list_side(
     side: Side,
     flat: &mut [u32],
 ) -> usize
-    requires { ⌜ Set side (now s) (now rows) (now head) (now next) n ⌝ }
+    requires { ⌜ Searchable side (now s) (now rows) (now head) (now next) n ⌝ }
     requires { ⌜ 3 * n ≤ length (now flat) ⌝ }
     ensures { λ r. ⌜ PutsAll side (now (s .entry)) (now (rows .entry)) n (now (flat .entry)) (now (flat .exit)) r ⌝ }
 {

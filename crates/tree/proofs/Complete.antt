@@ -1,5 +1,5 @@
 -- What is coded so the walk accepts: by induction on `Codes`, each case of which is a rule of the walk (`complete`). Assumes nothing.
-use mathlib.Core.Path.{_≡_, refl, ap, sym, _∙_, subst}
+use mathlib.Core.Path.{_≡_, refl, ap, _∙_, subst}
 use mathlib.Core.Bool.{Bool, true, false, false≢true}
 use mathlib.Core.List.{List, [], _∷_, _++_}
 use Prim.Native.Nat.{ℕ, suc, _+_, _-_, _/_, _%_, _<_, _≤_}
@@ -16,7 +16,7 @@ use Rattle.octets.specs.Items.{Items, none, item}
 use Rattle.octets.specs.Walk.{End, ends, pastOf}
 use Rattle.octets.specs.Rules.{Runs, at-limit, closes, primitive, passes}
 use Rattle.tree.specs.Tree.{Tree, empty, leaf, branch, plain}
-use Rattle.tree.specs.Codes.{TypeField, oneOctet, Length, short, long, Codes, nothing, primitive as leaf-coding, definite, indefinite}
+use Rattle.tree.specs.Codes.{oneOctet, Length, short, long, Codes, nothing, primitive as leaf-coding, definite, indefinite}
 use Rattle.tree.proofs.Here.{Here, first, second, tail, octet-at, taken, sliced, moved, three-length}
 
 -- no type field begins with 00
@@ -144,7 +144,7 @@ complete (leaf-coding {room} {len = len} {value} {rest} {after} (oneOctet {octet
       items = item at octet start bound none (o .items);
       runs = primitive {h = record { octet = octet; start = start; bound = bound; marked = false }} lt
           (headed s at limit room marked octet low tabled l (first s at head (value ++ rest) here) start refl (omega arith) m) q (o .runs);
-      same = rw (q, v, o .same);
+      same = rw q (ap (λ (x : List ℕ). leaf (octet ∷ []) x (plain s (o .items))) v ∙ ap (leaf (octet ∷ []) value) (o .same));
     }
 complete (definite {room} {len = len} {value} {rest} {inside} {after} (oneOctet {octet} low tabled q) l ci c) s at limit marked here f i e r =
     let head = octet ∷ len in

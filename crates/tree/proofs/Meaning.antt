@@ -18,7 +18,7 @@ use Rattle.tree.specs.Codes.{Codes}
 use Rattle.tree.specs.Accepts.{Accepts, Whole}
 use Rattle.tree.proofs.Here.{all}
 use Rattle.tree.proofs.Sound.{sound}
-use Rattle.tree.proofs.Complete.{Reaches, complete, graft-empty}
+use Rattle.tree.proofs.Complete.{complete, graft-empty}
 
 -- the walk of a whole stream
 abbrev top : List ℕ → Walked

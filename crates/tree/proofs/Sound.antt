@@ -7,7 +7,7 @@ use native.Mathlib.Omega.{arith}
 use lib.ListN.{length, drop}
 use lib.Seq.{slice}
 use Rattle.octets.specs.declared.Header.{Header}
-use Rattle.octets.specs.declared.Head.the-variants.{Item, ClosingMark}
+use Rattle.octets.specs.declared.Head.the-variants.{Item}
 use Rattle.octets.specs.First.{constructed}
 use Rattle.octets.specs.Lengths.{misfits}
 use Rattle.octets.specs.Head.{headAt}

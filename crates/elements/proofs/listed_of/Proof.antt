@@ -15,7 +15,8 @@ use Rattle.portions.specs.Lists.{Lists}
 use Rattle.elements.proofs.listed_of.Statement.{statement}
 use Rattle.elements.proofs.listed_of.Tie as tie
 
-none-listed : (s : List ℕ) (r : Run) (numbers : List ℕ) → itemsOf s r ≡ none → Lists s r (record { count = 0; others = false; misspelt = false }) numbers
+none-listed : (s : List ℕ) (r : Run) (numbers : List ℕ) → itemsOf s r ≡ none
+    → Lists s r (record { count = 0; others = false; misspelt = false }) numbers
 unfolding allPortions values bounded Inside
 none-listed s r numbers e =
     let t : treeIn s r ≡ empty = tree-none s r e in

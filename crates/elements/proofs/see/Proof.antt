@@ -44,9 +44,12 @@ same-length c = search needs
 
 returns-2 : tie.Need-returns-2
 returns-2 c =
-    let a = c .before .before .before .before .before .before .before .before .before .args in
-    let frame = c .before .before .before .before .before .before .frame-of in
-    c .before .before .see-body .ensures (a .r) (frame .ensures .framed (not-false (frame .result .fits) (c .before .before .before .before .if1 .left)))
+    let at-body = c .before .before in
+    let at-if = at-body .before .before in
+    let at-frame = at-if .before .before in
+    let frame = at-frame .frame-of in
+    let start = at-frame .before .before .before in
+    at-body .see-body .ensures (start .args .r) (frame .ensures .framed (not-false (frame .result .fits) (at-if .if1 .left)))
 
 pub see-spec : {M : Type 1} → statement M
 see-spec = tie.close (tie.spec frame-of-requires refused-requires returns see-body-requires same-length returns-2)

@@ -1,20 +1,18 @@
 -- The proof of the cycle of calls {measure_item, measure_run}, which ends as `walk_item` and `walk_run` do: 2 room + 1 for `measure_run`,
 -- 2 room for `measure_item`. The invariant of the loop is `Counted`. Assumes nothing.
-use mathlib.Core.Path.{_≡_, ap, sym, _∙_, subst}
-use mathlib.Core.Bool.{true, false, false≢true}
+use mathlib.Core.Path.{_≡_, ap, sym, _∙_}
 use Prim.Native.Nat.{ℕ, _+_, _-_, _*_, _<_, _≤_}
 use native.Mathlib.Omega.{arith}
 use borrow.Author.Needs.{needs}
 use borrow.Author.Tests.{eq-eqb, ne-eqb}
 use denote.Ref.{now}
 use lib.ListN.{length}
-use Rattle.tree.specs.Accepts.{Whole}
 use Rattle.normal.specs.declared.Met.{Met}
 use Rattle.normal.specs.declared.Met.the-variants.{Item as Inner, Last}
 use Rattle.normal.specs.Length.{Octets}
-use Rattle.normal.specs.Measure.{headerSize}
-use Rattle.normal.proofs.Passes.{Turn, Meets, meets, turned, value-run}
-use Rattle.normal.proofs.Measuring.{plain-measured, Counted, none-counted, all-counted, bounded, item-counted}
+use Rattle.normal.specs.Passes.{headerSize}
+use Rattle.normal.proofs.Passes.{Turn, Meets, meets, turned, value-run-ends}
+use Rattle.normal.proofs.Measuring.{plain-measured, run-measured, Counted, none-counted, all-counted, bounded, item-counted}
 use borrow.Fn.Kinds.{In}
 use borrow.Fn.PlainCycle.{Measures, is, falls, and}
 use Rattle.normal.proofs.measure_item.Reads as measure-item
@@ -75,8 +73,7 @@ module _ (t : ℕ) where
   measure-run-requires : item-lts.Need-measure-run-requires (item-calls t) (item-at t) measure-item.Post
   measure-run-requires c κs =
       let a = c .before .before .args in
-      let e = value-run (a .room) (now (a .s)) (a .h) (eq-eqb _ _ (c .if1 .taken)) in
-      (omega arith, (omega arith, omega arith, omega arith, subst Whole (e .0) (c .before .before .pre .1 .4)))
+      (omega arith, value-run-ends (a .room) (now (a .s)) (a .h) (c .before .before .pre .1) (eq-eqb _ _ (c .if1 .taken)))
 
   sub-t13 : item-lts.Need-sub-t13 (item-calls t) (item-at t) measure-item.Post
   sub-t13 c = omega arith
@@ -84,15 +81,12 @@ module _ (t : ℕ) where
   returns : item-lts.Need-returns (item-calls t) (item-at t) measure-item.Post
   returns c =
       let a = c .before .before .before .args in
-      let k = eq-eqb _ _ (c .before .if1 .taken) in
-      let (e, f) = value-run (a .room) (now (a .s)) (a .h) k in
-      (rw (e, f) (c .measure-run .ensures), λ _. k)
+      run-measured (a .room) (now (a .s)) (a .h) (eq-eqb _ _ (c .before .if1 .taken)) (c .measure-run .result) (c .measure-run .ensures)
 
   returns-2 : item-lts.Need-returns-2 (item-calls t) (item-at t) measure-item.Post
   returns-2 c =
       let a = c .before .before .args in
-      let k = ne-eqb _ _ (c .if1 .left) in
-      (plain-measured (a .room) (now (a .s)) (a .h) (omega arith) (omega arith) (c .before .before .pre .1 .5) k, λ z. absurd (false≢true (sym z)))
+      plain-measured (a .room) (now (a .s)) (a .h) (c .before .before .pre .1) (ne-eqb _ _ (c .if1 .left))
 
   -- what was met at `at`
   met : (c : run-lts.After-meet (run-calls t) (run-at t) measure-run.Post Inv μ) (x : Met) → c .meet .result ≡ x →
@@ -101,7 +95,7 @@ module _ (t : ℕ) where
   met c x e =
       let a = c .before .before .before .args in
       let l = c .before .loop in
-      meets (a .room) (now (a .s)) (l .at) (a .limit) (a .marked) (l .inv .within) (omega arith) (l .inv .whole) x (sym (c .meet .ensures) ∙ e)
+      meets (a .room) (now (a .s)) (l .at) (a .limit) (a .marked) (l .inv .left) x (sym (c .meet .ensures) ∙ e)
 
   met-item : (c : run-lts.After-known-told (run-calls t) (run-at t) measure-run.Post Inv μ) →
       let a = c .before .before .before .before .before .before .args in
@@ -111,18 +105,16 @@ module _ (t : ℕ) where
   loop-holds : run-lts.Need-loop-holds (run-calls t) (run-at t) measure-run.Post Inv μ
   loop-holds c =
       let a = c .before .args in
-      none-counted (a .room) (now (a .s)) (a .from) (a .limit) (a .marked) (omega arith) (c .before .pre .1 .3)
+      none-counted (a .room) (now (a .s)) (a .from) (a .limit) (a .marked) (c .before .pre .1)
 
   meet-requires : run-lts.Need-meet-requires (run-calls t) (run-at t) measure-run.Post Inv μ
-  meet-requires c κs = (c .loop .inv .within, omega arith, c .loop .inv .whole)
+  meet-requires c κs = c .loop .inv .left
 
   enum-known-h : run-lts.Need-enum-known-h (run-calls t) (run-at t) measure-run.Post Inv μ
   enum-known-h c = search needs
 
   measure-item-requires : run-lts.Need-measure-item-requires (run-calls t) (run-at t) measure-run.Post Inv μ
-  measure-item-requires c κs =
-      let u = met-item c in
-      (omega arith, (omega arith, omega arith, omega arith, omega arith, u .inside, u .lies .mark))
+  measure-item-requires c κs = (omega arith, met-item c .inside)
 
   -- where the run goes on, and a bound of what is counted then
   next : (c : run-lts.After-measure-item (run-calls t) (run-at t) measure-run.Post Inv μ) →
@@ -136,9 +128,8 @@ module _ (t : ℕ) where
       let m = c .measure-item in
       let h = c .before .before .h .given .0 .0 in
       let u = met-item (c .before) in
-      let k = turned (a .room) (now (a .s)) (l .at) (a .limit) (a .marked) h u (m .result) (m .ensures .0) in
-      let b = bounded (a .room) (now (a .s)) (a .from) (a .limit) (a .marked) (l .at) (l .size) (l .shortest) (l .inv) h u (m .result) (m .ensures .0)
-      (omega arith) (omega arith) (c .before .before .before .before .before .before .before .pre .1 .3) in
+      let k = turned (a .room) (now (a .s)) (l .at) (a .limit) (a .marked) h u (m .result) (m .ensures) in
+      let b = bounded (a .room) (now (a .s)) (a .from) (a .limit) (a .marked) (l .at) (l .size) (l .shortest) (l .inv) h u (m .result) (m .ensures) (c .before .before .before .before .before .before .before .pre .1) in
       (k .0, k .1, b)
 
   header-size-requires : run-lts.Need-header-size-requires (run-calls t) (run-at t) measure-run.Post Inv μ
@@ -166,7 +157,7 @@ module _ (t : ℕ) where
       let head = c .before .before .header-size in
       let stays = c .before .stays-shortest in
       item-counted (a .room) (now (a .s)) (a .from) (a .limit) (a .marked) (l .at) (l .size) (l .shortest) (l .inv) h
-      (met-item (c .before .before .before .before)) (m .result) (m .ensures .0) octets _ (stays .result)
+      (met-item (c .before .before .before .before)) (m .result) (m .ensures) octets _ (stays .result)
       (ap (λ (k : ℕ). l .size + k + m .result .size) (head .ensures))
       (λ b. let (p, n, i, q) = stays .ensures b in (p, n, i, q ∙ ap (λ (k : ℕ). l .at + k) (head .ensures)))
 

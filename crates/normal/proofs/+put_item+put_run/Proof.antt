@@ -1,19 +1,18 @@
 -- The proof of the cycle of calls {put_item, put_run}, which ends as `walk_item` and `walk_run` do: 2 room + 1 for `put_run`, 2 room for
 -- `put_item`. The invariant of the loop is `PutSoFar`. Assumes nothing.
-use mathlib.Core.Path.{_≡_, ap, sym, _∙_, subst}
+use mathlib.Core.Path.{_≡_, ap, sym, _∙_}
 use Prim.Native.Nat.{ℕ, _+_, _-_, _*_, _<_, _≤_}
 use native.Mathlib.Omega.{arith}
 use borrow.Author.Needs.{needs}
 use denote.Ref.{now}
 use lib.ListN.{length}
 use lib.Seq.{slice}
-use Rattle.tree.specs.Accepts.{Whole}
 use Rattle.tree.proofs.Here.{octet-at}
 use Rattle.normal.specs.declared.Met.{Met}
 use Rattle.normal.specs.declared.Met.the-variants.{Item as Inner, Last}
-use Rattle.normal.specs.Measure.{normalIn, headerSize}
+use Rattle.normal.specs.Passes.{normalIn, headerSize}
 use Rattle.normal.proofs.Lengths.{length-length}
-use Rattle.normal.proofs.Passes.{Turn, Meets, meets, turned, value-run}
+use Rattle.normal.proofs.Passes.{Turn, Meets, meets, turned, value-run, value-run-ends}
 use Rattle.normal.proofs.Putting.{copies, PutSoFar, none-put, all-put, fits, item-put}
 use borrow.Fn.Kinds.{In}
 use borrow.Fn.PlainCycle.{Measures, is, falls, and}
@@ -77,7 +76,7 @@ module _ (t : ℕ) where
   copied c =
       let a = c .before .before .before .args in
       let p = c .before .before .before .pre .1 in
-      copies (a .room) (now (a .s)) (a .h) (omega arith) (p .4) (a .m) (p .5) (c .if1 .taken)
+      copies (a .room) (now (a .s)) (a .h) (p .0) (a .m) (p .1) (c .if1 .taken)
 
   add-put-value : item-lts.Need-add-put-value (item-calls t) (item-at t) put-item.Post
   add-put-value c = let k = copied c in omega (arith, k .0)
@@ -86,7 +85,7 @@ module _ (t : ℕ) where
   put-value-requires c κs =
       let k = copied (c .before) in
       let p = c .before .before .before .before .pre .1 in
-      (omega arith, omega (arith, k .0), omega (arith, p .5 .size, p .7))
+      (omega arith, omega (arith, k .0, p .0 .within), omega (arith, p .1 .measures .size, p .2))
 
   sub-put-run : item-lts.Need-sub-put-run (item-calls t) (item-at t) put-item.Post
   sub-put-run c = omega arith
@@ -95,8 +94,9 @@ module _ (t : ℕ) where
   put-run-requires c κs =
       let a = c .before .before .before .before .args in
       let p = c .before .before .before .before .pre .1 in
-      let (e, f) = value-run (a .room) (now (a .s)) (a .h) (p .6 (c .before .if1 .left)) in
-      (omega arith, (omega arith, omega arith, omega arith, subst Whole e (p .4), omega (arith, p .7, ap length f)))
+      let k = p .1 .inner (c .before .if1 .left) in
+      let n = ap length (value-run (a .room) (now (a .s)) (a .h) k .1) in
+      (omega arith, (value-run-ends (a .room) (now (a .s)) (a .h) (p .0) k, omega (arith, p .2)))
 
   same-length : item-lts.Need-same-length (item-calls t) (item-at t) put-item.Post
   same-length c = c .before .before .put-value .kept .1 .1 .1 .0
@@ -111,7 +111,7 @@ module _ (t : ℕ) where
   returns-2 c =
       let a = c .before .before .before .before .before .before .before .args in
       let p = c .before .before .before .before .before .before .before .pre .1 in
-      rw (value-run (a .room) (now (a .s)) (a .h) (p .6 (c .before .before .before .before .if1 .left)) .1) (c .before .before .put-run .ensures)
+      rw (value-run (a .room) (now (a .s)) (a .h) (p .1 .inner (c .before .before .before .before .if1 .left)) .1) (c .before .before .put-run .ensures)
 
   -- what was met at `at`
   met : (c : run-lts.After-meet (run-calls t) (run-at t) put-run.Post Inv μ) (x : Met) → c .meet .result ≡ x →
@@ -120,7 +120,7 @@ module _ (t : ℕ) where
   met c x e =
       let a = c .before .before .before .before .args in
       let l = c .before .loop in
-      meets (a .room) (now (a .s)) (l .at) (a .limit) (a .marked) (l .inv .within) (omega arith) (l .inv .whole) x (sym (c .meet .ensures) ∙ e)
+      meets (a .room) (now (a .s)) (l .at) (a .limit) (a .marked) (l .inv .left) x (sym (c .meet .ensures) ∙ e)
 
   met-item : (c : run-lts.After-known-told (run-calls t) (run-at t) put-run.Post Inv μ) →
       let a = c .before .before .before .before .before .before .before .args in
@@ -139,26 +139,24 @@ module _ (t : ℕ) where
       let m = c .measure-item in
       let h = c .before .before .h .given .0 .0 in
       let u = met-item (c .before) in
-      let k = turned (a .room) (now (a .s)) (l .at) (a .limit) (a .marked) h u (m .result) (m .ensures .0) in
-      let f = fits (a .room) (now (a .s)) (a .from) (a .limit) (a .marked) (now (a .out)) (a .begin) (l .at) (l .pos) (l .out) (l .inv) h u (m .result) (m .ensures .0)
-      (omega arith) (c .before .before .before .before .before .before .before .before .pre .1 .4) in
+      let k = turned (a .room) (now (a .s)) (l .at) (a .limit) (a .marked) h u (m .result) (m .ensures) in
+      let f = fits (a .room) (now (a .s)) (a .from) (a .limit) (a .marked) (now (a .out)) (a .begin) (l .at) (l .pos) (l .out) (l .inv) h u (m .result) (m .ensures)
+      (c .before .before .before .before .before .before .before .before .pre .1 .1) in
       (k .0, k .1, f .0, f .1)
 
   loop-holds : run-lts.Need-loop-holds (run-calls t) (run-at t) put-run.Post Inv μ
   loop-holds c =
       let a = c .before .before .args in
-      none-put (a .room) (now (a .s)) (a .from) (a .limit) (a .marked) (now (a .out)) (a .begin) (omega arith) (c .before .before .pre .1 .3)
+      none-put (a .room) (now (a .s)) (a .from) (a .limit) (a .marked) (now (a .out)) (a .begin) (c .before .before .pre .1 .0)
 
   meet-requires : run-lts.Need-meet-requires (run-calls t) (run-at t) put-run.Post Inv μ
-  meet-requires c κs = (c .loop .inv .within, omega arith, c .loop .inv .whole)
+  meet-requires c κs = c .loop .inv .left
 
   enum-known-h : run-lts.Need-enum-known-h (run-calls t) (run-at t) put-run.Post Inv μ
   enum-known-h c = search needs
 
   measure-item-requires : run-lts.Need-measure-item-requires (run-calls t) (run-at t) put-run.Post Inv μ
-  measure-item-requires c κs =
-      let u = met-item c in
-      (omega arith, omega arith, omega arith, omega arith, u .inside, u .lies .mark)
+  measure-item-requires c κs = met-item c .inside
 
   shared-slice-read-octet : run-lts.Need-shared-slice-read-octet (run-calls t) (run-at t) put-run.Post Inv μ
   shared-slice-read-octet c = let n = next (c .before) in omega arith
@@ -172,19 +170,8 @@ module _ (t : ℕ) where
       let n = next (c .before .before .before .before .before .before) in
       let m = c .before .before .before .before .before .before .measure-item in
       let p = c .before .before .before .put-header in
-      let r = c .before .before .before .before .before .before .before .before .before .before .before .before .before .before .pre in (
-        omega (arith, r .0),
-        (
-          u .lies .deep,
-          u .lies .order,
-          omega (arith, u .lies .within, r .1 .1),
-          r .1 .2,
-          u .inside,
-          m .ensures .0,
-          m .ensures .1,
-          omega (arith, n .2, p .ensures .to, p .kept .0, m .ensures .0 .size, length-length (m .result .size)),
-        ),
-      )
+      let r = c .before .before .before .before .before .before .before .before .before .before .before .before .before .before .pre in
+      (omega (arith, r .0), (u .inside, m .ensures, omega (arith, n .2, p .ensures .to, p .kept .0, m .ensures .measures .size, length-length (m .result .size))))
 
   loop-less : run-lts.Need-loop-less (run-calls t) (run-at t) put-run.Post Inv μ
   loop-less c = let n = next (c .before .before .before .before .before .before .before .before .before) in omega (arith, n .0, n .1)
@@ -198,7 +185,7 @@ module _ (t : ℕ) where
       let m = c .before .before .before .before .before .before .before .before .before .measure-item in
       let p = c .before .before .before .before .before .before .put-header in
       let q = c .before .before .put-item in
-      item-put (a .room) (now (a .s)) (a .from) (a .limit) (a .marked) (now (a .out)) (a .begin) (l .at) (l .pos) (l .out) (l .inv) h u (m .result) (m .ensures .0)
+      item-put (a .room) (now (a .s)) (a .from) (a .limit) (a .marked) (now (a .out)) (a .begin) (l .at) (l .pos) (l .out) (l .inv) h u (m .result) (m .ensures)
       _ (octet-at (now (a .s)) (l .at) (h .octet) (u .read .len) (u .read .here)) (p .result) (q .result) _ _ (p .ensures) (q .ensures)
 
   enum-told : run-lts.Need-enum-told (run-calls t) (run-at t) put-run.Post Inv μ

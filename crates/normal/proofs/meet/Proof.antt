@@ -10,7 +10,7 @@ use denote.Ref.{now}
 use Rattle.octets.specs.declared.Head.{Head}
 use Rattle.octets.specs.declared.Head.the-variants.{Item, ClosingMark, Refusal}
 use Rattle.octets.specs.Head.{headAt}
-use Rattle.normal.specs.Measure.{metBy, metAt}
+use Rattle.normal.specs.Passes.{metBy, metAt}
 use Rattle.normal.proofs.Passes.{passed}
 use Rattle.normal.proofs.meet.Statement.{statement}
 use Rattle.normal.proofs.meet.Tie as tie
@@ -27,7 +27,7 @@ returns c = let a = c .before .before .args in rw (le-leb (a .limit) (a .at) (c 
 passed-head-requires : tie.Need-passed-head-requires
 passed-head-requires c κs =
     let a = c .before .before .args in
-    (omega arith, omega arith, passed (a .room) (now (a .s)) (a .at) (a .limit) (a .marked) (omega arith) (c .before .before .pre .2))
+    (omega arith, omega arith, passed (a .room) (now (a .s)) (a .at) (a .limit) (a .marked) (omega arith) (c .before .before .pre .whole))
 
 enum-known-h : tie.Need-enum-known-h
 enum-known-h c = search needs

@@ -1,5 +1,5 @@
 -- `normal::normal` meets its contract: a walk that ended is what `write` asks for. Assumes nothing.
-use mathlib.Core.Path.{_≡_, sym, _∙_}
+use mathlib.Core.Path.{sym, _∙_}
 use borrow.Author.Needs.{needs}
 use denote.Ref.{now}
 use Rattle.tree.proofs.Meaning.{whole-of}

@@ -1,14 +1,16 @@
 -- `normal::write` meets its contract: its tests are those of `answerOf`, and what is written is the normal form, copied if it is the stream's
 -- own octets. Assumes nothing.
 use mathlib.Core.Path.{_≡_}
-use mathlib.Core.Bool.{true}
+use mathlib.Core.Bool.{true, false}
 use Prim.Native.Nat.{_≤_}
 use borrow.Author.Needs.{needs}
 use native.Mathlib.Omega.{arith}
 use denote.Ref.{now}
 use lib.ListN.{length}
 use lib.Seq.{slice}
+use Rattle.octets.specs.Walk.{deepest}
 use Rattle.normal.specs.Normal.{normalForm}
+use Rattle.normal.specs.Passes.{RunEnds}
 use Rattle.normal.proofs.Answers.{form-is, stream-measured, gives-17, gives-18, gives-form}
 use Rattle.normal.proofs.write.Statement.{statement}
 use Rattle.normal.proofs.write.Tie as tie
@@ -18,11 +20,15 @@ use Rattle.normal.proofs.measure_run.Reads as measure-run-reads
 use Rattle.normal.proofs.put_run.Reads as put-run-reads
 use Rattle.normal.proofs.put_value.Reads as put-value-reads
 
-measure-run-requires : tie.Need-measure-run-requires
-measure-run-requires c κs = search needs
-
 abbrev calls : lts.Claims
 calls = (measure-run-reads.Asked, measure-run-reads.Learnt, put-value-reads.Asked, put-value-reads.Learnt, put-run-reads.Asked, put-run-reads.Learnt)
+
+-- the whole stream is a run that ended
+ends : (c : lts.After-shared-slice-known calls reads.Pre reads.Post) → let s = now (c .before .args .s) in RunEnds deepest s 0 (length s) false
+ends c = record { order = omega arith; within = omega arith; small = c .before .pre .0; whole = c .before .pre .1 }
+
+measure-run-requires : tie.Need-measure-run-requires
+measure-run-requires c κs = ends (c .before)
 
 -- what was measured
 measured : (c : lts.After-measure-run calls reads.Pre reads.Post) →
@@ -31,7 +37,7 @@ measured : (c : lts.After-measure-run calls reads.Pre reads.Post) →
     (m .size ≡ length (normalForm s)) × (m .shortest ≡ true → (m .size ≤ length s) × (normalForm s ≡ slice 0 (m .size) s))
 measured c =
     let a = c .before .before .before .args in
-    stream-measured (now (a .s)) (c .before .before .before .pre .1) (c .measure-run .result) (c .measure-run .ensures)
+    stream-measured (now (a .s)) (ends (c .before .before)) (c .measure-run .result) (c .measure-run .ensures)
 
 returns : tie.Need-returns
 returns c =
@@ -51,7 +57,7 @@ put-value-requires c κs =
     (omega arith, l, omega arith)
 
 put-run-requires : tie.Need-put-run-requires
-put-run-requires c κs = search needs
+put-run-requires c κs = (ends (c .before .before .before .before .before .before), search needs)
 
 same-length : tie.Need-same-length
 same-length c = search needs

@@ -1,12 +1,12 @@
 -- `reading::is_listed` meets its contract: the tests are the definition's, in its order. Assumes nothing.
 use mathlib.Core.Path.{_≡_, sym, ap, _∙_}
 use Prim.Native.Nat.{ℕ}
-use borrow.Author.Tests.{not-true, not-false, le-ltb, lt-ltb}
-use Rattle.octets.specs.First.{isIn}
-use Rattle.index.specs.Rows.{kindAt}
-use Rattle.reading.specs.Match.{kindsOf}
-use Rattle.reading.specs.Ready.{listed}
 use borrow.Author.Needs.{needs}
+use borrow.Author.Tests.{not-true, not-false}
+use Rattle.octets.specs.First.{isIn}
+use Rattle.index.specs.Rows.{identifierColumn, kindAt}
+use Rattle.reading.specs.Match.{kindsOf}
+use Rattle.reading.specs.Ready.{spanAt, there, listed}
 use Rattle.reading.proofs.is_listed.Statement.{statement}
 use Rattle.reading.proofs.is_listed.Tie as tie
 
@@ -36,23 +36,33 @@ returns c = rw (kind-read (c .before) ∙ not-true _ (c .if1 .taken))
 bounds-at-requires : tie.Need-bounds-at-requires
 bounds-at-requires c κs = search needs
 
+is-there-requires : tie.Need-is-there-requires
+is-there-requires c κs = search needs
+
+-- the identifier was tested
+name-there : (c : tie.After-is-there) →
+    let a = c .before .before .before .before .before .before .before .args in
+    there (spanAt (a .rows .now) identifierColumn (a .j)) ≡ c .is-there .result
+name-there c = ap there (sym (c .before .bounds-at .ensures)) ∙ sym (c .is-there .ensures)
+
 returns-2 : tie.Need-returns-2
 unfolding listed
 returns-2 c =
-    let read = c .before .before .before in
-    let name = c .before .before .bounds-at .ensures in
-    rw (kind-read (read .before) ∙ not-false _ (read .if1 .left), ← name .0, ← name .1, le-ltb _ _ (c .if2 .taken))
+    let kind = c .before .before .before in
+    rw (kind-read (kind .before) ∙ not-false _ (kind .if1 .left), name-there (c .before) ∙ not-true _ (c .if2 .taken))
 
 bounds-at-requires-2 : tie.Need-bounds-at-requires-2
 bounds-at-requires-2 c κs = search needs
 
+is-there-requires-2 : tie.Need-is-there-requires-2
+is-there-requires-2 c κs = search needs
+
 returns-3 : tie.Need-returns-3
 unfolding listed
 returns-3 c =
-    let read = c .before .before .before .before .before in
-    let name = c .before .before .before .before .bounds-at .ensures in
-    let portions = c .before .bounds-at2 .ensures in
-    rw (kind-read (read .before) ∙ not-false _ (read .if1 .left), ← name .0, ← name .1, lt-ltb _ _ (c .before .before .if2 .left), portions .0, portions .1)
+    let name = c .before .before in
+    let kind = name .before .before .before in
+    rw (kind-read (kind .before) ∙ not-false _ (kind .if1 .left), name-there (name .before) ∙ not-false _ (name .if2 .left)) (c .is-there2 .ensures ∙ ap there (c .before .bounds-at2 .ensures))
 
 pub is-listed-spec : {M : Type 1} → statement M
 is-listed-spec =
@@ -65,6 +75,8 @@ is-listed-spec =
     is-read-requires
     returns
     bounds-at-requires
+    is-there-requires
     returns-2
     bounds-at-requires-2
+    is-there-requires-2
     returns-3)

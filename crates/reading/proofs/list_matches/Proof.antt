@@ -1,7 +1,5 @@
 -- `reading::list_matches` meets its contract: a side for each case, with the index of its identifiers. Assumes nothing.
-use mathlib.Core.Path.{sym, subst}
-use Rattle.reading.specs.declared.Side.{Side}
-use Rattle.reading.specs.Ready.{PutsAll}
+use Rattle.reading.specs.declared.Side.the-variants.{Layout, Logical}
 use Rattle.reading.proofs.Scratch.{layout-set, logical-set, puts-list}
 use borrow.Author.Needs.{needs}
 use Rattle.reading.proofs.list_matches.Statement.{statement}
@@ -25,9 +23,7 @@ same-length c = search needs
 returns : tie.Need-returns
 returns c =
     let start = c .before .before .before .before .before .before .before .before .before .before .before .before .before in
-    let puts = subst (λ (side : Side). PutsAll side (start .args .s .now) (start .args .rows .now) (start .args .n) (start .args .flat .now) (c .before .before .list-side .last .1 .1 .1 .1 .1 .1 .0) (c .before .before .list-side .result))
-    (sym (c .before .before .before .before .enum-told .given .1)) (c .before .before .list-side .ensures) in
-    puts-list (start .pre .0) (start .args .side) (start .args .flat .now) _ _ (start .pre .1) puts
+    puts-list (start .pre .0) (start .args .side) Layout (c .before .before .before .before .enum-told .given .1) (start .args .flat .now) _ _ (start .pre .1) (c .before .before .list-side .ensures)
 
 same-length-2 : tie.Need-same-length-2
 same-length-2 c = search needs
@@ -35,9 +31,7 @@ same-length-2 c = search needs
 returns-2 : tie.Need-returns-2
 returns-2 c =
     let start = c .before .before .before .before .before .before .before .before .before .before .before .before .before in
-    let puts = subst (λ (side : Side). PutsAll side (start .args .s .now) (start .args .rows .now) (start .args .n) (start .args .flat .now) (c .before .before .list-side2 .last .1 .1 .1 .1 .1 .1 .0) (c .before .before .list-side2 .result))
-    (sym (c .before .before .before .before .enum-told2 .given .1)) (c .before .before .list-side2 .ensures) in
-    puts-list (start .pre .0) (start .args .side) (start .args .flat .now) _ _ (start .pre .1) puts
+    puts-list (start .pre .0) (start .args .side) Logical (c .before .before .before .before .enum-told2 .given .1) (start .args .flat .now) _ _ (start .pre .1) (c .before .before .list-side2 .ensures)
 
 pub list-matches-spec : {M : Type 1} → statement M
 list-matches-spec =

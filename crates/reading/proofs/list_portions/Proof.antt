@@ -1,27 +1,28 @@
 -- `reading::list_portions` meets its contract: each portion that is met yields its match, if there is one. The measure is what is left of
 -- the run. Assumes nothing.
-use mathlib.Core.Path.{_≡_, refl, sym, ap, _∙_, subst}
-use Prim.Native.Nat.{ℕ, _-_}
+use mathlib.Core.Path.{subst}
+use Prim.Native.Nat.{_-_}
 use native.Mathlib.Omega.{arith}
-use mathlib.Core.List.{[], _∷_, _++_}
+use mathlib.Core.List.{_∷_, _++_}
 use lib.Seq.{slice}
 use borrow.Author.Needs.{needs}
-use Rattle.reading.proofs.Listing.{Listing, listing-all, listing-none, listing-more, room-for-one, small-element, small-place, found-small, finds-on}
+use Rattle.reading.proofs.Listing.{Listing, listing-all, listing-none, listing-more, room-for-one, small-element, small-place, found-small, span-placed}
 use Rattle.runs.specs.Runs.{Meets, Meeting}
 use Rattle.names.specs.Names.{spaceByte}
-use Rattle.names.specs.Hash.{hashFrom}
-use Rattle.index.specs.Rows.{identifierColumn, firstAt, pastAt}
+use Rattle.index.specs.Rows.{identifierColumn}
 use Rattle.index.specs.Index.{Finds}
-use Rattle.reading.specs.Ready.{columnOf, unitSpace}
+use Rattle.elements.specs.Says.{Placed}
+use Rattle.letters.specs.Judges.{bytesIn}
+use Rattle.reading.specs.Ready.{columnOf, unitSpace, spanAt}
 use Rattle.reading.proofs.list_portions.Statement.{statement}
 use Rattle.reading.proofs.list_portions.Tie as tie
 
 abbrev Inv-loop : tie.InvT-loop
-Inv-loop s rows head next n side element flat₀ count first past hashed left₀ place₀ total₀ flat left place total =
+Inv-loop s rows head next n side element flat₀ count name hashed left₀ place₀ total₀ flat left place total =
     Listing side s rows n element flat₀ count flat left place total
 
 abbrev μ-loop : tie.MeasureT-loop
-μ-loop s rows head next n side element flat₀ count first past hashed left₀ place₀ total₀ flat left place total =
+μ-loop s rows head next n side element flat₀ count name hashed left₀ place₀ total₀ flat left place total =
     left .limit - left .at
 
 -- what is known at the entry, from the loop's head
@@ -30,26 +31,26 @@ entry c = c .before .before .before .before .before .before .before .before .bef
 
 -- the portion that is met
 meeting : (c : tie.After-known-told Inv-loop μ-loop) →
-    let g = c .before .from .given .0 in
+    let g = c .before .first .given .0 in
     Meeting (entry (c .before .before .before .before) .args .s .now) (c .before .before .before .before .loop .left) (g .0) (g .1 .0) (g .1 .1 .0) (g .1 .1 .1 .0) (g .1 .1 .1 .1 .0)
 meeting c =
     let at = c .before .before .before .before in
-    subst (Meets (entry at .args .s .now) (at .loop .left)) (c .before .from .given .1) (c .before .before .before .meet .ensures)
+    subst (Meets (entry at .args .s .now) (at .loop .left)) (c .before .first .given .1) (c .before .before .before .meet .ensures)
 
 -- what is found for it
 finds : (c : tie.After-unit-of Inv-loop μ-loop) →
-    let start = entry (c .before .before .before .before .before .before) in
-    let s = start .args .s .now in
-    let rows = start .args .rows .now in
-    let element = start .args .element in
-    let g = c .before .before .before .from .given .0 in
-    Finds s rows (columnOf (start .args .side)) (start .args .n) unitSpace (slice (firstAt rows identifierColumn element) (pastAt rows identifierColumn element) s ++ spaceByte ∷ slice (g .1 .0) (g .1 .1 .0) s) (c .unit-of .result)
+    let a = entry (c .before .before .before .before .before .before) .args in
+    let g = c .before .before .before .first .given .0 in
+    Finds (a .s .now) (a .rows .now) (columnOf (a .side)) (a .n) unitSpace (bytesIn (a .s .now) (spanAt (a .rows .now) identifierColumn (a .element)) ++ spaceByte ∷ slice (g .1 .0) (g .1 .1 .0) (a .s .now)) (c .unit-of .result)
 finds c =
-    let at = c .before .before .before .before .before .before in
-    let a = entry at .args in
-    let g = c .before .before .before .from .given .0 in
-    let name = at .before .before .before .before .bounds-at .ensures in
-    finds-on (a .side) (a .s .now) (a .rows .now) (a .n) (a .element) (slice (g .1 .0) (g .1 .1 .0) (a .s .now)) (c .unit-of .result) (c .before .column-of .ensures) (name .0) (name .1) (c .unit-of .ensures)
+    let name = c .before .before .before .before .before .before .before .before .before .before .bounds-at .ensures in
+    rw (c .before .column-of .ensures, name) at (c .unit-of .ensures)
+
+-- the identifier lies in the stream
+name-placed : (c : tie.After-bounds-at Inv-loop μ-loop) → Placed (c .before .before .before .before .before .before .args .s .now) (c .bounds-at .result)
+name-placed c =
+    let start = c .before .before .before .before .before .before in
+    rw (c .bounds-at .ensures) (span-placed (start .pre .0 .bounded) (start .pre .1 .0 .0))
 
 bounds-at-requires : tie.Need-bounds-at-requires Inv-loop μ-loop
 bounds-at-requires c κs =
@@ -57,11 +58,7 @@ bounds-at-requires c κs =
     (omega arith, omega (arith, start .pre .1 .0 .0, start .pre .0 .bounded .in-table))
 
 hash-over-requires : tie.Need-hash-over-requires Inv-loop μ-loop
-hash-over-requires c κs =
-    let start = c .before .before .before .before .before .before in
-    let name = c .bounds-at .ensures in
-    let bounded = start .pre .0 .bounded in
-    (omega (arith, bounded .ordered (start .args .element) (start .pre .1 .0 .0)), omega (arith, bounded .inside (start .args .element) (start .pre .1 .0 .0)), omega arith)
+hash-over-requires c κs = let placed = name-placed c in (placed .order, placed .inside, omega arith)
 
 hash-space-requires : tie.Need-hash-space-requires Inv-loop μ-loop
 hash-space-requires c κs = c .hash-over .ensures .1
@@ -92,8 +89,8 @@ returns c =
     listing-none (start .pre .0) (start .pre .1 .0 .0) (start .pre .1 .0 .1) (at .loop .inv)
     (subst (Meets (start .args .s .now) (at .loop .left)) (c .enum-told .given .1) (c .before .before .meet .ensures))
 
-enum-known-from : tie.Need-enum-known-from Inv-loop μ-loop
-enum-known-from c = search needs
+enum-known-first : tie.Need-enum-known-first Inv-loop μ-loop
+enum-known-first c = search needs
 
 column-of-requires : tie.Need-column-of-requires Inv-loop μ-loop
 column-of-requires c κs = search needs
@@ -102,18 +99,13 @@ unit-of-requires : tie.Need-unit-of-requires Inv-loop μ-loop
 unit-of-requires c κs =
     let at = c .before .before .before .before .before in
     let start = entry at in
-    let name = at .before .before .before .before .bounds-at .ensures in
-    let bounded = start .pre .0 .bounded in
     let hashed = at .before .before .before .hash-over .ensures in
     let spaced = at .before .before .hash-space .ensures in
     let met = meeting (c .before) in (
       rw (c .column-of .ensures) (start .pre .0 .bounded-on),
       (
         rw (c .column-of .ensures) (start .pre .0 .indexed),
-        (
-          (rw (← hashed .0) (spaced .0), spaced .1),
-          (omega (arith, bounded .ordered (start .args .element) (start .pre .1 .0 .0)), omega (arith, bounded .inside (start .args .element) (start .pre .1 .0 .0)), met .value-order, met .value-inside),
-        ),
+        ((rw (← hashed .0) (spaced .0), spaced .1), (name-placed (at .before .before .before .before), record { order = met .value-order; inside = met .value-inside })),
       ),
     )
 
@@ -161,7 +153,7 @@ list-portions-spec =
     enum-told
     same-length
     returns
-    enum-known-from
+    enum-known-first
     column-of-requires
     unit-of-requires
     put-found-requires

@@ -1,4 +1,6 @@
 -- `reading::portions_at` meets its contract. Assumes nothing.
+use mathlib.Core.Path.{ap}
+use Rattle.elements.specs.Says.{portionsRun}
 use borrow.Author.Needs.{needs}
 use Rattle.reading.proofs.portions_at.Statement.{statement}
 use Rattle.reading.proofs.portions_at.Tie as tie
@@ -7,7 +9,7 @@ bounds-at-requires : tie.Need-bounds-at-requires
 bounds-at-requires c κs = search needs
 
 returns : tie.Need-returns
-returns c = rw (c .bounds-at .ensures .0, c .bounds-at .ensures .1)
+returns c = ap portionsRun (c .bounds-at .ensures)
 
 pub portions-at-spec : {M : Type 1} → statement M
 portions-at-spec = tie.close (tie.spec bounds-at-requires returns)

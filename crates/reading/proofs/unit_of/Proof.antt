@@ -1,6 +1,6 @@
 -- `reading::unit_of` meets its contract: the hash goes on over the portion, and the name is looked up in its parts. Assumes nothing.
 use mathlib.Core.Path.{refl}
-use lib.Seq.{slice}
+use Rattle.letters.specs.Judges.{bytesIn}
 use Rattle.names.proofs.Hashing.{hash-joined}
 use borrow.Author.Needs.{needs}
 use Rattle.reading.proofs.unit_of.Statement.{statement}
@@ -13,9 +13,10 @@ find-requires : tie.Need-find-requires
 find-requires c κs =
     let start = c .before .before .before .before .before in
     let a = start .args in
-    let within = start .pre .1 .1 .1 in
-    let whole = hash-joined (slice (a .first) (a .past) (a .s .now)) (slice (a .from) (a .to) (a .s .now)) refl (start .pre .1 .1 .0 .0) (c .hash-over .ensures .0) in
-    (start .pre .0, (start .pre .1 .0, (record { first-order = within .0; first-inside = within .1; second-order = within .2; second-inside = within .3 }, whole)))
+    let name = start .pre .1 .1 .1 .0 in
+    let portion = start .pre .1 .1 .1 .1 in
+    let whole = hash-joined (bytesIn (a .s .now) (a .name)) (bytesIn (a .s .now) (a .portion)) refl (start .pre .1 .1 .0 .0) (c .hash-over .ensures .0) in
+    (start .pre .0, (start .pre .1 .0, (record { first-order = name .order; first-inside = name .inside; second-order = portion .order; second-inside = portion .inside }, whole)))
 
 returns : tie.Need-returns
 returns c = search needs

@@ -13,32 +13,46 @@ is-once-requires c κs = search needs
 returns : tie.Need-returns
 unfolding tabledBy
 returns c =
-    let once = sym (c .before .is-once .ensures) ∙ not-true (c .before .is-once .result) (c .if1 .taken) in
-    rw once
+    let once = c .before .is-once in
+    let a = sym (once .ensures) ∙ not-true (once .result) (c .if1 .taken) in
+    rw a
 
 returns-2 : tie.Need-returns-2
 unfolding tabledBy
 returns-2 c =
-    let once = sym (c .before .before .before .is-once .ensures) ∙ not-false (c .before .before .before .is-once .result) (c .before .before .if1 .left) in
-    rw (once, lt-leb _ _ (c .if2 .taken))
+    let two = c .before .before in
+    let once = two .before .is-once in
+    let a = sym (once .ensures) ∙ not-false (once .result) (two .if1 .left) in
+    rw (a, lt-leb _ _ (c .if2 .taken))
 
 returns-3 : tie.Need-returns-3
 unfolding tabledBy
 returns-3 c =
-    let once = sym (c .before .before .before .before .before .is-once .ensures) ∙ not-false (c .before .before .before .before .before .is-once .result) (c .before .before .before .before .if1 .left) in
-    rw (once, le-leb _ _ (c .before .before .if2 .left), lt-leb _ _ (c .if3 .taken))
+    let three = c .before .before in
+    let two = three .before .before in
+    let once = two .before .is-once in
+    let a = sym (once .ensures) ∙ not-false (once .result) (two .if1 .left) in
+    rw (a, le-leb _ _ (three .if2 .left), lt-leb _ _ (c .if3 .taken))
 
 returns-4 : tie.Need-returns-4
 unfolding tabledBy
 returns-4 c =
-    let once = sym (c .before .before .before .before .before .before .before .is-once .ensures) ∙ not-false (c .before .before .before .before .before .before .before .is-once .result) (c .before .before .before .before .before .before .if1 .left) in
-    rw (once, le-leb _ _ (c .before .before .before .before .if2 .left), le-leb _ _ (c .before .before .if3 .left), ne-eqb _ _ (c .if4 .taken))
+    let four = c .before .before in
+    let three = four .before .before in
+    let two = three .before .before in
+    let once = two .before .is-once in
+    let a = sym (once .ensures) ∙ not-false (once .result) (two .if1 .left) in
+    rw (a, le-leb _ _ (three .if2 .left), le-leb _ _ (four .if3 .left), ne-eqb _ _ (c .if4 .taken))
 
 returns-5 : tie.Need-returns-5
 unfolding tabledBy
 returns-5 c =
-    let once = sym (c .before .before .before .before .before .before .before .is-once .ensures) ∙ not-false (c .before .before .before .before .before .before .before .is-once .result) (c .before .before .before .before .before .before .if1 .left) in
-    rw (once, le-leb _ _ (c .before .before .before .before .if2 .left), le-leb _ _ (c .before .before .if3 .left), eq-eqb _ _ (c .if4 .left), and-true)
+    let four = c .before .before in
+    let three = four .before .before in
+    let two = three .before .before in
+    let once = two .before .is-once in
+    let a = sym (once .ensures) ∙ not-false (once .result) (two .if1 .left) in
+    rw (a, le-leb _ _ (three .if2 .left), le-leb _ _ (four .if3 .left), eq-eqb _ _ (c .if4 .left), and-true)
 
 pub is-tabled-spec : {M : Type 1} → statement M
 is-tabled-spec =

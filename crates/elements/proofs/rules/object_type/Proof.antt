@@ -26,9 +26,12 @@ wide-requires c κs = search needs
 
 returns-3 : tie.Need-returns-3
 returns-3 c =
-    let a = c .before .before .before .before .before .args in
-    let w = c .wide in
-    (w .ensures .1, type-one (a .s .now) (a .v) (a .types) (c .before .before .before .if1 .left) (c .before .before .if2 .left) (w .result) (w .ensures .0))
+    let at-if = c .before .before in
+    let a = at-if .before .before .before .args in
+    let wide = c .wide in (
+      wide .ensures .1,
+      type-one (a .s .now) (a .v) (a .types) (at-if .before .if1 .left) (at-if .if2 .left) (wide .result) (wide .ensures .0),
+    )
 
 pub object-type-spec : {M : Type 1} → statement M
 object-type-spec = tie.close (tie.spec returns sub-if2 returns-2 shared-slice-read-wide wide-requires returns-3)

@@ -1,11 +1,11 @@
 -- `elements::shapes::shape_1988` meets its contract: each arm makes the shape that the list of 1988 has for its octet, and the last one
 -- that of no element, since no test of the list holds. Assumes nothing.
-use mathlib.Core.Path.{sym, ap, _∙_}
+use mathlib.Core.Path.{_≡_, sym, ap, _∙_}
 use mathlib.Core.List.{[], _∷_}
 use Prim.Native.Nat.{ℕ}
 use borrow.Author.Needs.{needs}
 use borrow.Author.Tests.{ne-eqb}
-use Rattle.elements.specs.Shape.{edition1988, shapeOf}
+use Rattle.elements.specs.Shape.{edition1988, shapeOf, noShape}
 use Rattle.elements.proofs.shapes.shape_1988.Statement.{statement}
 use Rattle.elements.proofs.shapes.shape_1988.Tie as tie
 
@@ -73,7 +73,17 @@ unfolding shapeOf
 returns-9 c =
     let o = c .before .before .args .octet in
     let r = c .before .match .rest in
-    c .profile-shape2 .ensures ∙ sym (rw (ne-eqb o 160 (r .0 .0 .0 .0 .0 .0 .0 .1), ne-eqb o 161 (r .0 .0 .0 .0 .0 .0 .1), ne-eqb o 162 (r .0 .0 .0 .0 .0 .1), ne-eqb o 163 (r .0 .0 .0 .0 .1), ne-eqb o 165 (r .0 .0 .0 .1), ne-eqb o 166 (r .0 .0 .1), ne-eqb o 167 (r .0 .1), ne-eqb o 168 (r .1)))
+    let other : shapeOf edition1988 (o ∷ []) ≡ noShape = rw (
+      ne-eqb o 0xA0 (r .0 .0 .0 .0 .0 .0 .0 .1),
+      ne-eqb o 0xA1 (r .0 .0 .0 .0 .0 .0 .1),
+      ne-eqb o 0xA2 (r .0 .0 .0 .0 .0 .1),
+      ne-eqb o 0xA3 (r .0 .0 .0 .0 .1),
+      ne-eqb o 0xA5 (r .0 .0 .0 .1),
+      ne-eqb o 0xA6 (r .0 .0 .1),
+      ne-eqb o 0xA7 (r .0 .1),
+      ne-eqb o 0xA8 (r .1),
+    ) in
+    c .profile-shape2 .ensures ∙ sym other
 
 pub shape-1988-spec : {M : Type 1} → statement M
 shape-1988-spec =

@@ -1,5 +1,6 @@
--- What the writer's passes meet and measure in a stream whose walk ended. Definitions only: assumes nothing.
-use Prim.Native.Nat.{ℕ, _+_, _-_}
+-- What the writer's passes over a stream whose walk ended meet, measure and write: the contracts of the functions inside this crate. What
+-- the writer answers and writes in all is in Writes, and needs none of it. Definitions only: assumes nothing.
+use Prim.Native.Nat.{ℕ, _+_, _-_, _<_, _≤_}
 use mathlib.Core.Path.{_≡_}
 use mathlib.Core.Bool.{Bool, true, false, cond}
 use mathlib.Core.List.{List}
@@ -11,13 +12,30 @@ use Rattle.octets.specs.declared.Head.{Head}
 use Rattle.octets.specs.declared.Head.the-variants.{Item, ClosingMark, Refusal}
 use Rattle.octets.specs.First.{constructed}
 use Rattle.octets.specs.Head.{headAt}
-use Rattle.octets.specs.Walk.{End, ends, stops, pastOf, run, valueOf}
+use Rattle.octets.specs.Walk.{streamLimit, End, ends, stops, pastOf, run, valueOf}
 use Rattle.tree.specs.Tree.{plain}
+use Rattle.tree.specs.Accepts.{Whole}
 use Rattle.normal.specs.declared.Measured.{Measured}
 use Rattle.normal.specs.declared.Met.{Met}
 use Rattle.normal.specs.declared.Met.the-variants.{Item as Inner, Last}
 use Rattle.normal.specs.Length.{furtherOctets}
 use Rattle.normal.specs.Normal.{normalOf}
+
+-- The run from `from` was walked to its end, in a stream within the limit.
+pub record RunEnds (room : ℕ) (s : List ℕ) (from limit : ℕ) (marked : Bool) : Type 0 where
+  pub order : from ≤ limit
+  pub within : limit ≤ length s
+  pub small : length s ≤ streamLimit
+  pub whole : Whole (run room s from limit marked .how)
+
+-- The value of the item with the header h was walked to its end, in a stream within the limit.
+pub record ValueEnds (room : ℕ) (s : List ℕ) (h : Header) : Type 0 where
+  pub deep : 0 < room
+  pub order : h .start ≤ h .bound
+  pub within : h .bound ≤ length s
+  pub small : length s ≤ streamLimit
+  pub whole : Whole (valueOf room s h .how)
+  pub mark : h .marked ≡ true → constructed (h .octet) ≡ true
 
 -- where a walk ended
 abbrev pub endOf : End → ℕ
@@ -46,12 +64,20 @@ metAt room s at limit marked = cond (leb limit at) (Last limit) (metBy at (headA
 abbrev pub headerSize : (size : ℕ) → ℕ
 headerSize size = 2 + furtherOctets size
 
--- What is measured of a run, or of a value, from `from` on: where it ends, how long its normal form is, and perhaps that its octets are
+-- Octets from `from` on, whose walk ended so, were measured: where they end, how long their normal form is, and perhaps that they are
 -- their own normal form already.
 pub record Measures (s : List ℕ) (from : ℕ) (marked : Bool) (how : End) (form : List ℕ) (m : Measured) : Type 0 where
   pub past : m .next ≡ endOf how
   pub size : m .size ≡ length form
   pub own : m .shortest ≡ true → (form ≡ slice from (from + m .size) s) × (from + m .size ≡ pastOf marked (m .next))
+
+abbrev pub RunMeasures : (room : ℕ) → List ℕ → (from limit : ℕ) → (marked : Bool) → Measured → Type 0
+RunMeasures room s from limit marked m = Measures s from marked (run room s from limit marked .how) (normalFrom room s from limit marked) m
+
+-- Only a constructed value may not be its own normal form.
+pub record ValueMeasures (room : ℕ) (s : List ℕ) (h : Header) (m : Measured) : Type 0 where
+  pub measures : Measures s (h .start) (h .marked) (valueOf room s h .how) (normalIn room s h) m
+  pub inner : m .shortest ≡ false → constructed (h .octet) ≡ true
 
 -- Octets were written from begin up to past, and nothing else.
 pub record Puts (before : List ℕ) (begin : ℕ) (octets : List ℕ) (past : ℕ) (after : List ℕ) : Type 0 where

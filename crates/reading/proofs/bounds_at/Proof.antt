@@ -1,0 +1,49 @@
+-- `reading::bounds_at` meets its contract. Assumes nothing.
+use borrow.Author.Needs.{needs}
+use Rattle.reading.proofs.bounds_at.Statement.{statement}
+use Rattle.reading.proofs.bounds_at.Tie as tie
+
+mul-at : tie.Need-mul-at
+mul-at c = search needs
+
+add-at : tie.Need-add-at
+add-at c = search needs
+
+mul-wide : tie.Need-mul-wide
+mul-wide c = search needs
+
+shared-slice-read-wide : tie.Need-shared-slice-read-wide
+shared-slice-read-wide c = search needs
+
+wide-requires : tie.Need-wide-requires
+wide-requires c κs = search needs
+
+add-wide : tie.Need-add-wide
+add-wide c = search needs
+
+mul-wide-2 : tie.Need-mul-wide-2
+mul-wide-2 c = search needs
+
+shared-slice-read-wide-2 : tie.Need-shared-slice-read-wide-2
+shared-slice-read-wide-2 c = search needs
+
+wide-requires-2 : tie.Need-wide-requires-2
+wide-requires-2 c κs = search needs
+
+returns : tie.Need-returns
+returns c = rw (c .before .before .wide .ensures, c .wide2 .ensures)
+
+pub bounds-at-spec : {M : Type 1} → statement M
+bounds-at-spec =
+    tie.close
+    (tie.spec
+    mul-at
+    add-at
+    mul-wide
+    shared-slice-read-wide
+    wide-requires
+    add-wide
+    mul-wide-2
+    shared-slice-read-wide-2
+    wide-requires-2
+    returns)
