@@ -8,3 +8,4 @@ pub mod Fetching
 pub mod Writing
 pub mod Listing
 pub mod Lending
+pub mod Exporting

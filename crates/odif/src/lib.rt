@@ -177,6 +177,20 @@ pub extern "C" fn odif_normal(stream: &[u8], out: &mut [u8]) -> Written
 }
 
 #[no_mangle]
+pub extern "C" fn odif_layout(stream: &[u8], table: &mut [u32], list: &mut [Match]) -> Listed
+    ensures { λ r. ⌜ (r ≡ listed Side.Layout (now (stream .entry)) (now (table .entry)) (length (now (list .entry)))) × (now (table .exit) ≡ listedTable Side.Layout (now (stream .entry)) (now (table .entry)) (length (now (list .entry)))) × (now (list .exit) ≡ listedList Side.Layout (now (stream .entry)) (now (table .entry)) (now (list .entry))) ⌝ }
+{
+    crate::list(stream, Side::Layout, table, list)
+}
+
+#[no_mangle]
+pub extern "C" fn odif_logical(stream: &[u8], table: &mut [u32], list: &mut [Match]) -> Listed
+    ensures { λ r. ⌜ (r ≡ listed Side.Logical (now (stream .entry)) (now (table .entry)) (length (now (list .entry)))) × (now (table .exit) ≡ listedTable Side.Logical (now (stream .entry)) (now (table .entry)) (length (now (list .entry)))) × (now (list .exit) ≡ listedList Side.Logical (now (stream .entry)) (now (table .entry)) (now (list .entry))) ⌝ }
+{
+    crate::list(stream, Side::Logical, table, list)
+}
+
+#[no_mangle]
 pub extern "C" fn odif_content(stream: &[u8], element: u32) -> Located
     ensures { λ r. ⌜ Fetches (now (stream .entry)) element r ⌝ }
 {
