@@ -9,3 +9,6 @@ pub mod Writing
 pub mod Listing
 pub mod Lending
 pub mod Exporting
+pub mod Demand1
+pub mod Telling
+pub mod Demand2
