@@ -12,3 +12,4 @@ pub mod Exporting
 pub mod Demand1
 pub mod Telling
 pub mod Demand2
+pub mod Demand3
