@@ -9,3 +9,7 @@ pub mod Writing
 pub mod Listing
 pub mod Lending
 pub mod Exporting
+pub mod Demand1
+pub mod Telling
+pub mod Demand2
+pub mod Demand3

@@ -1,3 +1,4 @@
--- Answers: what each question answers. Asking: what the work behind them learns.
+-- Demands: what is promised. Answers: what each question answers. Asking: what the work behind them learns.
 pub mod Answers
 pub mod Asking
+pub mod Demands
