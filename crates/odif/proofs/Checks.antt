@@ -13,8 +13,7 @@ use Rattle.elements.specs.Shape.{edition1988}
 use Rattle.elements.specs.Element.{Element}
 use Rattle.elements.specs.Rows.{numbers}
 use Rattle.letters.specs.Letter.{letter, refusal}
-use Rattle.odif.specs.declared.Checked.{Checked}
-use Rattle.odif.specs.Answers.{letterIn, rowsIn, tableOf, checked, checkedTable}
+use Rattle.odif.specs.Answers.{letterIn, rowsIn, tableOf, checked, checkedTable, CheckOutcome}
 use Rattle.odif.proofs.Small.{refusal-small}
 
 -- a stream's rows in scratch, in front of what the table held, are the finished table
@@ -25,27 +24,24 @@ table-filled s table scratch n w long =
     rw (w, size)
 
 module _ (s table : List ℕ) where
-  abbrev Checks : Checked → List ℕ → Type 0
-  Checks answer after = (answer ≡ checked s table) × (after ≡ checkedTable s table)
-
   pub checks-refused : (number place headers : ℕ) → letterIn s ≡ refusal number place headers
-      → Checks (record { number = number; place = place; headers = headers; elements = 0 }) table
+      → CheckOutcome s table (record { number = number; place = place; headers = headers; elements = 0 }) table
   unfolding checked checkedTable
   checks-refused number place headers e =
       let low = refusal-small edition1988 s number place headers e .low in
       let some : eqb number 0 ≡ false = ne-eqb number 0 (λ z. omega arith) in
-      (rw e, rw (e, some))
+      record { answered = rw e; tabled = rw (e, some) }
 
   pub checks-16 : (headers : ℕ) (elements : List Element) → letterIn s ≡ letter headers elements → length table / rowWidth < length elements
-      → Checks (record { number = 16; place = 0; headers = headers; elements = 0 }) table
+      → CheckOutcome s table (record { number = 16; place = 0; headers = headers; elements = 0 }) table
   unfolding checked checkedTable
   checks-16 headers elements e few =
       let t : ltb (length table / rowWidth) (length elements) ≡ true = lt-ltb _ _ few in
-      (rw (e, t), rw (e, t))
+      record { answered = rw (e, t); tabled = rw (e, t) }
 
   pub checks-letter : (headers count : ℕ) (elements : List Element) → letterIn s ≡ letter headers elements → length elements ≡ count
-      → count ≤ length table / rowWidth → Checks (record { number = 0; place = 0; headers = headers; elements = count }) (tableOf s table)
+      → count ≤ length table / rowWidth → CheckOutcome s table (record { number = 0; place = 0; headers = headers; elements = count }) (tableOf s table)
   unfolding checked checkedTable
   checks-letter headers count elements e counted enough =
       let t : ltb (length table / rowWidth) (length elements) ≡ false = le-ltb (length table / rowWidth) (length elements) (omega arith) in
-      (rw (e, t, counted), rw (e, t))
+      record { answered = rw (e, t, counted); tabled = rw (e, t) }

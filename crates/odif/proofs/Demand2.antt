@@ -72,7 +72,7 @@ module _ (s : List ℕ) (headers : ℕ) (elements : List Element) (e : letterIn 
   -- the check
   checks : (table : List ℕ) → length elements ≤ length table / rowWidth
       → (checked s table ≡ record { number = 0; place = 0; headers = headers; elements = length elements }) × (checkedTable s table ≡ tableOf s table)
-  checks table enough = let r = checks-letter s table headers (length elements) elements e refl enough in (sym (r .0), sym (r .1))
+  checks table enough = let r = checks-letter s table headers (length elements) elements e refl enough in (sym (r .answered), sym (r .tabled))
 
   checks-16 : (table : List ℕ) → (checked s table .number ≡ 16) ↔ (length table / rowWidth < length elements)
   unfolding checked

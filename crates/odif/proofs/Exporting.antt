@@ -40,7 +40,7 @@ use Rattle.reading.proofs.Match.Laws as T′
 use Rattle.reading.proofs.Side as S
 use Rattle.reading.proofs.Side.Laws as S′
 use Rattle.odif.specs.declared.Listed.{Listed}
-use Rattle.odif.specs.Answers.{listed, listedTable, listedList}
+use Rattle.odif.specs.Answers.{ListOutcome}
 use Rattle.odif.proofs.Listed as L
 use Rattle.odif.proofs.Listed.Laws as L′
 use Rattle.odif.proofs.list as list
@@ -78,10 +78,6 @@ function k = record { lifetimes = 3; outlives = []; params = 3; locals = locals;
 
 abbrev pub Listing : {M : Type 1} (𝓤 : URA M) (H : Heap 𝓤) (A : Atoms 𝓤) (mem : Memory → SProp 𝓤) (run : Routine → Fun 𝓤) → Contract 𝓤
 Listing 𝓤 H A mem run = tripleOf 𝓤 H A list.signature (list.spec 𝓤 H A mem run)
-
--- what `list` says of its answer, of the last table and of the last list
-abbrev pub Said : Side → (s table : List ℕ) → List Match → Listed → List ℕ → List Match → Type 0
-Said side s table list r ts ys = (r ≡ listed side s table (length list)) × (ts ≡ listedTable side s table (length list)) × (ys ≡ listedList side s table list)
 
 module _ {M : Type 1} (𝓤 : URA M) (H : Heap 𝓤) (A : Atoms 𝓤) (W : Given 𝓤 H A) (mem : Memory → SProp 𝓤) (run : Routine → Fun 𝓤) (side : Side) (k : ℕ) (small : Holds (ltb k (2 ^ bits w8)))
     (isS : Is S.the-row side (EL.vals S.the-type S′.the-laws side)) (tag : EL.val S.the-type S′.the-laws side ≡ vstruct (vcons (vint w8 k) vnil)) (κ₀ κ₁ κ₂ : Lft) (q₀ q₁ q₂ : Share)
@@ -124,7 +120,7 @@ module _ {M : Type 1} (𝓤 : URA M) (H : Heap 𝓤) (A : Atoms 𝓤) (W : Given
   goes-list = qed W ((‵ (flft κ₀ q₀) ⊛ ‵ (flft κ₁ q₁) ⊛ ‵ (flft κ₂ q₂) ⊛ ‵ ftrue) ∷ ‵ OwnAll ∷ []) ∵ join ! $ frame ! $ done !
 
   module _ (C : Calls 𝓤 H) (Λ : Loops 𝓤 H) (fm : FmC 𝓤 H (W .laws) C) (known : Triple 𝓤 (C #odif·list) (Listing 𝓤 H A mem run)) (Post : Val → SProp 𝓤)
-      (exits : (r : Listed) (ts′ : List ℕ) (ys′ : List Match) → Is L.the-row r (mach r ∷ []) → Said side ss ts ys r ts′ ys′ → length ts′ ≡ length ts → length ys′ ≡ length ys
+      (exits : (r : Listed) (ts′ : List ℕ) (ys′ : List Match) → Is L.the-row r (mach r ∷ []) → ListOutcome side ss ts ys r ts′ ys′ → length ts′ ≡ length ts → length ys′ ≡ length ys
       → ent 𝓤 (⋆ 𝓤 H A ((‵ (flft κ₀ q₀) ⊛ ‵ (flft κ₁ q₁) ⊛ ‵ (flft κ₂ q₂) ⊛ ‵ ftrue) ∷ ‵ (finally u32 γ₁ ts′) ∷ ‵ (finally R γ₂ ys′) ∷ ‵ Own₀ ∷ [])) (Post (mach r))) where
     pub walk : ent 𝓤 (⋆ 𝓤 H A ((‵ (flft κ₀ q₀) ⊛ ‵ (flft κ₁ q₁) ⊛ ‵ (flft κ₂ q₂) ⊛ ‵ ftrue) ∷ ‵ (owns (ShrSlice (named 0) κ₀ u8 ∷ MutSlice (named 1) κ₁ u32 ∷ MutSlice (named 2) κ₂ R ∷ []) (x₀, (x₁, (x₂, tt))) (s₀ ∷ [], (s₁ ∷ [], (s₂ ∷ [], tt)))) ∷ [])) (WpFn 𝓤 H C Λ (function k) (s₀ ∷ s₁ ∷ s₂ ∷ []) Post)
     walk =
@@ -143,8 +139,8 @@ module _ {M : Type 1} (𝓤 : URA M) (H : Heap 𝓤) (A : Atoms 𝓤) (W : Given
         move ! (20 ∷ 0 ∷ []) $ use2 W (raw (Listing 𝓤 H A mem run .pre to-list)) goes-list $
         calls-at ! fm (Listing 𝓤 H A mem run) known to-list (and-then ! (load ! (from ! (stop !)) (look ! 16 refl)) (and-then ! (load ! (from ! (stop !)) (look ! 10 refl)) (and-then ! (load ! (from ! (stop !)) (look ! 6 refl)) (and-then ! (load ! (from ! (stop !)) (look ! 2 refl)) (no-more !))))) (λ u.
         use1 W (later (some (λ (r : Listed). ((‵ (flft κ₀ q₀) ⊛ ‵ (flft κ₁ q₁) ⊛ ‵ (flft κ₂ q₂) ⊛ ‵ ftrue) ⊛ ‵ (L.the-row .own r (u ∷ []))) ⊛ raw (ensured 𝓤 H A list.ended (list.clauses 𝓤 H A mem run) (κ₀, (κ₁, (κ₂, tt))) (x₀, (side, (x₁, (x₂, tt)))) tt r)))) (id⊢ 𝓤 _) $ await ! tt $ pick ! (λ r.
-        split ! $ move ! (1 ∷ []) $ use1 W (some (λ (ls : Unit {0} × (Unit {0} × (List ℕ × (List Match × Unit {0})))). ‵ (lasts list.ended (κ₀, (κ₁, (κ₂, tt))) (x₀, (side, (x₁, (x₂, tt)))) ls) ⊛ raw (fact 𝓤 (Said side ss ts ys r (ls .1 .1 .0) (ls .1 .1 .1 .0))))) (id⊢ 𝓤 _) $ pick ! (λ ls.
-        split ! $ move ! (1 ∷ []) $ heard ! (Said side ss ts ys r (ls .1 .1 .0) (ls .1 .1 .1 .0)) (λ e. fsplit ! $ toss ! $ fsplit ! $ toss ! $ fsplit ! $ fsplit ! $ move ! (1 ∷ []) $ feqL ! (λ len₁.
+        split ! $ move ! (1 ∷ []) $ use1 W (some (λ (ls : Unit {0} × (Unit {0} × (List ℕ × (List Match × Unit {0})))). ‵ (lasts list.ended (κ₀, (κ₁, (κ₂, tt))) (x₀, (side, (x₁, (x₂, tt)))) ls) ⊛ raw (fact 𝓤 (ListOutcome side ss ts ys r (ls .1 .1 .0) (ls .1 .1 .1 .0))))) (id⊢ 𝓤 _) $ pick ! (λ ls.
+        split ! $ move ! (1 ∷ []) $ heard ! (ListOutcome side ss ts ys r (ls .1 .1 .0) (ls .1 .1 .1 .0)) (λ e. fsplit ! $ toss ! $ fsplit ! $ toss ! $ fsplit ! $ fsplit ! $ move ! (1 ∷ []) $ feqL ! (λ len₁.
         move ! (1 ∷ []) $ fsplit ! $ fsplit ! $ move ! (1 ∷ []) $ feqL ! (λ len₂.
         -- [the last list; true; the last table; the tokens and the answer; the stream; _8; …]
         move ! (3 ∷ []) $ split ! $ move ! (1 ∷ []) $ peeks ! L.the-row (Is L.the-row) (shows 𝓤 H A L.the-row) r (u ∷ []) (λ is₀.

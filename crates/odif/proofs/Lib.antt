@@ -13,3 +13,6 @@ pub mod Demand1
 pub mod Telling
 pub mod Demand2
 pub mod Demand3
+pub mod Examples
+pub mod Determined
+pub mod Wrong

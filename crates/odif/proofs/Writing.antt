@@ -17,7 +17,7 @@ use Rattle.elements.specs.Shape.{edition1988}
 use Rattle.elements.specs.Element.{Element}
 use Rattle.letters.specs.Letter.{letter, refusal}
 use Rattle.odif.specs.declared.Written.{Written}
-use Rattle.odif.specs.Answers.{letterIn, onto, written, writtenOutput}
+use Rattle.odif.specs.Answers.{letterIn, written, writtenOutput, NormalOutcome}
 use Rattle.odif.proofs.Small.{refusal-small}
 
 -- the number, place and length of each answer
@@ -32,23 +32,20 @@ pub record Fits (answer : Written) : Type 0 where
   pub short : answer .length ≤ streamLimit
 
 module _ (s out : List ℕ) where
-  abbrev Writes : Written → List ℕ → Type 0
-  Writes answer after = (answer ≡ written s out) × (after ≡ writtenOutput s out)
-
   pub writes-refused : (number place headers : ℕ) → letterIn s ≡ refusal number place headers
-      → Writes (record { number = number; place = place; length = 0 }) out
+      → NormalOutcome s out (record { number = number; place = place; length = 0 }) out
   unfolding written writtenOutput
   writes-refused number place headers e =
       let low = refusal-small edition1988 s number place headers e .low in
       let some : eqb number 0 ≡ false = ne-eqb number 0 (λ z. omega arith) in
-      (rw e, rw (e, some))
+      record { answered = rw e; put = rw (e, some) }
 
   -- the answer of the crate that writes, of a letter
   abbrev expected : Answer
   expected = answerOf (normalForm s) out
 
   pub writes-letter : (headers : ℕ) (elements : List Element) → letterIn s ≡ letter headers elements
-      → Writes (toldAs expected) (outputOf expected (normalForm s) out) × Fits (toldAs expected)
+      → NormalOutcome s out (toldAs expected) (outputOf expected (normalForm s) out) × Fits (toldAs expected)
   unfolding written writtenOutput answerOf
   writes-letter headers elements e =
       let form = normalForm s in
@@ -59,10 +56,10 @@ module _ (s out : List ℕ) where
       (λ room.
       let b : ltb (length out) (length form) ≡ false = le-ltb (length out) (length form) (leb-true _ _ room) in
       let l = leb-true (length form) streamLimit within in
-      rw (e, a, b, within, room) ((refl, refl), record { low-number = omega arith; low-place = omega arith; short = l }))
+      (record { answered = rw (e, a, b, within, room); put = rw (e, a, b, within, room) }, rw (within, room) (record { low-number = omega arith; low-place = omega arith; short = l })))
       (λ room.
       let b : ltb (length out) (length form) ≡ true = lt-ltb (length out) (length form) (leb-false _ _ room) in
-      rw (e, a, b, within, room) ((refl, refl), record { low-number = omega arith; low-place = omega arith; short = omega arith })))
+      (record { answered = rw (e, a, b, within, room); put = rw (e, a, b, within, room) }, rw (within, room) (record { low-number = omega arith; low-place = omega arith; short = omega arith }))))
       (λ over.
       let a : ltb streamLimit (length form) ≡ true = lt-ltb streamLimit (length form) (leb-false _ _ over) in
-      rw (e, a, over) ((refl, refl), record { low-number = omega arith; low-place = omega arith; short = omega arith }))
+      (record { answered = rw (e, a, over); put = rw (e, a, over) }, rw over (record { low-number = omega arith; low-place = omega arith; short = omega arith })))

@@ -64,6 +64,11 @@ checked s table = checkedBy (letterIn s) table
 unfoldable pub checkedTable : (s table : List ℕ) → List ℕ
 checkedTable s table = cond (eqb (checked s table .number) 0) (tableOf s table) table
 
+-- the contract of the check: its answer, and the table at exit
+pub record CheckOutcome (s table : List ℕ) (answer : Checked) (tableAfter : List ℕ) : Type 0 where
+  pub answered : answer ≡ checked s table
+  pub tabled : tableAfter ≡ checkedTable s table
+
 -- The normal form: 17 "normal form over 1,048,576 bytes", 18 "output shorter than the normal form"; "17 goes before 18".
 abbrev pub writtenBy : Letter → (form out : List ℕ) → Written
 writtenBy (refusal number place headers) form out = record { number = number; place = place; length = 0 }
@@ -78,6 +83,11 @@ written s out = writtenBy (letterIn s) (normalForm s) out
 -- "A refusal leaves the lent .. output untouched"
 unfoldable pub writtenOutput : (s out : List ℕ) → List ℕ
 writtenOutput s out = cond (eqb (written s out .number) 0) (onto (normalForm s) out) out
+
+-- the contract of the normal form: its answer, and the output at exit
+pub record NormalOutcome (s out : List ℕ) (answer : Written) (outAfter : List ℕ) : Type 0 where
+  pub answered : answer ≡ written s out
+  pub put : outAfter ≡ writtenOutput s out
 
 -- The reading list: 16, then 19 "list shorter than the matches"; "19 keeps the element count".
 abbrev pub listedBy : Letter → Side → (table : List ℕ) → (room : ℕ) → Listed
@@ -106,6 +116,12 @@ matchesIn side s = matchesBy side (letterIn s)
 -- "A refusal leaves the lent .. list .. untouched"
 unfoldable pub listedList : Side → (s table : List ℕ) → (list : List Match) → List Match
 listedList side s table list = cond (eqb (listed side s table (length list) .number) 0) (onto (matchesIn side s) list) list
+
+-- the contract of the list: its answer, and the table and the list at exit
+pub record ListOutcome (side : Side) (s table : List ℕ) (list : List Match) (answer : Listed) (tableAfter : List ℕ) (listAfter : List Match) : Type 0 where
+  pub answered : answer ≡ listed side s table (length list)
+  pub tabled : tableAfter ≡ listedTable side s table (length list)
+  pub filled : listAfter ≡ listedList side s table list
 
 -- The content of one text unit, with the number and place of a refusal; "a refused fetch gives an empty part".
 pub record Fetched : Type 0 where

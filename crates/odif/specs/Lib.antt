@@ -2,3 +2,4 @@
 pub mod Answers
 pub mod Asking
 pub mod Demands
+pub mod Examples

@@ -15,7 +15,7 @@ ghost use Rattle.tree.specs.Accepts.{Accepts};
 ghost use Rattle.index.specs.Rows.{rowWidth};
 ghost use Rattle.letters.specs.Lent.{rowsNeeded};
 ghost use Rattle.letters.specs.Scratch.{Gives};
-ghost use Rattle.odif.specs.Answers.{checked, checkedTable};
+ghost use Rattle.odif.specs.Answers.{CheckOutcome};
 ghost use Rattle.odif.specs.Asking.{Judged, Decides, contentAt, toldOf, Finds, ListsFlat};
 
 const ROW_WIDTH: usize = 12;
@@ -51,7 +51,7 @@ fn check_judged(
 ) -> Checked
     requires { ⌜ walkOf (now stream) ≡ Outcome.Ended (length (now stream)) headers ⌝ }
     requires { ⌜ Judged (now stream) (now rows) verdict ⌝ }
-    ensures { λ r. ⌜ (r ≡ checked (now (stream .entry)) (now (table .entry))) × (now (table .exit) ≡ checkedTable (now (stream .entry)) (now (table .entry))) ⌝ }
+    ensures { λ r. ⌜ CheckOutcome (now (stream .entry)) (now (table .entry)) r (now (table .exit)) ⌝ }
 {
     match verdict {
         Verdict::Refused { number, place } => Checked {
@@ -83,7 +83,7 @@ fn check_judged(
 fn check_few(stream: &[u8], headers: u32, table: &mut [u32]) -> Checked
     requires { ⌜ walkOf (now stream) ≡ Outcome.Ended (length (now stream)) headers ⌝ }
     requires { ⌜ rowsNeeded (now stream) ≤ 512 ⌝ }
-    ensures { λ r. ⌜ (r ≡ checked (now (stream .entry)) (now (table .entry))) × (now (table .exit) ≡ checkedTable (now (stream .entry)) (now (table .entry))) ⌝ }
+    ensures { λ r. ⌜ CheckOutcome (now (stream .entry)) (now (table .entry)) r (now (table .exit)) ⌝ }
 {
     let mut rows = [0u32; 6144];
     let mut head = [0u16; 1024];
@@ -105,7 +105,7 @@ fn check_few(stream: &[u8], headers: u32, table: &mut [u32]) -> Checked
 
 fn check_many(stream: &[u8], headers: u32, table: &mut [u32]) -> Checked
     requires { ⌜ walkOf (now stream) ≡ Outcome.Ended (length (now stream)) headers ⌝ }
-    ensures { λ r. ⌜ (r ≡ checked (now (stream .entry)) (now (table .entry))) × (now (table .exit) ≡ checkedTable (now (stream .entry)) (now (table .entry))) ⌝ }
+    ensures { λ r. ⌜ CheckOutcome (now (stream .entry)) (now (table .entry)) r (now (table .exit)) ⌝ }
 {
     let mut rows = [0u32; 49152];
     let mut head = [0u16; 8192];
@@ -128,7 +128,7 @@ fn check_many(stream: &[u8], headers: u32, table: &mut [u32]) -> Checked
 // The check of a stream that the walk has passed.
 pub fn check_walked(stream: &[u8], headers: u32, table: &mut [u32]) -> Checked
     requires { ⌜ walkOf (now stream) ≡ Outcome.Ended (length (now stream)) headers ⌝ }
-    ensures { λ r. ⌜ (r ≡ checked (now (stream .entry)) (now (table .entry))) × (now (table .exit) ≡ checkedTable (now (stream .entry)) (now (table .entry))) ⌝ }
+    ensures { λ r. ⌜ CheckOutcome (now (stream .entry)) (now (table .entry)) r (now (table .exit)) ⌝ }
 {
     let elements = letters::count_elements(stream);
     if elements <= FEW {

@@ -9,8 +9,7 @@ use reading::Match;
 use reading::Side;
 ghost use mathlib.Core.Path.{_≡_};
 ghost use mathlib.Core.List.{List};
-ghost use lib.ListN.{length};
-ghost use Rattle.odif.specs.Answers.{checked, checkedTable, written, writtenOutput, listed, listedTable, listedList, fetched, whyNot, Fetches};
+ghost use Rattle.odif.specs.Answers.{CheckOutcome, NormalOutcome, ListOutcome, fetched, whyNot, Fetches};
 
 // What the check answers. Number 0 is accepted.
 #[repr(C)]
@@ -56,7 +55,7 @@ pub struct Located {
 
 // Checks a stream and fills the element table, twelve numbers a row. The viewer asks this first.
 pub fn check(stream: &[u8], table: &mut [u32]) -> Checked
-    ensures { λ r. ⌜ (r ≡ checked (now (stream .entry)) (now (table .entry))) × (now (table .exit) ≡ checkedTable (now (stream .entry)) (now (table .entry))) ⌝ }
+    ensures { λ r. ⌜ CheckOutcome (now (stream .entry)) (now (table .entry)) r (now (table .exit)) ⌝ }
 {
     match octets::walk(stream) {
         Outcome::Ended { at: _, count } => asking::check_walked(stream, count as u32, table),
@@ -75,7 +74,7 @@ pub fn check(stream: &[u8], table: &mut [u32]) -> Checked
 
 // Writes the normal form of a stream. The archive asks this, and keeps what is written.
 pub fn normal(stream: &[u8], out: &mut [u8]) -> Written
-    ensures { λ r. ⌜ (r ≡ written (now (stream .entry)) (now (out .entry))) × (now (out .exit) ≡ writtenOutput (now (stream .entry)) (now (out .entry))) ⌝ }
+    ensures { λ r. ⌜ NormalOutcome (now (stream .entry)) (now (out .entry)) r (now (out .exit)) ⌝ }
 {
     match asking::judge(stream) {
         Verdict::Refused { number, place } => Written {
@@ -100,7 +99,7 @@ pub fn normal(stream: &[u8], out: &mut [u8]) -> Written
 
 // Lists the matches of a side, and fills the element table. The viewer reads the letter in this order.
 pub fn list(stream: &[u8], side: Side, table: &mut [u32], list: &mut [Match]) -> Listed
-    ensures { λ r. ⌜ (r ≡ listed side (now (stream .entry)) (now (table .entry)) (length (now (list .entry)))) × (now (table .exit) ≡ listedTable side (now (stream .entry)) (now (table .entry)) (length (now (list .entry)))) × (now (list .exit) ≡ listedList side (now (stream .entry)) (now (table .entry)) (now (list .entry))) ⌝ }
+    ensures { λ r. ⌜ ListOutcome side (now (stream .entry)) (now (table .entry)) (now (list .entry)) r (now (table .exit)) (now (list .exit)) ⌝ }
 {
     let mut flat = [0u32; 12288];
     let answer = asking::list_flat(stream, side, list.len(), table, &mut flat);
@@ -164,28 +163,28 @@ fn locate(stream: &[u8], element: usize) -> Located
 // The same questions for C, as include/odif.h declares them: a slice is a pointer and a length, and a null pointer with length 0 is fine.
 #[no_mangle]
 pub extern "C" fn odif_check(stream: &[u8], table: &mut [u32]) -> Checked
-    ensures { λ r. ⌜ (r ≡ checked (now (stream .entry)) (now (table .entry))) × (now (table .exit) ≡ checkedTable (now (stream .entry)) (now (table .entry))) ⌝ }
+    ensures { λ r. ⌜ CheckOutcome (now (stream .entry)) (now (table .entry)) r (now (table .exit)) ⌝ }
 {
     check(stream, table)
 }
 
 #[no_mangle]
 pub extern "C" fn odif_normal(stream: &[u8], out: &mut [u8]) -> Written
-    ensures { λ r. ⌜ (r ≡ written (now (stream .entry)) (now (out .entry))) × (now (out .exit) ≡ writtenOutput (now (stream .entry)) (now (out .entry))) ⌝ }
+    ensures { λ r. ⌜ NormalOutcome (now (stream .entry)) (now (out .entry)) r (now (out .exit)) ⌝ }
 {
     normal(stream, out)
 }
 
 #[no_mangle]
 pub extern "C" fn odif_layout(stream: &[u8], table: &mut [u32], list: &mut [Match]) -> Listed
-    ensures { λ r. ⌜ (r ≡ listed Side.Layout (now (stream .entry)) (now (table .entry)) (length (now (list .entry)))) × (now (table .exit) ≡ listedTable Side.Layout (now (stream .entry)) (now (table .entry)) (length (now (list .entry)))) × (now (list .exit) ≡ listedList Side.Layout (now (stream .entry)) (now (table .entry)) (now (list .entry))) ⌝ }
+    ensures { λ r. ⌜ ListOutcome Side.Layout (now (stream .entry)) (now (table .entry)) (now (list .entry)) r (now (table .exit)) (now (list .exit)) ⌝ }
 {
     crate::list(stream, Side::Layout, table, list)
 }
 
 #[no_mangle]
 pub extern "C" fn odif_logical(stream: &[u8], table: &mut [u32], list: &mut [Match]) -> Listed
-    ensures { λ r. ⌜ (r ≡ listed Side.Logical (now (stream .entry)) (now (table .entry)) (length (now (list .entry)))) × (now (table .exit) ≡ listedTable Side.Logical (now (stream .entry)) (now (table .entry)) (length (now (list .entry)))) × (now (list .exit) ≡ listedList Side.Logical (now (stream .entry)) (now (table .entry)) (now (list .entry))) ⌝ }
+    ensures { λ r. ⌜ ListOutcome Side.Logical (now (stream .entry)) (now (table .entry)) (now (list .entry)) r (now (table .exit)) (now (list .exit)) ⌝ }
 {
     crate::list(stream, Side::Logical, table, list)
 }

@@ -180,7 +180,7 @@ module _ {M : Type 1} (𝓤 : URA M) (H : Heap 𝓤) (A : Atoms 𝓤) (W : Given
       → ent 𝓤 (⋆ 𝓤 H A (‵ (flft κ₀ q₀) ∷ ‵ (flft κ₁ q₁) ∷ (‵ (flft κ₂ q₂) ⊛ ‵ ftrue) ∷ ‵ (finally u32 γ₁ ts′) ∷ ‵ (finally R γ₂ ys′) ∷ ‵ OwnS ∷ ‵ Own₀ ∷ [])) (Post (mach r))
   exits r ts′ ys′ is e f g len₁ len₂ =
       qed W (‵ (flft κ₀ q₀) ∷ ‵ (flft κ₁ q₁) ∷ (‵ (flft κ₂ q₂) ⊛ ‵ ftrue) ∷ ‵ (finally u32 γ₁ ts′) ∷ ‵ (finally R γ₂ ys′) ∷ ‵ OwnS ∷ ‵ Own₀ ∷ []) ∵
-      suffices ! _ (ends-at 𝓤 H A list.ended stayed (list.clauses 𝓤 H A mem run) W bound (mach r) r (tt, (tt, (ts′, (ys′, tt)))) (tt, (tt, (len₁, (len₂, tt))))) $ says ! (e, f, g) $
+      suffices ! _ (ends-at 𝓤 H A list.ended stayed (list.clauses 𝓤 H A mem run) W bound (mach r) r (tt, (tt, (ts′, (ys′, tt)))) (tt, (tt, (len₁, (len₂, tt))))) $ says ! (record { answered = e; tabled = f; filled = g }) $
       move ! (1 ∷ 2 ∷ []) $ join ! $ move ! (1 ∷ 0 ∷ []) $ join ! $ frame ! $
       nothing ! $ move ! (2 ∷ 0 ∷ []) $ fjoin ! $ move ! (1 ∷ 0 ∷ []) $ fjoin ! $ move ! (1 ∷ 0 ∷ []) $ fjoin ! $ move ! (1 ∷ 0 ∷ []) $ fjoin ! $ frame ! $
       owned ! L.the-row (Is L.the-row) ((LL.makes L.the-type L′.the-plain) 𝓤 H A) r _ is $ done !

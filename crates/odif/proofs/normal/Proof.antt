@@ -113,7 +113,7 @@ returns-2 c =
     let g = c .before .before .before .before .before .write .ensures in
     let w = writes-letter (now (a .stream)) (now (a .out)) (d .headers) (d .elements) (d .judged) in
     let told = sym (c .before .length .given .1) ∙ g .answered in
-    (ap toldAs told ∙ w .0 .0, g .output ∙ w .0 .1)
+    record { answered = ap toldAs told ∙ w .0 .answered; put = g .output ∙ w .0 .put }
 
 -- src/lib.rt:75:1
 same-length-2 : tie.Need-same-length-2
@@ -127,7 +127,7 @@ returns-3 c =
     let g = c .before .before .before .before .before .write .ensures in
     let w = writes-letter (now (a .stream)) (now (a .out)) (d .headers) (d .elements) (d .judged) in
     let told = sym (c .before .number2 .given .1) ∙ g .answered in
-    (ap toldAs told ∙ w .0 .0, g .output ∙ w .0 .1)
+    record { answered = ap toldAs told ∙ w .0 .answered; put = g .output ∙ w .0 .put }
 
 pub normal-spec : {M : Type 1} → statement M
 normal-spec =

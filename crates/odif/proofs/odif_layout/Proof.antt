@@ -35,9 +35,10 @@ use Rattle.reading.specs.declared.Side.the-variants.{Layout}
 use Rattle.reading.proofs.Side as S
 use Rattle.reading.proofs.Side.Laws as S′
 use Rattle.odif.specs.declared.Listed.{Listed}
+use Rattle.odif.specs.Answers.{ListOutcome}
 use Rattle.odif.proofs.Listed as L
 use Rattle.odif.proofs.Listed.Laws as L′
-use Rattle.odif.proofs.Exporting.{R, mach, Listing, Said, walk}
+use Rattle.odif.proofs.Exporting.{R, mach, Listing, walk}
 use Rattle.odif.proofs.list.Symbol as list-def
 use Rattle.odif.proofs.list.Symbol.{name as #odif·list}
 use Rattle.odif.proofs.list.Met as list-thm
@@ -60,7 +61,7 @@ module _ {M : Type 1} (𝓤 : URA M) (H : Heap 𝓤) (A : Atoms 𝓤) (W : Given
   abbrev Post : Val → SProp 𝓤
   Post = walkOf 𝓤 H A odif-layout.ended stayed (odif-layout.clauses 𝓤 H A mem run) .post bound
 
-  exits : (r : Listed) (ts : List ℕ) (ys : List Match) → Is L.the-row r (mach r ∷ []) → Said Layout (x₀ .now) (x₁ .now) (x₂ .now) r ts ys → length ts ≡ length (x₁ .now) → length ys ≡ length (x₂ .now)
+  exits : (r : Listed) (ts : List ℕ) (ys : List Match) → Is L.the-row r (mach r ∷ []) → ListOutcome Layout (x₀ .now) (x₁ .now) (x₂ .now) r ts ys → length ts ≡ length (x₁ .now) → length ys ≡ length (x₂ .now)
       → ent 𝓤 (⋆ 𝓤 H A ((‵ (flft κ₀ q₀) ⊛ ‵ (flft κ₁ q₁) ⊛ ‵ (flft κ₂ q₂) ⊛ ‵ ftrue) ∷ ‵ (finally u32 (x₁ .name) ts) ∷ ‵ (finally R (x₂ .name) ys) ∷ ‵ (ShrSlice (named 0) κ₀ u8 .own x₀ (slice-vals x₀)) ∷ [])) (Post (mach r))
   exits r ts ys is e len₁ len₂ =
       qed W ((‵ (flft κ₀ q₀) ⊛ ‵ (flft κ₁ q₁) ⊛ ‵ (flft κ₂ q₂) ⊛ ‵ ftrue) ∷ ‵ (finally u32 (x₁ .name) ts) ∷ ‵ (finally R (x₂ .name) ys) ∷ ‵ (ShrSlice (named 0) κ₀ u8 .own x₀ (slice-vals x₀)) ∷ []) ∵

@@ -63,7 +63,7 @@ returns-3 c =
     let s = now (a .args .stream) in
     let table = now (a .args .table) in
     let r = checks-letter s table (a .args .headers) _ (l .elements) (l .judged) (l .counted) (omega arith) in
-    (r .0, c .before .before .put-table .ensures ∙ table-filled s table (now (a .args .rows)) _ (l .written) (l .within) ∙ r .1)
+    record { answered = r .answered; tabled = c .before .before .put-table .ensures ∙ table-filled s table (now (a .args .rows)) _ (l .written) (l .within) ∙ r .tabled }
 
 pub check-judged-spec : {M : Type 1} → statement M
 check-judged-spec =
