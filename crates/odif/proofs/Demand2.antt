@@ -93,12 +93,15 @@ module _ (s : List ℕ) (headers : ℕ) (elements : List Element) (e : letterIn 
   no-content (some own) =
       cases (eqb (own .kind) unitKind)
       (λ t. rw t (λ p. absurd (omega arith), λ n. absurd (n own refl (eqb-true (own .kind) unitKind t))))
-      (λ t. rw t (λ _ unit p k.
-          let q : own ≡ unit = cc in
-          let y : eqb (own .kind) unitKind ≡ true = eq-eqb (own .kind) unitKind (ap (λ (x : Element). x .kind) q ∙ k) in
-          let z : true ≡ false = sym y ∙ t in
-          let o : _≡_ {A = ℕ} 0 1 = cc in
-          omega arith, λ _. refl))
+      (λ t. rw t (
+        λ _ unit p k.
+            let q : own ≡ unit = cc in
+            let y : eqb (own .kind) unitKind ≡ true = eq-eqb (own .kind) unitKind (ap (λ (x : Element). x .kind) q ∙ k) in
+            let z : true ≡ false = sym y ∙ t in
+            let o : _≡_ {A = ℕ} 0 1 = cc in
+            omega arith,
+        λ _. refl,
+      ))
 
   content-20 : (j : ℕ) → (fetched s j .number ≡ 20) ↔ ((unit : Element) → getElem? elements j ≡ some unit → unit .kind ≡ unitKind → ⊥)
   unfolding fetched

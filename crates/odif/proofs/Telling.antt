@@ -159,13 +159,13 @@ rows-tell-by s nothing j row element e f = let z : _≡_ {A = ℕ} 0 1 = cc in a
 rows-tell-by s (more {at} {octet} {start} {past} {inside} {after} n p) zero row element e f =
     let shape = shapeOf edition1988 (octet ∷ []) in
     let g : getElem? (elementOf shape (plain s inside) ∷ elementsOf edition1988 (plain s after)) 0 ≡ some element =
-        ap (λ (es : List Element). getElem? es 0) (sym (same-element s octet (slice start past s) inside (plain s after) n)) ∙ f in
+    ap (λ (es : List Element). getElem? es 0) (sym (same-element s octet (slice start past s) inside (plain s after) n)) ∙ f in
     let r : rowOf shape s at (startOf (length s) after) inside ≡ row = cc in
     let x : elementOf shape (plain s inside) ≡ element = cc in
     subst (RowTells s row) x (subst (λ (o : Row). RowTells s o (elementOf shape (plain s inside))) r (row-tells s shape (made-1988 octet) at (startOf (length s) after) inside))
 rows-tell-by s (more {at} {octet} {start} {past} {inside} {after} n p) (suc j) row element e f =
     let g : getElem? (elementsOf edition1988 (plain s after)) j ≡ some element =
-        ap (λ (es : List Element). getElem? es (suc j)) (sym (same-element s octet (slice start past s) inside (plain s after) n)) ∙ f in
+    ap (λ (es : List Element). getElem? es (suc j)) (sym (same-element s octet (slice start past s) inside (plain s after) n)) ∙ f in
     rows-tell-by s p j row element e g
 
 -- as many rows as elements

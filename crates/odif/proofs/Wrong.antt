@@ -140,7 +140,7 @@ made-up-headers f meets made-up wrong =
 pub lists-nothing : (f : Lister) → Lists f → ((side : Side) (s rows : List ℕ) (list : List Match) → f side s rows list .2 ≡ list) → ⊥
 lists-nothing f meets wrong =
     let z : _≡_ {A = ℕ} 9 1 =
-        ap firstElement (sym (wrong Layout printed table (noMatch ∷ [])) ∙ meets Layout printed table (noMatch ∷ []) .filled ∙ one-match) in
+    ap firstElement (sym (wrong Layout printed table (noMatch ∷ [])) ∙ meets Layout printed table (noMatch ∷ []) .filled ∙ one-match) in
     omega arith
 
 -- no fetch always hands back an empty part;
