@@ -10,9 +10,10 @@ use odif::{MOST_ELEMENTS, ROW_WIDTH, STREAM_LIMIT, raw};
 use reader::{Reading, Side};
 
 /// How often each pair is measured; the best counts.
-const ROUNDS: usize = 25;
-/// How long one measurement takes at least.
-const LONG_ENOUGH: Duration = Duration::from_millis(4);
+const ROUNDS: usize = 100;
+/// How long one measurement takes at least. A longer one would seldom go by undisturbed on a machine that does other
+/// work besides.
+const LONG_ENOUGH: Duration = Duration::from_micros(500);
 
 /// The questions, in the order of the columns.
 #[derive(Clone, Copy)]
