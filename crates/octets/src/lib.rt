@@ -355,7 +355,7 @@ pub fn passed_head(s: &[u8], at: usize, limit: usize, marked: bool, room: usize)
     passed_long(s, octet, at, wide(first - 0x80))
 }
 
-// Walks the value of the item with the header h: a constructed value is a run of items.
+// Walks the value of the item with the header h: a constructed value is a run of items. An empty one is told without a call.
 pub fn walk_item(s: &[u8], h: Header, room: usize) -> Outcome
     requires { ⌜ (0 < room) × (h .start ≤ h .bound) × (h .bound ≤ length (now s)) ⌝ }
     ensures { λ r. ⌜ r ≡ answer (valueOf room (now (s .entry)) h) ⌝ }
@@ -365,12 +365,20 @@ pub fn walk_item(s: &[u8], h: Header, room: usize) -> Outcome
     let bound = h.bound;
     let marked = h.marked;
     if octet / 32 % 2 == 1 {
-        walk_run(s, start, bound, marked, room - 1)
-    } else {
-        Outcome::Ended {
-            at: bound,
-            count: 0,
+        if start != bound {
+            return walk_run(s, start, bound, marked, room - 1);
         }
+        if marked {
+            return Outcome::Refused {
+                number: 7,
+                place: bound,
+                count: 0,
+            };
+        }
+    }
+    Outcome::Ended {
+        at: bound,
+        count: 0,
     }
 }
 
