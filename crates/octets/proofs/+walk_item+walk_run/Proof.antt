@@ -10,11 +10,11 @@ use native.Mathlib.Omega.{arith}
 use borrow.Author.Needs.{needs}
 use borrow.Author.Tests.{eq-eqb, ne-eqb}
 use denote.Ref.{now}
-use Rattle.octets.specs.declared.Head.{Head}
-use Rattle.octets.specs.declared.Head.the-variants.{Item, ClosingMark, Refusal}
+use Rattle.headers.specs.declared.Head.{Head}
+use Rattle.headers.specs.declared.Head.the-variants.{Item, ClosingMark, Refusal}
 use Rattle.octets.specs.declared.Outcome.{Outcome}
 use Rattle.octets.specs.declared.Outcome.the-variants.{Ended, Refused}
-use Rattle.octets.specs.Head.{headAt}
+use Rattle.headers.specs.Head.{headAt}
 use Rattle.octets.specs.Walk.{run, valueOf, answer}
 use Rattle.octets.proofs.Turns.{plus, plus-plus, plus-zero, closes, refuses, passes, breaks, unclosed, closed, header-ok, mark-ok, passed-ok, broken-ok}
 use borrow.Fn.Kinds.{In}
@@ -25,7 +25,7 @@ use Rattle.octets.proofs.+walk_item+walk_run.Lts-walk_item as item-lts
 use Rattle.octets.proofs.walk_run.Reads as walk-run
 use Rattle.octets.proofs.walk_run.Kinds as walk-run-kinds
 use Rattle.octets.proofs.+walk_item+walk_run.Lts-walk_run as run-lts
-use Rattle.octets.proofs.head_at.Reads as head-at-reads
+use Rattle.headers.proofs.head_at.Reads as head-at-reads
 use Rattle.octets.proofs.+walk_item+walk_run.{statement}
 use Rattle.octets.proofs.+walk_item+walk_run.Tie.{close}
 
