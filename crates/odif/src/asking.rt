@@ -6,6 +6,7 @@ use letters::Verdict;
 use octets::Outcome;
 use reading::Side;
 ghost use mathlib.Core.Path.{_≡_};
+ghost use mathlib.Core.Bool.{true};
 ghost use mathlib.Core.List.{List};
 ghost use Prim.Native.Nat.{_+_, _*_, _<_, _≤_};
 ghost use lib.ListN.{length};
@@ -16,7 +17,7 @@ ghost use Rattle.index.specs.Rows.{rowWidth};
 ghost use Rattle.letters.specs.Lent.{rowsNeeded};
 ghost use Rattle.letters.specs.Scratch.{Gives};
 ghost use Rattle.odif.specs.Answers.{CheckOutcome};
-ghost use Rattle.odif.specs.Asking.{Judged, Decides, contentAt, toldOf, Finds, ListsFlat};
+ghost use Rattle.odif.specs.Asking.{Judged, Decides, contentAt, toldOf, Finds, rowsAfter, ListsFlat};
 
 const ROW_WIDTH: usize = 12;
 
@@ -312,7 +313,7 @@ fn list_judged(
 ) -> Listed
     requires { ⌜ Accepts (now stream) (treeOf (now stream)) ⌝ }
     requires { ⌜ Gives (now stream) (now rows) (now head) (now next) (now head2) (now next2) verdict ⌝ }
-    requires { ⌜ 12288 ≤ length (now flat) ⌝ }
+    requires { ⌜ 3 * rowsNeeded (now stream) ≤ length (now flat) ⌝ }
     ensures { λ r. ⌜ ListsFlat side (now (stream .entry)) (now (table .entry)) room r (now (table .exit)) (now (flat .exit)) ⌝ }
 {
     match verdict {
@@ -364,7 +365,7 @@ fn list_judged(
 fn list_few(stream: &[u8], side: Side, room: usize, table: &mut [u32], flat: &mut [u32]) -> Listed
     requires { ⌜ Accepts (now stream) (treeOf (now stream)) ⌝ }
     requires { ⌜ rowsNeeded (now stream) ≤ 512 ⌝ }
-    requires { ⌜ 12288 ≤ length (now flat) ⌝ }
+    requires { ⌜ 3 * rowsNeeded (now stream) ≤ length (now flat) ⌝ }
     ensures { λ r. ⌜ ListsFlat side (now (stream .entry)) (now (table .entry)) room r (now (table .exit)) (now (flat .exit)) ⌝ }
 {
     let mut rows = [0u32; 6144];
@@ -399,7 +400,7 @@ fn list_few(stream: &[u8], side: Side, room: usize, table: &mut [u32], flat: &mu
 
 fn list_many(stream: &[u8], side: Side, room: usize, table: &mut [u32], flat: &mut [u32]) -> Listed
     requires { ⌜ Accepts (now stream) (treeOf (now stream)) ⌝ }
-    requires { ⌜ 12288 ≤ length (now flat) ⌝ }
+    requires { ⌜ 3 * rowsNeeded (now stream) ≤ length (now flat) ⌝ }
     ensures { λ r. ⌜ ListsFlat side (now (stream .entry)) (now (table .entry)) room r (now (table .exit)) (now (flat .exit)) ⌝ }
 {
     let mut rows = [0u32; 49152];
@@ -432,21 +433,38 @@ fn list_many(stream: &[u8], side: Side, room: usize, table: &mut [u32], flat: &m
     )
 }
 
-// The reading list of a side, as numbers, for a list with room for so many records.
+// Whether scratch for few elements is enough for a stream that was walked: what the walk refused needs none.
+pub fn needs_few(stream: &[u8], walked: Outcome) -> bool
+    requires { ⌜ walkOf (now stream) ≡ walked ⌝ }
+    ensures { λ r. ⌜ (r ≡ true → rowsAfter walked (now (stream .entry)) ≤ 512) ⌝ }
+{
+    match walked {
+        Outcome::Ended { at: _, count: _ } => letters::count_elements(stream) <= FEW,
+        Outcome::Refused {
+            number: _,
+            place: _,
+            count: _,
+        } => true,
+    }
+}
+
+// The reading list of a side of a stream that was walked, as numbers, for a list with room for so many records. There are never more records
+// than elements, so the scratch is sized to what the numbers have room for.
 pub fn list_flat(
     stream: &[u8],
+    walked: Outcome,
     side: Side,
     room: usize,
     table: &mut [u32],
     flat: &mut [u32],
 ) -> Listed
-    requires { ⌜ 12288 ≤ length (now flat) ⌝ }
+    requires { ⌜ walkOf (now stream) ≡ walked ⌝ }
+    requires { ⌜ 3 * rowsAfter walked (now stream) ≤ length (now flat) ⌝ }
     ensures { λ r. ⌜ ListsFlat side (now (stream .entry)) (now (table .entry)) room r (now (table .exit)) (now (flat .exit)) ⌝ }
 {
-    match octets::walk(stream) {
+    match walked {
         Outcome::Ended { at: _, count: _ } => {
-            let elements = letters::count_elements(stream);
-            if elements <= FEW {
+            if flat.len() <= 3 * FEW {
                 return list_few(stream, side, room, table, flat);
             }
             list_many(stream, side, room, table, flat)

@@ -9,7 +9,10 @@ use reading::Match;
 use reading::Side;
 ghost use mathlib.Core.Path.{_≡_};
 ghost use mathlib.Core.List.{List};
+ghost use Prim.Native.Nat.{_≤_};
+ghost use Rattle.octets.specs.Walk.{walkOf};
 ghost use Rattle.odif.specs.Answers.{CheckOutcome, NormalOutcome, ListOutcome, fetched, whyNot, Fetches};
+ghost use Rattle.odif.specs.Asking.{rowsAfter};
 
 // What the check answers. Number 0 is accepted.
 #[repr(C)]
@@ -101,8 +104,45 @@ pub fn normal(stream: &[u8], out: &mut [u8]) -> Written
 pub fn list(stream: &[u8], side: Side, table: &mut [u32], list: &mut [Match]) -> Listed
     ensures { λ r. ⌜ ListOutcome side (now (stream .entry)) (now (table .entry)) (now (list .entry)) r (now (table .exit)) (now (list .exit)) ⌝ }
 {
+    let walked = octets::walk(stream);
+    if asking::needs_few(stream, walked) {
+        return list_few(stream, walked, side, table, list);
+    }
+    list_many(stream, walked, side, table, list)
+}
+
+// The list of a stream with few elements. There are never more matches than elements: numbers for so many records are soon cleared.
+fn list_few(
+    stream: &[u8],
+    walked: Outcome,
+    side: Side,
+    table: &mut [u32],
+    list: &mut [Match],
+) -> Listed
+    requires { ⌜ walkOf (now stream) ≡ walked ⌝ }
+    requires { ⌜ rowsAfter walked (now stream) ≤ 512 ⌝ }
+    ensures { λ r. ⌜ ListOutcome side (now (stream .entry)) (now (table .entry)) (now (list .entry)) r (now (table .exit)) (now (list .exit)) ⌝ }
+{
+    let mut flat = [0u32; 1536];
+    let answer = asking::list_flat(stream, walked, side, list.len(), table, &mut flat);
+    let count = answer.matches as usize;
+    reading::fill(&flat, count, list);
+    answer
+}
+
+// The list of a stream with many.
+fn list_many(
+    stream: &[u8],
+    walked: Outcome,
+    side: Side,
+    table: &mut [u32],
+    list: &mut [Match],
+) -> Listed
+    requires { ⌜ walkOf (now stream) ≡ walked ⌝ }
+    ensures { λ r. ⌜ ListOutcome side (now (stream .entry)) (now (table .entry)) (now (list .entry)) r (now (table .exit)) (now (list .exit)) ⌝ }
+{
     let mut flat = [0u32; 12288];
-    let answer = asking::list_flat(stream, side, list.len(), table, &mut flat);
+    let answer = asking::list_flat(stream, walked, side, list.len(), table, &mut flat);
     let count = answer.matches as usize;
     reading::fill(&flat, count, list);
     answer
