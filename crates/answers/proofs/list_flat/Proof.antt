@@ -1,0 +1,110 @@
+-- `answers::list_flat` meets its contract: what the walk refused is refused, and what it passed is judged in scratch for as many elements as
+-- the numbers have room for records. Assumes nothing.
+use mathlib.Core.Path.{_∙_, subst}
+use Prim.Native.Nat.{_*_, _≤_}
+use borrow.Author.Needs.{needs}
+use native.Mathlib.Omega.{arith}
+use lib.ListN.{length}
+use denote.Ref.{now}
+use Rattle.octets.specs.declared.Outcome.{Outcome}
+use Rattle.elements.specs.Shape.{edition1988}
+use Rattle.answers.specs.Asking.{rowsAfter}
+use Rattle.answers.proofs.Small.{walk-small}
+use Rattle.answers.proofs.Letters.{refused-walk}
+use Rattle.answers.proofs.Judging.{accepts-walked}
+use Rattle.answers.proofs.Listing.{lists-refused}
+use Rattle.answers.proofs.list_flat.Statement.{statement}
+use Rattle.answers.proofs.list_flat.Tie as tie
+use Rattle.answers.proofs.list_flat.Reads as reads
+use Rattle.answers.proofs.list_flat.Lts as lts
+use Rattle.answers.proofs.list_few.Reads as list-few-reads
+use Rattle.answers.proofs.list_many.Reads as list-many-reads
+
+-- src/lib.rt:507:16
+enum-told : tie.Need-enum-told
+enum-told c = search needs
+
+-- src/lib.rt:507:30
+mul-if1 : tie.Need-mul-if1
+mul-if1 c = search needs
+
+-- src/lib.rt:508:17
+list-few-requires : tie.Need-list-few-requires
+list-few-requires c κs =
+    let a = c .before .before .before .before .before .before .before .before in
+    let ended = c .before .before .before .enum-told .given .1 in
+    let room = subst (λ (o : Outcome). 3 * rowsAfter o (now (a .args .stream)) ≤ length (now (a .args .flat))) ended (a .pre .1) in
+    (accepts-walked (a .pre .0 ∙ ended), (omega arith, room))
+
+-- src/lib.rt:508:17
+same-length : tie.Need-same-length
+same-length c = search needs
+
+-- src/lib.rt:508:17
+same-length-2 : tie.Need-same-length-2
+same-length-2 c = search needs
+
+-- src/lib.rt:508:17
+returns : tie.Need-returns
+returns c = search needs
+
+-- src/lib.rt:510:13
+list-many-requires : tie.Need-list-many-requires
+list-many-requires c κs =
+    let a = c .before .before .before .before .before .before .before .before in
+    let ended = c .before .before .before .enum-told .given .1 in
+    (accepts-walked (a .pre .0 ∙ ended), subst (λ (o : Outcome). 3 * rowsAfter o (now (a .args .stream)) ≤ length (now (a .args .flat))) ended (a .pre .1))
+
+-- src/lib.rt:513:13
+enum-known-walked : tie.Need-enum-known-walked
+enum-known-walked c = search needs
+
+-- src/lib.rt:517:21
+cast-t21 : tie.Need-cast-t21
+cast-t21 c =
+    let r = walk-small _ _ _ _ (c .before .before .before .before .before .before .pre .0 ∙ c .before .walked .given .1) in
+    omega arith
+
+-- src/lib.rt:518:20
+cast-t22 : tie.Need-cast-t22
+cast-t22 c =
+    let r = walk-small _ _ _ _ (c .before .before .before .before .before .before .pre .0 ∙ c .before .walked .given .1) in
+    omega arith
+
+-- src/lib.rt:493:1
+same-length-3 : tie.Need-same-length-3
+same-length-3 c = search needs
+
+-- src/lib.rt:493:1
+same-length-4 : tie.Need-same-length-4
+same-length-4 c = search needs
+
+-- src/lib.rt:493:1
+returns-2 : tie.Need-returns-2
+returns-2 c = search needs
+
+-- src/lib.rt:493:1
+returns-3 : tie.Need-returns-3
+returns-3 c =
+    let a = c .before .before .before .before .before .before in
+    let x = a .args in
+    lists-refused (x .side) (now (x .stream)) (now (x .table)) (now (x .flat)) (x .room) _ _ _ (refused-walk edition1988 _ _ _ _ (a .pre .0 ∙ c .before .walked .given .1))
+
+pub list-flat-spec : {M : Type 1} → statement M
+list-flat-spec =
+    tie.close
+    (tie.spec
+    enum-told
+    mul-if1
+    list-few-requires
+    same-length
+    same-length-2
+    returns
+    list-many-requires
+    enum-known-walked
+    cast-t21
+    cast-t22
+    same-length-3
+    same-length-4
+    returns-2
+    returns-3)
