@@ -1,5 +1,5 @@
 -- Arrays of zeros are the scratch that the judge asks for. Assumes nothing.
-use mathlib.Core.Path.{_≡_}
+use mathlib.Core.Path.{_≡_, ap, _∙_}
 use mathlib.Core.List.{List}
 use Prim.Native.Nat.{ℕ, _*_, _<_, _≤_}
 use native.Mathlib.Omega.{arith}
@@ -10,7 +10,8 @@ use Rattle.index.specs.Index.{Empty}
 use Rattle.octets.specs.declared.Outcome.the-variants.{Ended}
 use Rattle.octets.specs.Walk.{streamLimit, walkOf}
 use Rattle.runs.specs.Runs.{wholeStream, Fine}
-use Rattle.runs.proofs.Laws.{stream-fine, stream-within}
+use Rattle.runs.proofs.Laws.{stream-fine, stream-within, stream-count, count-top}
+use Rattle.letters.specs.Letter.{itemsOfStream}
 use Rattle.letters.specs.Lent.{rowsNeeded, Lent}
 
 zeros : (n : ℕ) → length (replicate {A = ℕ} n 0) ≡ n
@@ -42,3 +43,11 @@ pub walked-lent : (s : List ℕ) (at headers : ℕ) → walkOf s ≡ Ended at he
     × Lent s (replicate rows 0) (replicate heads 0) (replicate links 0) (replicate heads 0) (replicate links 0) (replicate 128 0)
 walked-lent s at headers w rows heads links needed room some few =
     ((stream-fine s at headers w, stream-within s at headers w), lent s rows heads links needed room some few)
+
+-- a walk that ended came to the stream's end
+pub walked-whole : (s : List ℕ) (at headers : ℕ) → walkOf s ≡ Ended at headers → walkOf s ≡ Ended (length s) headers
+walked-whole s at headers w = w ∙ ap (λ (end : ℕ). Ended end headers) (stream-count s at headers w .0)
+
+-- elements are items at the top, and each item has a header
+pub no-more-rows : (s : List ℕ) (at headers : ℕ) → walkOf s ≡ Ended at headers → rowsNeeded s ≤ headers
+no-more-rows s at headers w = omega (arith, count-top (itemsOfStream s), stream-count s at headers w .1)

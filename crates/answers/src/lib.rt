@@ -6,6 +6,7 @@ use reading::Side;
 ghost use mathlib.Core.Path.{_≡_};
 ghost use mathlib.Core.Bool.{true};
 ghost use mathlib.Core.List.{List};
+ghost use mathlib.Core.Bool.{true};
 ghost use Prim.Native.Nat.{_+_, _*_, _<_, _≤_};
 ghost use lib.ListN.{length};
 ghost use Rattle.octets.specs.Walk.{walkOf};
@@ -26,6 +27,9 @@ const TEXT_UNIT: u32 = 3;
 
 // Scratch for so many elements is soon cleared, and most letters have no more.
 const FEW: usize = 512;
+
+// From so many headers on, walking the elements again to count them costs more than clearing the scratch for all of them.
+const MANY_HEADERS: usize = 8192;
 
 // What the check answers. Number 0 is accepted.
 #[repr(C)]
@@ -80,6 +84,21 @@ fn wide(x: u32) -> usize
     ensures { λ r. ⌜ r ≡ x ⌝ }
 {
     x as usize
+}
+
+// Whether scratch for few elements is enough for a stream that the walk has passed with so many headers. Its elements are counted only
+// where the headers do not tell.
+fn is_few(stream: &[u8], headers: usize) -> bool
+    requires { ⌜ walkOf (now stream) ≡ Outcome.Ended (length (now stream)) headers ⌝ }
+    ensures { λ r. ⌜ (r ≡ true → rowsNeeded (now (stream .entry)) ≤ 512) ⌝ }
+{
+    if headers <= FEW {
+        return true;
+    }
+    if headers > MANY_HEADERS {
+        return false;
+    }
+    letters::count_elements(stream) <= FEW
 }
 
 // The check of a stream that was judged: 16, or the table.
@@ -171,8 +190,7 @@ pub fn check_walked(stream: &[u8], headers: u32, table: &mut [u32]) -> Checked
     requires { ⌜ walkOf (now stream) ≡ Outcome.Ended (length (now stream)) headers ⌝ }
     ensures { λ r. ⌜ CheckOutcome (now (stream .entry)) (now (table .entry)) r (now (table .exit)) ⌝ }
 {
-    let elements = letters::count_elements(stream);
-    if elements <= FEW {
+    if is_few(stream, wide(headers)) {
         return check_few(stream, headers, table);
     }
     check_many(stream, headers, table)
@@ -226,9 +244,8 @@ pub fn judge(stream: &[u8]) -> Verdict
     ensures { λ r. ⌜ Decides (now (stream .entry)) r ⌝ }
 {
     match octets::walk(stream) {
-        Outcome::Ended { at: _, count: _ } => {
-            let elements = letters::count_elements(stream);
-            if elements <= FEW {
+        Outcome::Ended { at: _, count } => {
+            if is_few(stream, count) {
                 return judge_few(stream);
             }
             judge_many(stream)
@@ -322,9 +339,8 @@ pub fn fetch(stream: &[u8], element: usize) -> Found
     ensures { λ r. ⌜ Finds (now (stream .entry)) element (toldOf r) ⌝ }
 {
     match octets::walk(stream) {
-        Outcome::Ended { at: _, count: _ } => {
-            let elements = letters::count_elements(stream);
-            if elements <= FEW {
+        Outcome::Ended { at: _, count } => {
+            if is_few(stream, count) {
                 return fetch_few(stream, element);
             }
             fetch_many(stream, element)

@@ -1,14 +1,16 @@
--- `answers::check_walked` meets its contract: either scratch is enough for the elements that were counted. Assumes nothing.
+-- `answers::check_walked` meets its contract: scratch for few elements is lent where it is enough. Assumes nothing.
 use borrow.Author.Needs.{needs}
-use Rattle.runs.proofs.Laws.{stream-fine}
 use Rattle.answers.proofs.check_walked.Statement.{statement}
 use Rattle.answers.proofs.check_walked.Tie as tie
 
-count-elements-requires : tie.Need-count-elements-requires
-count-elements-requires c κs = stream-fine _ _ _ (c .before .before .pre)
+wide-requires : tie.Need-wide-requires
+wide-requires c κs = search needs
+
+is-few-requires : tie.Need-is-few-requires
+is-few-requires c κs = rw (c .wide .ensures) (c .before .before .before .pre)
 
 check-few-requires : tie.Need-check-few-requires
-check-few-requires c κs = search needs
+check-few-requires c κs = (c .before .before .before .before .before .before .pre, c .before .before .is-few .ensures (c .before .if1 .taken))
 
 same-length : tie.Need-same-length
 same-length c = search needs
@@ -29,7 +31,8 @@ pub check-walked-spec : {M : Type 1} → statement M
 check-walked-spec =
     tie.close
     (tie.spec
-    count-elements-requires
+    wide-requires
+    is-few-requires
     check-few-requires
     same-length
     returns

@@ -2,10 +2,10 @@
 use mathlib.Core.Path.{sym, _∙_}
 use borrow.Author.Needs.{needs}
 use denote.Ref.{now}
-use Rattle.runs.proofs.Laws.{stream-fine}
 use Rattle.elements.specs.Shape.{edition1988}
 use Rattle.answers.proofs.Letters.{refused-walk}
 use Rattle.answers.proofs.Judging.{accepts-walked}
+use Rattle.answers.proofs.Scratch.{walked-whole}
 use Rattle.answers.proofs.Fetching.{finds-refused}
 use Rattle.answers.proofs.fetch.Statement.{statement}
 use Rattle.answers.proofs.fetch.Tie as tie
@@ -13,23 +13,23 @@ use Rattle.answers.proofs.fetch.Tie as tie
 walk-requires : tie.Need-walk-requires
 walk-requires c κs = search needs
 
-enum-told : tie.Need-enum-told
-enum-told c = search needs
+enum-known-count : tie.Need-enum-known-count
+enum-known-count c = search needs
 
-count-elements-requires : tie.Need-count-elements-requires
-count-elements-requires c κs = stream-fine _ _ _ (sym (c .before .before .walk .ensures) ∙ c .enum-told .given .1)
+is-few-requires : tie.Need-is-few-requires
+is-few-requires c κs = walked-whole _ _ _ (sym (c .before .before .before .walk .ensures) ∙ c .before .count .given .1)
 
 fetch-few-requires : tie.Need-fetch-few-requires
 fetch-few-requires c κs =
-    let w = sym (c .before .before .before .before .walk .ensures) ∙ c .before .before .enum-told .given .1 in
-    (accepts-walked w, search needs)
+    let w = sym (c .before .before .before .before .before .walk .ensures) ∙ c .before .before .before .count .given .1 in
+    (accepts-walked w, c .before .is-few .ensures (c .if1 .taken))
 
 returns : tie.Need-returns
 returns c = search needs
 
 fetch-many-requires : tie.Need-fetch-many-requires
 fetch-many-requires c κs =
-    accepts-walked (sym (c .before .before .before .before .walk .ensures) ∙ c .before .before .enum-told .given .1)
+    accepts-walked (sym (c .before .before .before .before .before .walk .ensures) ∙ c .before .before .before .count .given .1)
 
 enum-known-number : tie.Need-enum-known-number
 enum-known-number c = search needs
@@ -48,8 +48,8 @@ fetch-spec =
     tie.close
     (tie.spec
     walk-requires
-    enum-told
-    count-elements-requires
+    enum-known-count
+    is-few-requires
     fetch-few-requires
     returns
     fetch-many-requires

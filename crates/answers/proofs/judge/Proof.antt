@@ -1,33 +1,33 @@
 -- `answers::judge` meets its contract: what the walk refuses is refused, and what it passes is judged in scratch that is large enough. Assumes nothing.
 use mathlib.Core.Path.{sym, _∙_}
 use borrow.Author.Needs.{needs}
-use Rattle.runs.proofs.Laws.{stream-fine}
 use Rattle.elements.specs.Shape.{edition1988}
 use Rattle.answers.proofs.Letters.{refused-walk}
 use Rattle.answers.proofs.Judging.{accepts-walked}
+use Rattle.answers.proofs.Scratch.{walked-whole}
 use Rattle.answers.proofs.judge.Statement.{statement}
 use Rattle.answers.proofs.judge.Tie as tie
 
 walk-requires : tie.Need-walk-requires
 walk-requires c κs = search needs
 
-enum-told : tie.Need-enum-told
-enum-told c = search needs
+enum-known-count : tie.Need-enum-known-count
+enum-known-count c = search needs
 
-count-elements-requires : tie.Need-count-elements-requires
-count-elements-requires c κs = stream-fine _ _ _ (sym (c .before .before .walk .ensures) ∙ c .enum-told .given .1)
+is-few-requires : tie.Need-is-few-requires
+is-few-requires c κs = walked-whole _ _ _ (sym (c .before .before .before .walk .ensures) ∙ c .before .count .given .1)
 
 judge-few-requires : tie.Need-judge-few-requires
 judge-few-requires c κs =
-    let w = sym (c .before .before .before .before .walk .ensures) ∙ c .before .before .enum-told .given .1 in
-    (accepts-walked w, search needs)
+    let w = sym (c .before .before .before .before .before .walk .ensures) ∙ c .before .before .before .count .given .1 in
+    (accepts-walked w, c .before .is-few .ensures (c .if1 .taken))
 
 returns : tie.Need-returns
 returns c = search needs
 
 judge-many-requires : tie.Need-judge-many-requires
 judge-many-requires c κs =
-    accepts-walked (sym (c .before .before .before .before .walk .ensures) ∙ c .before .before .enum-told .given .1)
+    accepts-walked (sym (c .before .before .before .before .before .walk .ensures) ∙ c .before .before .before .count .given .1)
 
 enum-known-number : tie.Need-enum-known-number
 enum-known-number c = search needs
@@ -45,8 +45,8 @@ judge-spec =
     tie.close
     (tie.spec
     walk-requires
-    enum-told
-    count-elements-requires
+    enum-known-count
+    is-few-requires
     judge-few-requires
     returns
     judge-many-requires

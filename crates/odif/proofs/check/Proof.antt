@@ -1,15 +1,13 @@
 -- `odif::check` meets its contract: what the walk refuses is refused, and what it passes is checked further. Assumes nothing.
-use mathlib.Core.Path.{sym, ap, _∙_}
-use Prim.Native.Nat.{ℕ}
+use mathlib.Core.Path.{sym, _∙_}
 use borrow.Author.Needs.{needs}
 use native.Mathlib.Omega.{arith}
 use denote.Ref.{now}
-use Rattle.octets.specs.declared.Outcome.the-variants.{Ended}
-use Rattle.runs.proofs.Laws.{stream-count}
 use Rattle.elements.specs.Shape.{edition1988}
 use Rattle.answers.proofs.Small.{walk-small, headers-small}
 use Rattle.answers.proofs.Letters.{refused-walk}
 use Rattle.answers.proofs.Checks.{checks-refused}
+use Rattle.answers.proofs.Scratch.{walked-whole}
 use Rattle.odif.proofs.check.Statement.{statement}
 use Rattle.odif.proofs.check.Tie as tie
 
@@ -27,8 +25,7 @@ cast-check-walked c =
 
 check-walked-requires : tie.Need-check-walked-requires
 check-walked-requires c κs =
-    let w = sym (c .before .before .before .before .walk .ensures) ∙ c .before .before .count .given .1 in
-    w ∙ ap (λ (at : ℕ). Ended at (c .before .before .count .given .0 .1 .0)) (stream-count _ _ _ w .0)
+    walked-whole _ _ _ (sym (c .before .before .before .before .walk .ensures) ∙ c .before .before .count .given .1)
 
 enum-known-number : tie.Need-enum-known-number
 enum-known-number c = search needs
