@@ -495,7 +495,7 @@ pub fn needs_few(stream: &[u8], walked: Outcome) -> bool
     ensures { λ r. ⌜ (r ≡ true → rowsAfter walked (now (stream .entry)) ≤ 512) ⌝ }
 {
     match walked {
-        Outcome::Ended { at: _, count: _ } => letters::count_elements(stream) <= FEW,
+        Outcome::Ended { at: _, count } => is_few(stream, count),
         Outcome::Refused {
             number: _,
             place: _,
