@@ -8,7 +8,7 @@ use lib.Dec.{eqb}
 use lib.ListN.{length}
 use Rattle.octets.specs.declared.Outcome.{Outcome}
 use Rattle.octets.specs.declared.Outcome.the-variants.{Ended, Refused as Faulty}
-use Rattle.octets.specs.Walk.{streamLimit}
+use Rattle.octets.specs.Walk.{streamLimit, walkOf}
 use Rattle.index.specs.Rows.{kindAt, firstAt, pastAt}
 use Rattle.elements.specs.Element.{Element}
 use Rattle.letters.specs.declared.Verdict.{Verdict}
@@ -74,6 +74,11 @@ pub record Finds (s : List ℕ) (asked : ℕ) (told : Located) : Type 0 where
 abbrev pub rowsAfter : Outcome → (s : List ℕ) → ℕ
 rowsAfter (Ended at headers) s = rowsNeeded s
 rowsAfter (Faulty number place headers) s = 0
+
+-- a stream was walked with this outcome, and can need no more rows than so many
+pub record Sized (s : List ℕ) (walked : Outcome) (most : ℕ) : Type 0 where
+  pub outcome : walkOf s ≡ walked
+  pub enough : rowsAfter walked s ≤ most
 
 -- the reading list as numbers, three a record: as many as are answered, all matches if the number is 0
 pub record ListsFlat (side : Side) (s table : List ℕ) (room : ℕ) (answer : Listed) (tableAfter flat : List ℕ) : Type 0 where

@@ -7,7 +7,7 @@ ghost use mathlib.Core.Path.{_≡_};
 ghost use mathlib.Core.Bool.{true};
 ghost use mathlib.Core.List.{List};
 ghost use mathlib.Core.Bool.{true};
-ghost use Prim.Native.Nat.{_+_, _*_, _<_, _≤_};
+ghost use Prim.Native.Nat.{_+_, _*_, _/_, _<_, _≤_};
 ghost use lib.ListN.{length};
 ghost use Rattle.octets.specs.Walk.{walkOf};
 ghost use Rattle.tree.specs.Tree.{treeOf};
@@ -16,7 +16,7 @@ ghost use Rattle.index.specs.Rows.{rowWidth};
 ghost use Rattle.letters.specs.Lent.{rowsNeeded};
 ghost use Rattle.letters.specs.Scratch.{Gives};
 ghost use Rattle.answers.specs.Answers.{CheckOutcome};
-ghost use Rattle.answers.specs.Asking.{Judged, Decides, contentAt, toldOf, Finds, rowsAfter, ListsFlat};
+ghost use Rattle.answers.specs.Asking.{Judged, Decides, contentAt, toldOf, Finds, rowsAfter, Sized, ListsFlat};
 
 const ROW_WIDTH: usize = 12;
 
@@ -514,13 +514,12 @@ pub fn list_flat(
     table: &mut [u32],
     flat: &mut [u32],
 ) -> Listed
-    requires { ⌜ walkOf (now stream) ≡ walked ⌝ }
-    requires { ⌜ 3 * rowsAfter walked (now stream) ≤ length (now flat) ⌝ }
+    requires { ⌜ Sized (now stream) walked (length (now flat) / 3) ⌝ }
     ensures { λ r. ⌜ ListsFlat side (now (stream .entry)) (now (table .entry)) room r (now (table .exit)) (now (flat .exit)) ⌝ }
 {
     match walked {
         Outcome::Ended { at: _, count: _ } => {
-            if flat.len() <= 3 * FEW {
+            if flat.len() / 3 <= FEW {
                 return list_few(stream, side, room, table, flat);
             }
             list_many(stream, side, room, table, flat)

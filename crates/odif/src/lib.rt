@@ -12,10 +12,8 @@ pub use reading::Match;
 pub use reading::Side;
 ghost use mathlib.Core.Path.{_≡_};
 ghost use mathlib.Core.List.{List};
-ghost use Prim.Native.Nat.{_≤_};
-ghost use Rattle.octets.specs.Walk.{walkOf};
 ghost use Rattle.answers.specs.Answers.{CheckOutcome, NormalOutcome, ListOutcome, fetched, whyNot, Fetches};
-ghost use Rattle.answers.specs.Asking.{rowsAfter};
+ghost use Rattle.answers.specs.Asking.{Sized};
 
 // Checks a stream and fills the element table, twelve numbers a row. The viewer asks this first.
 pub fn check(stream: &[u8], table: &mut [u32]) -> Checked
@@ -80,8 +78,7 @@ fn list_few(
     table: &mut [u32],
     list: &mut [Match],
 ) -> Listed
-    requires { ⌜ walkOf (now stream) ≡ walked ⌝ }
-    requires { ⌜ rowsAfter walked (now stream) ≤ 512 ⌝ }
+    requires { ⌜ Sized (now stream) walked 512 ⌝ }
     ensures { λ r. ⌜ ListOutcome side (now (stream .entry)) (now (table .entry)) (now (list .entry)) r (now (table .exit)) (now (list .exit)) ⌝ }
 {
     let mut flat = [0u32; 1536];
@@ -99,7 +96,7 @@ fn list_many(
     table: &mut [u32],
     list: &mut [Match],
 ) -> Listed
-    requires { ⌜ walkOf (now stream) ≡ walked ⌝ }
+    requires { ⌜ Sized (now stream) walked 4096 ⌝ }
     ensures { λ r. ⌜ ListOutcome side (now (stream .entry)) (now (table .entry)) (now (list .entry)) r (now (table .exit)) (now (list .exit)) ⌝ }
 {
     let mut flat = [0u32; 12288];

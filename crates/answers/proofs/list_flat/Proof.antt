@@ -1,7 +1,7 @@
 -- `answers::list_flat` meets its contract: what the walk refused is refused, and what it passed is judged in scratch for as many elements as
 -- the numbers have room for records. Assumes nothing.
 use mathlib.Core.Path.{_∙_, subst}
-use Prim.Native.Nat.{_*_, _≤_}
+use Prim.Native.Nat.{_/_, _≤_}
 use borrow.Author.Needs.{needs}
 use native.Mathlib.Omega.{arith}
 use lib.ListN.{length}
@@ -24,17 +24,13 @@ use Rattle.answers.proofs.list_many.Reads as list-many-reads
 enum-told : tie.Need-enum-told
 enum-told c = search needs
 
--- src/lib.rt:507:30
-mul-if1 : tie.Need-mul-if1
-mul-if1 c = search needs
-
 -- src/lib.rt:508:17
 list-few-requires : tie.Need-list-few-requires
 list-few-requires c κs =
     let a = c .before .before .before .before .before .before .before .before in
     let ended = c .before .before .before .enum-told .given .1 in
-    let room = subst (λ (o : Outcome). 3 * rowsAfter o (now (a .args .stream)) ≤ length (now (a .args .flat))) ended (a .pre .1) in
-    (accepts-walked (a .pre .0 ∙ ended), (omega arith, room))
+    let room = subst (λ (o : Outcome). rowsAfter o (now (a .args .stream)) ≤ length (now (a .args .flat)) / 3) ended (a .pre .enough) in
+    (accepts-walked (a .pre .outcome ∙ ended), (omega arith, omega arith))
 
 -- src/lib.rt:508:17
 same-length : tie.Need-same-length
@@ -53,7 +49,8 @@ list-many-requires : tie.Need-list-many-requires
 list-many-requires c κs =
     let a = c .before .before .before .before .before .before .before .before in
     let ended = c .before .before .before .enum-told .given .1 in
-    (accepts-walked (a .pre .0 ∙ ended), subst (λ (o : Outcome). 3 * rowsAfter o (now (a .args .stream)) ≤ length (now (a .args .flat))) ended (a .pre .1))
+    let room = subst (λ (o : Outcome). rowsAfter o (now (a .args .stream)) ≤ length (now (a .args .flat)) / 3) ended (a .pre .enough) in
+    (accepts-walked (a .pre .outcome ∙ ended), omega arith)
 
 -- src/lib.rt:513:13
 enum-known-walked : tie.Need-enum-known-walked
@@ -62,13 +59,13 @@ enum-known-walked c = search needs
 -- src/lib.rt:517:21
 cast-t21 : tie.Need-cast-t21
 cast-t21 c =
-    let r = walk-small _ _ _ _ (c .before .before .before .before .before .before .pre .0 ∙ c .before .walked .given .1) in
+    let r = walk-small _ _ _ _ (c .before .before .before .before .before .before .pre .outcome ∙ c .before .walked .given .1) in
     omega arith
 
 -- src/lib.rt:518:20
 cast-t22 : tie.Need-cast-t22
 cast-t22 c =
-    let r = walk-small _ _ _ _ (c .before .before .before .before .before .before .pre .0 ∙ c .before .walked .given .1) in
+    let r = walk-small _ _ _ _ (c .before .before .before .before .before .before .pre .outcome ∙ c .before .walked .given .1) in
     omega arith
 
 -- src/lib.rt:493:1
@@ -88,14 +85,13 @@ returns-3 : tie.Need-returns-3
 returns-3 c =
     let a = c .before .before .before .before .before .before in
     let x = a .args in
-    lists-refused (x .side) (now (x .stream)) (now (x .table)) (now (x .flat)) (x .room) _ _ _ (refused-walk edition1988 _ _ _ _ (a .pre .0 ∙ c .before .walked .given .1))
+    lists-refused (x .side) (now (x .stream)) (now (x .table)) (now (x .flat)) (x .room) _ _ _ (refused-walk edition1988 _ _ _ _ (a .pre .outcome ∙ c .before .walked .given .1))
 
 pub list-flat-spec : {M : Type 1} → statement M
 list-flat-spec =
     tie.close
     (tie.spec
     enum-told
-    mul-if1
     list-few-requires
     same-length
     same-length-2
