@@ -4,7 +4,7 @@ use letters::Verdict;
 use octets::Outcome;
 use reading::Side;
 ghost use mathlib.Core.Path.{_≡_};
-ghost use mathlib.Core.Bool.{true};
+ghost use mathlib.Core.Bool.{true, cond};
 ghost use mathlib.Core.List.{List};
 ghost use mathlib.Core.Bool.{true};
 ghost use Prim.Native.Nat.{_+_, _*_, _/_, _<_, _≤_};
@@ -16,7 +16,7 @@ ghost use Rattle.index.specs.Rows.{rowWidth};
 ghost use Rattle.letters.specs.Lent.{rowsNeeded};
 ghost use Rattle.letters.specs.Scratch.{Gives};
 ghost use Rattle.answers.specs.Answers.{CheckOutcome};
-ghost use Rattle.answers.specs.Asking.{Judged, Decides, contentAt, toldOf, Finds, rowsAfter, Sized, ListsFlat};
+ghost use Rattle.answers.specs.Asking.{Judged, Decides, contentAt, toldOf, Finds, Sized, ListsFlat};
 
 const ROW_WIDTH: usize = 12;
 
@@ -492,7 +492,7 @@ fn list_many(stream: &[u8], side: Side, room: usize, table: &mut [u32], flat: &m
 // Whether scratch for few elements is enough for a stream that was walked: what the walk refused needs none.
 pub fn needs_few(stream: &[u8], walked: Outcome) -> bool
     requires { ⌜ walkOf (now stream) ≡ walked ⌝ }
-    ensures { λ r. ⌜ (r ≡ true → rowsAfter walked (now (stream .entry)) ≤ 512) ⌝ }
+    ensures { λ r. ⌜ Sized (now (stream .entry)) walked (cond r 512 4096) ⌝ }
 {
     match walked {
         Outcome::Ended { at: _, count } => is_few(stream, count),

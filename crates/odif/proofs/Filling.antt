@@ -69,13 +69,13 @@ use Rattle.answers.proofs.list_flat.Symbol.{name as #answers·list-flat}
 use Rattle.odif.proofs.Lending.{arrayTy, to-cells, to-parts, from-parts, big}
 use Rattle.odif.proofs.list_few as few
 
-abbrev R : RattleType
+abbrev pub R : RattleType
 R = T.the-row
 
 abbrev record-ty : Ty
 record-ty = pointee (R .written)
 
-abbrev mach : Listed → Val
+abbrev pub mach : Listed → Val
 mach r = vstruct (vcons (vint w32 (r .number)) (vcons (vint w32 (r .place)) (vcons (vint w32 (r .elements)) (vcons (vint w32 (r .matches)) vnil))))
 
 -- the MIR, with n numbers
@@ -127,6 +127,9 @@ module _ {M : Type 1} (𝓤 : URA M) (H : Heap 𝓤) (A : Atoms 𝓤) (mem : Mem
     requires = λ g. fact 𝓤 (Sized (a .0 .now) (a .1 .0) most);
     ensures = few.clauses 𝓤 H A mem run κs a .ensures;
   }
+
+  abbrev pub Listing : ℕ → Contract 𝓤
+  Listing most = tripleOf 𝓤 H A few.signature (closing 𝓤 H A few.ended (clauses most))
 
 module _ {M : Type 1} (𝓤 : URA M) (H : Heap 𝓤) (A : Atoms 𝓤) (W : Given 𝓤 H A) (mem : Memory → SProp 𝓤) (run : Routine → Fun 𝓤) (most n : ℕ) (thrice : most ≤ n / 3) (room-n : Room u32 n)
     (κ₀ κ₁ κ₂ : Lft) (q₀ q₁ q₂ : Share) (x₀ : RefT (List ℕ)) (outcome : Outcome) (side : Side) (b₁ o₁ : ℕ) (γ₁ : GName) (ts : List ℕ) (b₂ o₂ : ℕ) (γ₂ : GName) (ys : List Match)
