@@ -101,6 +101,21 @@ fn is_few(stream: &[u8], headers: usize) -> bool
     letters::count_elements(stream) <= FEW
 }
 
+// The same for a stream that was walked: what the walk refused needs none.
+pub fn needs_few(stream: &[u8], walked: Outcome) -> bool
+    requires { ⌜ walkOf (now stream) ≡ walked ⌝ }
+    ensures { λ r. ⌜ Sized (now (stream .entry)) walked (cond r 512 4096) ⌝ }
+{
+    match walked {
+        Outcome::Ended { at: _, count } => is_few(stream, count),
+        Outcome::Refused {
+            number: _,
+            place: _,
+            count: _,
+        } => true,
+    }
+}
+
 // The check of a stream that was judged: 16, or the table.
 fn check_judged(
     stream: &[u8],
@@ -489,23 +504,8 @@ fn list_many(stream: &[u8], side: Side, room: usize, table: &mut [u32], flat: &m
     )
 }
 
-// Whether scratch for few elements is enough for a stream that was walked: what the walk refused needs none.
-pub fn needs_few(stream: &[u8], walked: Outcome) -> bool
-    requires { ⌜ walkOf (now stream) ≡ walked ⌝ }
-    ensures { λ r. ⌜ Sized (now (stream .entry)) walked (cond r 512 4096) ⌝ }
-{
-    match walked {
-        Outcome::Ended { at: _, count } => is_few(stream, count),
-        Outcome::Refused {
-            number: _,
-            place: _,
-            count: _,
-        } => true,
-    }
-}
-
-// The reading list of a side of a stream that was walked, as numbers, for a list with room for so many records. There are never more records
-// than elements, so the scratch is sized to what the numbers have room for.
+// The reading list of a side of a stream that was walked, as numbers, for a list with room for so many records. The numbers have room for a
+// record of each element, and so tell how much scratch is enough.
 pub fn list_flat(
     stream: &[u8],
     walked: Outcome,

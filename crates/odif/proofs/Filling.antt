@@ -72,9 +72,10 @@ use Rattle.odif.proofs.list_few as few
 abbrev pub R : RattleType
 R = T.the-row
 
-abbrev record-ty : Ty
+abbrev pub record-ty : Ty
 record-ty = pointee (R .written)
 
+-- the answer's machine value
 abbrev pub mach : Listed → Val
 mach r = vstruct (vcons (vint w32 (r .number)) (vcons (vint w32 (r .place)) (vcons (vint w32 (r .elements)) (vcons (vint w32 (r .matches)) vnil))))
 
@@ -128,8 +129,8 @@ module _ {M : Type 1} (𝓤 : URA M) (H : Heap 𝓤) (A : Atoms 𝓤) (mem : Mem
     ensures = few.clauses 𝓤 H A mem run κs a .ensures;
   }
 
-  abbrev pub Listing : ℕ → Contract 𝓤
-  Listing most = tripleOf 𝓤 H A few.signature (closing 𝓤 H A few.ended (clauses most))
+  abbrev pub Lister : ℕ → Contract 𝓤
+  Lister most = tripleOf 𝓤 H A few.signature (closing 𝓤 H A few.ended (clauses most))
 
 module _ {M : Type 1} (𝓤 : URA M) (H : Heap 𝓤) (A : Atoms 𝓤) (W : Given 𝓤 H A) (mem : Memory → SProp 𝓤) (run : Routine → Fun 𝓤) (most n : ℕ) (thrice : most ≤ n / 3) (room-n : Room u32 n)
     (κ₀ κ₁ κ₂ : Lft) (q₀ q₁ q₂ : Share) (x₀ : RefT (List ℕ)) (outcome : Outcome) (side : Side) (b₁ o₁ : ℕ) (γ₁ : GName) (ts : List ℕ) (b₂ o₂ : ℕ) (γ₂ : GName) (ys : List Match)

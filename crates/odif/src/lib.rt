@@ -70,7 +70,8 @@ pub fn list(stream: &[u8], side: Side, table: &mut [u32], list: &mut [Match]) ->
     list_many(stream, walked, side, table, list)
 }
 
-// The list of a stream with few elements. There are never more matches than elements: numbers for so many records are soon cleared.
+// The list of a stream that was walked and has few elements. There are never more matches than elements, so numbers for as many records are
+// enough, and these are soon cleared.
 fn list_few(
     stream: &[u8],
     walked: Outcome,
@@ -88,7 +89,7 @@ fn list_few(
     answer
 }
 
-// The list of a stream with many.
+// The list of one that has many.
 fn list_many(
     stream: &[u8],
     walked: Outcome,

@@ -15,16 +15,10 @@ use Rattle.answers.proofs.Judging.{accepts-walked}
 use Rattle.answers.proofs.Listing.{lists-refused}
 use Rattle.answers.proofs.list_flat.Statement.{statement}
 use Rattle.answers.proofs.list_flat.Tie as tie
-use Rattle.answers.proofs.list_flat.Reads as reads
-use Rattle.answers.proofs.list_flat.Lts as lts
-use Rattle.answers.proofs.list_few.Reads as list-few-reads
-use Rattle.answers.proofs.list_many.Reads as list-many-reads
 
--- src/lib.rt:507:16
 enum-told : tie.Need-enum-told
 enum-told c = search needs
 
--- src/lib.rt:508:17
 list-few-requires : tie.Need-list-few-requires
 list-few-requires c κs =
     let a = c .before .before .before .before .before .before .before .before in
@@ -32,19 +26,15 @@ list-few-requires c κs =
     let room = subst (λ (o : Outcome). rowsAfter o (now (a .args .stream)) ≤ length (now (a .args .flat)) / 3) ended (a .pre .enough) in
     (accepts-walked (a .pre .outcome ∙ ended), (omega arith, omega arith))
 
--- src/lib.rt:508:17
 same-length : tie.Need-same-length
 same-length c = search needs
 
--- src/lib.rt:508:17
 same-length-2 : tie.Need-same-length-2
 same-length-2 c = search needs
 
--- src/lib.rt:508:17
 returns : tie.Need-returns
 returns c = search needs
 
--- src/lib.rt:510:13
 list-many-requires : tie.Need-list-many-requires
 list-many-requires c κs =
     let a = c .before .before .before .before .before .before .before .before in
@@ -52,35 +42,28 @@ list-many-requires c κs =
     let room = subst (λ (o : Outcome). rowsAfter o (now (a .args .stream)) ≤ length (now (a .args .flat)) / 3) ended (a .pre .enough) in
     (accepts-walked (a .pre .outcome ∙ ended), omega arith)
 
--- src/lib.rt:513:13
 enum-known-walked : tie.Need-enum-known-walked
 enum-known-walked c = search needs
 
--- src/lib.rt:517:21
 cast-t21 : tie.Need-cast-t21
 cast-t21 c =
     let r = walk-small _ _ _ _ (c .before .before .before .before .before .before .pre .outcome ∙ c .before .walked .given .1) in
     omega arith
 
--- src/lib.rt:518:20
 cast-t22 : tie.Need-cast-t22
 cast-t22 c =
     let r = walk-small _ _ _ _ (c .before .before .before .before .before .before .pre .outcome ∙ c .before .walked .given .1) in
     omega arith
 
--- src/lib.rt:493:1
 same-length-3 : tie.Need-same-length-3
 same-length-3 c = search needs
 
--- src/lib.rt:493:1
 same-length-4 : tie.Need-same-length-4
 same-length-4 c = search needs
 
--- src/lib.rt:493:1
 returns-2 : tie.Need-returns-2
 returns-2 c = search needs
 
--- src/lib.rt:493:1
 returns-3 : tie.Need-returns-3
 returns-3 c =
     let a = c .before .before .before .before .before .before in

@@ -18,13 +18,12 @@ use prog.Wp.{Heap, Env, Calls, Loops, WpFn, Tables}
 use ghost.Atoms.{Atoms, sem}
 use contract.Monad.{Fun, fact}
 use contract.Running.{givenOf, tables, tablesOf}
-use types.Kit.{Given, Item, ‵, raw, _⊛_, ⋆, some, later, Sq, runs, atRet, _$_, _∵_, !, qed, by, move, keep, drop as toss, use1, use2, use3, split, split3, join, pick, rewrite, fsplit, fjoin, feqL, suffices, frame, await, done}
+use types.Kit.{Given, Item, Goal, Soaks, ‵, raw, _⊛_, ⋆, some, later, Sq, runs, atRet, _$_, _∵_, !, qed, by, move, keep, drop as toss, use1, use2, use3, split, split3, join, pick, rewrite, fsplit, fjoin, feqL, suffices, frame, await, done}
 use types.Run.{look, init, forget, stop, hop, fld, from, load, addr, and-then, no-more, assigns, land, first, branches, skips, exec, returns, returns-within, enter, alloc1, alloc0, params1, pass1, pass0, free1, free0}
 use types.Part.{whole, sub, look-in, agg}
 use sound.WpLaws.{FmC, fmOf, WpFn-mono}
 use denote.RattleType.{owns}
 use denote.Laws.{Is, shows}
-use denote.Memory.{pointee}
 use denote.Plain.{Boolean}
 use denote.Builtin.{u8, u32}
 use denote.Ref.{RefT}
@@ -62,7 +61,7 @@ use Rattle.answers.proofs.needs_few as needs-few
 use Rattle.answers.proofs.needs_few.Symbol as needs-few-def
 use Rattle.answers.proofs.needs_few.Symbol.{name as #answers·needs-few}
 use Rattle.answers.proofs.needs_few.Met as needs-few-thm
-use Rattle.odif.proofs.Filling.{R, mach, clauses, Listing}
+use Rattle.odif.proofs.Filling.{R, record-ty, mach, clauses, Lister}
 use Rattle.odif.proofs.list_few as few
 use Rattle.odif.proofs.list_few.Symbol as few-def
 use Rattle.odif.proofs.list_few.Symbol.{name as #odif·list-few}
@@ -87,7 +86,7 @@ abbrev tableTy : Ty
 tableTy = sliceTy (tyRef (named 1) mut (tyInt w32))
 
 abbrev listTy : Ty
-listTy = sliceTy (tyRef (named 2) mut (pointee (R .written)))
+listTy = sliceTy (tyRef (named 2) mut record-ty)
 
 abbrev numberTy : Ty
 numberTy = tyRef erased mut (tyInt w32)
@@ -96,7 +95,7 @@ abbrev numbersTy : Ty
 numbersTy = sliceTy numberTy
 
 abbrev recordTy : Ty
-recordTy = tyRef erased mut (pointee (R .written))
+recordTy = tyRef erased mut record-ty
 
 abbrev recordsTy : Ty
 recordsTy = sliceTy recordTy
@@ -179,16 +178,30 @@ module _ {M : Type 1} (𝓤 : URA M) (H : Heap 𝓤) (A : Atoms 𝓤) (W : Given
   said-size o t = exE 𝓤 _ (λ ws. snd∗ 𝓤 (sem 𝓤 H A (lasts needs-few.ended (κ₀, tt) (x₀, (o, tt)) ws)) (fact 𝓤 (Sized ss o (cond t 512 4096))))
 
   -- what the function of a size is lent: all
-  abbrev to-list : (most : ℕ) → Outcome → Listing 𝓤 H A mem run most .Ghost
+  abbrev to-list : (most : ℕ) → Outcome → Lister 𝓤 H A mem run most .Ghost
   to-list most o = (((κ₀, (κ₁, (κ₂, tt))), (q₀, (q₁, (q₂, tt))), tt, (x₀, (o, (side, (x₁, (x₂, tt))))), (s₀ ∷ [], (u o ∷ [], (v ∷ [], (s₁ ∷ [], (s₂ ∷ [], tt)))))), tt)
 
   goes-list : (most : ℕ) (o : Outcome) → Is O.the-row o (u o ∷ []) → Sized ss o most
-      → ent 𝓤 (⋆ 𝓤 H A ((‵ (flft κ₀ q₀) ⊛ ‵ (flft κ₁ q₁) ⊛ ‵ (flft κ₂ q₂) ⊛ ‵ ftrue) ∷ ‵ Own₀ ∷ (‵ Own₁ ⊛ ‵ Own₂) ∷ [])) (Listing 𝓤 H A mem run most .pre (to-list most o))
+      → ent 𝓤 (⋆ 𝓤 H A ((‵ (flft κ₀ q₀) ⊛ ‵ (flft κ₁ q₁) ⊛ ‵ (flft κ₂ q₂) ⊛ ‵ ftrue) ∷ ‵ Own₀ ∷ (‵ Own₁ ⊛ ‵ Own₂) ∷ [])) (Lister 𝓤 H A mem run most .pre (to-list most o))
   goes-list most o is sized =
       qed W ((‵ (flft κ₀ q₀) ⊛ ‵ (flft κ₁ q₁) ⊛ ‵ (flft κ₂ q₂) ⊛ ‵ ftrue) ∷ ‵ Own₀ ∷ (‵ Own₁ ⊛ ‵ Own₂) ∷ []) ∵ says ! sized $ frame ! $ move ! (1 ∷ []) $ split ! $
       -- [the table; the list; the stream]
       move ! (1 ∷ []) $ nothing ! $ move ! (1 ∷ 0 ∷ []) $ fjoin ! $ move ! (1 ∷ 0 ∷ []) $ fjoin ! $ owned ! S.the-row (Is S.the-row) (EL.makes S.the-type S′.the-plain 𝓤 H A) side _ isS $ fjoin ! $
       owned ! O.the-row (Is O.the-row) (EL.makes O.the-type O′.the-plain 𝓤 H A) o _ is $ fjoin ! $ move ! (1 ∷ 0 ∷ []) $ fjoin ! $ done !
+
+  -- what the function of a size says: its answer, and the last table and list
+  hears : (most : ℕ) (o : Outcome) (w : Val) {Γ : List (Item 𝓤)} {G : Goal 𝓤 H} → Soaks G
+      → ((r : Listed) (ts′ : List ℕ) (ys′ : List Match) → w ∷ [] ≡ mach r ∷ [] → Is L.the-row r (w ∷ []) → ListOutcome side ss ts ys r ts′ ys′ → length ts′ ≡ length ts → length ys′ ≡ length ys
+      → Sq W ((‵ (flft κ₀ q₀) ⊛ ‵ (flft κ₁ q₁) ⊛ ‵ (flft κ₂ q₂) ⊛ ‵ ftrue) ∷ ‵ (finally R γ₂ ys′) ∷ ‵ ftrue ∷ ‵ (finally u32 γ₁ ts′) ∷ Γ) G)
+      → Sq W (raw (Lister 𝓤 H A mem run most .post (to-list most o) w) ∷ Γ) G
+  hears most o w soaks k =
+      use1 W (later (some (λ (r : Listed). ((‵ (flft κ₀ q₀) ⊛ ‵ (flft κ₁ q₁) ⊛ ‵ (flft κ₂ q₂) ⊛ ‵ ftrue) ⊛ ‵ (L.the-row .own r (w ∷ []))) ⊛ raw (ensured 𝓤 H A few.ended (clauses 𝓤 H A mem run most) (κ₀, (κ₁, (κ₂, tt))) (x₀, (o, (side, (x₁, (x₂, tt))))) tt r)))) (id⊢ 𝓤 _) $ await ! soaks $ pick ! (λ r.
+      split ! $ move ! (1 ∷ []) $ use1 W (some (λ (ls : Unit {0} × (Unit {0} × (Unit {0} × (List ℕ × (List Match × Unit {0}))))). ‵ (lasts few.ended (κ₀, (κ₁, (κ₂, tt))) (x₀, (o, (side, (x₁, (x₂, tt))))) ls) ⊛ raw (fact 𝓤 (ListOutcome side ss ts ys r (ls .1 .1 .1 .0) (ls .1 .1 .1 .1 .0))))) (id⊢ 𝓤 _) $ pick ! (λ ls.
+      split ! $ move ! (1 ∷ []) $ heard ! (ListOutcome side ss ts ys r (ls .1 .1 .1 .0) (ls .1 .1 .1 .1 .0)) (λ e. fsplit ! $ toss ! $ fsplit ! $ toss ! $ fsplit ! $ toss ! $ fsplit ! $ fsplit ! $ move ! (1 ∷ []) $ feqL ! (λ len₁.
+      move ! (1 ∷ []) $ fsplit ! $ fsplit ! $ move ! (1 ∷ []) $ feqL ! (λ len₂.
+      -- [the last list; true; the last table; the tokens and the answer; …]
+      move ! (3 ∷ []) $ split ! $ move ! (1 ∷ []) $ peeks ! L.the-row (Is L.the-row) (shows 𝓤 H A L.the-row) r (w ∷ []) (λ is.
+      toss ! $ k r (ls .1 .1 .1 .0) (ls .1 .1 .1 .1 .0) (LL.tells L.the-type L′.the-laws r (w ∷ []) is) is e len₁ len₂))))))
 
   exits : (r : Listed) (ts′ : List ℕ) (ys′ : List Match) → Is L.the-row r (mach r ∷ []) → ListOutcome side ss ts ys r ts′ ys′ → length ts′ ≡ length ts → length ys′ ≡ length ys
       → ent 𝓤 (⋆ 𝓤 H A ((‵ (flft κ₀ q₀) ⊛ ‵ (flft κ₁ q₁) ⊛ ‵ (flft κ₂ q₂) ⊛ ‵ ftrue) ∷ ‵ (finally u32 γ₁ ts′) ∷ ‵ (finally R γ₂ ys′) ∷ ‵ Own₀ ∷ [])) (Post (mach r))
@@ -199,7 +212,7 @@ module _ {M : Type 1} (𝓤 : URA M) (H : Heap 𝓤) (A : Atoms 𝓤) (W : Given
       owned ! L.the-row (Is L.the-row) ((LL.makes L.the-type L′.the-plain) 𝓤 H A) r _ is $ done !
 
   module _ (C : Calls 𝓤 H) (Λ : Loops 𝓤 H) (fm : FmC 𝓤 H (W .laws) C) (known-walk : Triple 𝓤 (C #octets·walk) (Walking 𝓤 H A mem run)) (known-size : Triple 𝓤 (C #answers·needs-few) (Sizing 𝓤 H A mem run))
-      (known-few : Triple 𝓤 (C #odif·list-few) (Listing 𝓤 H A mem run 512)) (known-many : Triple 𝓤 (C #odif·list-many) (Listing 𝓤 H A mem run 4096)) where
+      (known-few : Triple 𝓤 (C #odif·list-few) (Lister 𝓤 H A mem run 512)) (known-many : Triple 𝓤 (C #odif·list-many) (Lister 𝓤 H A mem run 4096)) where
     module _ (l₀ l₁ l₂ l₃ l₄ l₅ l₆ l₇ l₈ l₉ l₁₀ l₁₁ l₁₂ l₁₃ l₁₄ : ℕ) (o : Outcome) (isO : Is O.the-row o (u o ∷ [])) (t : Bool) (sized : Sized ss o (cond t 512 4096)) where
       abbrev En : Env 𝓤 H
       En =
@@ -223,20 +236,13 @@ module _ {M : Type 1} (𝓤 : URA M) (H : Heap 𝓤) (A : Atoms 𝓤) (W : Given
           assigns ! (agg ! (and-then ! (load ! (from ! (stop !)) (look ! 9 refl)) (and-then ! (load ! (from ! (fld ! refl (stop !))) (look-in ! 27 (sub ! 1 refl (whole !)))) (no-more !)))) (from ! (stop !)) (init ! 7 refl (tt, (tt, (record { fits = room₂ .0 }, tt)))) $
           move ! (1 ∷ []) $ use1 W (‵ Own₀ ⊛ ‵ Own₀) (shr-slice-copy 𝓤 H A W (named 0) κ₀ u8 .twice x₀ (s₀ ∷ [])) $ split ! $
           -- [the stream, twice; κ₀; κ₁; κ₂; the list; true; the table; _14; …]
-          move ! (3 ∷ 4 ∷ []) $ join ! $ move ! (3 ∷ 0 ∷ []) $ join ! $ move ! (5 ∷ 3 ∷ []) $ join ! $ move ! (1 ∷ 2 ∷ 0 ∷ []) $ use3 W (raw (Listing 𝓤 H A mem run 4096 .pre (to-list 4096 o))) (goes-list 4096 o isO (told-many t fails sized)) $
+          move ! (3 ∷ 4 ∷ []) $ join ! $ move ! (3 ∷ 0 ∷ []) $ join ! $ move ! (5 ∷ 3 ∷ []) $ join ! $ move ! (1 ∷ 2 ∷ 0 ∷ []) $ use3 W (raw (Lister 𝓤 H A mem run 4096 .pre (to-list 4096 o))) (goes-list 4096 o isO (told-many t fails sized)) $
           -- [what `list_many` asks; the stream; true; _14; …]
-          calls-at ! fm (Listing 𝓤 H A mem run 4096) known-many (to-list 4096 o) (and-then ! (load ! (from ! (stop !)) (look ! 29 refl)) (and-then ! (load ! (from ! (stop !)) (look ! 21 refl)) (and-then ! (load ! (from ! (stop !)) (look ! 27 refl)) (and-then ! (load ! (from ! (stop !)) (look ! 7 refl)) (and-then ! (load ! (from ! (stop !)) (look ! 3 refl)) (no-more !)))))) (λ w₂.
-          use1 W (later (some (λ (r : Listed). ((‵ (flft κ₀ q₀) ⊛ ‵ (flft κ₁ q₁) ⊛ ‵ (flft κ₂ q₂) ⊛ ‵ ftrue) ⊛ ‵ (L.the-row .own r (w₂ ∷ []))) ⊛ raw (ensured 𝓤 H A few.ended (clauses 𝓤 H A mem run 4096) (κ₀, (κ₁, (κ₂, tt))) (x₀, (o, (side, (x₁, (x₂, tt))))) tt r)))) (id⊢ 𝓤 _) $ await ! tt $ pick ! (λ r.
-          split ! $ move ! (1 ∷ []) $ use1 W (some (λ (ls : Unit {0} × (Unit {0} × (Unit {0} × (List ℕ × (List Match × Unit {0}))))). ‵ (lasts few.ended (κ₀, (κ₁, (κ₂, tt))) (x₀, (o, (side, (x₁, (x₂, tt))))) ls) ⊛ raw (fact 𝓤 (ListOutcome side ss ts ys r (ls .1 .1 .1 .0) (ls .1 .1 .1 .1 .0))))) (id⊢ 𝓤 _) $ pick ! (λ ls.
-          split ! $ move ! (1 ∷ []) $ heard ! (ListOutcome side ss ts ys r (ls .1 .1 .1 .0) (ls .1 .1 .1 .1 .0)) (λ e. fsplit ! $ toss ! $ fsplit ! $ toss ! $ fsplit ! $ toss ! $ fsplit ! $ fsplit ! $ move ! (1 ∷ []) $ feqL ! (λ len₁.
-          move ! (1 ∷ []) $ fsplit ! $ fsplit ! $ move ! (1 ∷ []) $ feqL ! (λ len₂.
-          move ! (3 ∷ []) $ split ! $ move ! (1 ∷ []) $ peeks ! L.the-row (Is L.the-row) (shows 𝓤 H A L.the-row) r (w₂ ∷ []) (λ is₀.
-          let told : w₂ ∷ [] ≡ mach r ∷ [] = LL.tells L.the-type L′.the-laws r (w₂ ∷ []) is₀ in
-          let is : Is L.the-row r (mach r ∷ []) = subst (Is L.the-row r) told is₀ in
-          toss ! $ land ! (from ! (stop !)) (init ! 34 refl (LL.lawful L.the-type L′.the-laws 𝓤 H A W .typed r _ is₀ .0)) $ rewrite ! 34 (λ (i : Val). ‵ (fat fullShare L′.mir l₀ 0 i)) (ap only told) refl $
+          calls-at ! fm (Lister 𝓤 H A mem run 4096) known-many (to-list 4096 o) (and-then ! (load ! (from ! (stop !)) (look ! 29 refl)) (and-then ! (load ! (from ! (stop !)) (look ! 21 refl)) (and-then ! (load ! (from ! (stop !)) (look ! 27 refl)) (and-then ! (load ! (from ! (stop !)) (look ! 7 refl)) (and-then ! (load ! (from ! (stop !)) (look ! 3 refl)) (no-more !)))))) (λ w₂. hears 4096 o w₂ tt (λ r ts′ ys′ told is e len₁ len₂.
+          land ! (from ! (stop !)) (init ! 34 refl (LL.lawful L.the-type L′.the-laws 𝓤 H A W .typed r _ is .0)) $ rewrite ! 34 (λ (i : Val). ‵ (fat fullShare L′.mir l₀ 0 i)) (ap only told) refl $
           returns ! (look ! 34 refl) $ forget ! 6 refl $ forget ! 8 refl $ forget ! 10 refl $ forget ! 12 refl $ forget ! 22 refl $ forget ! 24 refl $ forget ! 26 refl $ forget ! 28 refl $ forget ! 30 refl $ forget ! 32 refl $ forget ! 34 refl $
           move ! (34 ∷ 35 ∷ []) $ free1 ! $ move ! (32 ∷ 33 ∷ []) $ free1 ! $ move ! (30 ∷ 31 ∷ []) $ free1 ! $ move ! (28 ∷ 29 ∷ []) $ free1 ! $ move ! (26 ∷ 27 ∷ []) $ free1 ! $ move ! (24 ∷ 25 ∷ []) $ free1 ! $ move ! (22 ∷ 23 ∷ []) $ free1 ! $ move ! (20 ∷ 21 ∷ []) $ free1 ! $ move ! (18 ∷ 19 ∷ []) $ free1 ! $ move ! (16 ∷ 17 ∷ []) $ free1 ! $ move ! (14 ∷ 15 ∷ []) $ free1 ! $ move ! (12 ∷ 13 ∷ []) $ free1 ! $ move ! (10 ∷ 11 ∷ []) $ free1 ! $ move ! (8 ∷ 9 ∷ []) $ free1 ! $ move ! (6 ∷ 7 ∷ []) $ free1 ! $ free0 ! $
-          keep ! (0 ∷ 3 ∷ 1 ∷ 4 ∷ []) $ by ! (exits r (ls .1 .1 .1 .0) (ls .1 .1 .1 .1 .0) is e len₁ len₂))))))))
+          keep ! (0 ∷ 3 ∷ 1 ∷ 4 ∷ []) $ by ! (exits r ts′ ys′ (subst (Is L.the-row r) told is) e len₁ len₂)))
 
       lists : Sq W There (runs C Λ En code-mir.t-3 (atRet En Post))
       lists =
@@ -248,22 +254,14 @@ module _ {M : Type 1} (𝓤 : URA M) (H : Heap 𝓤) (A : Atoms 𝓤) (W : Given
           assigns ! (agg ! (and-then ! (load ! (from ! (stop !)) (look ! 17 refl)) (and-then ! (load ! (from ! (fld ! refl (stop !))) (look-in ! 27 (sub ! 1 refl (whole !)))) (no-more !)))) (from ! (stop !)) (init ! 15 refl (tt, (tt, (record { fits = room₂ .0 }, tt)))) $
           move ! (1 ∷ []) $ use1 W (‵ Own₀ ⊛ ‵ Own₀) (shr-slice-copy 𝓤 H A W (named 0) κ₀ u8 .twice x₀ (s₀ ∷ [])) $ split ! $
           -- [the stream, twice; κ₀; κ₁; κ₂; the list; true; the table; _14; …]
-          move ! (3 ∷ 4 ∷ []) $ join ! $ move ! (3 ∷ 0 ∷ []) $ join ! $ move ! (5 ∷ 3 ∷ []) $ join ! $ move ! (1 ∷ 2 ∷ 0 ∷ []) $ use3 W (raw (Listing 𝓤 H A mem run 512 .pre (to-list 512 o))) (goes-list 512 o isO (told-few t holds sized)) $
+          move ! (3 ∷ 4 ∷ []) $ join ! $ move ! (3 ∷ 0 ∷ []) $ join ! $ move ! (5 ∷ 3 ∷ []) $ join ! $ move ! (1 ∷ 2 ∷ 0 ∷ []) $ use3 W (raw (Lister 𝓤 H A mem run 512 .pre (to-list 512 o))) (goes-list 512 o isO (told-few t holds sized)) $
           -- [what `list_few` asks; the stream; true; _14; …]
-          calls-at ! fm (Listing 𝓤 H A mem run 512) known-few (to-list 512 o) (and-then ! (load ! (from ! (stop !)) (look ! 29 refl)) (and-then ! (load ! (from ! (stop !)) (look ! 21 refl)) (and-then ! (load ! (from ! (stop !)) (look ! 27 refl)) (and-then ! (load ! (from ! (stop !)) (look ! 15 refl)) (and-then ! (load ! (from ! (stop !)) (look ! 11 refl)) (no-more !)))))) (λ w₂.
-          use1 W (later (some (λ (r : Listed). ((‵ (flft κ₀ q₀) ⊛ ‵ (flft κ₁ q₁) ⊛ ‵ (flft κ₂ q₂) ⊛ ‵ ftrue) ⊛ ‵ (L.the-row .own r (w₂ ∷ []))) ⊛ raw (ensured 𝓤 H A few.ended (clauses 𝓤 H A mem run 512) (κ₀, (κ₁, (κ₂, tt))) (x₀, (o, (side, (x₁, (x₂, tt))))) tt r)))) (id⊢ 𝓤 _) $ await ! tt $ pick ! (λ r.
-          split ! $ move ! (1 ∷ []) $ use1 W (some (λ (ls : Unit {0} × (Unit {0} × (Unit {0} × (List ℕ × (List Match × Unit {0}))))). ‵ (lasts few.ended (κ₀, (κ₁, (κ₂, tt))) (x₀, (o, (side, (x₁, (x₂, tt))))) ls) ⊛ raw (fact 𝓤 (ListOutcome side ss ts ys r (ls .1 .1 .1 .0) (ls .1 .1 .1 .1 .0))))) (id⊢ 𝓤 _) $ pick ! (λ ls.
-          split ! $ move ! (1 ∷ []) $ heard ! (ListOutcome side ss ts ys r (ls .1 .1 .1 .0) (ls .1 .1 .1 .1 .0)) (λ e. fsplit ! $ toss ! $ fsplit ! $ toss ! $ fsplit ! $ toss ! $ fsplit ! $ fsplit ! $ move ! (1 ∷ []) $ feqL ! (λ len₁.
-          move ! (1 ∷ []) $ fsplit ! $ fsplit ! $ move ! (1 ∷ []) $ feqL ! (λ len₂.
-          -- [the last list; true; the last table; the tokens and the answer; the stream; true; _14; …]
-          move ! (3 ∷ []) $ split ! $ move ! (1 ∷ []) $ peeks ! L.the-row (Is L.the-row) (shows 𝓤 H A L.the-row) r (w₂ ∷ []) (λ is₀.
-          let told : w₂ ∷ [] ≡ mach r ∷ [] = LL.tells L.the-type L′.the-laws r (w₂ ∷ []) is₀ in
-          let is : Is L.the-row r (mach r ∷ []) = subst (Is L.the-row r) told is₀ in
-          toss ! $ land ! (from ! (stop !)) (init ! 34 refl (LL.lawful L.the-type L′.the-laws 𝓤 H A W .typed r _ is₀ .0)) $ rewrite ! 34 (λ (i : Val). ‵ (fat fullShare L′.mir l₀ 0 i)) (ap only told) refl $
+          calls-at ! fm (Lister 𝓤 H A mem run 512) known-few (to-list 512 o) (and-then ! (load ! (from ! (stop !)) (look ! 29 refl)) (and-then ! (load ! (from ! (stop !)) (look ! 21 refl)) (and-then ! (load ! (from ! (stop !)) (look ! 27 refl)) (and-then ! (load ! (from ! (stop !)) (look ! 15 refl)) (and-then ! (load ! (from ! (stop !)) (look ! 11 refl)) (no-more !)))))) (λ w₂. hears 512 o w₂ tt (λ r ts′ ys′ told is e len₁ len₂.
+          land ! (from ! (stop !)) (init ! 34 refl (LL.lawful L.the-type L′.the-laws 𝓤 H A W .typed r _ is .0)) $ rewrite ! 34 (λ (i : Val). ‵ (fat fullShare L′.mir l₀ 0 i)) (ap only told) refl $
           -- [the tokens; the last list; true; the last table; the stream; true; _14; …]
           returns-within ! Post refl (look ! 34 refl) $ forget ! 14 refl $ forget ! 16 refl $ forget ! 18 refl $ forget ! 20 refl $ forget ! 22 refl $ forget ! 24 refl $ forget ! 26 refl $ forget ! 28 refl $ forget ! 30 refl $ forget ! 32 refl $ forget ! 34 refl $
           move ! (34 ∷ 35 ∷ []) $ free1 ! $ move ! (32 ∷ 33 ∷ []) $ free1 ! $ move ! (30 ∷ 31 ∷ []) $ free1 ! $ move ! (28 ∷ 29 ∷ []) $ free1 ! $ move ! (26 ∷ 27 ∷ []) $ free1 ! $ move ! (24 ∷ 25 ∷ []) $ free1 ! $ move ! (22 ∷ 23 ∷ []) $ free1 ! $ move ! (20 ∷ 21 ∷ []) $ free1 ! $ move ! (18 ∷ 19 ∷ []) $ free1 ! $ move ! (16 ∷ 17 ∷ []) $ free1 ! $ move ! (14 ∷ 15 ∷ []) $ free1 ! $ move ! (12 ∷ 13 ∷ []) $ free1 ! $ move ! (10 ∷ 11 ∷ []) $ free1 ! $ move ! (8 ∷ 9 ∷ []) $ free1 ! $ move ! (6 ∷ 7 ∷ []) $ free1 ! $ free0 ! $
-          keep ! (0 ∷ 3 ∷ 1 ∷ 4 ∷ []) $ by ! (exits r (ls .1 .1 .1 .0) (ls .1 .1 .1 .1 .0) is e len₁ len₂)))))))))
+          keep ! (0 ∷ 3 ∷ 1 ∷ 4 ∷ []) $ by ! (exits r ts′ ys′ (subst (Is L.the-row r) told is) e len₁ len₂))))
           (λ fails. skips ! $ exec ! C Λ En code-mir.t-4 (atRet En Post) $ lists-many fails)
 
     walk-list : ent 𝓤 (onEntry 𝓤 H A list.signature (κ₀, (κ₁, (κ₂, tt))) (q₀, (q₁, (q₂, tt))) (x₀, (side, (x₁, (x₂, tt)))) (s₀ ∷ [], (v ∷ [], (s₁ ∷ [], (s₂ ∷ [], tt))))) (WpFn 𝓤 H C Λ code.function (s₀ ∷ v ∷ s₁ ∷ s₂ ∷ []) Post)
@@ -296,7 +294,7 @@ module _ {M : Type 1} (𝓤 : URA M) (H : Heap 𝓤) (A : Atoms 𝓤) (W : Given
         lists l₀ l₁ l₂ l₃ l₄ l₅ l₆ l₇ l₈ l₉ l₁₀ l₁₁ l₁₂ l₁₃ l₁₄ o isO t sized)))))))))))))))))))))))
 
 module _ {M : Type 1} (𝓤 : URA M) (H : Heap 𝓤) (A : Atoms 𝓤) (W : Given 𝓤 H A) (mem : Memory → SProp 𝓤) (run : Routine → Fun 𝓤) (𝓣 : Tables 𝓤 H) (known-walk : Triple 𝓤 (𝓣 .C #octets·walk) (Walking 𝓤 H A mem run)) (known-size : Triple 𝓤 (𝓣 .C #answers·needs-few) (Sizing 𝓤 H A mem run))
-    (known-few : Triple 𝓤 (𝓣 .C #odif·list-few) (Listing 𝓤 H A mem run 512)) (known-many : Triple 𝓤 (𝓣 .C #odif·list-many) (Listing 𝓤 H A mem run 4096)) where
+    (known-few : Triple 𝓤 (𝓣 .C #odif·list-few) (Lister 𝓤 H A mem run 512)) (known-many : Triple 𝓤 (𝓣 .C #odif·list-many) (Lister 𝓤 H A mem run 4096)) where
   walks : Walks 𝓤 H A list.ended stayed (WpFn 𝓤 H (𝓣 .C) (𝓣 .Λ) code.function) (list.clauses 𝓤 H A mem run)
   walks = walked 𝓤 H A list.ended stayed (list.clauses 𝓤 H A mem run) (WpFn 𝓤 H (𝓣 .C) (𝓣 .Λ) code.function)
       (λ κs. (slice-vals, (EL.vals S.the-type S′.the-laws, (slice-vals, (slice-vals, tt)))))
@@ -321,5 +319,5 @@ list-spec 𝓤 H 𝓜 𝓖 𝓡 =
     (meets 𝓤 H (𝓖 .A) (givenOf 𝓤 H 𝓜 𝓖) (𝓜 .mem) (𝓡 .run) (tablesOf 𝓤 H 𝓜 (tables 𝓤 H 𝓜 𝓡 code.env))
     (cited 𝓤 H (Walking 𝓤 H (𝓖 .A) (𝓜 .mem) (𝓡 .run)) 𝓜 𝓡 code.env #octets·walk walk-def.routine code.calls-octets·walk (walk-thm.met 𝓤 H 𝓜 𝓖 𝓡))
     (cited 𝓤 H (Sizing 𝓤 H (𝓖 .A) (𝓜 .mem) (𝓡 .run)) 𝓜 𝓡 code.env #answers·needs-few needs-few-def.routine code.calls-answers·needs-few (needs-few-thm.met 𝓤 H 𝓜 𝓖 𝓡))
-    (cited 𝓤 H (Listing 𝓤 H (𝓖 .A) (𝓜 .mem) (𝓡 .run) 512) 𝓜 𝓡 code.env #odif·list-few few-def.routine code.calls-odif·list-few (few-thm.met 𝓤 H 𝓜 𝓖 𝓡))
-    (cited 𝓤 H (Listing 𝓤 H (𝓖 .A) (𝓜 .mem) (𝓡 .run) 4096) 𝓜 𝓡 code.env #odif·list-many many-def.routine code.calls-odif·list-many (many-thm.met 𝓤 H 𝓜 𝓖 𝓡)))
+    (cited 𝓤 H (Lister 𝓤 H (𝓖 .A) (𝓜 .mem) (𝓡 .run) 512) 𝓜 𝓡 code.env #odif·list-few few-def.routine code.calls-odif·list-few (few-thm.met 𝓤 H 𝓜 𝓖 𝓡))
+    (cited 𝓤 H (Lister 𝓤 H (𝓖 .A) (𝓜 .mem) (𝓡 .run) 4096) 𝓜 𝓡 code.env #odif·list-many many-def.routine code.calls-odif·list-many (many-thm.met 𝓤 H 𝓜 𝓖 𝓡)))
