@@ -4,9 +4,10 @@ use letters::Verdict;
 use octets::Outcome;
 use reading::Side;
 ghost use mathlib.Core.Path.{_≡_};
+ghost use mathlib.Core.Bool.{true, cond};
 ghost use mathlib.Core.List.{List};
 ghost use mathlib.Core.Bool.{true};
-ghost use Prim.Native.Nat.{_+_, _*_, _<_, _≤_};
+ghost use Prim.Native.Nat.{_+_, _*_, _/_, _<_, _≤_};
 ghost use lib.ListN.{length};
 ghost use Rattle.octets.specs.Walk.{walkOf};
 ghost use Rattle.tree.specs.Tree.{treeOf};
@@ -15,7 +16,7 @@ ghost use Rattle.index.specs.Rows.{rowWidth};
 ghost use Rattle.letters.specs.Lent.{rowsNeeded};
 ghost use Rattle.letters.specs.Scratch.{Gives};
 ghost use Rattle.answers.specs.Answers.{refusedCheck, CheckOutcome};
-ghost use Rattle.answers.specs.Asking.{Judged, Decides, contentAt, toldOf, Finds, ListsFlat};
+ghost use Rattle.answers.specs.Asking.{Judged, Decides, contentAt, toldOf, Finds, Sized, ListsFlat};
 
 const ROW_WIDTH: usize = 12;
 
@@ -102,6 +103,21 @@ fn is_few(stream: &[u8], headers: usize) -> bool
         return false;
     }
     letters::count_elements(stream) <= FEW
+}
+
+// The same for a stream that was walked: what the walk refused needs none.
+pub fn needs_few(stream: &[u8], walked: Outcome) -> bool
+    requires { ⌜ walkOf (now stream) ≡ walked ⌝ }
+    ensures { λ r. ⌜ Sized (now (stream .entry)) walked (cond r 512 4096) ⌝ }
+{
+    match walked {
+        Outcome::Ended { at: _, count } => is_few(stream, count),
+        Outcome::Refused {
+            number: _,
+            place: _,
+            count: _,
+        } => true,
+    }
 }
 
 // What the check answers to a stream that is refused.
@@ -374,7 +390,7 @@ fn list_judged(
 ) -> Listed
     requires { ⌜ Accepts (now stream) (treeOf (now stream)) ⌝ }
     requires { ⌜ Gives (now stream) (now rows) (now head) (now next) (now head2) (now next2) verdict ⌝ }
-    requires { ⌜ 12288 ≤ length (now flat) ⌝ }
+    requires { ⌜ 3 * rowsNeeded (now stream) ≤ length (now flat) ⌝ }
     ensures { λ r. ⌜ ListsFlat side (now (stream .entry)) (now (table .entry)) room r (now (table .exit)) (now (flat .exit)) ⌝ }
 {
     match verdict {
@@ -426,7 +442,7 @@ fn list_judged(
 fn list_few(stream: &[u8], side: Side, room: usize, table: &mut [u32], flat: &mut [u32]) -> Listed
     requires { ⌜ Accepts (now stream) (treeOf (now stream)) ⌝ }
     requires { ⌜ rowsNeeded (now stream) ≤ 512 ⌝ }
-    requires { ⌜ 12288 ≤ length (now flat) ⌝ }
+    requires { ⌜ 3 * rowsNeeded (now stream) ≤ length (now flat) ⌝ }
     ensures { λ r. ⌜ ListsFlat side (now (stream .entry)) (now (table .entry)) room r (now (table .exit)) (now (flat .exit)) ⌝ }
 {
     let mut rows = [0u32; 6144];
@@ -461,7 +477,7 @@ fn list_few(stream: &[u8], side: Side, room: usize, table: &mut [u32], flat: &mu
 
 fn list_many(stream: &[u8], side: Side, room: usize, table: &mut [u32], flat: &mut [u32]) -> Listed
     requires { ⌜ Accepts (now stream) (treeOf (now stream)) ⌝ }
-    requires { ⌜ 12288 ≤ length (now flat) ⌝ }
+    requires { ⌜ 3 * rowsNeeded (now stream) ≤ length (now flat) ⌝ }
     ensures { λ r. ⌜ ListsFlat side (now (stream .entry)) (now (table .entry)) room r (now (table .exit)) (now (flat .exit)) ⌝ }
 {
     let mut rows = [0u32; 49152];
@@ -494,21 +510,22 @@ fn list_many(stream: &[u8], side: Side, room: usize, table: &mut [u32], flat: &m
     )
 }
 
-// The reading list of a side, as numbers, for a list with room for so many records.
+// The reading list of a side of a stream that was walked, as numbers, for a list with room for so many records. The numbers have room for a
+// record of each element, and so tell how much scratch is enough.
 pub fn list_flat(
     stream: &[u8],
+    walked: Outcome,
     side: Side,
     room: usize,
     table: &mut [u32],
     flat: &mut [u32],
 ) -> Listed
-    requires { ⌜ 12288 ≤ length (now flat) ⌝ }
+    requires { ⌜ Sized (now stream) walked (length (now flat) / 3) ⌝ }
     ensures { λ r. ⌜ ListsFlat side (now (stream .entry)) (now (table .entry)) room r (now (table .exit)) (now (flat .exit)) ⌝ }
 {
-    match octets::walk(stream) {
+    match walked {
         Outcome::Ended { at: _, count: _ } => {
-            let elements = letters::count_elements(stream);
-            if elements <= FEW {
+            if flat.len() / 3 <= FEW {
                 return list_few(stream, side, room, table, flat);
             }
             list_many(stream, side, room, table, flat)
