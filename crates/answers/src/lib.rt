@@ -15,7 +15,7 @@ ghost use Rattle.tree.specs.Accepts.{Accepts};
 ghost use Rattle.index.specs.Rows.{rowWidth};
 ghost use Rattle.letters.specs.Lent.{rowsNeeded};
 ghost use Rattle.letters.specs.Scratch.{Gives};
-ghost use Rattle.answers.specs.Answers.{CheckOutcome};
+ghost use Rattle.answers.specs.Answers.{refusedCheck, CheckOutcome};
 ghost use Rattle.answers.specs.Asking.{Judged, Decides, contentAt, toldOf, Finds, Sized, ListsFlat};
 
 const ROW_WIDTH: usize = 12;
@@ -24,6 +24,10 @@ const ROW_WIDTH: usize = 12;
 const CONTENT: usize = 10;
 
 const TEXT_UNIT: u32 = 3;
+
+const TOO_FEW_ROWS: u32 = 16;
+
+const LIST_TOO_SHORT: u32 = 19;
 
 // Scratch for so many elements is soon cleared, and most letters have no more.
 const FEW: usize = 512;
@@ -116,6 +120,18 @@ pub fn needs_few(stream: &[u8], walked: Outcome) -> bool
     }
 }
 
+// What the check answers to a stream that is refused.
+pub fn refused_check(number: u32, place: u32, headers: u32) -> Checked
+    ensures { λ r. ⌜ r ≡ refusedCheck number place headers ⌝ }
+{
+    Checked {
+        number,
+        place,
+        headers,
+        elements: 0,
+    }
+}
+
 // The check of a stream that was judged: 16, or the table.
 fn check_judged(
     stream: &[u8],
@@ -129,27 +145,17 @@ fn check_judged(
     ensures { λ r. ⌜ CheckOutcome (now (stream .entry)) (now (table .entry)) r (now (table .exit)) ⌝ }
 {
     match verdict {
-        Verdict::Refused { number, place } => Checked {
-            number: number as u32,
-            place: place as u32,
-            headers,
-            elements: 0,
-        },
-        Verdict::Accepted { count } => {
-            if table.len() / ROW_WIDTH < count {
-                return Checked {
-                    number: 16,
-                    place: 0,
-                    headers,
-                    elements: 0,
-                };
+        Verdict::Refused { number, place } => refused_check(number as u32, place as u32, headers),
+        Verdict::Accepted { count: elements } => {
+            if table.len() / ROW_WIDTH < elements {
+                return refused_check(TOO_FEW_ROWS, 0, headers);
             }
-            letters::put_table(rows, count, table);
+            letters::put_table(rows, elements, table);
             Checked {
                 number: 0,
                 place: 0,
                 headers,
-                elements: count as u32,
+                elements: elements as u32,
             }
         }
     }
@@ -397,7 +403,7 @@ fn list_judged(
         Verdict::Accepted { count } => {
             if table.len() / ROW_WIDTH < count {
                 return Listed {
-                    number: 16,
+                    number: TOO_FEW_ROWS,
                     place: 0,
                     elements: 0,
                     matches: 0,
@@ -417,7 +423,7 @@ fn list_judged(
             );
             if room < matches {
                 return Listed {
-                    number: 19,
+                    number: LIST_TOO_SHORT,
                     place: 0,
                     elements: count as u32,
                     matches: 0,

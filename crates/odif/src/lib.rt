@@ -15,6 +15,8 @@ ghost use mathlib.Core.List.{List};
 ghost use Rattle.answers.specs.Answers.{CheckOutcome, NormalOutcome, ListOutcome, fetched, whyNot, Fetches};
 ghost use Rattle.answers.specs.Asking.{Sized};
 
+const NO_UNIT: u32 = 20;
+
 // Checks a stream and fills the element table, twelve numbers a row. The viewer asks this first.
 pub fn check(stream: &[u8], table: &mut [u32]) -> Checked
     ensures { λ r. ⌜ CheckOutcome (now (stream .entry)) (now (table .entry)) r (now (table .exit)) ⌝ }
@@ -25,12 +27,7 @@ pub fn check(stream: &[u8], table: &mut [u32]) -> Checked
             number,
             place,
             count,
-        } => Checked {
-            number: number as u32,
-            place: place as u32,
-            headers: count as u32,
-            elements: 0,
-        },
+        } => answers::refused_check(number as u32, place as u32, count as u32),
     }
 }
 
@@ -151,7 +148,7 @@ fn locate(stream: &[u8], element: usize) -> Located
             past: 0,
         },
         Found::NoUnit => Located {
-            number: 20,
+            number: NO_UNIT,
             place: 0,
             first: 0,
             past: 0,
