@@ -22,9 +22,10 @@ use Rattle.letters.specs.declared.Verdict.{Verdict}
 use Rattle.letters.specs.declared.Verdict.the-variants.{Accepted, Refused}
 use Rattle.letters.specs.Letter.{itemsOfStream, letter, refusal}
 use Rattle.letters.specs.Lent.{rowsNeeded}
-use Rattle.letters.specs.Scratch.{Saying, Filled, Stopped, Gives}
+use Rattle.judging.specs.Held.{Saying}
+use Rattle.letters.specs.Scratch.{Filled, Stopped, Gives}
 use Rattle.letters.specs.Table.{Apart}
-use Rattle.letters.proofs.Rows.{saying-length, cell-at}
+use Rattle.judging.proofs.Rows.{saying-length, cell-at}
 use Rattle.letters.proofs.Apart.{accepted-apart}
 use Rattle.answers.specs.Answers.{letterIn, rowsIn}
 use Rattle.answers.specs.Asking.{Judged, Decides}

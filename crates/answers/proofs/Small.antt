@@ -14,7 +14,8 @@ use Rattle.octets.specs.declared.Outcome.{Outcome}
 use Rattle.octets.specs.declared.Outcome.the-variants.{Ended, Refused}
 use Rattle.octets.specs.Items.{Items, count}
 use Rattle.octets.specs.Walk.{streamLimit, deepest, End, ends, stops, run, answerOf, walkOf}
-use Rattle.octets.proofs.Walks.{cond-holds, EndOk, run-ok}
+use Rattle.headers.proofs.Lies.{cond-holds}
+use Rattle.octets.proofs.Walks.{EndOk, run-ok}
 use Rattle.octets.proofs.Numbers.{Stops, run-stops, Before, nothing, stands, run-before}
 use Rattle.tree.specs.Tree.{Tree, empty, leaf, branch, treeOf}
 use Rattle.runs.proofs.Laws.{stream-within, stream-fine, stream-count, count-within}

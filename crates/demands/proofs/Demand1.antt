@@ -11,10 +11,10 @@ use lib.ListN.{length, getElem?}
 use borrow.Author.Tests.{ne-eqb, le-leb, lt-leb}
 use Rattle.octets.specs.declared.Outcome.{Outcome}
 use Rattle.octets.specs.declared.Outcome.the-variants.{Ended, Refused}
-use Rattle.octets.specs.First.{isIn}
+use Rattle.headers.specs.First.{isIn}
 use Rattle.octets.specs.Items.{count}
 use Rattle.octets.specs.Walk.{streamLimit, deepest, End, ends, stops, run, answerOf, told, walkOf}
-use Rattle.octets.proofs.Walks.{cond-holds}
+use Rattle.headers.proofs.Lies.{cond-holds}
 use Rattle.octets.proofs.Half.{half}
 use Rattle.tree.specs.Tree.{treeOf}
 use Rattle.elements.specs.Shape.{edition1988}

@@ -6,9 +6,9 @@ use mathlib.Core.List.{List, [], _∷_}
 use Prim.Native.Nat.{ℕ}
 use native.Mathlib.Omega.{arith}
 use lib.ListN.{length, getD, replicate}
-use Rattle.octets.specs.First.{permits, formAllowed}
-use Rattle.octets.specs.Lengths.{bigEndianFrom, misfits}
-use Rattle.octets.specs.Head.{definiteAt, indefiniteAt, longAt, byFirst, lengthAt, itemAt, closingAt, headAt}
+use Rattle.headers.specs.First.{permits, formAllowed}
+use Rattle.headers.specs.Lengths.{bigEndianFrom, misfits}
+use Rattle.headers.specs.Head.{definiteAt, indefiniteAt, longAt, byFirst, lengthAt, itemAt, closingAt, headAt}
 use Rattle.octets.specs.Walk.{runFor, run, walkOf}
 use Rattle.names.specs.Names.{digit, grouped, isIdentifier, digits as allDigits, isPortion, same}
 use Rattle.normal.specs.Length.{digits}

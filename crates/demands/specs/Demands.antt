@@ -8,7 +8,7 @@ use mathlib.Core.Option.{some}
 use Prim.Native.Nat.{ℕ, suc, _+_, _/_, _<_, _≤_}
 use lib.ListN.{length, getElem?}
 use lib.Seq.{slice}
-use Rattle.octets.specs.First.{isIn}
+use Rattle.headers.specs.First.{isIn}
 use Rattle.octets.specs.Items.{count}
 use Rattle.octets.specs.Walk.{streamLimit, deepest}
 use Rattle.tree.specs.Tree.{Tree, empty, leaf, branch, treeOf}

@@ -7,7 +7,7 @@ use mathlib.Core.List.{List, [], _∷_}
 use Prim.Native.Nat.{ℕ, _+_, _*_, _<_, _≤_}
 use lib.Dec.{ltb}
 use lib.ListN.{length, getD, getElem?}
-use Rattle.octets.specs.First.{isIn}
+use Rattle.headers.specs.First.{isIn}
 use Rattle.runs.specs.declared.Run.{Run}
 use Rattle.runs.specs.Runs.{treeIn, Fine}
 use Rattle.contents.specs.declared.Span.{Span}
@@ -19,7 +19,7 @@ use Rattle.index.specs.Rows.{identifierColumn, logicalColumn, kindAt, firstAt, 
 use Rattle.index.specs.Index.{Indexed}
 use Rattle.elements.specs.Element.{Element}
 use Rattle.elements.specs.Says.{portionsRun}
-use Rattle.letters.specs.Judges.{bytesIn}
+use Rattle.judging.specs.Judges.{bytesIn}
 use Rattle.letters.specs.Table.{Apart}
 use Rattle.reading.specs.declared.Match.{Match}
 use Rattle.reading.specs.declared.Side.{Side}
