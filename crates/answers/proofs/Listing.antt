@@ -1,15 +1,14 @@
 -- The lister's answer, table and numbers, case by case: what the stream is decides them, and the matches were counted before. Assumes
 -- nothing.
 use mathlib.Core.Path.{_≡_, refl, ap, sym, _∙_}
-use mathlib.Core.Bool.{Bool, true, false, cond}
-use mathlib.Core.List.{List, [], _∷_, _++_}
-use Prim.Native.Nat.{ℕ, _*_, _/_, _<_, _≤_}
+use mathlib.Core.Bool.{true, false}
+use mathlib.Core.List.{List, [], _++_}
+use Prim.Native.Nat.{ℕ, _/_, _<_, _≤_}
 use native.Mathlib.Omega.{arith}
 use lib.Dec.{eqb, ltb}
 use lib.ListN.{length, drop}
 use borrow.Author.Tests.{ne-eqb, lt-ltb, le-ltb}
 use borrow.Table.Steps.{cases}
-use Rattle.headers.specs.First.{isIn}
 use Rattle.index.specs.Rows.{rowWidth}
 use Rattle.elements.specs.Shape.{edition1988}
 use Rattle.elements.specs.Element.{Element}
