@@ -6,6 +6,8 @@ use odif::Listed;
 use reading::Match;
 use reading::Side;
 use text::LINE_ROOM;
+ghost use Rattle.odif.specs.Answers.{ListOutcome};
+ghost use Rattle.hexlister.specs.Output.{lentList};
 
 // The lent table has 1,024 rows of 12 numbers, and the lent list 1,024 records.
 const TABLE_ROOM: usize = 12288;
@@ -27,7 +29,9 @@ struct SideList {
 }
 
 // Asks the list of a side on an array of its own, and hands it back by value: whoever calls this needs no reference to a record.
-fn list_side(stream: &[u8], side: Side, table: &mut [u32]) -> SideList {
+fn list_side(stream: &[u8], side: Side, table: &mut [u32]) -> SideList
+    ensures { λ r. ⌜ ListOutcome side (now (stream .entry)) (now (table .entry)) lentList (r .answer) (now (table .exit)) (r .records) ⌝ }
+{
     let mut records = [Match {
         element: 0,
         portion: 0,
