@@ -10,6 +10,7 @@ use libc::STDERR_FILENO;
 use libc::STDIN_FILENO;
 use libc::STDOUT_FILENO;
 use page::PAGE_ROOM;
+ghost use Rattle.hexlister.specs.Inputs.{HeardIn};
 
 // What reading to the end gave.
 enum Input {
@@ -31,7 +32,9 @@ fn is_stopped(state: State) -> bool {
 
 // Reads until the input ends or a line cannot be read. A proved loop has to end, and nothing says that the input does: so it counts its
 // turns down, from a number that no run uses up.
-fn read_input(octets: &mut [u8; STREAM_LIMIT]) -> Input {
+fn read_input(octets: &mut [u8; STREAM_LIMIT]) -> Input
+    ensures { λ r. ⌜ HeardIn (now (octets .entry)) r (now (octets .exit)) ⌝ }
+{
     let mut block = io::buffer();
     let mut state = hex::start();
     let mut turns = u64::MAX;
@@ -58,7 +61,7 @@ fn main() {
     match read_input(&mut octets) {
         Input::Ended(state) => {
             let mut page = [0u8; PAGE_ROOM];
-            let n = page::put_output(&mut page, hex::finish(state), &octets);
+            let n = page::put_output(&mut page, state, &octets);
             io::write_all(STDOUT_FILENO, &page[..n]);
         }
         Input::Failed => {

@@ -1,13 +1,22 @@
 // The lister's whole output, put line by line on a page that has room for the longest.
 use hex::Read;
 use hex::STREAM_LIMIT;
+use hex::State;
 use odif::Checked;
 use odif::Listed;
 use reading::Match;
 use reading::Side;
 use text::LINE_ROOM;
-ghost use Rattle.odif.specs.Answers.{ListOutcome};
-ghost use Rattle.hexlister.specs.Output.{lentList};
+ghost use mathlib.Core.Path.{_≡_};
+ghost use mathlib.Core.List.{List};
+ghost use Prim.Native.Nat.{ℕ, _+_, _*_, _<_, _≤_};
+ghost use lib.ListN.{length, take};
+ghost use Rattle.text.specs.Lines.{accepted, refused, unreadable, Written};
+ghost use Rattle.index.specs.Rows.{rowWidth};
+ghost use Rattle.odif.specs.Answers.{checked, matchesIn, CheckOutcome, ListOutcome};
+ghost use Rattle.hexlister.specs.Output.{lentTable, lentList, matchLine, matchLines, acceptedLines, streamLines, output};
+ghost use Rattle.hexlister.specs.Pages.{lineRoom, sideRoom, pageRoom, Puts, rowLine, rowLines};
+ghost use Rattle.hexlister.specs.Inputs.{Leads};
 
 // The lent table has 1,024 rows of 12 numbers, and the lent list 1,024 records.
 const TABLE_ROOM: usize = 12288;
@@ -19,7 +28,7 @@ const ROW_WIDTH: usize = 12;
 // Where a row has the bounds of its element.
 const WHOLE: usize = 2;
 
-// Room for one line of the stream, one for each row, and one for each record of either side.
+// Room for a line of the whole stream, one for each row, and one for each record of either side.
 pub const PAGE_ROOM: usize = 393344;
 
 // What the list of a side answers, and the list.
@@ -41,40 +50,37 @@ fn list_side(stream: &[u8], side: Side, table: &mut [u32]) -> SideList
     SideList { answer, records }
 }
 
-// Puts the first bytes of a line on the page, from a place on. Tells the place past them.
-fn append(page: &mut [u8; PAGE_ROOM], at: usize, line: &[u8; LINE_ROOM], n: usize) -> usize {
+// Puts a line on the page, from a place on. Tells the place past it.
+fn append(page: &mut [u8], at: usize, line: &[u8]) -> usize
+    requires { ⌜ (length (now line) ≤ lineRoom) × (at + lineRoom ≤ length (now page)) ⌝ }
+    ensures { λ r. ⌜ Puts (now (line .entry)) (now (page .entry)) at r (now (page .exit)) lineRoom ⌝ }
+{
     let mut i = 0;
-    while i < n {
+    while i < line.len() {
         page[at + i] = line[i];
         i += 1;
     }
-    at + n
+    at + i
 }
 
-fn put_element(
-    page: &mut [u8; PAGE_ROOM],
-    at: usize,
-    table: &[u32; TABLE_ROOM],
-    number: usize,
-) -> usize {
+fn put_element(page: &mut [u8], at: usize, table: &[u32], number: usize) -> usize
+    requires { ⌜ (number < 1024) × (number * rowWidth + rowWidth ≤ length (now table)) × (at + lineRoom ≤ length (now page)) ⌝ }
+    ensures { λ r. ⌜ Puts (rowLine (now (table .entry)) number) (now (page .entry)) at r (now (page .exit)) lineRoom ⌝ }
+{
     let row = number * ROW_WIDTH;
+    let first = table[row + WHOLE];
+    let past = table[row + WHOLE + 1];
+    let kind = table[row];
     let mut line = [0u8; LINE_ROOM];
-    let n = text::put_element(
-        &mut line,
-        number as u32,
-        table[row + WHOLE],
-        table[row + WHOLE + 1],
-        table[row],
-    );
-    append(page, at, &line, n)
+    let n = text::put_element(&mut line, number as u32, first, past, kind);
+    append(page, at, &line[..n])
 }
 
-fn put_elements(
-    page: &mut [u8; PAGE_ROOM],
-    at: usize,
-    table: &[u32; TABLE_ROOM],
-    count: usize,
-) -> usize {
+// The lines of the first rows.
+fn put_elements(page: &mut [u8], at: usize, table: &[u32], count: usize) -> usize
+    requires { ⌜ (count ≤ 1024) × (count * rowWidth ≤ length (now table)) × (at + sideRoom ≤ length (now page)) ⌝ }
+    ensures { λ r. ⌜ Puts (rowLines (now (table .entry)) 0 count) (now (page .entry)) at r (now (page .exit)) sideRoom ⌝ }
+{
     let mut here = at;
     let mut i = 0;
     while i < count {
@@ -84,27 +90,34 @@ fn put_elements(
     here
 }
 
-fn put_match(page: &mut [u8; PAGE_ROOM], at: usize, side: Side, m: Match) -> usize {
+fn put_match(page: &mut [u8], at: usize, side: Side, m: Match) -> usize
+    requires { ⌜ at + lineRoom ≤ length (now page) ⌝ }
+    ensures { λ r. ⌜ Puts (matchLine side m) (now (page .entry)) at r (now (page .exit)) lineRoom ⌝ }
+{
     let mut line = [0u8; LINE_ROOM];
     match side {
         Side::Layout => {
             let n = text::put_layout(&mut line, m.element, m.portion, m.unit);
-            append(page, at, &line, n)
+            append(page, at, &line[..n])
         }
         Side::Logical => {
             let n = text::put_logical(&mut line, m.element, m.portion, m.unit);
-            append(page, at, &line, n)
+            append(page, at, &line[..n])
         }
     }
 }
 
+// The lines of the first records.
 fn put_matches(
-    page: &mut [u8; PAGE_ROOM],
+    page: &mut [u8],
     at: usize,
     side: Side,
     records: [Match; RECORDS],
     count: usize,
-) -> usize {
+) -> usize
+    requires { ⌜ (count ≤ 1024) × (at + sideRoom ≤ length (now page)) ⌝ }
+    ensures { λ r. ⌜ Puts (matchLines side (take count records)) (now (page .entry)) at r (now (page .exit)) sideRoom ⌝ }
+{
     let mut here = at;
     let mut i = 0;
     while i < count {
@@ -115,52 +128,74 @@ fn put_matches(
     here
 }
 
-fn put_side(
-    page: &mut [u8; PAGE_ROOM],
-    at: usize,
-    side: Side,
-    stream: &[u8],
-    table: &mut [u32],
-) -> usize {
+// The matches of a side of a stream that the check has accepted.
+fn put_side(page: &mut [u8], at: usize, side: Side, stream: &[u8], table: &mut [u32]) -> usize
+    requires { ⌜ (at + sideRoom ≤ length (now page)) × ((length (now table) ≡ 12288) × (checked (now stream) lentTable .number ≡ 0)) ⌝ }
+    ensures { λ r. ⌜ Puts (matchLines side (matchesIn side (now (stream .entry)))) (now (page .entry)) at r (now (page .exit)) sideRoom ⌝ }
+{
     let found = list_side(stream, side, table);
+    let answer = found.answer;
+    let count = answer.matches as usize;
     let records = found.records;
-    put_matches(page, at, side, records, found.answer.matches as usize)
+    put_matches(page, at, side, records, count)
 }
 
-fn put_accepted(page: &mut [u8; PAGE_ROOM], elements: u32, headers: u32) -> usize {
+fn put_accepted(page: &mut [u8], elements: u32, headers: u32) -> usize
+    requires { ⌜ lineRoom ≤ length (now page) ⌝ }
+    ensures { λ r. ⌜ Puts (accepted elements headers) (now (page .entry)) 0 r (now (page .exit)) lineRoom ⌝ }
+{
     let mut line = [0u8; LINE_ROOM];
     let n = text::put_accepted(&mut line, elements, headers);
-    append(page, 0, &line, n)
+    append(page, 0, &line[..n])
 }
 
-fn put_refused(page: &mut [u8; PAGE_ROOM], number: u32, place: u32) -> usize {
+fn put_refused(page: &mut [u8], number: u32, place: u32) -> usize
+    requires { ⌜ lineRoom ≤ length (now page) ⌝ }
+    ensures { λ r. ⌜ Puts (refused number place) (now (page .entry)) 0 r (now (page .exit)) lineRoom ⌝ }
+{
     let mut line = [0u8; LINE_ROOM];
     let n = text::put_refused(&mut line, number, place);
-    append(page, 0, &line, n)
+    append(page, 0, &line[..n])
 }
 
-fn put_unreadable(page: &mut [u8; PAGE_ROOM], number: u64) -> usize {
+fn put_unreadable(page: &mut [u8], number: u64) -> usize
+    requires { ⌜ lineRoom ≤ length (now page) ⌝ }
+    ensures { λ r. ⌜ Puts (unreadable number) (now (page .entry)) 0 r (now (page .exit)) lineRoom ⌝ }
+{
     let mut line = [0u8; LINE_ROOM];
     let n = text::put_unreadable(&mut line, number);
-    append(page, 0, &line, n)
+    append(page, 0, &line[..n])
 }
 
-// What a stream is: one line if it is refused; else its elements, and the matches of both sides.
-fn put_stream(page: &mut [u8; PAGE_ROOM], stream: &[u8]) -> usize {
+// A stream that the check has accepted: its elements, and the matches of both sides.
+fn put_letter(page: &mut [u8], stream: &[u8], answer: Checked, table: &mut [u32]) -> usize
+    requires { ⌜ (length (now page) ≡ pageRoom) × (answer .number ≡ 0) × CheckOutcome (now stream) lentTable answer (now table) ⌝ }
+    ensures { λ r. ⌜ Puts (acceptedLines (answer .elements) (answer .headers) (now (stream .entry))) (now (page .entry)) 0 r (now (page .exit)) pageRoom ⌝ }
+{
+    let head = put_accepted(page, answer.elements, answer.headers);
+    let elements = put_elements(page, head, table, answer.elements as usize);
+    let layout = put_side(page, elements, Side::Layout, stream, table);
+    put_side(page, layout, Side::Logical, stream, table)
+}
+
+// What a stream is: one line if it is refused.
+fn put_stream(page: &mut [u8], stream: &[u8]) -> usize
+    requires { ⌜ length (now page) ≡ pageRoom ⌝ }
+    ensures { λ r. ⌜ Puts (streamLines (now (stream .entry))) (now (page .entry)) 0 r (now (page .exit)) pageRoom ⌝ }
+{
     let mut table = [0u32; TABLE_ROOM];
     let answer = odif::check(stream, &mut table);
     if answer.number != 0 {
         return put_refused(page, answer.number, answer.place);
     }
-    let head = put_accepted(page, answer.elements, answer.headers);
-    let elements = put_elements(page, head, &table, answer.elements as usize);
-    let layout = put_side(page, elements, Side::Layout, stream, &mut table);
-    put_side(page, layout, Side::Logical, stream, &mut table)
+    put_letter(page, stream, answer, &mut table)
 }
 
-// The whole output for a text that was read. Tells its length.
-pub fn put_output(page: &mut [u8; PAGE_ROOM], read: Read, octets: &[u8; STREAM_LIMIT]) -> usize {
-    match read {
+// The whole output for a text that was read, at the front of the page. Tells its length.
+pub fn put_output(page: &mut [u8; PAGE_ROOM], state: State, octets: &[u8; STREAM_LIMIT]) -> usize
+    ensures { λ r. ⌜ ((text lent : List ℕ) → length lent ≡ 32768 → Leads text lent state (now (octets .entry)) → Written (output text) (now (page .entry)) r (now (page .exit))) × (r ≤ pageRoom) ⌝ }
+{
+    match hex::finish(state) {
         Read::Stream { length } => put_stream(page, hex::part(octets, length)),
         Read::Unreadable { line } => put_unreadable(page, line),
     }

@@ -1,0 +1,4 @@
+-- lines that are put one after another on a page
+pub mod Pages
+-- what the answers of the check and of the list give to print
+pub mod Letters
