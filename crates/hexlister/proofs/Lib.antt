@@ -2,3 +2,5 @@
 pub mod Pages
 -- what the answers of the check and of the list give to print
 pub mod Letters
+-- what is printed of what was read
+pub mod Inputs

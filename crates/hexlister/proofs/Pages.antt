@@ -20,6 +20,10 @@ store-next page line at i h =
     let e : at + (i + 1) ≡ at + i + 1 = omega arith in
     rw e (sym (sets-next page (at + i) line i h))
 
+-- the same bytes
+pub puts-as : {bytes same page after : List ℕ} {at told room : ℕ} → bytes ≡ same → Puts bytes page at told after room → Puts same page at told after room
+puts-as {bytes} {same} {page} {after} {at} {told} {room} e p = subst (λ (l : List ℕ). Puts l page at told after room) e p
+
 -- what is put after something else
 pub puts-join :
     {xs ys page middle after : List ℕ} {at here told room more : ℕ} →
@@ -42,7 +46,7 @@ pub puts-line :
     Puts line page at told after lineRoom
 puts-line {line} {lent} {array} {page} {after} {n} {at} {told} w p =
     let front : take n array ≡ line = rw (w .bytes, w .count) (take-append-seam line _) in
-    subst (λ (bytes : List ℕ). Puts bytes page at told after lineRoom) front p
+    puts-as front p
 
 -- nothing was put yet
 pub puts-nothing : (page : List ℕ) (at : ℕ) → Puts [] page at at page 0
@@ -60,7 +64,7 @@ puts-more :
     xs ++ line ≡ zs →
     Puts zs page at told after (lineRoom * (count + 1))
 puts-more count {xs} {line} {zs} {page} {middle} {after} {at} {here} {told} p q e =
-    puts-within (subst (λ (bytes : List ℕ). Puts bytes page at told after (lineRoom * count + lineRoom)) e (puts-join p q)) (omega arith)
+    puts-within (puts-as e (puts-join p q)) (omega arith)
 
 -- the lines of one row more
 rows-more : (table : List ℕ) (number count : ℕ) → rowLines table number count ++ rowLine table (number + count) ≡ rowLines table number (suc count)

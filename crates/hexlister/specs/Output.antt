@@ -39,13 +39,13 @@ matchLine Logical m = logical (m .element) (m .portion) (m .unit)
 unfoldable pub matchLines : Side → List Match → List ℕ
 matchLines side ms = flatten (map (matchLine side) ms)
 
--- "accepted, elements, headers; then element, first, past, kind; then layout matches, then logical ones"
-abbrev pub acceptedLines : (elements headers : ℕ) → (s : List ℕ) → List ℕ
-acceptedLines elements headers s =
-    accepted elements headers
-    ++ elementLines 0 (rowsIn s)
-    ++ matchLines Layout (matchesIn Layout s)
-    ++ matchLines Logical (matchesIn Logical s)
+-- "then layout matches, then logical ones"
+abbrev pub sideLines : (s : List ℕ) → List ℕ
+sideLines s = matchLines Layout (matchesIn Layout s) ++ matchLines Logical (matchesIn Logical s)
+
+-- "accepted, elements, headers; then element, first, past, kind"; then the matches
+unfoldable pub acceptedLines : (elements headers : ℕ) → (s : List ℕ) → List ℕ
+acceptedLines elements headers s = accepted elements headers ++ elementLines 0 (rowsIn s) ++ sideLines s
 
 -- "A refused stream prints `refused` with number and place"
 abbrev pub answerLines : Checked → (s : List ℕ) → List ℕ

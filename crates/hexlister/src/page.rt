@@ -8,15 +8,15 @@ use reading::Match;
 use reading::Side;
 use text::LINE_ROOM;
 ghost use mathlib.Core.Path.{_≡_};
-ghost use mathlib.Core.List.{List};
-ghost use Prim.Native.Nat.{ℕ, _+_, _*_, _<_, _≤_};
+ghost use Prim.Native.Nat.{_+_, _*_, _<_, _≤_};
 ghost use lib.ListN.{length, take};
 ghost use Rattle.text.specs.Lines.{accepted, refused, unreadable, Written};
 ghost use Rattle.index.specs.Rows.{rowWidth};
 ghost use Rattle.odif.specs.Answers.{checked, matchesIn, CheckOutcome, ListOutcome};
-ghost use Rattle.hexlister.specs.Output.{lentTable, lentList, matchLine, matchLines, acceptedLines, streamLines, output};
+ghost use Rattle.hexlister.specs.Output.{lentTable, lentList, matchLine, matchLines, sideLines, acceptedLines, streamLines};
 ghost use Rattle.hexlister.specs.Pages.{lineRoom, sideRoom, pageRoom, Puts, rowLine, rowLines};
-ghost use Rattle.hexlister.specs.Inputs.{Leads};
+ghost use Rattle.hexlister.specs.Inputs.{readLines};
+ghost use Rattle.hex.specs.Blocks.{finished};
 
 // The lent table has 1,024 rows of 12 numbers, and the lent list 1,024 records.
 const TABLE_ROOM: usize = 12288;
@@ -130,7 +130,7 @@ fn put_matches(
 
 // The matches of a side of a stream that the check has accepted.
 fn put_side(page: &mut [u8], at: usize, side: Side, stream: &[u8], table: &mut [u32]) -> usize
-    requires { ⌜ (at + sideRoom ≤ length (now page)) × ((length (now table) ≡ 12288) × (checked (now stream) lentTable .number ≡ 0)) ⌝ }
+    requires { ⌜ (at + sideRoom ≤ length (now page)) × (length (now table) ≡ 12288) × (checked (now stream) lentTable .number ≡ 0) ⌝ }
     ensures { λ r. ⌜ Puts (matchLines side (matchesIn side (now (stream .entry)))) (now (page .entry)) at r (now (page .exit)) sideRoom ⌝ }
 {
     let found = list_side(stream, side, table);
@@ -167,15 +167,23 @@ fn put_unreadable(page: &mut [u8], number: u64) -> usize
     append(page, 0, &line[..n])
 }
 
-// A stream that the check has accepted: its elements, and the matches of both sides.
+// The matches of both sides of such a stream.
+fn put_sides(page: &mut [u8], at: usize, stream: &[u8], table: &mut [u32]) -> usize
+    requires { ⌜ (at + sideRoom + sideRoom ≤ length (now page)) × (length (now table) ≡ 12288) × (checked (now stream) lentTable .number ≡ 0) ⌝ }
+    ensures { λ r. ⌜ Puts (sideLines (now (stream .entry))) (now (page .entry)) at r (now (page .exit)) (sideRoom + sideRoom) ⌝ }
+{
+    let layout = put_side(page, at, Side::Layout, stream, table);
+    put_side(page, layout, Side::Logical, stream, table)
+}
+
+// All lines of such a stream, by the check's answer and the table that it filled.
 fn put_letter(page: &mut [u8], stream: &[u8], answer: Checked, table: &mut [u32]) -> usize
     requires { ⌜ (length (now page) ≡ pageRoom) × (answer .number ≡ 0) × CheckOutcome (now stream) lentTable answer (now table) ⌝ }
     ensures { λ r. ⌜ Puts (acceptedLines (answer .elements) (answer .headers) (now (stream .entry))) (now (page .entry)) 0 r (now (page .exit)) pageRoom ⌝ }
 {
     let head = put_accepted(page, answer.elements, answer.headers);
     let elements = put_elements(page, head, table, answer.elements as usize);
-    let layout = put_side(page, elements, Side::Layout, stream, table);
-    put_side(page, layout, Side::Logical, stream, table)
+    put_sides(page, elements, stream, table)
 }
 
 // What a stream is: one line if it is refused.
@@ -193,7 +201,7 @@ fn put_stream(page: &mut [u8], stream: &[u8]) -> usize
 
 // The whole output for a text that was read, at the front of the page. Tells its length.
 pub fn put_output(page: &mut [u8; PAGE_ROOM], state: State, octets: &[u8; STREAM_LIMIT]) -> usize
-    ensures { λ r. ⌜ ((text lent : List ℕ) → length lent ≡ 32768 → Leads text lent state (now (octets .entry)) → Written (output text) (now (page .entry)) r (now (page .exit))) × (r ≤ pageRoom) ⌝ }
+    ensures { λ r. ⌜ Written (readLines (finished state) (now (octets .entry))) (now (page .entry)) r (now (page .exit)) ⌝ }
 {
     match hex::finish(state) {
         Read::Stream { length } => put_stream(page, hex::part(octets, length)),

@@ -25,7 +25,7 @@ array-share-prefix-page c = ?
 
 -- src/main.rt:65:42
 slice-aggregate-write-all : tie.Need-slice-aggregate-write-all
-slice-aggregate-write-all c = ?
+slice-aggregate-write-all c = search needs
 
 -- src/main.rt:65:13
 write-all-requires : tie.Need-write-all-requires

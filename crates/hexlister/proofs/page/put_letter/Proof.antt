@@ -1,43 +1,53 @@
+-- `page::put_letter` meets its contract: the first line, the lines of the rows that the check filled, and those of both sides are put one after
+-- the other. Assumes nothing.
+use native.Mathlib.Omega.{arith}
+use denote.Ref.{now}
+use Rattle.hexlister.specs.Output.{acceptedLines}
+use Rattle.hexlister.proofs.Pages.{puts-as, puts-join, puts-within}
+use Rattle.hexlister.proofs.Letters.{checks-all}
 use borrow.Author.Needs.{needs}
 use Rattle.hexlister.proofs.page.put_letter.Statement.{statement}
 use Rattle.hexlister.proofs.page.put_letter.Tie as tie
-use Rattle.hexlister.proofs.page.put_letter.Reads as reads
-use Rattle.hexlister.proofs.page.put_letter.Lts as lts
-use Rattle.hexlister.proofs.page.put_accepted.Reads as put-accepted-reads
-use Rattle.hexlister.proofs.page.put_elements.Reads as put-elements-reads
-use Rattle.hexlister.proofs.page.put_side.Reads as put-side-reads
 
--- src/page.rt:175:9
 put-accepted-requires : tie.Need-put-accepted-requires
 put-accepted-requires c κs = search needs
 
--- src/page.rt:176:52
 cast-put-elements : tie.Need-cast-put-elements
 cast-put-elements c = search needs
 
--- src/page.rt:176:9
 put-elements-requires : tie.Need-put-elements-requires
-put-elements-requires c κs = ?
+put-elements-requires c κs =
+    let start = c .before .before .before .before .before .before .before .before .before .before in
+    let a = start .args in
+    let all = checks-all (now (a .stream)) (start .pre .1) (start .pre .2) in
+    let head = c .before .before .before .before .before .put-accepted in
+    let put = head .ensures in
+    (all .few, omega (arith, all .few, all .full), omega (arith, put .past, put .within, head .kept .0, start .pre .0))
 
--- src/page.rt:177:9
-put-side-requires : tie.Need-put-side-requires
-put-side-requires c κs = ?
+put-sides-requires : tie.Need-put-sides-requires
+put-sides-requires c κs =
+    let start = c .before .before .before .before .before .before .before .before .before .before .before .before .before .before .before in
+    let a = start .args in
+    let all = checks-all (now (a .stream)) (start .pre .1) (start .pre .2) in
+    let head = c .before .before .before .before .before .before .before .before .before .before .put-accepted in
+    let elements = c .before .before .before .before .put-elements in
+    let one = head .ensures in
+    let two = elements .ensures in
+    (omega (arith, one .past, one .within, two .past, two .within, head .kept .0, elements .kept .0, start .pre .0), all .full, all .accepted)
 
--- src/page.rt:178:5
-put-side-requires-2 : tie.Need-put-side-requires-2
-put-side-requires-2 c κs = ?
-
--- src/page.rt:171:1
 same-length : tie.Need-same-length
 same-length c = search needs
 
--- src/page.rt:171:1
 same-length-2 : tie.Need-same-length-2
 same-length-2 c = search needs
 
--- src/page.rt:171:1
 returns : tie.Need-returns
-returns c = ?
+unfolding acceptedLines
+returns c =
+    let start = c .before .before .before .before .before .before .before .before .before .before .before .before .before .before .before .before .before .before .before .before in
+    let a = start .args in
+    let all = checks-all (now (a .stream)) (start .pre .1) (start .pre .2) in
+    puts-within (puts-join (puts-join (c .before .before .before .before .before .before .before .before .before .before .before .before .before .before .before .put-accepted .ensures) (puts-as (all .lines) (c .before .before .before .before .before .before .before .before .before .put-elements .ensures))) (c .before .before .before .before .put-sides .ensures)) (omega arith)
 
 pub put-letter-spec : {M : Type 1} → statement M
 put-letter-spec =
@@ -46,8 +56,7 @@ put-letter-spec =
     put-accepted-requires
     cast-put-elements
     put-elements-requires
-    put-side-requires
-    put-side-requires-2
+    put-sides-requires
     same-length
     same-length-2
     returns)

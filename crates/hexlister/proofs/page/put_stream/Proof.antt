@@ -1,47 +1,42 @@
+-- `page::put_stream` meets its contract: the table is lent as zeros, and the check's number decides. Assumes nothing.
+use native.Mathlib.Omega.{arith}
+use denote.Ref.{now}
+use Rattle.hexlister.proofs.Pages.{puts-as, puts-within}
+use Rattle.hexlister.proofs.Letters.{refused-lines, accepted-lines}
 use borrow.Author.Needs.{needs}
 use Rattle.hexlister.proofs.page.put_stream.Statement.{statement}
 use Rattle.hexlister.proofs.page.put_stream.Tie as tie
-use Rattle.hexlister.proofs.page.put_stream.Reads as reads
-use Rattle.hexlister.proofs.page.put_stream.Lts as lts
-use Rattle.hexlister.proofs.page.put_letter.Reads as put-letter-reads
-use Rattle.hexlister.proofs.page.put_refused.Reads as put-refused-reads
-use Rattle.odif.proofs.check.Reads as check-reads
 
--- src/page.rt:187:38
 slice-aggregate-check : tie.Need-slice-aggregate-check
 slice-aggregate-check c = search needs
 
--- src/page.rt:187:9
 check-requires : tie.Need-check-requires
 check-requires c κs = search needs
 
--- src/page.rt:189:9
 put-refused-requires : tie.Need-put-refused-requires
 put-refused-requires c κs = search needs
 
--- src/page.rt:189:9
 same-length : tie.Need-same-length
 same-length c = search needs
 
--- src/page.rt:189:9
 returns : tie.Need-returns
-returns c = ?
+returns c =
+    let s = now (c .before .before .before .before .before .before .before .before .before .before .before .args .stream) in
+    puts-within (puts-as (refused-lines s (c .before .before .before .before .before .before .before .check .ensures .answered) (c .before .before .before .before .if1 .taken)) (c .before .before .put-refused .ensures)) (omega arith)
 
--- src/page.rt:191:38
 slice-aggregate-put-letter : tie.Need-slice-aggregate-put-letter
 slice-aggregate-put-letter c = search needs
 
--- src/page.rt:191:5
 put-letter-requires : tie.Need-put-letter-requires
 put-letter-requires c κs = search needs
 
--- src/page.rt:182:1
 same-length-2 : tie.Need-same-length-2
 same-length-2 c = search needs
 
--- src/page.rt:182:1
 returns-2 : tie.Need-returns-2
-returns-2 c = ?
+returns-2 c =
+    let s = now (c .before .before .before .before .before .before .before .before .before .before .before .before .before .args .stream) in
+    puts-as (accepted-lines s (c .before .before .before .before .before .before .before .before .before .check .ensures .answered) (c .before .before .before .before .before .before .if1 .left)) (c .before .before .before .put-letter .ensures)
 
 pub put-stream-spec : {M : Type 1} → statement M
 put-stream-spec =

@@ -1,0 +1,39 @@
+-- What is printed is the output of the text that was read, whatever its blocks were, and of all that follows a line that cannot be read: by what
+-- `hex` promises of any cutting. Assumes nothing.
+use mathlib.Core.Path.{_≡_, refl, sym, ap, subst, _∙_}
+use mathlib.Core.List.{List, [], _∷_, _++_, flatten, append-nil}
+use Prim.Native.Nat.{ℕ}
+use lib.ListN.{length, take}
+use Rattle.hex.specs.declared.State.{State}
+use Rattle.hex.specs.declared.State.the-variants.{Stopped}
+use Rattle.hex.specs.Lines.{streamLimit, Outcome, reads}
+use Rattle.hex.specs.Lines as hex
+use Rattle.hex.specs.Blocks.{Standing, standing, started, fed, finished}
+use Rattle.hex.specs.Promise.{Answers}
+use Rattle.hex.proofs.Blocks.{fed-join, fed-stopped, fed-flatten}
+use Rattle.hex.proofs.Promise.{any-cutting}
+use Rattle.hexlister.specs.Output.{streamLines, outcomeLines, output}
+use Rattle.hexlister.specs.Inputs.{Leads, readLines, Prints, PrintsAll}
+
+-- one block is a cutting
+one-block : (text lent : List ℕ) → length lent ≡ streamLimit → Answers (reads text) lent (fed (standing started lent) text)
+unfolding flatten
+one-block text lent full =
+    let all : flatten (text ∷ []) ≡ text = append-nil text in
+    subst (λ (t : List ℕ). Answers (reads t) lent (fed (standing started lent) t)) all
+    (subst (Answers (reads (flatten (text ∷ []))) lent) (fed-flatten (text ∷ []) (standing started lent)) (any-cutting (text ∷ []) lent full))
+
+by-outcome : (outcome : Outcome) (lent : List ℕ) (end : Standing) → Answers outcome lent end → readLines (finished (end .state)) (end .out) ≡ outcomeLines outcome
+by-outcome (hex.stream s) lent end a = rw (a .answer) (ap streamLines (a .part s refl))
+by-outcome (hex.unreadable line) lent end a = rw (a .answer)
+
+pub prints : Prints
+prints text lent state octets full leads =
+    let a = subst (Answers (reads text) lent) (sym leads) (one-block text lent full) in
+    by-outcome (reads text) lent (standing state octets) a
+
+pub prints-all : PrintsAll
+prints-all text more lent line octets full leads =
+    let stays : Leads (text ++ more) lent (Stopped line) octets =
+    sym (fed-stopped more line octets) ∙ ap (λ (t : Standing). fed t more) leads ∙ fed-join (standing started lent) text more in
+    sym (prints (text ++ more) lent (Stopped line) octets full stays) ∙ prints text lent (Stopped line) octets full leads
