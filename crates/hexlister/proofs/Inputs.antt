@@ -13,7 +13,20 @@ use Rattle.hex.specs.Promise.{Answers}
 use Rattle.hex.proofs.Blocks.{fed-join, fed-stopped, fed-flatten}
 use Rattle.hex.proofs.Promise.{any-cutting}
 use Rattle.hexlister.specs.Output.{streamLines, outcomeLines, output}
-use Rattle.hexlister.specs.Inputs.{Leads, readLines, Prints, PrintsAll}
+use Rattle.hexlister.specs.Inputs.{Leads, Heard, readLines, Prints, PrintsAll}
+
+-- nothing was read yet
+pub heard-nothing : (lent : List ℕ) {state : State} → state ≡ started → Heard lent state lent
+unfolding fed
+heard-nothing lent e = record { text = []; leads = ap (λ (s : State). standing s lent) e }
+
+-- a block more
+pub heard-more :
+    (block : List ℕ) {lent octets after : List ℕ} {state next : State} →
+    Heard lent state octets →
+    standing next after ≡ fed (standing state octets) block →
+    Heard lent next after
+heard-more block {lent} h e = record { text = h .text ++ block; leads = e ∙ ap (λ (t : Standing). fed t block) (h .leads) ∙ fed-join (standing started lent) (h .text) block }
 
 -- one block is a cutting
 one-block : (text lent : List ℕ) → length lent ≡ streamLimit → Answers (reads text) lent (fed (standing started lent) text)

@@ -2,11 +2,11 @@
 use Prim.Native.Nat.{ℕ, zero, suc, _+_, _-_, _*_, _≤_, _<_}
 use native.Mathlib.Omega.{arith}
 use native.Mathlib.Numerals.{add-one}
-use native.Mathlib.Nat.{add-zero}
+use native.Mathlib.Nat.{add-zero, zero-add}
 use mathlib.Core.Path.{_≡_, refl, sym, ap, subst, _∙_}
 use mathlib.Core.List.{List, [], _∷_, _++_, append-assoc, append-nil, flatten}
 use lib.ListN.{length, take, drop, getD, set, length-append}
-use lib.Seq.{sets, length-sets, take-append-seam}
+use lib.Seq.{sets, sets-eq, length-sets, length-take-le, take-append-seam}
 use Rattle.text.specs.Lines.{Written}
 use Rattle.text.proofs.Stores.{sets-join, sets-next}
 use Rattle.reading.specs.declared.Match.{Match}
@@ -100,3 +100,13 @@ pub puts-match :
     Puts (matchLine side (getD ms count none)) middle here told after lineRoom →
     Puts (matchLines side (take (count + 1) ms)) page at told after (lineRoom * (count + 1))
 puts-match side ms count none h p q = puts-more count p q (rw (add-one count) (matches-more side ms count none h))
+
+-- lines that are put on a page from its start are written there
+pub puts-written : {lines page after : List ℕ} {told room : ℕ} → Puts lines page 0 told after room → room ≤ length page → Written lines page told after
+puts-written {lines} {page} {after} {told} {room} p h =
+    let fits : 0 + length lines ≤ length page = omega (arith, p .within) in
+    let count : told ≡ length lines = p .past ∙ zero-add (length lines) in
+    let bytes : after ≡ lines ++ drop (length lines) page = p .stored ∙ sets-eq lines page 0 fits ∙ rw zero-add in
+    let same : length after ≡ length page = ap length (p .stored) ∙ length-sets page 0 lines in
+    let within : told ≤ length after = omega arith in
+    record { count = count; bytes = bytes; fits = omega arith; within = within; part = sym (length-take-le told after within) }

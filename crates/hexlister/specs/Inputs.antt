@@ -1,12 +1,13 @@
 -- What reading the input hands on, and what is printed of it. No contract can say which bytes are read: these say that reading stands where
 -- some text leads, and `Prints` that what is then printed is that text's output.
 use mathlib.Core.Path.{_≡_}
+use mathlib.Core.Bool.{Bool, true, false}
 use mathlib.Core.List.{List, _++_}
 use Prim.Native.Nat.{ℕ}
 use lib.ListN.{length, take}
 use Rattle.text.specs.Lines.{unreadable}
 use Rattle.hex.specs.declared.State.{State}
-use Rattle.hex.specs.declared.State.the-variants.{Stopped}
+use Rattle.hex.specs.declared.State.the-variants.{Pairs, Half, Stopped}
 use Rattle.hex.specs.declared.Read.{Read}
 use Rattle.hex.specs.declared.Read.the-variants.{Stream, Unreadable}
 use Rattle.hex.specs.Lines.{streamLimit}
@@ -18,6 +19,12 @@ use Rattle.hexlister.specs.Output.{streamLines, output}
 -- a text leads to a state, over the array that was lent and what it holds then
 abbrev pub Leads : (text lent : List ℕ) → State → (octets : List ℕ) → Type 0
 Leads text lent state octets = standing state octets ≡ fed (standing started lent) text
+
+-- whether a line could not be read
+abbrev pub stopped : State → Bool
+stopped (Pairs count line) = false
+stopped (Half count line first) = false
+stopped (Stopped line) = true
 
 -- what was read
 pub record Heard (lent : List ℕ) (state : State) (octets : List ℕ) : Type 0 where

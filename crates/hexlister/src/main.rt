@@ -10,7 +10,8 @@ use libc::STDERR_FILENO;
 use libc::STDIN_FILENO;
 use libc::STDOUT_FILENO;
 use page::PAGE_ROOM;
-ghost use Rattle.hexlister.specs.Inputs.{HeardIn};
+ghost use mathlib.Core.Path.{_≡_};
+ghost use Rattle.hexlister.specs.Inputs.{stopped, HeardIn};
 
 // What reading to the end gave.
 enum Input {
@@ -18,7 +19,10 @@ enum Input {
     Failed,
 }
 
-fn is_stopped(state: State) -> bool {
+// Whether a line could not be read, so that what follows is not looked at.
+fn is_stopped(state: State) -> bool
+    ensures { λ r. ⌜ r ≡ stopped state ⌝ }
+{
     match state {
         State::Stopped { line: _ } => true,
         State::Pairs { length: _, line: _ } => false,

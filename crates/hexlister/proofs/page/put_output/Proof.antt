@@ -1,44 +1,43 @@
+-- `page::put_output` meets its contract: by what reading ends as, the stream at the array's front is told, or the line. Assumes nothing.
+use native.Mathlib.Omega.{arith}
+use mathlib.Core.Path.{_≡_, sym, ap, _∙_}
+use Rattle.hex.specs.declared.Read.the-variants.{Stream, Unreadable}
+use Rattle.hex.specs.Blocks.{finished}
+use Rattle.hexlister.specs.Output.{streamLines}
+use Rattle.hexlister.proofs.Pages.{puts-as, puts-written}
 use borrow.Author.Needs.{needs}
 use Rattle.hexlister.proofs.page.put_output.Statement.{statement}
 use Rattle.hexlister.proofs.page.put_output.Tie as tie
-use Rattle.hexlister.proofs.page.put_output.Reads as reads
-use Rattle.hexlister.proofs.page.put_output.Lts as lts
-use Rattle.hex.proofs.finish.Reads as finish-reads
-use Rattle.hex.proofs.part.Reads as part-reads
-use Rattle.hexlister.proofs.page.put_stream.Reads as put-stream-reads
-use Rattle.hexlister.proofs.page.put_unreadable.Reads as put-unreadable-reads
 
--- src/page.rt:206:11
 finish-requires : tie.Need-finish-requires
 finish-requires c κs = search needs
 
--- src/page.rt:207:24
 enum-known-length : tie.Need-enum-known-length
 enum-known-length c = search needs
 
--- src/page.rt:207:53
 part-requires : tie.Need-part-requires
 part-requires c κs = search needs
 
--- src/page.rt:207:36
 put-stream-requires : tie.Need-put-stream-requires
 put-stream-requires c κs = search needs
 
--- src/page.rt:208:28
 enum-known-line : tie.Need-enum-known-line
 enum-known-line c = search needs
 
--- src/page.rt:208:38
 put-unreadable-requires : tie.Need-put-unreadable-requires
 put-unreadable-requires c κs = search needs
 
--- src/page.rt:203:1
 returns : tie.Need-returns
-returns c = ?
+returns c =
+    let a = c .before .before .before .before .before .before .before .args in
+    let stream : finished (a .state) ≡ Stream (c .before .before .before .before .length .given .0 .0) = sym (c .before .before .before .before .before .before .finish .ensures) ∙ c .before .before .before .before .length .given .1 in
+    rw stream (puts-written (puts-as (ap streamLines (c .before .part .ensures)) (c .put-stream .ensures)) (omega arith))
 
--- src/page.rt:203:1
 returns-2 : tie.Need-returns-2
-returns-2 c = ?
+returns-2 c =
+    let a = c .before .before .before .before .before .before .args in
+    let line : finished (a .state) ≡ Unreadable (c .before .before .before .line .given .0 .0) = sym (c .before .before .before .before .before .finish .ensures) ∙ c .before .before .before .line .given .1 in
+    rw line (puts-written (c .put-unreadable .ensures) (omega arith))
 
 pub put-output-spec : {M : Type 1} → statement M
 put-output-spec =
