@@ -4,3 +4,5 @@ pub mod Pages
 pub mod Letters
 -- what is printed of what was read
 pub mod Inputs
+-- document 01's printed example
+pub mod Printed
