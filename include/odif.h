@@ -3,6 +3,10 @@
    Link with target/staticlib/libodif.a. The functions keep no state, allocate nothing and may be called from any
    number of threads at once. They take any octets whatever and read no octet outside the stream that is lent.
 
+   Their scratch memory is on the stack: a question takes up to 256 KiB of it, the two lists up to 304 KiB, whatever
+   the stream. Of that it clears 31 kB for a stream of up to 512 elements and 246 kB for a longer one, the lists
+   somewhat more. Mind it where threads are started with small stacks.
+
    Every answer begins with a number and a place. Number 0 is accepted or answered, with place 0. Any other number is
    a refusal; places count octets of the stream from 0.
 
@@ -47,6 +51,8 @@ extern "C" {
 #define ODIF_STREAM_LIMIT  1048576 /* the most octets of a stream, and of a normal form */
 #define ODIF_MOST_ELEMENTS 4096    /* so many rows are always enough */
 #define ODIF_ROW_WIDTH     12      /* the numbers of a row */
+#define ODIF_STACK         262144  /* octets of stack: no question but the lists takes more */
+#define ODIF_STACK_LISTS   311296  /* the same for the two lists */
 
 /* What each number of a table row is. Each pair is first and past; every pair but the element's bounds a value. An
    absent one is 0 and 0. */

@@ -7,7 +7,7 @@ use Prim.Native.Nat.{ℕ, _+_}
 use native.Mathlib.Omega.{arith}
 use lib.Dec.{eqb}
 use borrow.Author.Tests.{eq-eqb, ne-eqb}
-use Rattle.octets.specs.First.{constructed}
+use Rattle.headers.specs.First.{constructed}
 use Rattle.octets.specs.Items.{none}
 use Rattle.tree.specs.Tree.{Tree, formed}
 use Rattle.runs.specs.declared.Run.{Run}

@@ -5,7 +5,7 @@ use mathlib.Core.List.{List, [], _∷_}
 use Prim.Native.Nat.{ℕ, zero, suc, _≤_}
 use native.Mathlib.Omega.{arith}
 use lib.Dec.{eqb}
-use Rattle.octets.specs.First.{constructed}
+use Rattle.headers.specs.First.{constructed}
 use Rattle.octets.specs.Items.{none}
 use Rattle.tree.specs.Tree.{Tree, formed}
 use Rattle.runs.specs.declared.Run.{Run}

@@ -8,10 +8,10 @@ use native.Mathlib.Omega.{arith}
 use lib.Dec.{eqb}
 use lib.ListN.{length}
 use borrow.Author.Tests.{eqb-true, eqb-false}
-use Rattle.octets.specs.First.{constructed}
+use Rattle.headers.specs.First.{constructed}
 use Rattle.octets.specs.Items.{none}
 use Rattle.octets.specs.Walk.{run, runFor}
-use Rattle.octets.proofs.Walks.{cond-holds}
+use Rattle.headers.proofs.Lies.{cond-holds}
 use Rattle.runs.specs.declared.Run.{Run}
 use Rattle.runs.specs.Runs.{itemsOf, treeIn, Fine}
 use Rattle.contents.specs.declared.Part.{Part}

@@ -6,7 +6,7 @@ use mathlib.Core.List.{List}
 use Prim.Native.Nat.{ℕ, _≤_}
 use native.Mathlib.Omega.{arith}
 use borrow.Author.Tests.{ne-eqb}
-use Rattle.octets.specs.First.{constructed}
+use Rattle.headers.specs.First.{constructed}
 use Rattle.tree.specs.Tree.{plain}
 use Rattle.runs.specs.declared.Run.{Run}
 use Rattle.runs.specs.Runs.{treeIn, definiteRun, Fine}

@@ -7,10 +7,10 @@ use Prim.Native.Nat.{ℕ}
 use native.Mathlib.Omega.{arith}
 use lib.Dec.{eqb}
 use borrow.Author.Tests.{eqb-true}
-use Rattle.octets.specs.declared.Header.{Header}
-use Rattle.octets.specs.declared.Head.the-variants.{Item}
-use Rattle.octets.specs.First.{constructed}
-use Rattle.octets.specs.Head.{headAt}
+use Rattle.headers.specs.declared.Header.{Header}
+use Rattle.headers.specs.declared.Head.the-variants.{Item}
+use Rattle.headers.specs.First.{constructed}
+use Rattle.headers.specs.Head.{headAt}
 use Rattle.octets.specs.Items.{Items, none}
 use Rattle.octets.specs.Walk.{End, ends, Walked, pastOf}
 use Rattle.octets.specs.Rules.{Runs, at-limit, unclosed, closes, refuses, primitive, passes, breaks}

@@ -6,10 +6,10 @@ use mathlib.Core.List.{List}
 use Prim.Native.Nat.{ℕ}
 use borrow.Author.Tests.{ne-eqb}
 use lib.Seq.{slice}
-use Rattle.octets.specs.declared.Header.{Header}
-use Rattle.octets.specs.declared.Head.the-variants.{Item}
-use Rattle.octets.specs.First.{constructed}
-use Rattle.octets.specs.Head.{headAt}
+use Rattle.headers.specs.declared.Header.{Header}
+use Rattle.headers.specs.declared.Head.the-variants.{Item}
+use Rattle.headers.specs.First.{constructed}
+use Rattle.headers.specs.Head.{headAt}
 use Rattle.octets.specs.Items.{Items, none, item}
 use Rattle.octets.specs.Walk.{End}
 use Rattle.octets.specs.Rules.{Runs, at-limit, unclosed, closes, refuses, primitive, passes, breaks}

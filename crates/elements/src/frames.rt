@@ -9,7 +9,7 @@ ghost use mathlib.Core.Path.{_≡_};
 ghost use mathlib.Core.Bool.{true, false};
 ghost use mathlib.Core.List.{List};
 ghost use Prim.Native.Nat.{ℕ, _≤_};
-ghost use Rattle.octets.specs.First.{constructed};
+ghost use Rattle.headers.specs.First.{constructed};
 ghost use Rattle.runs.specs.Runs.{definiteRun, Fine};
 ghost use Rattle.contents.specs.Opening.{Opens};
 ghost use Rattle.elements.specs.WellMade.{WellMade};

@@ -25,13 +25,13 @@ use Rattle.reading.specs.declared.Match.{Match}
 use Rattle.reading.specs.declared.Side.{Side}
 use Rattle.reading.specs.Match.{matches}
 use Rattle.reading.proofs.Single.{no-more-than-elements}
-use Rattle.odif.specs.declared.Checked.{Checked}
-use Rattle.odif.specs.declared.Listed.{Listed}
-use Rattle.odif.specs.Answers.{letterIn, rowsIn, tableOf, checked, checkedBy, matchesIn, CheckOutcome, ListOutcome}
-use Rattle.odif.proofs.Small.{refusal-small}
-use Rattle.odif.proofs.Letters.{letter-found}
-use Rattle.odif.proofs.Demand2.{demand2}
-use Rattle.odif.proofs.Demand3.{demand3}
+use Rattle.answers.specs.declared.Checked.{Checked}
+use Rattle.answers.specs.declared.Listed.{Listed}
+use Rattle.answers.specs.Answers.{letterIn, rowsIn, tableOf, checked, checkedBy, matchesIn, CheckOutcome, ListOutcome}
+use Rattle.answers.proofs.Small.{refusal-small}
+use Rattle.answers.proofs.Letters.{letter-found}
+use Rattle.demands.proofs.Demand2.{demand2}
+use Rattle.demands.proofs.Demand3.{demand3}
 use Rattle.hexlister.specs.Output.{lentTable, noRecord, lentList, elementLines, acceptedLines, streamLines}
 use Rattle.hexlister.specs.Pages.{wholeColumn, rowLine, rowLines}
 

@@ -8,9 +8,9 @@ use Rattle.text.specs.Lines.{spaced}
 use Rattle.text.specs.Printed.{printed}
 use Rattle.hex.specs.Lines.{valueOf, pairs, lines, readsFrom}
 use Rattle.hex.specs.Examples.{input}
-use Rattle.octets.specs.First.{permits, formAllowed}
-use Rattle.octets.specs.Lengths.{bigEndianFrom, misfits}
-use Rattle.octets.specs.Head.{definiteAt, indefiniteAt, longAt, byFirst, lengthAt, itemAt, closingAt, headAt}
+use Rattle.headers.specs.First.{permits, formAllowed}
+use Rattle.headers.specs.Lengths.{bigEndianFrom, misfits}
+use Rattle.headers.specs.Head.{definiteAt, indefiniteAt, longAt, byFirst, lengthAt, itemAt, closingAt, headAt}
 use Rattle.octets.specs.Walk.{runFor, run, walkOf}
 use Rattle.names.specs.Names.{digit, grouped, isIdentifier, digits, isPortion, same}
 use Rattle.index.specs.Rows.{space}
@@ -23,7 +23,7 @@ use Rattle.elements.specs.Judge.{clash, twice, shapeRefusal, refusalOf, judgeOn
 use Rattle.elements.specs.Rows.{bodyIn, rowOf, rowsOf, placeOf}
 use Rattle.letters.specs.Letter.{letterOf}
 use Rattle.reading.specs.Match.{joins, forEach, portionMatches, elementMatches, matches}
-use Rattle.odif.specs.Answers.{checked}
+use Rattle.answers.specs.Answers.{checked}
 use Rattle.hexlister.specs.Output.{elementLines, matchLines, acceptedLines, streamLines, output}
 
 pub as-printed : output (ascii input) ≡ printed

@@ -14,8 +14,8 @@ use Rattle.elements.specs.declared.Row.{Row}
 use Rattle.reading.specs.declared.Match.{Match}
 use Rattle.reading.specs.declared.Side.{Side}
 use Rattle.reading.specs.declared.Side.the-variants.{Layout, Logical}
-use Rattle.odif.specs.declared.Checked.{Checked}
-use Rattle.odif.specs.Answers.{checked, rowsIn, matchesIn}
+use Rattle.answers.specs.declared.Checked.{Checked}
+use Rattle.answers.specs.Answers.{checked, rowsIn, matchesIn}
 
 -- "It lends 1,024 table rows and 1,024 records"
 abbrev pub lentTable : List ℕ

@@ -12,7 +12,7 @@ ghost use Prim.Native.Nat.{_+_, _*_, _<_, _≤_};
 ghost use lib.ListN.{length, take};
 ghost use Rattle.text.specs.Lines.{accepted, refused, unreadable, Written};
 ghost use Rattle.index.specs.Rows.{rowWidth};
-ghost use Rattle.odif.specs.Answers.{checked, matchesIn, CheckOutcome, ListOutcome};
+ghost use Rattle.answers.specs.Answers.{checked, matchesIn, CheckOutcome, ListOutcome};
 ghost use Rattle.hexlister.specs.Output.{lentTable, lentList, matchLine, matchLines, sideLines, acceptedLines, streamLines};
 ghost use Rattle.hexlister.specs.Pages.{lineRoom, sideRoom, pageRoom, Puts, rowLine, rowLines};
 ghost use Rattle.hexlister.specs.Inputs.{readLines};

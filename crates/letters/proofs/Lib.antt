@@ -4,6 +4,7 @@ pub mod Rows
 pub mod Clash
 pub mod Grow
 pub mod Steps
+pub mod Bare
 pub mod State
 pub mod Meetings
 pub mod Nested

@@ -9,7 +9,7 @@ use borrow.Author.Tests.{ne-eqb, leb-false}
 use borrow.Table.Steps.{cases}
 use lib.Dec.{eqb, leb}
 use lib.ListN.{length}
-use Rattle.octets.specs.First.{constructed}
+use Rattle.headers.specs.First.{constructed}
 use Rattle.octets.specs.Items.{Items, none, item}
 use Rattle.tree.specs.Tree.{Tree, plain}
 use Rattle.runs.specs.Runs.{tops}

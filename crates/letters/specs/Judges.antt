@@ -6,7 +6,7 @@ use mathlib.Core.List.{List, [], _∷_, _++_}
 use Prim.Native.Nat.{ℕ, _+_}
 use lib.Dec.{eqb, leb}
 use lib.Seq.{slice}
-use Rattle.tree.specs.Tree.{Tree}
+use Rattle.tree.specs.Tree.{Tree, empty}
 use Rattle.runs.specs.Runs.{itemsOf, treeIn}
 use Rattle.names.specs.Hash.{hash}
 use Rattle.contents.specs.declared.Span.{Span}
@@ -16,7 +16,7 @@ use Rattle.elements.specs.declared.Row.{Row}
 use Rattle.elements.specs.declared.Shape.{Shape}
 use Rattle.elements.specs.Shape.{edition1988, shapeOf}
 use Rattle.elements.specs.Element.{Element, elementOf}
-use Rattle.elements.specs.Judge.{mostElements, profile, twice, firstOf, _when_, refusalOf}
+use Rattle.elements.specs.Judge.{mostElements, profile, twice, firstOf, _when_, shapeRefusal, refusalOf}
 use Rattle.elements.specs.Rows.{rowOf}
 use Rattle.elements.specs.Says.{Says, RowPlaced}
 use Rattle.letters.specs.declared.Hashes.{Hashes}
@@ -59,6 +59,11 @@ shape1988 octet = shapeOf edition1988 (octet ∷ [])
 
 abbrev pub element1988 : (octet : ℕ) → Tree → Element
 element1988 octet run = elementOf (shape1988 octet) run
+
+-- an element with no items that has this octet is refused by none of 10 and 12 to 14
+pub record MayBeBare (octet : ℕ) : Type 0 where
+  pub known : shape1988 octet .octet ≡ octet
+  pub fits : shapeRefusal (shape1988 octet) empty ≡ 0
 
 -- an element that is refused by no rule: its row, which says what it says
 pub record Passing (s : List ℕ) (done : List Element) (item : Item) (row : Row) (hashes : Hashes) : Type 0 where

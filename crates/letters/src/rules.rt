@@ -8,21 +8,26 @@ use elements::Seen;
 use index::Found;
 use names::Asked;
 ghost use mathlib.Core.Path.{_≡_};
-ghost use Prim.Native.Nat.{_*_, _≤_};
+ghost use mathlib.Core.Bool.{true};
+ghost use mathlib.Core.List.{List};
+ghost use Prim.Native.Nat.{ℕ, _*_, _≤_};
 ghost use lib.ListN.{length, take};
 ghost use Rattle.octets.specs.Walk.{streamLimit};
-ghost use Rattle.runs.specs.Runs.{Fine};
+ghost use Rattle.octets.specs.Items.{none};
+ghost use Rattle.runs.specs.Runs.{itemsOf, Fine};
 ghost use Rattle.names.specs.Hash.{hash};
 ghost use Rattle.portions.specs.Portions.{mostPortions};
 ghost use Rattle.portions.specs.Bounds.{bounded, Inside};
 ghost use Rattle.index.specs.Rows.{Bounded};
 ghost use Rattle.index.specs.Index.{Indexed};
 ghost use Rattle.elements.specs.Says.{Placed, RowPlaced};
-ghost use Rattle.letters.specs.Judges.{earlyRefusal, bytesIn, Taken, Indexes, hashesOf, TellsTwice, JudgesAfter};
+ghost use Rattle.letters.specs.Judges.{earlyRefusal, bytesIn, Taken, Indexes, hashesOf, TellsTwice, MayBeBare, JudgesAfter};
 
 const MOST_ELEMENTS: usize = 4096;
 
 const PROFILE: usize = 0xA0;
+
+const NO_TYPE: usize = 255;
 
 // Rules 9 to 11 for element n: the number of the one that refuses, or 0. `known` is the octet of its shape.
 fn early(n: usize, octet: usize, known: usize) -> usize
@@ -143,8 +148,47 @@ fn has_double(
     portions::has_repeats(s, bounds, seen.count)
 }
 
-// Rules 9 to 15 for element n. The bounds lent are for its portions.
-pub fn judge_element(
+// Whether an element with the octet may have no items: the profile, and an object.
+fn may_be_bare(octet: usize) -> bool
+    ensures { λ b. ⌜ (b ≡ true → MayBeBare octet) ⌝ }
+{
+    match octet {
+        0xA0 | 0xA2 | 0xA6 => true,
+        _ => false,
+    }
+}
+
+// Rules 9 to 15 for element n, in which nothing stands and nothing has to: it has no name, so it shares none.
+fn judge_bare(n: usize, item: Item) -> Judgement
+    requires { ⌜ MayBeBare (item .octet) × (item .first ≤ item .past) ⌝ }
+    ensures { λ r. ⌜ ((s scratch head next head2 next2 : List ℕ) → itemsOf s (item .inner) ≡ none → item .past ≤ length s → JudgesAfter s scratch head next head2 next2 n item r) ⌝ }
+{
+    let number = early(n, item.octet, item.octet);
+    if number != 0 {
+        return Judgement::Fails { number };
+    }
+    Judgement::Passes {
+        row: Row {
+            kind: item.octet % 32,
+            object: NO_TYPE,
+            whole: Span {
+                first: item.first,
+                past: item.past,
+            },
+            identifier: Span { first: 0, past: 0 },
+            logical: Span { first: 0, past: 0 },
+            portions: Span { first: 0, past: 0 },
+            content: Span { first: 0, past: 0 },
+        },
+        hashes: Hashes {
+            identifier: 0,
+            logical: 0,
+        },
+    }
+}
+
+// Rules 9 to 15 for element n, whatever stands in it. The bounds lent are for its portions.
+fn judge_any(
     s: &[u8],
     rows: &[u32],
     head: &[u16],
@@ -176,4 +220,29 @@ pub fn judge_element(
         return Judgement::Fails { number: 15 };
     }
     Judgement::Passes { row, hashes }
+}
+
+// Rules 9 to 15 for element n. One in which nothing stands is told at once; `judge_any` has the rest.
+pub fn judge_element(
+    s: &[u8],
+    rows: &[u32],
+    head: &[u16],
+    next: &[u16],
+    head2: &[u16],
+    next2: &[u16],
+    bounds: &mut [u32],
+    n: usize,
+    item: Item,
+) -> Judgement
+    requires { ⌜ Indexes (now s) (now rows) (now head) (now next) (now head2) (now next2) n ⌝ }
+    requires { ⌜ Fine (now s) (item .inner) × (length (now s) ≤ streamLimit) × (item .first ≤ item .past) × (item .past ≤ length (now s)) × (2 * mostPortions ≤ length (now bounds)) ⌝ }
+    ensures { λ r. ⌜ JudgesAfter (now (s .entry)) (now (rows .entry)) (now (head .entry)) (now (next .entry)) (now (head2 .entry)) (now (next2 .entry)) n item r ⌝ }
+{
+    let inner = item.inner;
+    if inner.at == inner.limit {
+        if may_be_bare(item.octet) {
+            return judge_bare(n, item);
+        }
+    }
+    judge_any(s, rows, head, next, head2, next2, bounds, n, item)
 }

@@ -1,9 +1,9 @@
 -- The writer gives of each example what it should. Assumes nothing.
 use mathlib.Core.Path.{_≡_, refl}
 use mathlib.Core.List.{map}
-use Rattle.octets.specs.First.{permits, formAllowed}
-use Rattle.octets.specs.Lengths.{bigEndianFrom, misfits}
-use Rattle.octets.specs.Head.{definiteAt, indefiniteAt, longAt, byFirst, lengthAt, itemAt, closingAt, headAt}
+use Rattle.headers.specs.First.{permits, formAllowed}
+use Rattle.headers.specs.Lengths.{bigEndianFrom, misfits}
+use Rattle.headers.specs.Head.{definiteAt, indefiniteAt, longAt, byFirst, lengthAt, itemAt, closingAt, headAt}
 use Rattle.octets.specs.Walk.{runFor, run, walkOf}
 use Rattle.normal.specs.Length.{digits}
 use Rattle.normal.specs.Normal.{normalOf}

@@ -11,7 +11,7 @@ use lib.ListN.{length, set, length-append}
 use lib.Pow.{pow-mono}
 use lib.Seq.{sets}
 use borrow.Author.Tests.{le-ltb}
-use Rattle.octets.proofs.Walks.{cond-holds}
+use Rattle.headers.proofs.Lies.{cond-holds}
 use Rattle.normal.specs.Length.{furtherOctets, digits, lengthBy, lengthOctets}
 
 -- a number whose leading zeros and k digits make 32 is below 2 ^ k

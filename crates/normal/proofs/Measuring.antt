@@ -6,8 +6,8 @@ use Prim.Native.Nat.{ℕ, _+_, _-_, _*_, _≤_}
 use native.Mathlib.Omega.{arith}
 use lib.ListN.{length}
 use lib.Seq.{slice, slice-empty, length-slice}
-use Rattle.octets.specs.declared.Header.{Header}
-use Rattle.octets.specs.First.{constructed}
+use Rattle.headers.specs.declared.Header.{Header}
+use Rattle.headers.specs.First.{constructed}
 use Rattle.octets.specs.Walk.{pastOf, run}
 use Rattle.normal.specs.declared.Measured.{Measured}
 use Rattle.normal.specs.Length.{lengthOctets, Octets}

@@ -8,9 +8,9 @@ use native.Mathlib.Nat.{pow-suc}
 use lib.Dec.{ltb}
 use lib.ListN.{length, length-append}
 use borrow.Author.Tests.{ltb-true}
-use Rattle.octets.specs.Lengths.{bigEndian, bigEndianFrom}
-use Rattle.octets.proofs.Lengths.{be-snoc}
-use Rattle.octets.proofs.Walks.{cond-holds}
+use Rattle.headers.specs.Lengths.{bigEndian, bigEndianFrom}
+use Rattle.headers.proofs.Lengths.{be-snoc}
+use Rattle.headers.proofs.Lies.{cond-holds}
 use Rattle.tree.specs.Tree.{Tree}
 use Rattle.tree.specs.Codes.{TypeField, oneOctet, Length, short, long, Codes, nothing, primitive, definite, indefinite}
 use Rattle.normal.specs.Length.{furtherOctets, digits, lengthBy, lengthOctets}

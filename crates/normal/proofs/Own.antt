@@ -10,9 +10,9 @@ use lib.Dec.{ltb}
 use lib.ListN.{length, take, drop, List·getD-append, List·getD-eq-default}
 use lib.Seq.{getD-drop, getD-append-add, take-add, drop-drop, slice}
 use borrow.Author.Tests.{ltb-true, ltb-false, lt-ltb}
-use Rattle.octets.specs.declared.Header.{Header}
-use Rattle.octets.specs.Lengths.{bigEndian, bigEndianFrom}
-use Rattle.octets.specs.Head.{octetAt}
+use Rattle.headers.specs.declared.Header.{Header}
+use Rattle.headers.specs.Lengths.{bigEndian, bigEndianFrom}
+use Rattle.headers.specs.Head.{octetAt}
 use Rattle.tree.specs.Codes.{Length, short, long}
 use Rattle.tree.proofs.Here.{Here, slice-is, sliced}
 use Rattle.tree.proofs.Heads.{Sized, ReadFrom}

@@ -9,14 +9,15 @@ use lib.Dec.{leb}
 use lib.ListN.{length, length-append, length-drop}
 use lib.Seq.{slice}
 use borrow.Author.Tests.{le-leb, leb-true, leb-false}
-use Rattle.octets.specs.declared.Header.{Header}
-use Rattle.octets.specs.declared.Head.{Head}
-use Rattle.octets.specs.declared.Head.the-variants.{Item, ClosingMark, Refusal}
-use Rattle.octets.specs.First.{constructed}
-use Rattle.octets.specs.Head.{headAt, Passed}
+use Rattle.headers.specs.declared.Header.{Header}
+use Rattle.headers.specs.declared.Head.{Head}
+use Rattle.headers.specs.declared.Head.the-variants.{Item, ClosingMark, Refusal}
+use Rattle.headers.specs.First.{constructed}
+use Rattle.headers.specs.Head.{headAt, Passed}
 use Rattle.octets.specs.Items.{Items, item, count}
 use Rattle.octets.specs.Walk.{End, ends, stops, Walked, ended, stopped, pastOf, follow, run, valueOf}
-use Rattle.octets.proofs.Walks.{Lies, EndOk, value-ok, run-ok, run-step}
+use Rattle.headers.proofs.Lies.{Lies}
+use Rattle.octets.proofs.Walks.{EndOk, value-ok, run-ok, run-step}
 use Rattle.octets.proofs.RulesHold.{derives}
 use Rattle.octets.proofs.Turns.{at-head, header-ok}
 use Rattle.tree.specs.Tree.{Tree, formed, plain}

@@ -7,9 +7,9 @@ use Prim.Native.Nat.{ℕ, _+_, _*_, _≤_}
 use native.Mathlib.Omega.{arith}
 use lib.ListN.{length, drop}
 use lib.Seq.{slice, sets, length-sets, sets-eq}
-use Rattle.octets.specs.declared.Header.{Header}
+use Rattle.headers.specs.declared.Header.{Header}
 use Rattle.octets.specs.Walk.{pastOf}
-use Rattle.octets.proofs.Walks.{cond-holds}
+use Rattle.headers.proofs.Lies.{cond-holds}
 use Rattle.normal.specs.declared.Measured.{Measured}
 use Rattle.normal.specs.declared.Met.the-variants.{Last}
 use Rattle.normal.specs.Length.{lengthOctets}

@@ -9,7 +9,7 @@ use lib.Dec.{ltb}
 use lib.ListN.{length, length-append}
 use borrow.Author.Tests.{ltb-true, lt-ltb}
 use Rattle.octets.specs.Walk.{deepest}
-use Rattle.octets.proofs.Walks.{cond-holds}
+use Rattle.headers.proofs.Lies.{cond-holds}
 use Rattle.tree.specs.Tree.{Tree}
 use Rattle.tree.specs.Codes.{Codes, nothing, primitive, definite, indefinite}
 use Rattle.normal.specs.Length.{furtherOctets, Octets}

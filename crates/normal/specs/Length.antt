@@ -4,7 +4,7 @@ use Prim.Native.Nat.{ℕ, zero, suc, _+_, _/_, _%_, _<_}
 use mathlib.Core.Bool.{cond}
 use mathlib.Core.List.{List, [], _∷_, _++_}
 use lib.Dec.{ltb}
-use Rattle.octets.specs.Head.{octetAt}
+use Rattle.headers.specs.Head.{octetAt}
 
 -- how many length octets follow the first: none where the first is the length, else as many as it takes to hold it
 abbrev pub furtherOctets : ℕ → ℕ

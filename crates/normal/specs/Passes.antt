@@ -7,11 +7,11 @@ use mathlib.Core.List.{List}
 use lib.Dec.{leb}
 use lib.ListN.{length}
 use lib.Seq.{slice, sets}
-use Rattle.octets.specs.declared.Header.{Header}
-use Rattle.octets.specs.declared.Head.{Head}
-use Rattle.octets.specs.declared.Head.the-variants.{Item, ClosingMark, Refusal}
-use Rattle.octets.specs.First.{constructed}
-use Rattle.octets.specs.Head.{headAt}
+use Rattle.headers.specs.declared.Header.{Header}
+use Rattle.headers.specs.declared.Head.{Head}
+use Rattle.headers.specs.declared.Head.the-variants.{Item, ClosingMark, Refusal}
+use Rattle.headers.specs.First.{constructed}
+use Rattle.headers.specs.Head.{headAt}
 use Rattle.octets.specs.Walk.{streamLimit, End, ends, stops, pastOf, run, valueOf}
 use Rattle.tree.specs.Tree.{plain}
 use Rattle.tree.specs.Accepts.{Whole}

@@ -1,6 +1,6 @@
 // The normal form of a stream: each item in the same order, definite, with the fewest length octets.
-use octets::Head;
-use octets::Header;
+use headers::Head;
+use headers::Header;
 use octets::Outcome;
 ghost use mathlib.Core.Path.{_≡_};
 ghost use mathlib.Core.Bool.{true, false};
@@ -102,7 +102,7 @@ fn meet(s: &[u8], at: usize, limit: usize, marked: bool, room: usize) -> Met
     if limit <= at {
         return Met::Last { past: limit };
     }
-    match octets::passed_head(s, at, limit, marked, room) {
+    match headers::passed_head(s, at, limit, marked, room) {
         Head::Item(h) => Met::Item(h),
         Head::ClosingMark => Met::Last { past: at + 2 },
         Head::Refusal {

@@ -1,5 +1,5 @@
 -- The header count is at most half the stream's bytes. Assumes nothing.
-use mathlib.Core.Bool.{Bool, true, false}
+use mathlib.Core.Bool.{false}
 use mathlib.Core.List.{List}
 use Prim.Native.Nat.{ℕ, _+_, _≤_}
 use native.Mathlib.Omega.{arith}
@@ -7,8 +7,9 @@ use lib.Dec.{leb}
 use lib.ListN.{length}
 use Rattle.octets.specs.declared.Outcome.{Outcome}
 use Rattle.octets.specs.Items.{count}
-use Rattle.octets.specs.Walk.{End, ends, stops, run, answerOf, answer, told, walkOf}
-use Rattle.octets.proofs.Walks.{cond-holds, EndOk, run-ok}
+use Rattle.octets.specs.Walk.{End, ends, stops, run, answerOf, told, walkOf}
+use Rattle.headers.proofs.Lies.{cond-holds}
+use Rattle.octets.proofs.Walks.{EndOk, run-ok}
 
 abbrev Half : ℕ → Outcome → Type 0
 Half n o = told o .headers + told o .headers ≤ n

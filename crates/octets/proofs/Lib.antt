@@ -1,11 +1,7 @@
-pub mod Table
-pub mod Lengths
-pub mod Usual
 pub mod Walks
 pub mod Turns
 pub mod Ones
 pub mod RulesHold
-pub mod Passed
 pub mod Half
 pub mod Numbers
 pub mod Examples

@@ -1,18 +1,17 @@
 -- What the walk of one item answers, by what stands at its place. Assumes nothing.
-use mathlib.Core.Path.{_≡_, refl, ap, _∙_}
+use mathlib.Core.Path.{_≡_, ap, _∙_}
 use mathlib.Core.Bool.{false}
 use mathlib.Core.List.{List}
-use Prim.Native.Nat.{ℕ, suc, _+_, _-_, _<_, _≤_}
+use Prim.Native.Nat.{ℕ, _+_, _-_, _<_, _≤_}
 use native.Mathlib.Omega.{arith}
-use lib.Dec.{leb}
 use borrow.Author.Tests.{le-leb, lt-leb}
-use Rattle.octets.specs.declared.Header.{Header}
-use Rattle.octets.specs.declared.Head.{Head}
-use Rattle.octets.specs.declared.Head.the-variants.{Item, ClosingMark, Refusal}
+use Rattle.headers.specs.declared.Header.{Header}
+use Rattle.headers.specs.declared.Head.{Head}
+use Rattle.headers.specs.declared.Head.the-variants.{Item, ClosingMark, Refusal}
 use Rattle.octets.specs.declared.Outcome.the-variants.{Ended, Refused}
-use Rattle.octets.specs.Head.{headAt}
+use Rattle.headers.specs.Head.{headAt}
 use Rattle.octets.specs.Walk.{ended, onHead, run, valueOf, oneOf, answer}
-use Rattle.octets.proofs.Turns.{plus, follow-passes, follow-breaks}
+use Rattle.octets.proofs.Turns.{follow-passes, follow-breaks}
 
 module _ (room : ℕ) (s : List ℕ) (at limit : ℕ) where
   pub one-ends : limit ≤ at → answer (oneOf room s at limit) ≡ Ended limit 0

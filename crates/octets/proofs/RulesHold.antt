@@ -1,21 +1,22 @@
 -- The rules and the function say the same: what the rules derive is the walk of `run` (`derived`), and they derive it (`derives`).
 -- Assumes nothing.
-use mathlib.Core.Path.{_≡_, refl, ap, sym, _∙_, subst}
+use mathlib.Core.Path.{_≡_, refl, sym, _∙_}
 use mathlib.Core.Bool.{Bool, true, false, cond}
 use mathlib.Core.List.{List}
 use Prim.Native.Nat.{ℕ, zero, suc, _+_, _-_, _<_, _≤_}
 use native.Mathlib.Omega.{arith}
 use lib.Dec.{leb}
 use borrow.Author.Tests.{le-leb, lt-leb, leb-true, leb-false}
-use Rattle.octets.specs.declared.Header.{Header}
-use Rattle.octets.specs.declared.Head.{Head}
-use Rattle.octets.specs.declared.Head.the-variants.{Item, ClosingMark, Refusal}
-use Rattle.octets.specs.First.{constructed}
-use Rattle.octets.specs.Head.{headAt}
-use Rattle.octets.specs.Items.{Items, none, item, count}
-use Rattle.octets.specs.Walk.{End, ends, stops, Walked, ended, stopped, pastOf, follow, value, onHead, step, runFor, run, valueOf}
+use Rattle.headers.specs.declared.Header.{Header}
+use Rattle.headers.specs.declared.Head.{Head}
+use Rattle.headers.specs.declared.Head.the-variants.{Item, ClosingMark, Refusal}
+use Rattle.headers.specs.First.{constructed}
+use Rattle.headers.specs.Head.{headAt}
+use Rattle.octets.specs.Items.{Items, count}
+use Rattle.octets.specs.Walk.{End, ends, stops, Walked, ended, stopped, follow, value, onHead, step, runFor, run}
 use Rattle.octets.specs.Rules.{Runs, at-limit, unclosed, closes, refuses, primitive, passes, breaks}
-use Rattle.octets.proofs.Walks.{HeadOk, head-ok, EndOk, WalkOk, RunOk, run-for-ok, run-step}
+use Rattle.headers.proofs.Lies.{HeadOk, head-ok}
+use Rattle.octets.proofs.Walks.{EndOk, WalkOk, RunOk, run-for-ok, run-step}
 
 abbrev walked : Items → End → Walked
 walked i e = record { items = i; how = e }

@@ -1,21 +1,21 @@
 -- What a turn of the run walker does to its answer, by what stands at its place. Assumes nothing.
-use mathlib.Core.Path.{_≡_, refl, ap, sym, _∙_, subst}
-use mathlib.Core.Bool.{Bool, true, false, cond}
+use mathlib.Core.Path.{_≡_, ap, _∙_, subst}
+use mathlib.Core.Bool.{Bool, true, false}
 use mathlib.Core.List.{List}
-use Prim.Native.Nat.{ℕ, zero, suc, _+_, _-_, _<_, _≤_}
+use Prim.Native.Nat.{ℕ, suc, _+_, _-_, _<_, _≤_}
 use native.Mathlib.Omega.{arith}
-use lib.Dec.{leb, eqb}
-use borrow.Author.Tests.{le-leb, lt-leb, eqb-true, eqb-false}
-use Rattle.octets.specs.declared.Header.{Header}
-use Rattle.octets.specs.declared.Head.{Head}
-use Rattle.octets.specs.declared.Head.the-variants.{Item, ClosingMark, Refusal}
+use borrow.Author.Tests.{le-leb, lt-leb}
+use Rattle.headers.specs.declared.Header.{Header}
+use Rattle.headers.specs.declared.Head.{Head}
+use Rattle.headers.specs.declared.Head.the-variants.{Item, ClosingMark, Refusal}
 use Rattle.octets.specs.declared.Outcome.{Outcome}
 use Rattle.octets.specs.declared.Outcome.the-variants.{Ended, Refused}
-use Rattle.octets.specs.First.{constructed}
-use Rattle.octets.specs.Head.{headAt}
+use Rattle.headers.specs.First.{constructed}
+use Rattle.headers.specs.Head.{headAt}
 use Rattle.octets.specs.Items.{Items, none, item, count}
-use Rattle.octets.specs.Walk.{End, ends, stops, Walked, ended, stopped, pastOf, follow, value, onHead, run, valueOf, answerOf, answer}
-use Rattle.octets.proofs.Walks.{HeadOk, head-ok, EndOk, value-ok, run-ok, run-step}
+use Rattle.octets.specs.Walk.{End, ends, stops, Walked, ended, stopped, pastOf, follow, onHead, run, valueOf, answerOf, answer}
+use Rattle.headers.proofs.Lies.{HeadOk, head-ok}
+use Rattle.octets.proofs.Walks.{EndOk, value-ok, run-ok, run-step}
 
 -- an answer with n items more
 abbrev pub plus : ℕ → Outcome → Outcome

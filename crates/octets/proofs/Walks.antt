@@ -1,98 +1,20 @@
 -- Laws of the walk of specs/: where a walk ends and how many items it has (`run-ok`), that the fuel of `run` is enough
 -- (`fuel-enough`), and the equation of `run` with no fuel in it (`run-step`). Assumes nothing.
-use mathlib.Core.Path.{_≡_, refl, ap, sym, _∙_}
-use mathlib.Core.Bool.{Bool, true, false, cond, false≢true}
+use mathlib.Core.Path.{_≡_, refl, ap, _∙_}
+use mathlib.Core.Bool.{Bool, true, false, cond}
 use mathlib.Core.List.{List}
 use Prim.Native.Nat.{ℕ, zero, suc, _+_, _-_, _<_, _≤_}
 use native.Mathlib.Omega.{arith}
-use native.Mathlib.Nat.{zero-add}
-use lib.Dec.{leb, ltb, eqb}
-use lib.ListN.{getD}
-use borrow.Author.Tests.{leb-true, leb-false, ltb-true, eqb-false, lt-leb}
-use Rattle.octets.specs.declared.Header.{Header}
-use Rattle.octets.specs.declared.Head.{Head}
-use Rattle.octets.specs.declared.Head.the-variants.{Item, ClosingMark, Refusal}
-use Rattle.octets.specs.declared.Outcome.{Outcome}
-use Rattle.octets.specs.declared.Outcome.the-variants.{Ended, Refused}
-use Rattle.octets.specs.First.{number, constructed, formAllowed}
-use Rattle.octets.specs.Lengths.{misfits, bigEndian}
-use Rattle.octets.specs.Head.{octetAt, definiteAt, indefiniteAt, longAt, byFirst, lengthAt, closingAt, itemAt, headAt}
-use Rattle.octets.specs.Items.{Items, none, item, count}
-use Rattle.octets.specs.Walk.{End, ends, stops, Walked, ended, stopped, pastOf, follow, value, onHead, step, runFor, run, valueOf, answerOf, answer}
-
--- what holds of both cases holds of the one that a test picks
-pub cond-holds : {A : Type 0} (P : A → Type 0) (b : Bool) {x y : A} → (b ≡ true → P x) → (b ≡ false → P y) → P (cond b x y)
-cond-holds P true f g = f refl
-cond-holds P false f g = g refl
-
--- a header lies between `at` and the limit, there is room for its item, and only a constructed item is indefinite
-pub record Lies (at limit room : ℕ) (h : Header) : Type 0 where
-  pub header : at + 2 ≤ h .start
-  pub order : h .start ≤ h .bound
-  pub within : h .bound ≤ limit
-  pub deep : 0 < room
-  pub mark : h .marked ≡ true → constructed (h .octet) ≡ true
-
-abbrev pub HeadOk : (at limit room : ℕ) → Head → Type 0
-HeadOk at limit room (Item h) = Lies at limit room h
-HeadOk at limit room ClosingMark = at + 2 ≤ limit
-HeadOk at limit room (Refusal number place) = Unit {0}
-
-module _ (s : List ℕ) (at limit room : ℕ) where
-  definite-ok : (octet start len : ℕ) → at + 2 ≤ start → 0 < room → HeadOk at limit room (definiteAt octet at start len limit)
-  unfolding definiteAt
-  definite-ok octet start len h r =
-      cond-holds (HeadOk at limit room) (leb (start + len) limit)
-      (λ e. cond-holds (HeadOk at limit room) (misfits octet len) (λ _. tt)
-      (λ _. record { header = h; order = omega arith; within = leb-true _ _ e; deep = r; mark = λ m. absurd (false≢true m) }))
-      (λ _. tt)
-
-  indefinite-ok : (octet : ℕ) → at + 2 ≤ limit → 0 < room → HeadOk at limit room (indefiniteAt octet at limit)
-  unfolding indefiniteAt
-  indefinite-ok octet h r =
-      cond-holds (HeadOk at limit room) (constructed octet)
-      (λ e. record { header = omega arith; order = h; within = omega arith; deep = r; mark = λ _. e })
-      (λ _. tt)
-
-  long-ok : (octet k : ℕ) → 0 < room → HeadOk at limit room (longAt s octet at k limit)
-  unfolding longAt
-  long-ok octet k r =
-      cond-holds (HeadOk at limit room) (leb (at + 2 + k) limit) (λ _. definite-ok octet (at + 2 + k) _ (omega arith) r) (λ _. tt)
-
-  first-ok : (octet first : ℕ) → at + 1 < limit → 0 < room → HeadOk at limit room (byFirst s octet at first limit)
-  unfolding byFirst
-  first-ok octet first h r =
-      cond-holds (HeadOk at limit room) (ltb first 0x80) (λ _. definite-ok octet (at + 2) first (omega arith) r)
-      (λ _. cond-holds (HeadOk at limit room) (eqb first 0x80) (λ _. indefinite-ok octet (omega arith) r)
-      (λ _. cond-holds (HeadOk at limit room) (ltb first 0x85) (λ _. long-ok octet (first - 0x80) r) (λ _. tt)))
-
-  length-ok : (octet : ℕ) → 0 < room → HeadOk at limit room (lengthAt s octet at limit)
-  unfolding lengthAt
-  length-ok octet r =
-      cond-holds (HeadOk at limit room) (ltb (at + 1) limit) (λ e. first-ok octet _ (ltb-true _ _ e) r) (λ _. tt)
-
-  item-ok : (octet : ℕ) → HeadOk at limit room (itemAt s octet at limit room)
-  unfolding itemAt
-  item-ok octet =
-      cond-holds (HeadOk at limit room) (eqb room 0) (λ _. tt)
-      (λ e. cond-holds (HeadOk at limit room) (eqb (number octet) 31) (λ _. tt)
-      (λ _. cond-holds (HeadOk at limit room) (formAllowed octet)
-      (λ _. length-ok octet (let ne = eqb-false room 0 e in omega arith))
-      (λ _. tt)))
-
-  closing-ok : (marked : Bool) → HeadOk at limit room (closingAt s at limit marked)
-  unfolding closingAt
-  closing-ok marked =
-      cond-holds (HeadOk at limit room) marked
-      (λ _. cond-holds (HeadOk at limit room) (ltb (at + 1) limit)
-      (λ e. cond-holds (HeadOk at limit room) (eqb (octetAt s (at + 1)) 0) (λ _. let l = ltb-true (at + 1) limit e in omega arith) (λ _. tt))
-      (λ _. tt))
-      (λ _. tt)
-
-  pub head-ok : (marked : Bool) → HeadOk at limit room (headAt s at limit marked room)
-  unfolding headAt
-  head-ok marked =
-      cond-holds (HeadOk at limit room) (eqb (octetAt s at) 0) (λ _. closing-ok marked) (λ _. item-ok _)
+use lib.Dec.{leb}
+use borrow.Author.Tests.{leb-false}
+use Rattle.headers.specs.declared.Header.{Header}
+use Rattle.headers.specs.declared.Head.{Head}
+use Rattle.headers.specs.declared.Head.the-variants.{Item, ClosingMark, Refusal}
+use Rattle.headers.specs.First.{constructed}
+use Rattle.headers.specs.Head.{headAt}
+use Rattle.headers.proofs.Lies.{HeadOk, head-ok}
+use Rattle.octets.specs.Items.{Items, item, count}
+use Rattle.octets.specs.Walk.{End, ends, stops, Walked, ended, stopped, pastOf, follow, value, onHead, step, runFor, run}
 
 -- a walk from `at` with n items ends past them and within the limit
 abbrev pub EndOk : (at limit n : ℕ) → End → Type 0

@@ -4,10 +4,10 @@ use Prim.Native.Nat.{ℕ, _+_, _-_, _<_}
 use mathlib.Core.Path.{_≡_}
 use mathlib.Core.Bool.{Bool, true, false}
 use mathlib.Core.List.{List}
-use Rattle.octets.specs.declared.Header.{Header}
-use Rattle.octets.specs.declared.Head.the-variants.{Item, ClosingMark, Refusal}
-use Rattle.octets.specs.First.{constructed}
-use Rattle.octets.specs.Head.{headAt}
+use Rattle.headers.specs.declared.Header.{Header}
+use Rattle.headers.specs.declared.Head.the-variants.{Item, ClosingMark, Refusal}
+use Rattle.headers.specs.First.{constructed}
+use Rattle.headers.specs.Head.{headAt}
 use Rattle.octets.specs.Items.{Items, none, item}
 use Rattle.octets.specs.Walk.{End, ends, stops, pastOf}
 

@@ -1,24 +1,24 @@
 -- The writer's answer and output, case by case: the tests are those of the crate that writes, in other words. Assumes nothing.
-use mathlib.Core.Path.{_≡_, refl, ap, sym, _∙_, subst}
-use mathlib.Core.Bool.{Bool, true, false, cond}
-use mathlib.Core.List.{List, _++_}
-use Prim.Native.Nat.{ℕ, _<_, _≤_}
+use mathlib.Core.Path.{_≡_}
+use mathlib.Core.Bool.{true, false}
+use mathlib.Core.List.{List}
+use Prim.Native.Nat.{ℕ, _≤_}
 use native.Mathlib.Omega.{arith}
 use lib.Dec.{eqb, leb, ltb}
-use lib.ListN.{length, drop}
+use lib.ListN.{length}
 use borrow.Author.Tests.{ne-eqb, leb-true, leb-false, lt-ltb, le-ltb}
 use borrow.Table.Steps.{cases}
 use Rattle.octets.specs.Walk.{streamLimit}
 use Rattle.normal.specs.declared.Answer.{Answer}
 use Rattle.normal.specs.declared.Answer.the-variants.{Written as Wrote, Refused as Not}
 use Rattle.normal.specs.Normal.{normalForm}
-use Rattle.normal.specs.Writes.{answerOf, outputOf, Gives}
+use Rattle.normal.specs.Writes.{answerOf, outputOf}
 use Rattle.elements.specs.Shape.{edition1988}
 use Rattle.elements.specs.Element.{Element}
 use Rattle.letters.specs.Letter.{letter, refusal}
-use Rattle.odif.specs.declared.Written.{Written}
-use Rattle.odif.specs.Answers.{letterIn, written, writtenOutput, NormalOutcome}
-use Rattle.odif.proofs.Small.{refusal-small}
+use Rattle.answers.specs.declared.Written.{Written}
+use Rattle.answers.specs.Answers.{letterIn, written, writtenOutput, NormalOutcome}
+use Rattle.answers.proofs.Small.{refusal-small}
 
 -- the number, place and length of each answer
 abbrev pub toldAs : Answer → Written

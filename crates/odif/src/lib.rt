@@ -1,64 +1,25 @@
 // The public questions, and nothing else. None has a `requires`: any caller may ask, of any octets, with any buffers.
-mod asking;
-
-use asking::Found;
+pub use answers::Checked;
+use answers::Found;
+pub use answers::Listed;
+pub use answers::Located;
+pub use answers::Reason;
+pub use answers::Written;
 use letters::Verdict;
 use normal::Answer;
 use octets::Outcome;
-use reading::Match;
-use reading::Side;
+pub use reading::Match;
+pub use reading::Side;
 ghost use mathlib.Core.Path.{_≡_};
 ghost use mathlib.Core.List.{List};
-ghost use Rattle.odif.specs.Answers.{CheckOutcome, NormalOutcome, ListOutcome, fetched, whyNot, Fetches};
-
-// What the check answers. Number 0 is accepted.
-#[repr(C)]
-pub struct Checked {
-    pub number: u32,
-    pub place: u32,
-    pub headers: u32,
-    pub elements: u32,
-}
-
-// What the writer of the normal form answers.
-#[repr(C)]
-pub struct Written {
-    pub number: u32,
-    pub place: u32,
-    pub length: u32,
-}
-
-// What the lister of a side answers.
-#[repr(C)]
-pub struct Listed {
-    pub number: u32,
-    pub place: u32,
-    pub elements: u32,
-    pub matches: u32,
-}
-
-// Why a fetch of content gave nothing: number 0 if it was answered.
-#[repr(C)]
-pub struct Reason {
-    pub number: u32,
-    pub place: u32,
-}
-
-// The bounds of a text unit's content, for callers to whom no part can be handed back.
-#[repr(C)]
-pub struct Located {
-    pub number: u32,
-    pub place: u32,
-    pub first: u32,
-    pub past: u32,
-}
+ghost use Rattle.answers.specs.Answers.{CheckOutcome, NormalOutcome, ListOutcome, fetched, whyNot, Fetches};
 
 // Checks a stream and fills the element table, twelve numbers a row. The viewer asks this first.
 pub fn check(stream: &[u8], table: &mut [u32]) -> Checked
     ensures { λ r. ⌜ CheckOutcome (now (stream .entry)) (now (table .entry)) r (now (table .exit)) ⌝ }
 {
     match octets::walk(stream) {
-        Outcome::Ended { at: _, count } => asking::check_walked(stream, count as u32, table),
+        Outcome::Ended { at: _, count } => answers::check_walked(stream, count as u32, table),
         Outcome::Refused {
             number,
             place,
@@ -76,7 +37,7 @@ pub fn check(stream: &[u8], table: &mut [u32]) -> Checked
 pub fn normal(stream: &[u8], out: &mut [u8]) -> Written
     ensures { λ r. ⌜ NormalOutcome (now (stream .entry)) (now (out .entry)) r (now (out .exit)) ⌝ }
 {
-    match asking::judge(stream) {
+    match answers::judge(stream) {
         Verdict::Refused { number, place } => Written {
             number: number as u32,
             place: place as u32,
@@ -102,7 +63,7 @@ pub fn list(stream: &[u8], side: Side, table: &mut [u32], list: &mut [Match]) ->
     ensures { λ r. ⌜ ListOutcome side (now (stream .entry)) (now (table .entry)) (now (list .entry)) r (now (table .exit)) (now (list .exit)) ⌝ }
 {
     let mut flat = [0u32; 12288];
-    let answer = asking::list_flat(stream, side, list.len(), table, &mut flat);
+    let answer = answers::list_flat(stream, side, list.len(), table, &mut flat);
     let count = answer.matches as usize;
     reading::fill(&flat, count, list);
     answer
@@ -113,7 +74,7 @@ pub fn list(stream: &[u8], side: Side, table: &mut [u32], list: &mut [Match]) ->
 pub fn content<'a>(stream: &'a [u8], element: usize) -> &'a [u8]
     ensures { λ r. ⌜ now r ≡ fetched (now (stream .entry)) element .part ⌝ }
 {
-    match asking::fetch(stream, element) {
+    match answers::fetch(stream, element) {
         Found::Content { first, past } => &stream[first..past],
         Found::Refused {
             number: _,
@@ -138,7 +99,7 @@ pub fn why(stream: &[u8], element: usize) -> Reason
 fn locate(stream: &[u8], element: usize) -> Located
     ensures { λ r. ⌜ Fetches (now (stream .entry)) element r ⌝ }
 {
-    match asking::fetch(stream, element) {
+    match answers::fetch(stream, element) {
         Found::Content { first, past } => Located {
             number: 0,
             place: 0,

@@ -12,7 +12,7 @@ use lib.ListN.{length, getElem?, length-append}
 use lib.Seq.{slice}
 use borrow.Author.Tests.{ltb-true, ltb-false, lt-ltb}
 use borrow.Table.Steps.{cases}
-use Rattle.octets.specs.First.{isIn}
+use Rattle.headers.specs.First.{isIn}
 use Rattle.octets.specs.Items.{none}
 use Rattle.octets.specs.Walk.{Walked}
 use Rattle.octets.specs.Rules.{at-limit}

@@ -9,7 +9,7 @@ use native.Mathlib.Omega.{arith}
 use lib.Dec.{ltb}
 use lib.ListN.{getElem?}
 use borrow.Author.Tests.{ltb-true, lt-ltb}
-use Rattle.octets.specs.First.{isIn}
+use Rattle.headers.specs.First.{isIn}
 use Rattle.names.specs.Names.{spaceByte}
 use Rattle.contents.specs.declared.Span.{Span}
 use Rattle.contents.specs.Search.{absent, octets}

@@ -9,7 +9,7 @@ use native.Mathlib.Omega.{arith}
 use lib.Dec.{eqb}
 use lib.ListN.{getElem?}
 use borrow.Author.Tests.{eqb-true, eq-eqb}
-use Rattle.octets.specs.First.{isIn}
+use Rattle.headers.specs.First.{isIn}
 use Rattle.names.specs.Names.{spaceByte}
 use Rattle.names.proofs.Same.{same-eq, same-refl}
 use Rattle.contents.specs.Search.{Value, absent, octets}

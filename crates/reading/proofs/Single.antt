@@ -11,7 +11,7 @@ use lib.Dec.{eqb}
 use lib.ListN.{length, getElem?, length-append, length-map}
 use borrow.Author.Tests.{eqb-true, eq-eqb}
 use borrow.Table.Steps.{cases}
-use Rattle.octets.specs.First.{isIn}
+use Rattle.headers.specs.First.{isIn}
 use Rattle.names.specs.Names.{spaceByte}
 use Rattle.names.proofs.Same.{same-refl}
 use Rattle.names.proofs.Joined.{joined-parts}

@@ -5,7 +5,7 @@ use Prim.Native.Nat.{ℕ, suc}
 use mathlib.Core.Bool.{Bool, false, cond, _&&_}
 use mathlib.Core.List.{List, [], _∷_, _++_}
 use lib.Dec.{eqb}
-use Rattle.octets.specs.First.{isIn}
+use Rattle.headers.specs.First.{isIn}
 use Rattle.names.specs.Names.{spaceByte, same}
 use Rattle.contents.specs.Search.{Value, absent, octets}
 use Rattle.elements.specs.Element.{Element}

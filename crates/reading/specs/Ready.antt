@@ -7,7 +7,7 @@ use mathlib.Core.List.{List, [], _∷_}
 use Prim.Native.Nat.{ℕ, _+_, _*_, _<_, _≤_}
 use lib.Dec.{ltb}
 use lib.ListN.{length, getD, getElem?}
-use Rattle.octets.specs.First.{isIn}
+use Rattle.headers.specs.First.{isIn}
 use Rattle.runs.specs.declared.Run.{Run}
 use Rattle.runs.specs.Runs.{treeIn, Fine}
 use Rattle.contents.specs.declared.Span.{Span}

@@ -8,16 +8,16 @@ use native.Mathlib.Omega.{arith}
 use lib.Dec.{leb, ltb, eqb}
 use lib.ListN.{take, drop}
 use borrow.Author.Tests.{le-leb, lt-ltb, eqb-false, ne-eqb}
-use Rattle.octets.specs.declared.Header.{Header}
-use Rattle.octets.specs.declared.Head.{Head}
-use Rattle.octets.specs.declared.Head.the-variants.{Item, ClosingMark, Refusal}
-use Rattle.octets.specs.First.{number, constructed, formAllowed}
-use Rattle.octets.specs.Lengths.{misfits, bigEndian}
-use Rattle.octets.specs.Head.{octetAt, definiteAt, indefiniteAt, longAt, byFirst, lengthAt, closingAt, itemAt, headAt}
+use Rattle.headers.specs.declared.Header.{Header}
+use Rattle.headers.specs.declared.Head.{Head}
+use Rattle.headers.specs.declared.Head.the-variants.{Item, ClosingMark, Refusal}
+use Rattle.headers.specs.First.{number, constructed, formAllowed}
+use Rattle.headers.specs.Lengths.{misfits, bigEndian}
+use Rattle.headers.specs.Head.{octetAt, definiteAt, indefiniteAt, longAt, byFirst, lengthAt, closingAt, itemAt, headAt}
 use Rattle.octets.specs.Items.{Items, none, item}
 use Rattle.octets.specs.Walk.{End, ends, Walked, pastOf, run}
 use Rattle.octets.specs.Rules.{Runs, at-limit, unclosed, closes, refuses, primitive, passes, breaks}
-use Rattle.octets.proofs.Walks.{cond-holds}
+use Rattle.headers.proofs.Lies.{cond-holds}
 use Rattle.octets.proofs.Turns.{header-ok}
 use Rattle.octets.proofs.RulesHold.{derived, derives}
 use Rattle.tree.specs.Tree.{plain}

@@ -6,13 +6,13 @@ use mathlib.Core.List.{List}
 use Prim.Native.Nat.{ℕ, _+_, _-_}
 use lib.Dec.{leb, ltb, eqb}
 use borrow.Author.Tests.{eqb-false}
-use Rattle.octets.specs.declared.Header.{Header}
-use Rattle.octets.specs.declared.Head.{Head}
-use Rattle.octets.specs.declared.Head.the-variants.{Item, ClosingMark, Refusal}
-use Rattle.octets.specs.First.{number, constructed, formAllowed}
-use Rattle.octets.specs.Lengths.{misfits}
-use Rattle.octets.specs.Head.{octetAt, definiteAt, indefiniteAt, longAt, byFirst, lengthAt, closingAt, itemAt, headAt}
-use Rattle.octets.proofs.Walks.{cond-holds}
+use Rattle.headers.specs.declared.Header.{Header}
+use Rattle.headers.specs.declared.Head.{Head}
+use Rattle.headers.specs.declared.Head.the-variants.{Item, ClosingMark, Refusal}
+use Rattle.headers.specs.First.{number, constructed, formAllowed}
+use Rattle.headers.specs.Lengths.{misfits}
+use Rattle.headers.specs.Head.{octetAt, definiteAt, indefiniteAt, longAt, byFirst, lengthAt, closingAt, itemAt, headAt}
+use Rattle.headers.proofs.Lies.{cond-holds}
 
 -- an item with this octet, or a refusal
 abbrev Has : (octet : ℕ) → Head → Type 0

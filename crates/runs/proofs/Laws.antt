@@ -11,7 +11,7 @@ use lib.Seq.{slice}
 use borrow.Author.Tests.{leb-true, le-leb}
 use Rattle.octets.specs.declared.Outcome.{Outcome}
 use Rattle.octets.specs.declared.Outcome.the-variants.{Ended, Refused}
-use Rattle.octets.specs.First.{constructed}
+use Rattle.headers.specs.First.{constructed}
 use Rattle.octets.specs.Items.{Items, none, item, count}
 use Rattle.octets.specs.Walk.{End, ends, stops, streamLimit, run, answerOf, answer, walkOf}
 use Rattle.octets.specs.Rules.{Runs, at-limit, unclosed, closes, refuses, primitive, passes, breaks}

@@ -6,14 +6,15 @@ use Prim.Native.Nat.{ℕ, _-_, _<_, _≤_}
 use native.Mathlib.Omega.{arith}
 use lib.ListN.{length}
 use borrow.Author.Tests.{le-leb}
-use Rattle.octets.specs.declared.Header.{Header}
-use Rattle.octets.specs.declared.Head.{Head}
-use Rattle.octets.specs.declared.Head.the-variants.{Item, ClosingMark, Refusal}
-use Rattle.octets.specs.First.{constructed}
-use Rattle.octets.specs.Head.{octetAt, headAt, Passed}
+use Rattle.headers.specs.declared.Header.{Header}
+use Rattle.headers.specs.declared.Head.{Head}
+use Rattle.headers.specs.declared.Head.the-variants.{Item, ClosingMark, Refusal}
+use Rattle.headers.specs.First.{constructed}
+use Rattle.headers.specs.Head.{octetAt, headAt, Passed}
 use Rattle.octets.specs.Items.{Items, item, count}
 use Rattle.octets.specs.Walk.{End, ends, stops, Walked, ended, pastOf, follow, run, valueOf, answerOf}
-use Rattle.octets.proofs.Walks.{Lies, run-step}
+use Rattle.headers.proofs.Lies.{Lies}
+use Rattle.octets.proofs.Walks.{run-step}
 use Rattle.octets.proofs.Turns.{header-ok, passed-ok, at-head, tree-ends}
 use Rattle.runs.specs.Whole.{Whole}
 use Rattle.runs.specs.declared.Run.{Run}

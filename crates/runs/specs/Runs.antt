@@ -7,8 +7,8 @@ use mathlib.Core.Bool.{Bool, true, false, cond, not, _&&_}
 use mathlib.Core.List.{List}
 use Prim.Native.Nat.{ℕ, suc, _+_, _-_, _<_, _≤_}
 use lib.ListN.{length}
-use Rattle.octets.specs.declared.Header.{Header}
-use Rattle.octets.specs.First.{constructed}
+use Rattle.headers.specs.declared.Header.{Header}
+use Rattle.headers.specs.First.{constructed}
 use Rattle.octets.specs.Items.{Items, none, item}
 use Rattle.octets.specs.Walk.{Walked, ends, deepest, run}
 use Rattle.tree.specs.Tree.{Tree, plain}

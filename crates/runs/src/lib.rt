@@ -1,12 +1,12 @@
 // A run of items as a value: what is met at its start. Every pass after the walk goes through `meet`.
-use octets::Head;
-use octets::Header;
+use headers::Head;
+use headers::Header;
 use octets::Outcome;
 ghost use mathlib.Core.Path.{_≡_};
 ghost use mathlib.Core.Bool.{true};
 ghost use Prim.Native.Nat.{_<_, _≤_};
 ghost use lib.ListN.{length};
-ghost use Rattle.octets.specs.First.{constructed};
+ghost use Rattle.headers.specs.First.{constructed};
 ghost use Rattle.octets.specs.Walk.{ends, run};
 ghost use Rattle.runs.specs.Whole.{Whole};
 ghost use Rattle.runs.specs.Runs.{insideOf, wholeStream, Fine, Meets};
@@ -85,7 +85,7 @@ pub fn meet(s: &[u8], r: Run) -> Met
     if at == limit {
         return Met::End;
     }
-    match octets::passed_head(s, at, limit, marked, room) {
+    match headers::passed_head(s, at, limit, marked, room) {
         Head::ClosingMark => Met::End,
         Head::Refusal {
             number: _,

@@ -7,11 +7,11 @@ use native.Mathlib.Omega.{arith}
 use lib.ListN.{length, take, drop}
 use lib.Seq.{slice}
 use borrow.Author.Tests.{le-leb, lt-ltb, le-ltb, ne-eqb, eqb-true}
-use Rattle.octets.specs.declared.Header.{Header}
-use Rattle.octets.specs.declared.Head.the-variants.{Item, ClosingMark}
-use Rattle.octets.specs.First.{number, constructed, permits, formAllowed}
-use Rattle.octets.specs.Lengths.{misfits, bigEndian}
-use Rattle.octets.specs.Head.{octetAt, definiteAt, indefiniteAt, longAt, byFirst, lengthAt, closingAt, itemAt, headAt}
+use Rattle.headers.specs.declared.Header.{Header}
+use Rattle.headers.specs.declared.Head.the-variants.{Item, ClosingMark}
+use Rattle.headers.specs.First.{number, constructed, permits, formAllowed}
+use Rattle.headers.specs.Lengths.{misfits, bigEndian}
+use Rattle.headers.specs.Head.{octetAt, definiteAt, indefiniteAt, longAt, byFirst, lengthAt, closingAt, itemAt, headAt}
 use Rattle.octets.specs.Items.{Items, none, item}
 use Rattle.octets.specs.Walk.{End, ends, pastOf}
 use Rattle.octets.specs.Rules.{Runs, at-limit, closes, primitive, passes}

@@ -8,13 +8,13 @@ use native.Mathlib.Omega.{arith}
 use lib.Dec.{leb, ltb, eqb}
 use lib.ListN.{length, take, drop}
 use borrow.Author.Tests.{leb-true, ltb-true, ltb-false, eqb-true, eqb-false}
-use Rattle.octets.specs.declared.Header.{Header}
-use Rattle.octets.specs.declared.Head.{Head}
-use Rattle.octets.specs.declared.Head.the-variants.{Item, ClosingMark, Refusal}
-use Rattle.octets.specs.First.{number, constructed, formAllowed}
-use Rattle.octets.specs.Lengths.{misfits, bigEndian}
-use Rattle.octets.specs.Head.{octetAt, definiteAt, indefiniteAt, longAt, byFirst, lengthAt, closingAt, itemAt, headAt}
-use Rattle.octets.proofs.Walks.{cond-holds}
+use Rattle.headers.specs.declared.Header.{Header}
+use Rattle.headers.specs.declared.Head.{Head}
+use Rattle.headers.specs.declared.Head.the-variants.{Item, ClosingMark, Refusal}
+use Rattle.headers.specs.First.{number, constructed, formAllowed}
+use Rattle.headers.specs.Lengths.{misfits, bigEndian}
+use Rattle.headers.specs.Head.{octetAt, definiteAt, indefiniteAt, longAt, byFirst, lengthAt, closingAt, itemAt, headAt}
+use Rattle.headers.proofs.Lies.{cond-holds}
 use Rattle.tree.specs.Codes.{TypeField, oneOctet, Length, short, long}
 use Rattle.tree.proofs.Here.{Here, one, some, joined}
 

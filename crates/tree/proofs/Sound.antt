@@ -6,11 +6,11 @@ use Prim.Native.Nat.{ℕ, zero, suc, _+_, _-_, _<_, _≤_}
 use native.Mathlib.Omega.{arith}
 use lib.ListN.{length, drop}
 use lib.Seq.{slice}
-use Rattle.octets.specs.declared.Header.{Header}
-use Rattle.octets.specs.declared.Head.the-variants.{Item}
-use Rattle.octets.specs.First.{constructed}
-use Rattle.octets.specs.Lengths.{misfits}
-use Rattle.octets.specs.Head.{headAt}
+use Rattle.headers.specs.declared.Header.{Header}
+use Rattle.headers.specs.declared.Head.the-variants.{Item}
+use Rattle.headers.specs.First.{constructed}
+use Rattle.headers.specs.Lengths.{misfits}
+use Rattle.headers.specs.Head.{headAt}
 use Rattle.octets.specs.Items.{Items}
 use Rattle.octets.specs.Walk.{End, ends, stops, pastOf}
 use Rattle.octets.specs.Rules.{Runs, at-limit, unclosed, closes, refuses, primitive, passes, breaks}

@@ -6,8 +6,8 @@ use mathlib.Core.Path.{_≡_}
 use mathlib.Core.Bool.{Bool, true, false}
 use mathlib.Core.List.{List, [], _∷_, _++_}
 use lib.ListN.{length, getD}
-use Rattle.octets.specs.First.{number, constructed, formAllowed}
-use Rattle.octets.specs.Lengths.{bigEndian, misfits}
+use Rattle.headers.specs.First.{number, constructed, formAllowed}
+use Rattle.headers.specs.Lengths.{bigEndian, misfits}
 use Rattle.tree.specs.Tree.{Tree, empty, leaf, branch}
 
 -- A type field and its form, which is true if it is constructed. A type field of more octets is a case more here.

@@ -6,7 +6,7 @@ use mathlib.Core.Bool.{Bool, true, false}
 use mathlib.Core.List.{List, [], _∷_}
 use lib.ListN.{length}
 use lib.Seq.{slice}
-use Rattle.octets.specs.First.{constructed}
+use Rattle.headers.specs.First.{constructed}
 use Rattle.octets.specs.Items.{Items, none, item}
 use Rattle.octets.specs.Walk.{deepest, run}
 

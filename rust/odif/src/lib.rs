@@ -17,6 +17,8 @@
 //! # }
 //! ```
 //!
+//! A question takes up to 304 KiB of the calling thread's stack, and any number of threads may ask at once.
+//!
 //! [`raw`] has the functions of the C header as they stand, for callers who lend their own memory.
 
 mod letter;

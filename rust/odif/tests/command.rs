@@ -12,6 +12,17 @@ const CLAIM: &str = "samples/letters/claim.odif";
 const IN_PIECES: &str = "samples/letters/in-pieces.odif";
 const CUT_SHORT: &str = "samples/letters/cut-short.odif";
 
+/// With `--json` a file that can't be read is told as JSON too, by each subcommand that has it.
+fn assert_unreadable_json(name: &str) {
+    let run = odif(&[name, "--json", "none"]);
+    assert_eq!((run.status, run.stderr.as_str()), (2, ""));
+    assert!(
+        run.text().starts_with(r#"{"file":"none","outcome":"unreadable","reason":"No such file"#),
+        "{}",
+        run.text()
+    );
+}
+
 mod help {
     use super::*;
 
@@ -55,6 +66,7 @@ mod help {
             (&["text", "--json", CLAIM], "no option `--json`"),
             (&["normal", CLAIM, "-o"], "-o needs a value"),
             (&["survey"], "folder is missing"),
+            (&["survey", "-"], "not of standard input"),
             (&["survey", "--jobs", "0", "samples"], "--jobs needs a number"),
             (&["survey", "--jobs=many", "samples"], "--jobs needs a number"),
             (&["help", "read"], "no help"),
@@ -102,6 +114,7 @@ mod check {
         let run = odif(&["check", &scratch.write("empty.odif", b"")]);
         assert_eq!(run.status, 1);
         assert!(run.text().contains("refused, number 11 at octet 0: "), "{}", run.text());
+        assert!(run.text().ends_with("\n  the stream is empty\n"), "{}", run.text());
     }
 
     #[test]
@@ -122,7 +135,7 @@ mod check {
         let run = odif(&["check", "no-such-file.odif", CLAIM, "samples", IN_PIECES]);
         assert_eq!(run.status, 2);
         assert!(run.stderr.contains("odif: no-such-file.odif: No such file"), "{}", run.stderr);
-        assert!(run.stderr.contains("odif: samples: Is a directory"), "{}", run.stderr);
+        assert!(run.stderr.contains("odif: samples: it is a folder; `odif survey` takes folders"), "{}", run.stderr);
         assert!(run.text().contains("claim.odif: accepted"));
         assert!(run.text().contains("in-pieces.odif: refused, number 12 at octet 21"));
     }
@@ -134,10 +147,11 @@ mod check {
         let lines: Vec<&str> = run.text().lines().collect();
         assert_eq!(
             lines[0],
-            r#"{"file":"samples/letters/claim.odif","outcome":"accepted","number":0,"elements":22,"octets":1080,"headers":149}"#
+            r#"{"file":"samples/letters/claim.odif","outcome":"accepted","number":0,"place":0,"octets":1080,"headers":149,"elements":22}"#
         );
         assert!(lines[1].contains(r#""outcome":"refused","number":12,"place":21,"#), "{}", lines[1]);
         assert!(lines[1].contains(r#""around":{"first":5,"hex":"0104310C"#), "{}", lines[1]);
+        assert!(lines[1].ends_with(r#","octets":42,"headers":13,"elements":0}"#), "{}", lines[1]);
         assert!(lines[2].starts_with(r#"{"file":"none","outcome":"unreadable","reason":""#), "{}", lines[2]);
         assert_eq!(lines.len(), 3);
     }
@@ -228,6 +242,42 @@ mod text {
     }
 }
 
+mod output {
+    use super::*;
+
+    /// Runs the command with a device that is always full in the place of its outputs.
+    fn status_on_a_full_device(words: &[&str], stdout: bool, stderr: bool) -> i32 {
+        let full = || Stdio::from(fs::File::options().write(true).open("/dev/full").unwrap());
+        let mut command = command(words);
+        command.stdin(Stdio::null()).stdout(if stdout { full() } else { Stdio::null() });
+        command.stderr(if stderr { full() } else { Stdio::null() });
+        command.status().unwrap().code().expect("an exit status")
+    }
+
+    #[test]
+    fn what_cannot_be_written_is_a_failure() {
+        for words in [&["text", CLAIM][..], &["tree", CLAIM], &["list", CLAIM], &["normal", CLAIM], &["check", CLAIM]] {
+            assert_eq!(status_on_a_full_device(words, true, false), 2, "{words:?}");
+        }
+        assert_eq!(odif(&["normal", CLAIM, "-o", "/dev/full"]).status, 2);
+        assert_eq!(odif(&["survey", "samples", "--csv", "/dev/full"]).status, 2);
+    }
+
+    #[test]
+    fn words_that_no_one_can_read_change_no_status() {
+        for (words, status) in [
+            (&["text", CUT_SHORT][..], 1),
+            (&["tree", CUT_SHORT], 1),
+            (&["text", "none"], 2),
+            (&["check", "none", CLAIM], 2),
+            (&["check", "--jason"], 2),
+            (&["survey", "samples/letters", "--csv", "-"], 1),
+        ] {
+            assert_eq!(status_on_a_full_device(words, false, true), status, "{words:?}");
+        }
+    }
+}
+
 mod tree {
     use super::*;
 
@@ -266,7 +316,7 @@ mod tree {
         let run = odif_with(&["tree", "--json", "--hex", "-"], b"A080 0500 0000");
         assert_eq!(
             run.text(),
-            "{\"file\":\"standard input\",\"outcome\":\"accepted\",\"items\":[\
+            "{\"file\":\"standard input\",\"outcome\":\"accepted\",\"number\":0,\"place\":0,\"items\":[\
              {\"offset\":0,\"level\":1,\"class\":\"context\",\"number\":0,\"constructed\":true,\"header\":2,\
              \"length\":null,\"element\":0,\"name\":\"document profile\"},\
              {\"offset\":2,\"level\":2,\"class\":\"universal\",\"number\":5,\"constructed\":false,\"header\":2,\
@@ -280,6 +330,7 @@ mod tree {
         assert_eq!(odif(&["tree", &scratch.write("empty", b"")]).status, 1);
         assert_eq!(odif(&["tree", &scratch.write_huge("huge")]).status, 1);
         assert_eq!(odif(&["tree", "none"]).status, 2);
+        assert_unreadable_json("tree");
     }
 
     #[test]
@@ -368,7 +419,9 @@ mod list {
         assert_eq!((run.status, run.text()), (0, wanted));
         let run = odif_with(&["list", "--logical", "-"], &letter(b"Hi"));
         assert_eq!((run.status, run.text().lines().count()), (0, 1));
-        assert_eq!(odif(&["list", "--logical", CLAIM]).text().lines().count(), 10);
+        assert!(run.stderr.contains("1 text unit of 1 not in the reading order of the logical side"), "{}", run.stderr);
+        let run = odif(&["list", "--logical", CLAIM]);
+        assert_eq!((run.text().lines().count(), run.stderr.as_str()), (10, ""));
     }
 
     #[test]
@@ -376,7 +429,8 @@ mod list {
         let run = odif_with(&["list", "--json", "-"], &letter(b"Hi"));
         assert_eq!(
             run.text(),
-            "{\"file\":\"standard input\",\"outcome\":\"accepted\",\"side\":\"layout\",\"elements\":3,\"matches\":[\
+            "{\"file\":\"standard input\",\"outcome\":\"accepted\",\"number\":0,\"place\":0,\
+             \"side\":\"layout\",\"elements\":3,\"matches\":[\
              {\"element\":1,\"portion\":0,\"unit\":2,\"identifier\":\"1 0 2 0\",\"first\":36,\"past\":38}]}\n"
         );
         let run = odif(&["list", "--json", IN_PIECES]);
@@ -393,5 +447,6 @@ mod list {
         assert_eq!(odif(&["list", &scratch.write("empty", b"")]).status, 1);
         assert_eq!(odif(&["list", &scratch.write_huge("huge")]).status, 1);
         assert_eq!(odif(&["list", "none"]).status, 2);
+        assert_unreadable_json("list");
     }
 }

@@ -1,23 +1,29 @@
-//! The C header with the archive: a C program compiles without a warning, links, and gets the right answers.
+//! The C header with the archive: a C program compiles without a warning, links, and gets the right answers, on no more
+//! stack than the header says.
 
 use std::path::Path;
-use std::process::Command;
+use std::process::{Command, Output};
 
-#[test]
-fn a_c_program_over_the_header() {
+/// Compiles a C program of this folder with the header and the archive, and runs it.
+fn run(name: &str, standard: &str) -> Output {
     let folder = Path::new(env!("CARGO_MANIFEST_DIR"));
-    let program = Path::new(env!("CARGO_TARGET_TMPDIR")).join("header");
+    let program = Path::new(env!("CARGO_TARGET_TMPDIR")).join(name);
     let compiled = Command::new("cc")
-        .args(["-std=c99", "-Wall", "-Wextra", "-pedantic", "-Werror", "-I"])
+        .args([standard, "-Wall", "-Wextra", "-pedantic", "-Werror", "-I"])
         .arg(folder.join("../../include"))
-        .arg(folder.join("tests/header.c"))
+        .arg(folder.join("tests").join(name).with_extension("c"))
         .arg(env!("ODIF_ARCHIVE"))
         .arg("-o")
         .arg(&program)
         .output()
         .expect("a C compiler");
     assert!(compiled.status.success(), "{}", String::from_utf8_lossy(&compiled.stderr));
-    let output = Command::new(&program).output().unwrap();
+    Command::new(&program).output().unwrap()
+}
+
+#[test]
+fn a_c_program_over_the_header() {
+    let output = run("header", "-std=c99");
     let wanted = "check 0 0 11 3
 0 255 0 2 0 0 0 0 0 0 0 0 2 4 2 21 11 16 0 0 18 21 0 0 3 255 21 38 27 34 0 0 0 0 36 38 4008636142 
 layout 0 0 3 1: 1 0 2
@@ -28,4 +34,12 @@ empty 11 0
 short 16 0 11 0
 ";
     assert_eq!(String::from_utf8_lossy(&output.stdout), wanted);
+}
+
+#[test]
+fn no_more_stack_than_the_header_says() {
+    let output = run("stack", "-std=gnu99");
+    let told = String::from_utf8_lossy(&output.stdout);
+    assert!(output.status.success(), "{told}");
+    assert_eq!(told.lines().count(), 5, "{told}");
 }

@@ -104,6 +104,18 @@ fn unreadable_files_are_counted_and_never_stop_it() {
 }
 
 #[test]
+fn more_jobs_than_files() {
+    let scratch = archive("survey-jobs");
+    let run = odif(&["survey", "--jobs", "1000000000", &scratch.word("")]);
+    assert_eq!(run.status, 1);
+    assert!(
+        run.text().contains("\n2 accepted\n3 refused\n") && run.text().ends_with("\n0 unreadable\n"),
+        "{}",
+        run.text()
+    );
+}
+
+#[test]
 fn a_huge_file_costs_no_more_than_its_front() {
     let scratch = Scratch::new("survey-huge");
     scratch.write_huge("huge.odif");
@@ -136,9 +148,10 @@ fn good_empty_missing_and_several_folders() {
     let run = odif(&["survey", &scratch.word("none")]);
     assert_eq!(run.status, 0);
     assert!(run.text().starts_with("0 files in "), "{}", run.text());
-    let run = odif(&["survey", &scratch.word("missing")]);
+    let run = odif(&["survey", &scratch.word("missing"), &scratch.word("one")]);
     assert_eq!(run.status, 2);
-    assert!(run.stderr.contains("missing: No such file"), "{}", run.stderr);
+    assert!(run.text().contains("\n1 accepted\n0 refused\n1 unreadable\n"), "{}", run.text());
+    assert!(run.text().contains("missing: No such file"), "{}", run.text());
     let run = odif(&["survey", &scratch.word("one"), "--csv", &scratch.word("missing/out.csv")]);
     assert_eq!(run.status, 2);
     assert!(run.stderr.contains("missing/out.csv: No such file"), "{}", run.stderr);

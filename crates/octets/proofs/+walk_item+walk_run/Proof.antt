@@ -10,11 +10,11 @@ use native.Mathlib.Omega.{arith}
 use borrow.Author.Needs.{needs}
 use borrow.Author.Tests.{eq-eqb, ne-eqb}
 use denote.Ref.{now}
-use Rattle.octets.specs.declared.Head.{Head}
-use Rattle.octets.specs.declared.Head.the-variants.{Item, ClosingMark, Refusal}
+use Rattle.headers.specs.declared.Head.{Head}
+use Rattle.headers.specs.declared.Head.the-variants.{Item, ClosingMark, Refusal}
 use Rattle.octets.specs.declared.Outcome.{Outcome}
 use Rattle.octets.specs.declared.Outcome.the-variants.{Ended, Refused}
-use Rattle.octets.specs.Head.{headAt}
+use Rattle.headers.specs.Head.{headAt}
 use Rattle.octets.specs.Walk.{run, valueOf, answer}
 use Rattle.octets.proofs.Turns.{plus, plus-plus, plus-zero, closes, refuses, passes, breaks, unclosed, closed, header-ok, mark-ok, passed-ok, broken-ok}
 use borrow.Fn.Kinds.{In}
@@ -25,7 +25,7 @@ use Rattle.octets.proofs.+walk_item+walk_run.Lts-walk_item as item-lts
 use Rattle.octets.proofs.walk_run.Reads as walk-run
 use Rattle.octets.proofs.walk_run.Kinds as walk-run-kinds
 use Rattle.octets.proofs.+walk_item+walk_run.Lts-walk_run as run-lts
-use Rattle.octets.proofs.head_at.Reads as head-at-reads
+use Rattle.headers.proofs.head_at.Reads as head-at-reads
 use Rattle.octets.proofs.+walk_item+walk_run.{statement}
 use Rattle.octets.proofs.+walk_item+walk_run.Tie.{close}
 
@@ -72,11 +72,28 @@ module _ (t : ℕ) where
 
   item-returns : item-lts.Need-returns (item-calls t) (item-at t) walk-item.Post
   unfolding valueOf
-  item-returns c = simp (eq-eqb _ _ (c .before .if1 .taken)) (c .walk-run .ensures)
+  item-returns c = simp (eq-eqb _ _ (c .before .before .if1 .taken)) (c .walk-run .ensures)
+
+  -- a run that begins at its limit, where `marked` is what the test said
+  empty-value : (c : item-lts.Else2 (item-calls t) (item-at t) walk-item.Post) (b : Bool) →
+      let a = c .before .before .before .args in
+      a .h .marked ≡ b → answer (valueOf (a .room) (now (a .s)) (a .h)) ≡ answer (run (a .room - 1) (now (a .s)) (a .h .bound) (a .h .bound) b)
+  unfolding valueOf
+  empty-value c b m = rw (eq-eqb _ _ (c .before .if1 .taken), c .if2 .left, m)
 
   item-returns-2 : item-lts.Need-returns-2 (item-calls t) (item-at t) walk-item.Post
+  item-returns-2 c =
+      let a = c .before .before .before .before .args in
+      sym (empty-value (c .before) true (c .if3 .taken) ∙ unclosed (a .room - 1) (now (a .s)) (a .h .bound))
+
+  item-returns-3 : item-lts.Need-returns-3 (item-calls t) (item-at t) walk-item.Post
+  item-returns-3 c =
+      let a = c .before .before .before .before .args in
+      sym (empty-value (c .before) false (c .if3 .left) ∙ closed (a .room - 1) (now (a .s)) (a .h .bound))
+
+  item-returns-4 : item-lts.Need-returns-4 (item-calls t) (item-at t) walk-item.Post
   unfolding valueOf
-  item-returns-2 c = simp (ne-eqb _ _ (c .if1 .left))
+  item-returns-4 c = simp (ne-eqb _ _ (c .if1 .left))
 
   -- what stands at `at`, where x was read
   read : (c : run-lts.After-head-at (run-calls t) (run-at t) walk-run.Post Inv μ) (x : Head) → c .head-at .result ≡ x →
@@ -225,7 +242,7 @@ module _ (t : ℕ) where
 pub +walk-item+walk-run-spec : {M : Type 1} → statement M
 +walk-item+walk-run-spec =
     close μ-item μ-run
-    (λ t. item-lts.spec (item-calls t) (item-at t) walk-item.Post (item-sub-walk-run t) (item-walk-run-requires t) (item-returns t) (item-returns-2 t))
+    (λ t. item-lts.spec (item-calls t) (item-at t) walk-item.Post (item-sub-walk-run t) (item-walk-run-requires t) (item-returns t) (item-returns-2 t) (item-returns-3 t) (item-returns-4 t))
     (λ t. run-lts.spec (run-calls t) (run-at t) walk-run.Post Inv μ
     (loop-holds t) (head-at-requires t) (enum-told t) (add-t18 t) (returns t) (enum-known-number t) (returns-2 t)
     (enum-known-h t) (walk-item-requires t) (enum-known-next t) (add-count t) (add-count-2 t) (loop-less t) (loop-again t)

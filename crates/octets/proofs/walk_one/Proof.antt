@@ -1,12 +1,8 @@
 -- `octets::walk_one` meets its contract: what stands at the place decides, as in a turn of the run walker. Assumes nothing.
-use mathlib.Core.Path.{_≡_, ap, sym, _∙_}
+use mathlib.Core.Path.{sym, _∙_}
 use mathlib.Core.Bool.{false}
-use Prim.Native.Nat.{_<_, _≤_}
 use native.Mathlib.Omega.{arith}
 use borrow.Author.Needs.{needs}
-use Rattle.octets.specs.declared.Head.{Head}
-use Rattle.octets.specs.declared.Head.the-variants.{Item, ClosingMark, Refusal}
-use Rattle.octets.specs.Head.{headAt}
 use Rattle.octets.proofs.Turns.{header-ok, passed-ok, broken-ok}
 use Rattle.octets.proofs.Ones.{one-ends, one-closes, one-refuses, one-passes, one-breaks}
 use Rattle.octets.proofs.walk_one.Statement.{statement}

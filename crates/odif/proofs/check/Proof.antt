@@ -1,77 +1,59 @@
 -- `odif::check` meets its contract: what the walk refuses is refused, and what it passes is checked further. Assumes nothing.
-use mathlib.Core.Path.{_≡_, sym, ap, _∙_}
-use Prim.Native.Nat.{ℕ}
+use mathlib.Core.Path.{sym, _∙_}
 use borrow.Author.Needs.{needs}
 use native.Mathlib.Omega.{arith}
 use denote.Ref.{now}
-use Rattle.octets.specs.declared.Outcome.the-variants.{Ended}
-use Rattle.runs.proofs.Laws.{stream-count}
 use Rattle.elements.specs.Shape.{edition1988}
-use Rattle.odif.proofs.Small.{walk-small, headers-small}
-use Rattle.odif.proofs.Letters.{refused-walk}
-use Rattle.odif.proofs.Checks.{checks-refused}
+use Rattle.answers.proofs.Small.{walk-small, headers-small}
+use Rattle.answers.proofs.Letters.{refused-walk}
+use Rattle.answers.proofs.Checks.{checks-refused}
+use Rattle.answers.proofs.Scratch.{walked-whole}
 use Rattle.odif.proofs.check.Statement.{statement}
 use Rattle.odif.proofs.check.Tie as tie
-use Rattle.odif.proofs.check.Reads as reads
-use Rattle.odif.proofs.check.Lts as lts
-use Rattle.octets.proofs.walk.Reads as walk-reads
-use Rattle.odif.proofs.asking.check_walked.Reads as check-walked-reads
 
--- src/lib.rt:56:11
 walk-requires : tie.Need-walk-requires
 walk-requires c κs = search needs
 
--- src/lib.rt:57:33
 enum-known-count : tie.Need-enum-known-count
 enum-known-count c = search needs
 
--- src/lib.rt:57:73
 cast-check-walked : tie.Need-cast-check-walked
 cast-check-walked c =
     let w = sym (c .before .before .before .walk .ensures) ∙ c .before .count .given .1 in
     let h = headers-small _ _ _ w in
     omega arith
 
--- src/lib.rt:57:44
 check-walked-requires : tie.Need-check-walked-requires
 check-walked-requires c κs =
-    let w = sym (c .before .before .before .before .walk .ensures) ∙ c .before .before .count .given .1 in
-    w ∙ ap (λ (at : ℕ). Ended at (c .before .before .count .given .0 .1 .0)) (stream-count _ _ _ w .0)
+    walked-whole _ _ _ (sym (c .before .before .before .before .walk .ensures) ∙ c .before .before .count .given .1)
 
--- src/lib.rt:59:13
 enum-known-number : tie.Need-enum-known-number
 enum-known-number c = search needs
 
--- src/lib.rt:63:21
 cast-t12 : tie.Need-cast-t12
 cast-t12 c =
     let w = sym (c .before .before .before .walk .ensures) ∙ c .before .number .given .1 in
     let r = walk-small _ _ _ _ w in
     omega arith
 
--- src/lib.rt:64:20
 cast-t13 : tie.Need-cast-t13
 cast-t13 c =
     let w = sym (c .before .before .before .walk .ensures) ∙ c .before .number .given .1 in
     let r = walk-small _ _ _ _ w in
     omega arith
 
--- src/lib.rt:65:22
 cast-t14 : tie.Need-cast-t14
 cast-t14 c =
     let w = sym (c .before .before .before .walk .ensures) ∙ c .before .number .given .1 in
     let r = walk-small _ _ _ _ w in
     omega arith
 
--- src/lib.rt:53:1
 same-length : tie.Need-same-length
 same-length c = search needs
 
--- src/lib.rt:53:1
 returns : tie.Need-returns
 returns c = search needs
 
--- src/lib.rt:53:1
 returns-2 : tie.Need-returns-2
 returns-2 c =
     let a = c .before .before .before .before .before .before .args in

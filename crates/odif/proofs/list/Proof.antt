@@ -59,17 +59,17 @@ use Rattle.reading.proofs.fill as fill
 use Rattle.reading.proofs.fill.Symbol as fill-def
 use Rattle.reading.proofs.fill.Symbol.{name as #reading·fill}
 use Rattle.reading.proofs.fill.Met as fill-thm
-use Rattle.odif.specs.declared.Listed.{Listed}
-use Rattle.odif.specs.Answers.{listed, listedTable, listedList}
-use Rattle.odif.specs.Asking.{ListsFlat}
-use Rattle.odif.proofs.Listing.{listed-list}
+use Rattle.answers.specs.declared.Listed.{Listed}
+use Rattle.answers.specs.Answers.{listed, listedTable, listedList}
+use Rattle.answers.specs.Asking.{ListsFlat}
+use Rattle.answers.proofs.Listing.{listed-list}
 use Rattle.odif.proofs.Lending.{arrayTy, to-cells, to-parts, from-parts, big}
-use Rattle.odif.proofs.Listed as L
-use Rattle.odif.proofs.Listed.Laws as L′
-use Rattle.odif.proofs.asking.list_flat as flat
-use Rattle.odif.proofs.asking.list_flat.Symbol as flat-def
-use Rattle.odif.proofs.asking.list_flat.Symbol.{name as #odif·asking·list-flat}
-use Rattle.odif.proofs.asking.list_flat.Met as flat-thm
+use Rattle.answers.proofs.Listed as L
+use Rattle.answers.proofs.Listed.Laws as L′
+use Rattle.answers.proofs.list_flat as flat
+use Rattle.answers.proofs.list_flat.Symbol as flat-def
+use Rattle.answers.proofs.list_flat.Symbol.{name as #answers·list-flat}
+use Rattle.answers.proofs.list_flat.Met as flat-thm
 use Rattle.odif.proofs.list.Key.{name as #odif·list}
 use Rattle.odif.proofs.list as list
 use Rattle.odif.proofs.list.Statement as stated
@@ -185,7 +185,7 @@ module _ {M : Type 1} (𝓤 : URA M) (H : Heap 𝓤) (A : Atoms 𝓤) (W : Given
       nothing ! $ move ! (2 ∷ 0 ∷ []) $ fjoin ! $ move ! (1 ∷ 0 ∷ []) $ fjoin ! $ move ! (1 ∷ 0 ∷ []) $ fjoin ! $ move ! (1 ∷ 0 ∷ []) $ fjoin ! $ frame ! $
       owned ! L.the-row (Is L.the-row) ((LL.makes L.the-type L′.the-plain) 𝓤 H A) r _ is $ done !
 
-  module _ (C : Calls 𝓤 H) (Λ : Loops 𝓤 H) (fm : FmC 𝓤 H (W .laws) C) (known : Triple 𝓤 (C #odif·asking·list-flat) (Flat 𝓤 H A mem run)) (known′ : Triple 𝓤 (C #reading·fill) (Fill 𝓤 H A mem run)) where
+  module _ (C : Calls 𝓤 H) (Λ : Loops 𝓤 H) (fm : FmC 𝓤 H (W .laws) C) (known : Triple 𝓤 (C #answers·list-flat) (Flat 𝓤 H A mem run)) (known′ : Triple 𝓤 (C #reading·fill) (Fill 𝓤 H A mem run)) where
     walk : ent 𝓤 (onEntry 𝓤 H A list.signature (κ₀, (κ₁, (κ₂, tt))) (q₀, (q₁, (q₂, tt))) (x₀, (side, (x₁, (x₂, tt)))) (s₀ ∷ [], (v ∷ [], (s₁ ∷ [], (s₂ ∷ [], tt))))) (WpFn 𝓤 H C Λ code.function (s₀ ∷ v ∷ s₁ ∷ s₂ ∷ []) Post)
     unfolding partOf
     walk =
@@ -264,7 +264,7 @@ module _ {M : Type 1} (𝓤 : URA M) (H : Heap 𝓤) (A : Atoms 𝓤) (W : Given
         move ! (44 ∷ 45 ∷ []) $ free1 ! $ move ! (42 ∷ 43 ∷ []) $ free1 ! $ move ! (40 ∷ 41 ∷ []) $ free1 ! $ move ! (38 ∷ 39 ∷ []) $ free1 ! $ move ! (36 ∷ 37 ∷ []) $ free1 ! $ move ! (0 ∷ 35 ∷ []) $ free1 ! $ move ! (32 ∷ 33 ∷ []) $ free1 ! $ move ! (30 ∷ 31 ∷ []) $ free1 ! $ move ! (28 ∷ 29 ∷ []) $ free1 ! $ move ! (26 ∷ 27 ∷ []) $ free1 ! $ move ! (24 ∷ 25 ∷ []) $ free1 ! $ move ! (22 ∷ 23 ∷ []) $ free1 ! $ move ! (20 ∷ 21 ∷ []) $ free1 ! $ move ! (18 ∷ 19 ∷ []) $ free1 ! $ move ! (16 ∷ 17 ∷ []) $ free1 ! $ move ! (14 ∷ 15 ∷ []) $ free1 ! $ move ! (12 ∷ 13 ∷ []) $ free1 ! $ move ! (10 ∷ 11 ∷ []) $ free1 ! $ free0 ! $
         keep ! (4 ∷ 5 ∷ 0 ∷ 7 ∷ 1 ∷ 8 ∷ 9 ∷ []) $ by ! (exits r (ls .1 .1 .1 .0) (ms .1 .1 .0) is (e .answered) (e .tabled) (f ∙ listed-list ys e) len₁ len₂))))))))))))))))))))))))))))))))))))))
 
-module _ {M : Type 1} (𝓤 : URA M) (H : Heap 𝓤) (A : Atoms 𝓤) (W : Given 𝓤 H A) (mem : Memory → SProp 𝓤) (run : Routine → Fun 𝓤) (𝓣 : Tables 𝓤 H) (known : Triple 𝓤 (𝓣 .C #odif·asking·list-flat) (Flat 𝓤 H A mem run)) (known′ : Triple 𝓤 (𝓣 .C #reading·fill) (Fill 𝓤 H A mem run)) where
+module _ {M : Type 1} (𝓤 : URA M) (H : Heap 𝓤) (A : Atoms 𝓤) (W : Given 𝓤 H A) (mem : Memory → SProp 𝓤) (run : Routine → Fun 𝓤) (𝓣 : Tables 𝓤 H) (known : Triple 𝓤 (𝓣 .C #answers·list-flat) (Flat 𝓤 H A mem run)) (known′ : Triple 𝓤 (𝓣 .C #reading·fill) (Fill 𝓤 H A mem run)) where
   list-walks : Walks 𝓤 H A list.ended stayed (WpFn 𝓤 H (𝓣 .C) (𝓣 .Λ) code.function) (list.clauses 𝓤 H A mem run)
   list-walks = walked 𝓤 H A list.ended stayed (list.clauses 𝓤 H A mem run) (WpFn 𝓤 H (𝓣 .C) (𝓣 .Λ) code.function)
       (λ κs. (slice-vals, (EL.vals S.the-type S′.the-laws, (slice-vals, (slice-vals, tt)))))
@@ -287,5 +287,5 @@ list-spec 𝓤 H 𝓜 𝓖 𝓡 =
     entered 𝓤 H (tripleOf 𝓤 H (𝓖 .A) list.signature (list.spec 𝓤 H (𝓖 .A) (𝓜 .mem) (𝓡 .run)))
     (tables 𝓤 H 𝓜 𝓡 code.env .C) (tables 𝓤 H 𝓜 𝓡 code.env .Λ) #odif·list code.function (code.unfolded 𝓤 H 𝓜 𝓡)
     (list-meets 𝓤 H (𝓖 .A) (givenOf 𝓤 H 𝓜 𝓖) (𝓜 .mem) (𝓡 .run) (tablesOf 𝓤 H 𝓜 (tables 𝓤 H 𝓜 𝓡 code.env))
-    (cited 𝓤 H (Flat 𝓤 H (𝓖 .A) (𝓜 .mem) (𝓡 .run)) 𝓜 𝓡 code.env #odif·asking·list-flat flat-def.routine code.calls-odif·asking·list-flat (flat-thm.met 𝓤 H 𝓜 𝓖 𝓡))
+    (cited 𝓤 H (Flat 𝓤 H (𝓖 .A) (𝓜 .mem) (𝓡 .run)) 𝓜 𝓡 code.env #answers·list-flat flat-def.routine code.calls-answers·list-flat (flat-thm.met 𝓤 H 𝓜 𝓖 𝓡))
     (cited 𝓤 H (Fill 𝓤 H (𝓖 .A) (𝓜 .mem) (𝓡 .run)) 𝓜 𝓡 code.env #reading·fill fill-def.routine code.calls-reading·fill (fill-thm.met 𝓤 H 𝓜 𝓖 𝓡)))

@@ -3,7 +3,7 @@ use mathlib.Core.Path.{_≡_, sym, ap, _∙_}
 use Prim.Native.Nat.{ℕ}
 use borrow.Author.Needs.{needs}
 use borrow.Author.Tests.{not-true, not-false}
-use Rattle.octets.specs.First.{isIn}
+use Rattle.headers.specs.First.{isIn}
 use Rattle.index.specs.Rows.{identifierColumn, kindAt}
 use Rattle.reading.specs.Match.{kindsOf}
 use Rattle.reading.specs.Ready.{spanAt, there, listed}

@@ -6,12 +6,12 @@ use mathlib.Core.List.{List}
 use Prim.Native.Nat.{ℕ, _-_, _<_}
 use native.Mathlib.Omega.{arith}
 use borrow.Author.Needs.{needs}
-use Rattle.octets.specs.declared.Header.{Header}
-use Rattle.octets.specs.declared.Head.the-variants.{Item}
-use Rattle.octets.specs.Head.{octetAt, headAt}
+use Rattle.headers.specs.declared.Header.{Header}
+use Rattle.headers.specs.declared.Head.the-variants.{Item}
+use Rattle.headers.specs.Head.{octetAt, headAt}
 use Rattle.octets.specs.Walk.{pastOf}
 use Rattle.octets.proofs.Turns.{tree-ends, tree-closes, tree-refuses}
-use Rattle.octets.proofs.passed_head.Reads as passed-head-reads
+use Rattle.headers.proofs.passed_head.Reads as passed-head-reads
 use Rattle.runs.specs.declared.Run.{Run}
 use Rattle.runs.specs.Runs.{Fine}
 use Rattle.runs.proofs.Meetings.{passed, lies, definite-ends, marked-value, marked-whole, marked-end, meets}

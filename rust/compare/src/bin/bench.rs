@@ -10,9 +10,10 @@ use odif::{MOST_ELEMENTS, ROW_WIDTH, STREAM_LIMIT, raw};
 use reader::{Reading, Side};
 
 /// How often each pair is measured; the best counts.
-const ROUNDS: usize = 25;
-/// How long one measurement takes at least.
-const LONG_ENOUGH: Duration = Duration::from_millis(4);
+const ROUNDS: usize = 100;
+/// How long one measurement takes at least. A longer one would seldom go by undisturbed on a machine that does other
+/// work besides.
+const LONG_ENOUGH: Duration = Duration::from_micros(500);
 
 /// The questions, in the order of the columns.
 #[derive(Clone, Copy)]
@@ -41,7 +42,7 @@ struct Memory {
 }
 
 fn main() {
-    println!("Library: microseconds for one question, and their ratio to the reader's. Best of {ROUNDS}.");
+    println!("A cell is the library's time for one question over the reader's. Best of {ROUNDS} each.");
     println!("Machine: {}\n", machine());
     let mut memory = Memory {
         table: vec![0; MOST_ELEMENTS * ROW_WIDTH],
@@ -54,14 +55,10 @@ fn main() {
     for input in inputs::all() {
         let cells = QUESTIONS.map(|(question, _)| {
             let (library, reader) = measure(&input, question, &mut memory);
-            format!("{:.2} µs, x {:.2}", micros(library), library.as_secs_f64() / reader.as_secs_f64())
+            format!("{:.2}", library.as_secs_f64() / reader.as_secs_f64())
         });
         println!("| {} | {} | {} |", input.name, input.stream.len(), cells.join(" | "));
     }
-}
-
-fn micros(time: Duration) -> f64 {
-    time.as_secs_f64() * 1e6
 }
 
 /// The best time of the library and of the reader for one question, measured in turn.

@@ -3,8 +3,7 @@
 use std::io::{self, Write};
 
 use super::args::Args;
-use super::json::Object;
-use super::{Failure, Outcome, Status, explain, input, show};
+use super::{Failure, Outcome, Status, explain, input, show, tell};
 
 pub fn run(args: &Args) -> Outcome {
     if args.files.is_empty() {
@@ -17,12 +16,9 @@ pub fn run(args: &Args) -> Outcome {
         let (status, report) = match input::read(file, args.has("--hex")) {
             Ok(stream) if args.has("--json") => judge_json(&name, &stream),
             Ok(stream) => judge(&name, &stream),
-            Err(error) if args.has("--json") => {
-                let object = Object::new().text("file", &name).text("outcome", "unreadable");
-                (Status::Failed, object.text("reason", &error.to_string()).finish() + "\n")
-            }
+            Err(error) if args.has("--json") => (Status::Failed, explain::unreadable(&name, &error) + "\n"),
             Err(error) => {
-                eprintln!("odif: {name}: {error}");
+                tell(&format!("odif: {name}: {error}\n"));
                 (Status::Failed, String::new())
             }
         };
@@ -47,13 +43,10 @@ fn judge(name: &str, stream: &[u8]) -> (Status, String) {
 
 fn judge_json(name: &str, stream: &[u8]) -> (Status, String) {
     let checked = odif::check(stream);
-    let object = Object::new().text("file", name);
-    let (status, object) = match checked.verdict {
-        Ok(elements) => {
-            let object = object.text("outcome", "accepted").number("number", 0);
-            (Status::Accepted, object.number("elements", elements).number("octets", stream.len()))
-        }
-        Err(refusal) => (Status::Refused, explain::add_to(object, stream, &refusal)),
-    };
-    (status, object.number("headers", checked.headers).finish() + "\n")
+    let status = if checked.verdict.is_ok() { Status::Accepted } else { Status::Refused };
+    let object = explain::verdict(name, stream, &checked.verdict)
+        .number("octets", stream.len())
+        .number("headers", checked.headers)
+        .number("elements", checked.verdict.unwrap_or(0));
+    (status, object.finish() + "\n")
 }

@@ -1,5 +1,7 @@
 //! Refusals in words: the rule, what exactly is wrong there, and the octets around the place.
 
+use std::io;
+
 use odif::{Kind, Refusal};
 use reader::Reading;
 
@@ -20,8 +22,21 @@ pub fn refusal(name: &str, stream: &[u8], refusal: &Refusal) -> String {
     text
 }
 
-/// The members that tell of a refusal in JSON.
-pub fn add_to(object: Object, stream: &[u8], refusal: &Refusal) -> Object {
+/// The beginning of every answer in JSON: the file, the outcome, number and place, and of a refusal what is known of it.
+pub fn verdict<T>(name: &str, stream: &[u8], verdict: &Result<T, Refusal>) -> Object {
+    let object = Object::new().text("file", name);
+    match verdict {
+        Ok(_) => object.text("outcome", "accepted").number("number", 0).number("place", 0),
+        Err(refusal) => add_to(object, stream, refusal),
+    }
+}
+
+/// The answer in JSON about a file that can't be read.
+pub fn unreadable(name: &str, error: &io::Error) -> String {
+    Object::new().text("file", name).text("outcome", "unreadable").text("reason", &error.to_string()).finish()
+}
+
+fn add_to(object: Object, stream: &[u8], refusal: &Refusal) -> Object {
     let mut object = object
         .text("outcome", "refused")
         .number("number", refusal.number() as usize)
@@ -48,11 +63,11 @@ fn has_place(stream: &[u8], refusal: &Refusal) -> bool {
 fn detail(stream: &[u8], refusal: &Refusal) -> Option<String> {
     let reading = Reading::of(stream);
     let found = reading.refusal()?;
-    if found.number() != refusal.number() || found.place as usize != refusal.place || stream.is_empty() {
+    if found.number() != refusal.number() || found.place as usize != refusal.place {
         return None;
     }
     let why = found.why.to_string();
-    if refusal.number() < 9 {
+    if refusal.number() < 9 || stream.is_empty() {
         return (why != refusal.rule.sentence()).then_some(why);
     }
     let elements = reading.tree().items().iter().filter(|item| item.level() == 1);

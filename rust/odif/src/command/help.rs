@@ -91,8 +91,8 @@ const NORMAL: &str = "\
 odif normal [--hex] FILE [-o OUT]
 
 Writes the normal form: the same items in the same order, each length definite and with
-the fewest octets. Two letters with the same items have the same normal form. Without -o,
-or with `-o -`, it is written to standard output, unless that is a terminal.
+the fewest octets. Two letters with the same items have the same normal form. Without -o it is
+written to standard output, unless that is a terminal; with `-o -` even then.
 
   -o OUT   the file to write; it is left alone if the letter is refused
   --hex    the input is hexadecimal digits (the output is always octets)
@@ -115,6 +115,9 @@ its content and how it begins.
   --hex      the file is hexadecimal digits
   --json     one JSON object, with the places of the contents
 
+Text units that no object of that side names are not listed; a note on standard error
+tells how many.
+
 Examples:
   odif list letter.odif
   odif list --json letter.odif | jq '.matches | length'
@@ -127,8 +130,8 @@ odif survey [--csv FILE] [--jobs N] [--first N] [--hex] [--json] FOLDER..
 
 Checks every file in the folders and their subfolders, and tells how many were accepted,
 how many each rule refused, and the first few files of each. A file that can't be read
-is counted and never stops the survey. Links to folders are not followed. On a terminal
-it shows how far it is.
+is counted and never stops the survey, nor does a folder that is not there. Links to
+folders are not followed. On a terminal it shows how far it is.
 
   --csv FILE  a line for each file, in order: file, outcome, number, place, octets,
               headers, elements, reason

@@ -6,7 +6,7 @@ use std::io::{self, BufRead, BufReader, Read};
 use std::path::Path;
 
 use super::args::Args;
-use super::{Failure, show};
+use super::{Failure, explain, show};
 
 /// A stream longer than this is refused whatever it holds, so no more than one octet past it is read.
 const ENOUGH: usize = odif::STREAM_LIMIT + 1;
@@ -24,6 +24,7 @@ impl Source {
         let name = show::name(file);
         match read(file, args.has("--hex")) {
             Ok(stream) => Ok(Source { name, stream }),
+            Err(error) if args.has("--json") => Err(Failure::Json(explain::unreadable(&name, &error))),
             Err(error) => Err(Failure::File(format!("{name}: {error}"))),
         }
     }
@@ -31,7 +32,13 @@ impl Source {
 
 /// Reads a file, or standard input for `-`.
 pub fn read(name: &OsStr, hex: bool) -> io::Result<Vec<u8>> {
-    if name == "-" { take(io::stdin().lock(), hex) } else { read_file(Path::new(name), hex) }
+    if name == "-" {
+        return take(io::stdin().lock(), hex);
+    }
+    read_file(Path::new(name), hex).map_err(|error| match error.kind() {
+        kind @ io::ErrorKind::IsADirectory => io::Error::new(kind, "it is a folder; `odif survey` takes folders"),
+        _ => error,
+    })
 }
 
 /// Reads a file of any name.

@@ -7,7 +7,8 @@ use odif::{Letter, Match, Side};
 use super::args::Args;
 use super::input::Source;
 use super::json::{self, Object};
-use super::{Outcome, Status, explain, show};
+use super::text::note_units_left_out;
+use super::{Outcome, Status, explain, show, tell};
 
 /// The octets of a content that a line shows.
 const SHOWN: usize = 40;
@@ -16,30 +17,27 @@ pub fn run(args: &Args) -> Outcome {
     let Source { name, stream } = Source::of(args)?;
     let side = args.side();
     let listed = Letter::read(&stream).and_then(|letter| letter.reading_list(side).map(|list| (letter, list)));
+    let status = if listed.is_ok() { Status::Accepted } else { Status::Refused };
     let mut out = BufWriter::new(io::stdout().lock());
-    let status = match listed {
-        Ok((letter, list)) if args.has("--json") => {
-            let matches = json::array(list.iter().map(|found| match_json(&letter, side, found)));
-            let object = Object::new().text("file", &name).text("outcome", "accepted").text("side", &side.to_string());
-            let object = object.number("elements", letter.elements().len()).value("matches", &matches);
-            writeln!(out, "{}", object.finish())?;
-            Status::Accepted
+    if args.has("--json") {
+        let mut object = explain::verdict(&name, &stream, &listed);
+        if let Ok((letter, list)) = &listed {
+            let matches = json::array(list.iter().map(|found| match_json(letter, side, found)));
+            object = object.text("side", &side.to_string()).number("elements", letter.elements().len());
+            object = object.value("matches", &matches);
         }
+        writeln!(out, "{}", object.finish())?;
+        out.flush()?;
+        return Ok(status);
+    }
+    match listed {
         Ok((letter, list)) => {
             write_lines(&mut out, &letter, side, &list)?;
-            Status::Accepted
+            out.flush()?;
+            note_units_left_out(&name, &letter, side, list.len());
         }
-        Err(refusal) => {
-            if args.has("--json") {
-                let object = explain::add_to(Object::new().text("file", &name), &stream, &refusal);
-                writeln!(out, "{}", object.finish())?;
-            } else {
-                eprint!("{}", explain::refusal(&name, &stream, &refusal));
-            }
-            Status::Refused
-        }
-    };
-    out.flush()?;
+        Err(refusal) => tell(&explain::refusal(&name, &stream, &refusal)),
+    }
     Ok(status)
 }
 

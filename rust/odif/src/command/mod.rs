@@ -14,7 +14,7 @@ mod text;
 mod tree;
 
 use std::ffi::OsString;
-use std::io;
+use std::io::{self, Write};
 use std::process::ExitCode;
 
 use args::Args;
@@ -42,6 +42,8 @@ enum Failure {
     Usage(String),
     /// A file can't be read or written.
     File(String),
+    /// A file can't be read, told as JSON: that goes to standard output, like every answer in JSON.
+    Json(String),
     /// Standard output can't be written.
     Output(io::Error),
 }
@@ -50,6 +52,11 @@ impl From<io::Error> for Failure {
     fn from(error: io::Error) -> Self {
         Failure::Output(error)
     }
+}
+
+/// Tells something on standard error. Where even that fails, no one is left to tell.
+fn tell(text: &str) {
+    let _ = io::stderr().write_all(text.as_bytes());
 }
 
 /// What a subcommand gives back.
@@ -78,10 +85,13 @@ pub fn run(words: Vec<OsString>) -> ExitCode {
         Ok(status) => status.exit_code(),
         Err(failure) => {
             match failure {
-                Failure::Usage(message) => eprintln!("odif: {message}\nTry `odif --help`."),
-                Failure::File(message) => eprintln!("odif: {message}"),
+                Failure::Usage(message) => tell(&format!("odif: {message}\nTry `odif --help`.\n")),
+                Failure::File(message) => tell(&format!("odif: {message}\n")),
+                Failure::Json(object) => {
+                    let _ = writeln!(io::stdout(), "{object}");
+                }
                 Failure::Output(error) if error.kind() == io::ErrorKind::BrokenPipe => {}
-                Failure::Output(error) => eprintln!("odif: standard output: {error}"),
+                Failure::Output(error) => tell(&format!("odif: standard output: {error}\n")),
             }
             Status::Failed.exit_code()
         }

@@ -5,7 +5,7 @@ use std::io::{self, IsTerminal, Write};
 
 use super::args::Args;
 use super::input::Source;
-use super::{Failure, Outcome, Status, explain, show};
+use super::{Failure, Outcome, Status, explain, show, tell};
 
 pub fn run(args: &Args) -> Outcome {
     let out = args.value("-o").filter(|out| *out != "-");
@@ -16,7 +16,7 @@ pub fn run(args: &Args) -> Outcome {
     let normal = match odif::normal_form(&stream) {
         Ok(normal) => normal,
         Err(refusal) => {
-            eprint!("{}", explain::refusal(&name, &stream, &refusal));
+            tell(&explain::refusal(&name, &stream, &refusal));
             return Ok(Status::Refused);
         }
     };

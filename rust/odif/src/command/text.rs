@@ -6,7 +6,7 @@ use odif::{Kind, Letter, Side};
 
 use super::args::Args;
 use super::input::Source;
-use super::{Outcome, Status, explain, show};
+use super::{Outcome, Status, explain, show, tell};
 
 pub fn run(args: &Args) -> Outcome {
     let Source { name, stream } = Source::of(args)?;
@@ -15,7 +15,7 @@ pub fn run(args: &Args) -> Outcome {
     let (letter, list) = match listed {
         Ok(listed) => listed,
         Err(refusal) => {
-            eprint!("{}", explain::refusal(&name, &stream, &refusal));
+            tell(&explain::refusal(&name, &stream, &refusal));
             return Ok(Status::Refused);
         }
     };
@@ -37,7 +37,7 @@ pub fn run(args: &Args) -> Outcome {
 }
 
 /// Tells on standard error of text units that stand nowhere in the reading order, and of the other side if it has some.
-fn note_units_left_out(name: &str, letter: &Letter<'_>, side: Side, shown: usize) {
+pub fn note_units_left_out(name: &str, letter: &Letter<'_>, side: Side, shown: usize) {
     let units = letter.elements().iter().filter(|element| element.kind == Kind::TextUnit).count();
     if shown == units {
         return;
@@ -49,5 +49,6 @@ fn note_units_left_out(name: &str, letter: &Letter<'_>, side: Side, shown: usize
     };
     let there = letter.reading_list(other).map_or(0, |list| list.len());
     let hint = if there > 0 { format!("; {option} there are {}", show::grouped(there)) } else { String::new() };
-    eprintln!("odif: {name}: {left} of {} not in the reading order of the {side} side{hint}", show::grouped(units));
+    let units = show::grouped(units);
+    tell(&format!("odif: {name}: {left} of {units} not in the reading order of the {side} side{hint}\n"));
 }

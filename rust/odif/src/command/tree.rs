@@ -11,7 +11,7 @@ use reader::{Class, Item, Length, Reading};
 use super::args::Args;
 use super::input::Source;
 use super::json::{self, Object};
-use super::{Failure, Outcome, Status, explain, show};
+use super::{Failure, Outcome, Status, explain, show, tell};
 
 /// The octets of a value that a line shows.
 const SHOWN: usize = 32;
@@ -38,7 +38,7 @@ pub fn run(args: &Args) -> Outcome {
         Ok(_) => Ok(Status::Accepted),
         Err(refusal) => {
             if !args.has("--json") {
-                eprint!("{}", explain::refusal(&name, &stream, &refusal));
+                tell(&explain::refusal(&name, &stream, &refusal));
             }
             Ok(Status::Refused)
         }
@@ -117,11 +117,7 @@ fn value(octets: &[u8]) -> String {
 }
 
 fn whole_json<'t>(name: &str, stream: &[u8], checked: &Checked, items: impl Iterator<Item = Named<'t>>) -> String {
-    let object = Object::new().text("file", name);
-    let object = match checked.verdict {
-        Ok(_) => object.text("outcome", "accepted"),
-        Err(refusal) => explain::add_to(object, stream, &refusal),
-    };
+    let object = explain::verdict(name, stream, &checked.verdict);
     object.value("items", &json::array(items.map(|item| item_json(&item)))).finish()
 }
 

@@ -53,10 +53,10 @@ use Rattle.reading.proofs.Match as T
 use Rattle.reading.proofs.Match.Laws as T′
 use Rattle.reading.proofs.Side as S
 use Rattle.reading.proofs.Side.Laws as S′
-use Rattle.odif.specs.declared.Listed.{Listed}
-use Rattle.odif.specs.Answers.{ListOutcome}
-use Rattle.odif.proofs.Listed as L
-use Rattle.odif.proofs.Listed.Laws as L′
+use Rattle.answers.specs.declared.Listed.{Listed}
+use Rattle.answers.specs.Answers.{ListOutcome}
+use Rattle.answers.proofs.Listed as L
+use Rattle.answers.proofs.Listed.Laws as L′
 use Rattle.odif.proofs.Lending.{arrayTy, to-cells, to-parts, from-parts, big}
 use Rattle.odif.proofs.Exporting.{mach}
 use Rattle.odif.proofs.list as list

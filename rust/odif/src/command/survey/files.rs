@@ -5,7 +5,7 @@ use std::fs;
 use std::io;
 use std::path::{Path, PathBuf};
 
-use super::super::{Failure, show};
+use super::super::Failure;
 use super::progress::Progress;
 
 /// A file to check, or something that could not even be looked at.
@@ -15,16 +15,19 @@ pub struct Entry {
     pub trouble: Option<String>,
 }
 
-/// All files in the folders and their subfolders, sorted, but for the CSV file that is to be written.
+/// All files in the folders and their subfolders, sorted, but for the CSV file that is to be written. A folder that is
+/// not there is among them, as one that can't be read.
 pub fn list(folders: &[OsString], csv: Option<&Path>, progress: &mut Progress) -> Result<Vec<Entry>, Failure> {
     if folders.is_empty() {
         return Err(Failure::Usage("a folder is missing".into()));
     }
+    if folders.iter().any(|folder| folder == "-") {
+        return Err(Failure::Usage("a survey is of folders and files, not of standard input".into()));
+    }
     let csv = csv.and_then(|csv| csv.canonicalize().ok());
     let mut entries = Vec::new();
     for folder in folders {
-        let about = fs::metadata(folder).map_err(|error| Failure::File(format!("{}: {error}", show::name(folder))))?;
-        if about.is_dir() {
+        if fs::metadata(folder).is_ok_and(|about| about.is_dir()) {
             list_folder(folder.into(), &mut entries, progress);
         } else {
             list_file(folder.into(), &mut entries);

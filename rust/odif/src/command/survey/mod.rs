@@ -19,7 +19,7 @@ use self::files::Entry;
 use self::progress::Progress;
 use self::tally::Tally;
 use super::args::Args;
-use super::{Failure, Outcome, input};
+use super::{Failure, Outcome, input, tell};
 
 /// Room for the library's scratch memory in each thread.
 const STACK: usize = 16 << 20;
@@ -54,14 +54,15 @@ pub fn run(args: &Args) -> Outcome {
     let elapsed = progress.elapsed();
     let report = if args.has("--json") { tally.json(elapsed) } else { tally.text(elapsed) };
     if csv_file.is_some_and(csv::is_standard_output) {
-        eprint!("{report}");
+        tell(&report);
     } else {
         io::stdout().write_all(report.as_bytes())?;
     }
     Ok(tally.status())
 }
 
-/// Judges the files in some threads and takes up the verdicts in the files' order.
+/// Judges the files in some threads and takes up the verdicts in the files' order. Where the system starts fewer threads
+/// than are asked for, those do the work.
 fn judge_all(
     entries: &[Entry],
     hex: bool,
@@ -71,12 +72,16 @@ fn judge_all(
     let next = AtomicUsize::new(0);
     let (sender, receiver) = mpsc::sync_channel(WAITING);
     thread::scope(|scope| {
-        for _ in 0..jobs {
+        for started in 0..jobs {
             let (next, sender) = (&next, sender.clone());
-            thread::Builder::new()
-                .stack_size(STACK)
-                .spawn_scoped(scope, move || work(entries, hex, next, &sender))
-                .map_err(|error| Failure::File(format!("no thread could be started: {error}")))?;
+            let thread = thread::Builder::new().stack_size(STACK);
+            match thread.spawn_scoped(scope, move || work(entries, hex, next, &sender)) {
+                Ok(_) => {}
+                Err(error) if started == 0 => {
+                    return Err(Failure::File(format!("no thread could be started: {error}")));
+                }
+                Err(_) => break,
+            }
         }
         drop(sender);
         in_order(receiver, |place, verdict| take_up(&entries[place].path, verdict))

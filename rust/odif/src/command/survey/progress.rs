@@ -3,7 +3,7 @@
 use std::io::{self, IsTerminal};
 use std::time::{Duration, Instant};
 
-use super::super::show;
+use super::super::{show, tell};
 use super::tally::{Tally, a_second};
 
 /// The time between two lines.
@@ -39,28 +39,28 @@ impl Progress {
     /// Shows how many files have been found.
     pub fn show_found(&mut self, files: usize) {
         if self.is_due() {
-            eprint!("\r\x1B[K{} found", show::counted(files, "file"));
+            tell(&format!("\r\x1B[K{} found", show::counted(files, "file")));
         }
     }
 
     /// Shows how many files have been checked.
     pub fn show_checked(&mut self, tally: &Tally, files: usize) {
         if self.is_due() {
-            eprint!(
+            tell(&format!(
                 "\r\x1B[K{} of {} files, {} a second, {} refused, {} unreadable",
                 show::grouped(tally.files()),
                 show::grouped(files),
                 show::grouped(a_second(tally.files(), self.elapsed())),
                 show::grouped(tally.refused()),
                 show::grouped(tally.unreadable()),
-            );
+            ));
         }
     }
 
     /// Takes the line away.
     pub fn clear(&self) {
         if self.terminal {
-            eprint!("\r\x1B[K");
+            tell("\r\x1B[K");
         }
     }
 }

@@ -1,0 +1,88 @@
+-- What is known once a stream is walked and judged: what the stream is, and where its rows are. Assumes nothing.
+use mathlib.Core.Path.{_≡_, refl, sym, _∙_, subst}
+use mathlib.Core.List.{List}
+use mathlib.Core.Option.{some}
+use Prim.Native.Nat.{ℕ, _+_, _*_, _<_, _≤_}
+use lib.ListN.{length, take, getD, getElem?}
+use Rattle.octets.specs.declared.Outcome.the-variants.{Ended}
+use Rattle.octets.specs.Walk.{streamLimit, walkOf}
+use Rattle.tree.specs.Tree.{treeOf}
+use Rattle.tree.specs.Accepts.{Accepts}
+use Rattle.runs.proofs.Laws.{stream-within}
+use Rattle.index.specs.Rows.{rowWidth}
+use Rattle.elements.specs.Shape.{edition1988}
+use Rattle.elements.specs.Element.{Element}
+use Rattle.elements.specs.Judge.{mostElements, accepted, judge}
+use Rattle.elements.specs.declared.Row.{Row}
+use Rattle.elements.specs.Rows.{cells, numbers}
+use Rattle.letters.specs.declared.Verdict.{Verdict}
+use Rattle.letters.specs.declared.Verdict.the-variants.{Accepted, Refused}
+use Rattle.letters.specs.Letter.{letter, refusal}
+use Rattle.letters.specs.Scratch.{Saying, Filled, Stopped, Gives}
+use Rattle.letters.specs.Table.{Apart}
+use Rattle.letters.proofs.Rows.{cell-at}
+use Rattle.letters.proofs.Apart.{accepted-apart}
+use Rattle.answers.specs.Answers.{letterIn, rowsIn}
+use Rattle.answers.specs.Asking.{Judged, Decides}
+use Rattle.answers.proofs.Letters.{refused-element, accepted-letter}
+use Rattle.answers.proofs.Small.{Small, refusal-small}
+
+-- a stream that the walk passed and an element refused
+pub record Refusing (s : List ℕ) (number place headers : ℕ) : Type 0 where
+  pub judged : letterIn s ≡ refusal number place headers
+  pub small : Small s number place headers
+
+-- a letter of count elements, whose rows are the first in scratch
+pub record Accepting (s rows : List ℕ) (count headers : ℕ) : Type 0 where
+  pub elements : List Element
+  pub judged : letterIn s ≡ letter headers elements
+  pub judge-accepted : judge edition1988 (treeOf s) ≡ accepted elements
+  pub apart : Apart elements
+  pub counted : length elements ≡ count
+  pub few : count ≤ mostElements
+  pub within-limit : length s ≤ streamLimit
+  pub within : count * rowWidth ≤ length rows
+  pub written : take (count * rowWidth) rows ≡ numbers (rowsIn s)
+  pub saying : Saying s (rowsIn s) elements
+  pub cells-at : (j : ℕ) (row : Row) → getElem? (rowsIn s) j ≡ some row → (c : ℕ) → c < rowWidth → getD rows (j * rowWidth + c) 0 ≡ getD (cells row) c 0
+
+module _ {s rows : List ℕ} {verdict : Verdict} {at headers : ℕ} (walked : walkOf s ≡ Ended at headers) (j : Judged s rows verdict) where
+  pub refused-judged : {number place : ℕ} → verdict ≡ Refused number place → Refusing s number place headers
+  refused-judged {number} {place} e =
+      let stopped : Stopped s number place = subst (Judged s rows) e j .gives in
+      let told : letterIn s ≡ refusal number place headers =
+      refused-element edition1988 s at headers number (stopped .element) walked (stopped .judged) ∙ rw (sym (stopped .placed)) in
+      record { judged = told; small = refusal-small edition1988 s number place headers told }
+
+  pub accepted-judged : {count : ℕ} → verdict ≡ Accepted count → Accepting s rows count headers
+  accepted-judged {count} e =
+      let k = subst (Judged s rows) e j in
+      let filled : Filled s rows (k .head) (k .next) (k .head2) (k .next2) count = k .gives in
+      let holds = filled .holds in
+      record {
+        elements = filled .elements;
+        judged = accepted-letter edition1988 s at headers (filled .elements) walked (filled .judged);
+        judge-accepted = filled .judged;
+        apart = accepted-apart edition1988 (treeOf s) (filled .elements) (filled .judged);
+        counted = holds .counted;
+        few = subst (λ (n : ℕ). n ≤ mostElements) (holds .counted) (accepted-apart edition1988 (treeOf s) (filled .elements) (filled .judged) .few);
+        within-limit = stream-within s at headers walked;
+        within = holds .identifiers .in-table;
+        written = holds .written;
+        saying = holds .saying;
+        cells-at = λ j row stands c l. cell-at holds j row stands c l;
+      }
+
+-- what was judged, whatever the indexes hold
+pub judged-in : (s rows head next head2 next2 : List ℕ) (verdict : Verdict) → Gives s rows head next head2 next2 verdict → Judged s rows verdict
+judged-in s rows head next head2 next2 verdict gives = record { head = head; next = next; head2 = head2; next2 = next2; gives = gives }
+
+-- the verdict is that of rules 1 to 15
+pub decides : {s rows : List ℕ} {at headers : ℕ} → walkOf s ≡ Ended at headers → (verdict : Verdict) → Judged s rows verdict → Decides s verdict
+decides {headers = headers} w (Accepted count) j =
+    let l = accepted-judged w j refl in record { headers = headers; elements = l .elements; judged = l .judged }
+decides {headers = headers} w (Refused number place) j = let r = refused-judged w j refl in record { headers = headers; judged = r .judged }
+
+-- a walk that ended accepts the stream with its own tree
+pub accepts-walked : {s : List ℕ} {at headers : ℕ} → walkOf s ≡ Ended at headers → Accepts s (treeOf s)
+accepts-walked {at = at} {headers = headers} w = record { at = at; headers = headers; ended = w; tree = refl }

@@ -1,0 +1,178 @@
+-- The five public questions: what each answers, and what it leaves in what it was lent. Document 01, "Numbers given back" and "Table, list,
+-- part, normal form". A contract of crate odif says that the result and every lent buffer at exit are these definitions of the values at
+-- entry. Definitions only: assumes nothing.
+use mathlib.Core.Path.{_≡_}
+use Prim.Native.Nat.{ℕ, _/_, _≤_}
+use mathlib.Core.Bool.{Bool, cond}
+use mathlib.Core.List.{List, [], _∷_, _++_}
+use mathlib.Core.Option.{Option, none, some}
+use lib.Dec.{eqb, ltb}
+use lib.ListN.{length, drop, getElem?}
+use lib.Seq.{slice}
+use Rattle.headers.specs.First.{isIn}
+use Rattle.octets.specs.Walk.{streamLimit}
+use Rattle.normal.specs.Normal.{normalForm}
+use Rattle.index.specs.Rows.{rowWidth}
+use Rattle.contents.specs.Search.{Value, absent, octets}
+use Rattle.elements.specs.declared.Row.{Row}
+use Rattle.elements.specs.Shape.{edition1988}
+use Rattle.elements.specs.Element.{Element}
+use Rattle.elements.specs.Rows.{numbers}
+use Rattle.letters.specs.Letter.{Letter, letter, refusal, letterOf, rowsOfStream}
+use Rattle.reading.specs.declared.Match.{Match}
+use Rattle.reading.specs.declared.Side.{Side}
+use Rattle.reading.specs.Match.{unitKind, matches}
+use Rattle.answers.specs.declared.Checked.{Checked}
+use Rattle.answers.specs.declared.Written.{Written}
+use Rattle.answers.specs.declared.Listed.{Listed}
+use Rattle.answers.specs.declared.Reason.{Reason}
+use Rattle.answers.specs.declared.Located.{Located}
+
+-- what a stream is by rules 1 to 15, in the edition of 1988
+abbrev pub letterIn : List ℕ → Letter
+letterIn s = letterOf edition1988 s
+
+-- its rows, if it is a letter
+abbrev pub rowsIn : List ℕ → List Row
+rowsIn s = rowsOfStream edition1988 s
+
+-- values in front of what a lent list held: "Rows past the count keep what they had", "Records past the count keep theirs", "Output past it
+-- stays"
+abbrev pub onto : {A : Type 0} → List A → List A → List A
+onto values lent = values ++ drop (length values) lent
+
+-- the finished table: "an incomplete last row isn't used"
+abbrev pub tableOf : (s table : List ℕ) → List ℕ
+tableOf s table = onto (numbers (rowsIn s)) table
+
+-- 16 "table rows fewer than elements"
+abbrev pub tooFewRows : (table : List ℕ) → List Element → Bool
+tooFewRows table elements = ltb (length table / rowWidth) (length elements)
+
+-- The check: "With every answer of the check comes a header count"; "With a refusal these are 0".
+abbrev pub checkedBy : Letter → (table : List ℕ) → Checked
+checkedBy (refusal number place headers) table = record { number = number; place = place; headers = headers; elements = 0 }
+checkedBy (letter headers elements) table =
+    cond (tooFewRows table elements)
+    (record { number = 16; place = 0; headers = headers; elements = 0 })
+    (record { number = 0; place = 0; headers = headers; elements = length elements })
+
+unfoldable pub checked : (s table : List ℕ) → Checked
+checked s table = checkedBy (letterIn s) table
+
+-- "A refusal leaves the lent table .. untouched"
+unfoldable pub checkedTable : (s table : List ℕ) → List ℕ
+checkedTable s table = cond (eqb (checked s table .number) 0) (tableOf s table) table
+
+-- the contract of the check: its answer, and the table at exit
+pub record CheckOutcome (s table : List ℕ) (answer : Checked) (tableAfter : List ℕ) : Type 0 where
+  pub answered : answer ≡ checked s table
+  pub tabled : tableAfter ≡ checkedTable s table
+
+-- The normal form: 17 "normal form over 1,048,576 bytes", 18 "output shorter than the normal form"; "17 goes before 18".
+abbrev pub writtenBy : Letter → (form out : List ℕ) → Written
+writtenBy (refusal number place headers) form out = record { number = number; place = place; length = 0 }
+writtenBy (letter headers elements) form out =
+    cond (ltb streamLimit (length form)) (record { number = 17; place = 0; length = 0 })
+    (cond (ltb (length out) (length form)) (record { number = 18; place = 0; length = 0 })
+    (record { number = 0; place = 0; length = length form }))
+
+unfoldable pub written : (s out : List ℕ) → Written
+written s out = writtenBy (letterIn s) (normalForm s) out
+
+-- "A refusal leaves the lent .. output untouched"
+unfoldable pub writtenOutput : (s out : List ℕ) → List ℕ
+writtenOutput s out = cond (eqb (written s out .number) 0) (onto (normalForm s) out) out
+
+-- the contract of the normal form: its answer, and the output at exit
+pub record NormalOutcome (s out : List ℕ) (answer : Written) (outAfter : List ℕ) : Type 0 where
+  pub answered : answer ≡ written s out
+  pub put : outAfter ≡ writtenOutput s out
+
+-- The reading list: 16, then 19 "list shorter than the matches"; "19 keeps the element count".
+abbrev pub listedBy : Letter → Side → (table : List ℕ) → (room : ℕ) → Listed
+listedBy (refusal number place headers) side table room = record { number = number; place = place; elements = 0; matches = 0 }
+listedBy (letter headers elements) side table room =
+    cond (tooFewRows table elements) (record { number = 16; place = 0; elements = 0; matches = 0 })
+    (cond (ltb room (length (matches side elements))) (record { number = 19; place = 0; elements = length elements; matches = 0 })
+    (record { number = 0; place = 0; elements = length elements; matches = length (matches side elements) }))
+
+-- the list that is lent has room for so many records
+unfoldable pub listed : Side → (s table : List ℕ) → (room : ℕ) → Listed
+listed side s table room = listedBy (letterIn s) side table room
+
+-- "A refusal leaves the lent table .. untouched, except that 19 leaves the finished table"
+unfoldable pub listedTable : Side → (s table : List ℕ) → (room : ℕ) → List ℕ
+listedTable side s table room = cond (isIn (listed side s table room .number) (0 ∷ 19 ∷ [])) (tableOf s table) table
+
+-- the matches of a side of a stream that is a letter
+abbrev pub matchesBy : Side → Letter → List Match
+matchesBy side (refusal number place headers) = []
+matchesBy side (letter headers elements) = matches side elements
+
+abbrev pub matchesIn : Side → (s : List ℕ) → List Match
+matchesIn side s = matchesBy side (letterIn s)
+
+-- "A refusal leaves the lent .. list .. untouched"
+unfoldable pub listedList : Side → (s table : List ℕ) → (list : List Match) → List Match
+listedList side s table list = cond (eqb (listed side s table (length list) .number) 0) (onto (matchesIn side s) list) list
+
+-- the contract of the list: its answer, and the table and the list at exit
+pub record ListOutcome (side : Side) (s table : List ℕ) (list : List Match) (answer : Listed) (tableAfter : List ℕ) (listAfter : List Match) : Type 0 where
+  pub answered : answer ≡ listed side s table (length list)
+  pub tabled : tableAfter ≡ listedTable side s table (length list)
+  pub filled : listAfter ≡ listedList side s table list
+
+-- The content of one text unit, with the number and place of a refusal; "a refused fetch gives an empty part".
+pub record Fetched : Type 0 where
+  pub number : ℕ
+  pub place : ℕ
+  pub part : List ℕ
+
+-- 20 "asked element is no text unit or doesn't exist"
+abbrev pub noUnit : Fetched
+noUnit = record { number = 20; place = 0; part = [] }
+
+abbrev pub contentOf : Value → List ℕ
+contentOf absent = []
+contentOf (octets bytes) = bytes
+
+abbrev pub fetchedOf : Option Element → Fetched
+fetchedOf none = noUnit
+fetchedOf (some e) = cond (eqb (e .kind) unitKind) (record { number = 0; place = 0; part = contentOf (e .content) }) noUnit
+
+abbrev pub fetchedBy : Letter → (asked : ℕ) → Fetched
+fetchedBy (refusal number place headers) asked = record { number = number; place = place; part = [] }
+fetchedBy (letter headers elements) asked = fetchedOf (getElem? elements asked)
+
+unfoldable pub fetched : (s : List ℕ) → (asked : ℕ) → Fetched
+fetched s asked = fetchedBy (letterIn s) asked
+
+-- "number and place of that refusal, 0 if answered"
+abbrev pub whyNot : (s : List ℕ) → (asked : ℕ) → Reason
+whyNot s asked = record { number = fetched s asked .number; place = fetched s asked .place }
+
+-- The same question for callers that take bounds: those of the content in the unit's row, and 0 and 0 with a refusal.
+abbrev pub nowhere : (number place : ℕ) → Located
+nowhere number place = record { number = number; place = place; first = 0; past = 0 }
+
+abbrev pub locatedOf : Option Row → Located
+locatedOf none = nowhere 20 0
+locatedOf (some row) =
+    cond (eqb (row .kind) unitKind) (record { number = 0; place = 0; first = row .content .first; past = row .content .past }) (nowhere 20 0)
+
+abbrev pub locatedBy : Letter → List Row → (asked : ℕ) → Located
+locatedBy (refusal number place headers) rows asked = nowhere number place
+locatedBy (letter headers elements) rows asked = locatedOf (getElem? rows asked)
+
+unfoldable pub located : (s : List ℕ) → (asked : ℕ) → Located
+located s asked = locatedBy (letterIn s) (rowsIn s) asked
+
+-- They are where the content stands that the question in its other form hands back: in the stream, and nothing is left open.
+pub record Fetches (s : List ℕ) (asked : ℕ) (told : Located) : Type 0 where
+  pub answered : told ≡ located s asked
+  pub number : told .number ≡ fetched s asked .number
+  pub place : told .place ≡ fetched s asked .place
+  pub part : slice (told .first) (told .past) s ≡ fetched s asked .part
+  pub order : told .first ≤ told .past
+  pub inside : told .past ≤ length s

@@ -1,0 +1,130 @@
+-- Demand 3: the list of a letter is the list of its matches, of which the crate reading shows what they are; the rest is by the tests of the
+-- question. Assumes nothing.
+use mathlib.Core.Path.{_≡_, refl, ap, sym, subst}
+use mathlib.Core.Logic.{inl, inr, _↔_}
+use mathlib.Core.Bool.{false}
+use mathlib.Core.List.{List, [], _∷_, List·Memᴰ, List·Memᴰ·head, List·Memᴰ·tail}
+use mathlib.Core.Option.{some}
+use Prim.Native.Nat.{ℕ, zero, suc, _/_, _<_, _≤_}
+use native.Mathlib.Omega.{arith}
+use lib.Dec.{ltb}
+use lib.ListN.{length, getElem?}
+use borrow.Author.Tests.{le-ltb, ltb-true, ltb-false}
+use borrow.Table.Steps.{cases}
+use Rattle.octets.specs.Walk.{streamLimit}
+use Rattle.normal.specs.Normal.{normalForm}
+use Rattle.index.specs.Rows.{rowWidth}
+use Rattle.elements.specs.Element.{Element}
+use Rattle.letters.specs.Letter.{letter}
+use Rattle.reading.specs.declared.Match.{Match}
+use Rattle.reading.specs.declared.Side.{Side}
+use Rattle.reading.specs.Match.{matches}
+use Rattle.reading.specs.Promises.{IsMatch, Before}
+use Rattle.reading.proofs.Lists.{Sorted}
+use Rattle.reading.proofs.Matches.{matches-are, matches-all, matches-sorted}
+use Rattle.answers.specs.Answers.{letterIn, onto, tableOf, listed, listedTable, matchesIn, listedList}
+use Rattle.demands.specs.Demands.{In, Demand3}
+use Rattle.demands.proofs.Demand2.{normal-accepted}
+
+-- a member of a list stands somewhere in it
+member-in : (m : Match) (ms : List Match) → List·Memᴰ m ms → In m ms
+member-in m (x ∷ ms) (List·Memᴰ·head e) = (0, ap some (sym e))
+member-in m (x ∷ ms) (List·Memᴰ·tail i) = let (k, e) = member-in m ms i in (suc k, e)
+
+in-member : (m : Match) (ms : List Match) (i : ℕ) → getElem? ms i ≡ some m → List·Memᴰ m ms
+in-member m [] i e = let z : _≡_ {A = ℕ} 0 1 = cc in absurd (omega arith)
+in-member m (x ∷ ms) zero e = let f : m ≡ x = cc in List·Memᴰ·head f
+in-member m (x ∷ ms) (suc i) e = List·Memᴰ·tail (in-member m ms i e)
+
+-- of a sorted list an earlier one stands before a later one
+sorted-at : (ms : List Match) → Sorted Before ms → (i j : ℕ) (m n : Match) → i < j → getElem? ms i ≡ some m → getElem? ms j ≡ some n → Before m n
+sorted-at [] o i j m n l p q = let z : _≡_ {A = ℕ} 0 1 = cc in absurd (omega arith)
+sorted-at (x ∷ ms) o i zero m n l p q = absurd (omega arith)
+sorted-at (x ∷ ms) o zero (suc j) m n l p q = let f : x ≡ m = cc in subst (λ (y : Match). Before y n) f (o .0 n (in-member n ms j q))
+sorted-at (x ∷ ms) o (suc i) (suc j) m n l p q = sorted-at ms (o .1) i j m n (omega arith) p q
+
+never-itself : (m : Match) → Before m m → ⊥
+never-itself m (inl l) = omega arith
+never-itself m (inr (e, inl l)) = omega arith
+never-itself m (inr (e, inr (f, l))) = omega arith
+
+module _ (side : Side) (s : List ℕ) (headers : ℕ) (elements : List Element) (e : letterIn s ≡ letter headers elements) where
+  abbrev ms : List Match
+  ms = matches side elements
+
+  the-list : matchesIn side s ≡ ms
+  the-list = rw e
+
+  exactly : (m : Match) → In m (matchesIn side s) ↔ IsMatch side elements m
+  exactly m =
+      rw the-list
+      (λ i. matches-are side elements m (in-member m ms (i .0) (i .1)), λ is. member-in m ms (matches-all side elements m is))
+
+  ordered : (i j : ℕ) (m n : Match) → i < j → getElem? (matchesIn side s) i ≡ some m → getElem? (matchesIn side s) j ≡ some n → Before m n
+  ordered = rw the-list (sorted-at ms (matches-sorted side elements))
+
+  once : (i j : ℕ) (m : Match) → getElem? (matchesIn side s) i ≡ some m → getElem? (matchesIn side s) j ≡ some m → i ≡ j
+  once i j m p q =
+      let not-below : i < j → ⊥ = λ l. never-itself m (ordered i j m m l p q) in
+      let not-above : j < i → ⊥ = λ l. never-itself m (ordered j i m m l q p) in
+      omega arith
+
+  lists : (table : List ℕ) (list : List Match) → length elements ≤ length table / rowWidth → length (matchesIn side s) ≤ length list
+      → (listed side s table (length list) ≡ record { number = 0; place = 0; elements = length elements; matches = length (matchesIn side s) })
+      × (listedTable side s table (length list) ≡ tableOf s table) × (listedList side s table list ≡ onto (matchesIn side s) list)
+  unfolding listed listedTable listedList
+  lists table list rows room =
+      let a : ltb (length table / rowWidth) (length elements) ≡ false = le-ltb (length table / rowWidth) (length elements) rows in
+      let fits : length ms ≤ length list = subst (λ (l : List Match). length l ≤ length list) the-list room in
+      let b : ltb (length list) (length ms) ≡ false = le-ltb (length list) (length ms) fits in
+      (rw (e, a, b), rw (e, a, b), rw (e, a, b))
+
+  lists-16 : (table : List ℕ) (room : ℕ) → (listed side s table room .number ≡ 16) ↔ (length table / rowWidth < length elements)
+  unfolding listed
+  lists-16 table room =
+      cases (ltb (length table / rowWidth) (length elements))
+      (λ t. rw (e, t) (λ _. ltb-true (length table / rowWidth) (length elements) t, λ _. refl))
+      (λ t.
+      let l = ltb-false (length table / rowWidth) (length elements) t in
+      cases (ltb room (length ms))
+      (λ u. rw (e, t, u) (λ p. absurd (omega arith), λ k. absurd (omega arith)))
+      (λ u. rw (e, t, u) (λ p. absurd (omega arith), λ k. absurd (omega arith))))
+
+  lists-19 : (table : List ℕ) (room : ℕ) → (listed side s table room .number ≡ 19) ↔ ((length elements ≤ length table / rowWidth) × (room < length (matchesIn side s)))
+  unfolding listed
+  lists-19 table room =
+      cases (ltb (length table / rowWidth) (length elements))
+      (λ t. let l = ltb-true (length table / rowWidth) (length elements) t in rw (e, t) (λ p. absurd (omega arith), λ k. absurd (omega arith)))
+      (λ t.
+      let l = ltb-false (length table / rowWidth) (length elements) t in
+      cases (ltb room (length ms))
+      (λ u. let m = ltb-true room (length ms) u in rw (e, t, u) (λ _. (l, m), λ _. refl))
+      (λ u. let m = ltb-false room (length ms) u in rw (e, t, u) (λ p. absurd (omega arith), λ k. absurd (omega arith))))
+
+  lists-else : (table : List ℕ) (room : ℕ) → (listed side s table room .number ≡ 16 → ⊥) → (listed side s table room .number ≡ 19 → ⊥)
+      → listed side s table room .number ≡ 0
+  unfolding listed
+  lists-else table room =
+      cases (ltb (length table / rowWidth) (length elements))
+      (λ t. rw (e, t) (λ n m. absurd (n refl)))
+      (λ t.
+      cases (ltb room (length ms))
+      (λ u. rw (e, t, u) (λ n m. absurd (m refl)))
+      (λ u. rw (e, t, u) (λ n m. refl)))
+
+  normal-list : length (normalForm s) ≤ streamLimit → matchesIn side (normalForm s) ≡ matchesIn side s
+  normal-list within = rw (normal-accepted s headers elements e within, e)
+
+pub demand3 : Demand3
+demand3 = record {
+  of-letter = λ side s headers elements e. record {
+    exactly = exactly side s headers elements e;
+    once = once side s headers elements e;
+    ordered = ordered side s headers elements e;
+    lists = lists side s headers elements e;
+    lists-16 = lists-16 side s headers elements e;
+    lists-19 = lists-19 side s headers elements e;
+    lists-else = lists-else side s headers elements e;
+    normal-list = normal-list side s headers elements e;
+  };
+}

@@ -1,0 +1,23 @@
+-- Each starred example comes out as document 01 says: all is computed. Assumes nothing.
+use mathlib.Core.Path.{_≡_, refl}
+use mathlib.Core.Bool.{xor}
+use mathlib.Core.List.{map}
+use Rattle.headers.specs.First.{permits, formAllowed}
+use Rattle.headers.specs.Lengths.{bigEndianFrom, misfits}
+use Rattle.headers.specs.Head.{definiteAt, indefiniteAt, longAt, byFirst, lengthAt, itemAt, closingAt, headAt}
+use Rattle.octets.specs.Walk.{runFor, run, walkOf}
+use Rattle.normal.specs.Length.{digits}
+use Rattle.normal.specs.Normal.{normalOf}
+use Rattle.contents.specs.Search.{amount, firstValue, firstRun}
+use Rattle.portions.specs.Portions.{allPortions, values, wellSpelt, repeats}
+use Rattle.elements.specs.Shape.{shapeOf}
+use Rattle.elements.specs.Element.{bodyOf, elementOf, asTabled, namesFit}
+use Rattle.elements.specs.Judge.{clash, twice, refusalOf, judgeOne, judgeFrom, judge}
+use Rattle.elements.specs.Rows.{placeOf}
+use Rattle.letters.specs.Letter.{letterOf}
+use Rattle.answers.specs.Answers.{checked, written, writtenOutput}
+use Rattle.demands.specs.Examples.{Example, outcome, examples}
+
+pub all-hold : map (λ (e : Example). outcome (e .stream)) examples ≡ examples
+unfolding permits formAllowed bigEndianFrom misfits definiteAt indefiniteAt longAt byFirst lengthAt itemAt closingAt headAt runFor run walkOf digits normalOf amount firstValue firstRun allPortions values wellSpelt repeats shapeOf bodyOf elementOf asTabled namesFit clash twice refusalOf judgeOne judgeFrom judge placeOf letterOf checked written writtenOutput xor
+all-hold = refl

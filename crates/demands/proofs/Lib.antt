@@ -1,0 +1,9 @@
+-- Demand1, Demand2, Demand3: a value of each demand. Telling: a row tells what its element says. Examples: the starred examples hold.
+-- Determined: two outcomes of one contract are equal. Wrong: the wrong programs of document 01 meet no contract.
+pub mod Demand1
+pub mod Telling
+pub mod Demand2
+pub mod Demand3
+pub mod Examples
+pub mod Determined
+pub mod Wrong

@@ -1,0 +1,158 @@
+-- The wrong programs that document 01 names meet no contract: each is held to the contract at a stream where it is wrong, and what the contract
+-- says there is computed. Assumes nothing.
+use mathlib.Core.Path.{_≡_, refl, ap, sym, _∙_}
+use mathlib.Core.Bool.{xor}
+use mathlib.Core.List.{List, [], _∷_}
+use Prim.Native.Nat.{ℕ}
+use native.Mathlib.Omega.{arith}
+use lib.ListN.{length, getD, replicate}
+use Rattle.headers.specs.First.{permits, formAllowed}
+use Rattle.headers.specs.Lengths.{bigEndianFrom, misfits}
+use Rattle.headers.specs.Head.{definiteAt, indefiniteAt, longAt, byFirst, lengthAt, itemAt, closingAt, headAt}
+use Rattle.octets.specs.Walk.{runFor, run, walkOf}
+use Rattle.names.specs.Names.{digit, grouped, isIdentifier, digits as allDigits, isPortion, same}
+use Rattle.normal.specs.Length.{digits}
+use Rattle.normal.specs.Normal.{normalOf}
+use Rattle.index.specs.Rows.{space}
+use Rattle.contents.specs.Search.{amount, firstValue, firstRun}
+use Rattle.contents.specs.Order.{inOrder}
+use Rattle.portions.specs.Portions.{allPortions, values, wellSpelt, among, repeats}
+use Rattle.elements.specs.Shape.{shapeOf}
+use Rattle.elements.specs.Element.{bodyOf, elementOf, asTabled, namesFit}
+use Rattle.elements.specs.Judge.{clash, twice, refusalOf, judgeOne, judgeFrom, judge}
+use Rattle.elements.specs.Rows.{placeOf}
+use Rattle.letters.specs.Letter.{letterOf}
+use Rattle.reading.specs.declared.Match.{Match}
+use Rattle.reading.specs.declared.Side.{Side}
+use Rattle.reading.specs.declared.Side.the-variants.{Layout}
+use Rattle.reading.specs.Match.{joins, forEach, portionMatches, elementMatches, matches}
+use Rattle.answers.specs.declared.Checked.{Checked}
+use Rattle.answers.specs.declared.Written.{Written}
+use Rattle.answers.specs.declared.Listed.{Listed}
+use Rattle.answers.specs.Answers.{onto, checked, CheckOutcome, written, writtenOutput, NormalOutcome, listed, listedList, ListOutcome, fetched}
+
+-- programs: what they answer, and what they leave in what they were lent
+abbrev Checker : Type 0
+Checker = (s table : List ℕ) → Checked × List ℕ
+
+abbrev Writer : Type 0
+Writer = (s out : List ℕ) → Written × List ℕ
+
+abbrev Lister : Type 0
+Lister = (side : Side) (s table : List ℕ) (list : List Match) → Listed × List ℕ × List Match
+
+abbrev Fetcher : Type 0
+Fetcher = (s : List ℕ) (asked : ℕ) → List ℕ
+
+-- programs that meet the contracts
+abbrev pub Checks : Checker → Type 0
+Checks f = (s table : List ℕ) → CheckOutcome s table (f s table .0) (f s table .1)
+
+abbrev pub Writes : Writer → Type 0
+Writes f = (s out : List ℕ) → NormalOutcome s out (f s out .0) (f s out .1)
+
+abbrev pub Lists : Lister → Type 0
+Lists f = (side : Side) (s table : List ℕ) (list : List Match) → ListOutcome side s table list (f side s table list .0) (f side s table list .1) (f side s table list .2)
+
+abbrev pub FetchesParts : Fetcher → Type 0
+FetchesParts f = (s : List ℕ) (asked : ℕ) → f s asked ≡ fetched s asked .part
+
+-- a table of three rows
+abbrev table : List ℕ
+table = replicate 36 0
+
+-- a profile, the same with a closing mark, and two of them
+abbrev profile : List ℕ
+profile = 0xA0 ∷ 0x00 ∷ []
+
+abbrev marked : List ℕ
+marked = 0xA0 ∷ 0x80 ∷ 0x00 ∷ 0x00 ∷ []
+
+abbrev two : List ℕ
+two = 0xA0 ∷ 0x00 ∷ 0xA0 ∷ 0x00 ∷ []
+
+-- an output of four octets
+abbrev nines : List ℕ
+nines = 9 ∷ 9 ∷ 9 ∷ 9 ∷ []
+
+-- the letter that document 01 prints: a profile, the layout object "1 0 2" with the portion "0", and the text unit "1 0 2 0"
+abbrev printed : List ℕ
+printed =
+    0xA0 ∷ 0x00
+    ∷ 0xA2 ∷ 0x11 ∷ 0x02 ∷ 0x01 ∷ 0x04 ∷ 0x31 ∷ 0x0C ∷ 0x41 ∷ 0x05 ∷ 0x31 ∷ 0x20 ∷ 0x30 ∷ 0x20 ∷ 0x32 ∷ 0xA1 ∷ 0x03 ∷ 0x12 ∷ 0x01 ∷ 0x30
+    ∷ 0xA3 ∷ 0x0F ∷ 0x31 ∷ 0x09 ∷ 0x40 ∷ 0x07 ∷ 0x31 ∷ 0x20 ∷ 0x30 ∷ 0x20 ∷ 0x32 ∷ 0x20 ∷ 0x30 ∷ 0x04 ∷ 0x02 ∷ 0x48 ∷ 0x69 ∷ []
+
+abbrev firstElement : List Match → ℕ
+firstElement [] = 0
+firstElement (m ∷ ms) = m .element
+
+abbrev noMatch : Match
+noMatch = record { element = 9; portion = 9; unit = 9 }
+
+accepts-profile : checked profile table ≡ record { number = 0; place = 0; headers = 1; elements = 1 }
+unfolding permits formAllowed bigEndianFrom misfits definiteAt indefiniteAt longAt byFirst lengthAt itemAt closingAt headAt runFor run walkOf amount firstValue firstRun allPortions values wellSpelt repeats shapeOf bodyOf elementOf asTabled namesFit clash twice refusalOf judgeOne judgeFrom judge placeOf letterOf checked xor
+accepts-profile = refl
+
+refuses-nothing : checked [] table .number ≡ 11
+unfolding runFor run walkOf judge placeOf letterOf checked
+refuses-nothing = refl
+
+two-headers : checked two table .headers ≡ 2
+unfolding permits formAllowed bigEndianFrom misfits definiteAt indefiniteAt longAt byFirst lengthAt itemAt closingAt headAt runFor run walkOf amount firstValue firstRun allPortions values wellSpelt repeats shapeOf bodyOf elementOf asTabled namesFit clash twice refusalOf judgeOne judgeFrom judge placeOf letterOf checked xor
+two-headers = refl
+
+one-header : checked marked table .headers ≡ 1
+unfolding permits formAllowed bigEndianFrom misfits definiteAt indefiniteAt longAt byFirst lengthAt itemAt closingAt headAt runFor run walkOf amount firstValue firstRun allPortions values wellSpelt repeats shapeOf bodyOf elementOf asTabled namesFit clash twice refusalOf judgeOne judgeFrom judge placeOf letterOf checked xor
+one-header = refl
+
+shorter-form : (written marked nines .number ≡ 0) × (writtenOutput marked nines ≡ 0xA0 ∷ 0x00 ∷ 9 ∷ 9 ∷ [])
+unfolding permits formAllowed bigEndianFrom misfits definiteAt indefiniteAt longAt byFirst lengthAt itemAt closingAt headAt runFor run walkOf amount firstValue firstRun allPortions values wellSpelt repeats shapeOf bodyOf elementOf asTabled namesFit clash twice refusalOf judgeOne judgeFrom judge placeOf letterOf digits normalOf written writtenOutput xor
+shorter-form = (refl, refl)
+
+one-match : listedList Layout printed table (noMatch ∷ []) ≡ record { element = 1; portion = 0; unit = 2 } ∷ []
+unfolding permits formAllowed bigEndianFrom misfits definiteAt indefiniteAt longAt byFirst lengthAt itemAt closingAt headAt runFor run walkOf amount firstValue firstRun inOrder allPortions values wellSpelt among repeats digit grouped isIdentifier allDigits isPortion same space shapeOf bodyOf elementOf asTabled namesFit clash twice refusalOf judgeOne judgeFrom judge placeOf letterOf joins forEach portionMatches elementMatches matches listed listedList xor
+one-match = refl
+
+some-content : fetched printed 2 .part ≡ 0x48 ∷ 0x69 ∷ []
+unfolding permits formAllowed bigEndianFrom misfits definiteAt indefiniteAt longAt byFirst lengthAt itemAt closingAt headAt runFor run walkOf amount firstValue firstRun inOrder allPortions values wellSpelt among repeats digit grouped isIdentifier allDigits isPortion same space shapeOf bodyOf elementOf asTabled namesFit clash twice refusalOf judgeOne judgeFrom judge placeOf letterOf fetched xor
+some-content = refl
+
+-- no checker refuses every stream,
+pub refuses-all : (f : Checker) → Checks f → ((s rows : List ℕ) → f s rows .0 .number ≡ 0 → ⊥) → ⊥
+refuses-all f meets wrong =
+    wrong profile table (ap (λ (a : Checked). a .number) (meets profile table .answered ∙ accepts-profile))
+
+-- or gives one fixed answer;
+pub fixed-answer : (f : Checker) → Checks f → (fixed : Checked) → ((s rows : List ℕ) → f s rows .0 ≡ fixed) → ⊥
+fixed-answer f meets fixed wrong =
+    let a : fixed .number ≡ 0 = ap (λ (x : Checked). x .number) (sym (wrong profile table) ∙ meets profile table .answered ∙ accepts-profile) in
+    let b : fixed .number ≡ 11 = ap (λ (x : Checked). x .number) (sym (wrong [] table) ∙ meets [] table .answered) ∙ refuses-nothing in
+    omega arith
+
+-- none makes the header count up from the stream's length;
+pub made-up-headers : (f : Checker) → Checks f → (made-up : ℕ → ℕ) → ((s rows : List ℕ) → f s rows .0 .headers ≡ made-up (length s)) → ⊥
+made-up-headers f meets made-up wrong =
+    let a : made-up 4 ≡ 1 = sym (wrong marked table) ∙ ap (λ (x : Checked). x .headers) (meets marked table .answered) ∙ one-header in
+    let b : made-up 4 ≡ 2 = sym (wrong two table) ∙ ap (λ (x : Checked). x .headers) (meets two table .answered) ∙ two-headers in
+    omega arith
+
+-- no lister writes nothing;
+pub lists-nothing : (f : Lister) → Lists f → ((side : Side) (s rows : List ℕ) (list : List Match) → f side s rows list .2 ≡ list) → ⊥
+lists-nothing f meets wrong =
+    let z : _≡_ {A = ℕ} 9 1 =
+    ap firstElement (sym (wrong Layout printed table (noMatch ∷ [])) ∙ meets Layout printed table (noMatch ∷ []) .filled ∙ one-match) in
+    omega arith
+
+-- no fetch always hands back an empty part;
+pub fetches-nothing : (f : Fetcher) → FetchesParts f → ((s : List ℕ) (asked : ℕ) → f s asked ≡ []) → ⊥
+fetches-nothing f meets wrong =
+    let z : _≡_ {A = ℕ} 0 2 = ap length (sym (wrong printed 2) ∙ meets printed 2 ∙ some-content) in
+    omega arith
+
+-- and no writer copies its input wherever it writes.
+pub copies-input : (f : Writer) → Writes f → ((s out : List ℕ) → f s out .0 .number ≡ 0 → f s out .1 ≡ onto s out) → ⊥
+copies-input f meets wrong =
+    let m = meets marked nines in
+    let w : f marked nines .0 .number ≡ 0 = ap (λ (a : Written). a .number) (m .answered) ∙ shorter-form .0 in
+    let z : _≡_ {A = ℕ} 0x80 0 = ap (λ (octets : List ℕ). getD octets 1 0) (sym (wrong marked nines w) ∙ m .put ∙ shorter-form .1) in
+    omega arith

@@ -1,0 +1,157 @@
+-- The three demands, over the definitions of what the questions answer (crate answers, specs/Answers): the first page of what is promised.
+-- A demand is a record, its fields are the demand's clauses, and proofs/ has a value of each. Definitions only: assumes nothing.
+use mathlib.Core.Path.{_≡_}
+use mathlib.Core.Logic.{_⊎_, _↔_}
+use mathlib.Core.Bool.{true}
+use mathlib.Core.List.{List, [], _∷_}
+use mathlib.Core.Option.{some}
+use Prim.Native.Nat.{ℕ, suc, _+_, _/_, _<_, _≤_}
+use lib.ListN.{length, getElem?}
+use lib.Seq.{slice}
+use Rattle.headers.specs.First.{isIn}
+use Rattle.octets.specs.Items.{count}
+use Rattle.octets.specs.Walk.{streamLimit, deepest}
+use Rattle.tree.specs.Tree.{Tree, empty, leaf, branch, treeOf}
+use Rattle.tree.specs.Codes.{Codes}
+use Rattle.normal.specs.Normal.{normalForm}
+use Rattle.index.specs.Rows.{rowWidth}
+use Rattle.contents.specs.declared.Span.{Span}
+use Rattle.elements.specs.declared.Row.{Row}
+use Rattle.elements.specs.Shape.{edition1988}
+use Rattle.elements.specs.Element.{Element}
+use Rattle.elements.specs.Judge.{accepted, judge}
+use Rattle.letters.specs.Letter.{letter, itemsOfStream}
+use Rattle.letters.specs.Table.{EndToEnd, PairsWithin}
+use Rattle.reading.specs.declared.Match.{Match}
+use Rattle.reading.specs.declared.Side.{Side}
+use Rattle.reading.specs.Match.{unitKind, matches}
+use Rattle.reading.specs.Promises.{IsMatch, Before}
+use Rattle.answers.specs.Answers.{letterIn, rowsIn, onto, tableOf, checked, checkedTable, written, writtenOutput, listed, listedTable, matchesIn, listedList, contentOf, fetched}
+
+-- A number that a question may give, and its place: 0, one of 1 to 15, or one of the question's own, "where the question can give it". The
+-- place lies in the stream; it is 0 with 0 and from 16 on.
+pub record Told (s : List ℕ) (own : List ℕ) (number place : ℕ) : Type 0 where
+  pub one-of : (number ≤ 15) ⊎ (isIn number own ≡ true)
+  pub inside : place ≤ length s
+  pub at-start : (number ≡ 0) ⊎ (15 < number) → place ≡ 0
+
+-- Demand 1: every stream gets an answer, and a refusal leaves what was lent as it was.
+pub record Demand1 : Type 0 where
+  -- "Only the check and the list use the table and can give 16."
+  pub check-told : (s table : List ℕ) → Told s (16 ∷ []) (checked s table .number) (checked s table .place)
+  pub normal-told : (s out : List ℕ) → Told s (17 ∷ 18 ∷ []) (written s out .number) (written s out .place)
+  pub list-told : (side : Side) (s table : List ℕ) (room : ℕ) → Told s (16 ∷ 19 ∷ []) (listed side s table room .number) (listed side s table room .place)
+  pub content-told : (s : List ℕ) (asked : ℕ) → Told s (20 ∷ []) (fetched s asked .number) (fetched s asked .place)
+  -- "the header count is the number of items that passed 2 to 8, at most half the stream's bytes .. After 1 it is 0"
+  pub headers : (s table : List ℕ) → length s ≤ streamLimit → checked s table .headers ≡ count (itemsOfStream s)
+  pub headers-half : (s table : List ℕ) → checked s table .headers + checked s table .headers ≤ length s
+  pub headers-after-1 : (s table : List ℕ) → streamLimit < length s → checked s table .headers ≡ 0
+  -- "With a refusal these are 0, but 19 keeps the element count."
+  pub check-counts : (s table : List ℕ) → (checked s table .number ≡ 0 → ⊥) → checked s table .elements ≡ 0
+  pub normal-counts : (s out : List ℕ) → (written s out .number ≡ 0 → ⊥) → written s out .length ≡ 0
+  pub list-counts : (side : Side) (s table : List ℕ) (room : ℕ) → (listed side s table room .number ≡ 0 → ⊥)
+      → (listed side s table room .matches ≡ 0) × ((listed side s table room .number ≡ 19 → ⊥) → listed side s table room .elements ≡ 0)
+  -- "A refusal leaves the lent table, list and output untouched, except that 19 leaves the finished table."
+  pub check-untouched : (s table : List ℕ) → (checked s table .number ≡ 0 → ⊥) → checkedTable s table ≡ table
+  pub normal-untouched : (s out : List ℕ) → (written s out .number ≡ 0 → ⊥) → writtenOutput s out ≡ out
+  pub list-untouched : (side : Side) (s table : List ℕ) (list : List Match) → (listed side s table (length list) .number ≡ 0 → ⊥)
+      → listedList side s table list ≡ list
+  pub list-table-untouched : (side : Side) (s table : List ℕ) (room : ℕ) → (listed side s table room .number ≡ 0 → ⊥)
+      → (listed side s table room .number ≡ 19 → ⊥) → listedTable side s table room ≡ table
+  pub list-table-finished : (side : Side) (s table : List ℕ) (room : ℕ) → listed side s table room .number ≡ 19
+      → listedTable side s table room ≡ tableOf s table
+  -- "a refused fetch gives an empty part"
+  pub content-empty : (s : List ℕ) (asked : ℕ) → (fetched s asked .number ≡ 0 → ⊥) → fetched s asked .part ≡ []
+
+-- how many items a tree has, at any level
+abbrev pub itemsIn : Tree → ℕ
+itemsIn empty = 0
+itemsIn (leaf type value after) = suc (itemsIn after)
+itemsIn (branch type inside after) = suc (itemsIn inside + itemsIn after)
+
+-- what it is to be a letter: X.209 says that its octets code a tree of items, and the element shapes that its elements are these
+pub record IsLetterOf (s : List ℕ) (headers : ℕ) (elements : List Element) : Type 0 where
+  pub tree : Tree
+  pub coded : Codes deepest tree s
+  pub within : length s ≤ streamLimit
+  pub shaped : judge edition1988 tree ≡ accepted elements
+  pub counted : headers ≡ itemsIn tree
+
+-- the octets that a pair bounds
+abbrev pub octetsIn : List ℕ → Span → List ℕ
+octetsIn s pair = slice (pair .first) (pair .past) s
+
+-- a row tells what its element says: its kind and object type, and octets of the stream
+pub record RowTells (s : List ℕ) (row : Row) (element : Element) : Type 0 where
+  pub kind : row .kind ≡ element .kind
+  pub object : row .object ≡ element .object
+  pub identifier : octetsIn s (row .identifier) ≡ contentOf (element .identifier)
+  pub logical : octetsIn s (row .logical) ≡ contentOf (element .logical)
+  pub content : octetsIn s (row .content) ≡ contentOf (element .content)
+
+-- two rows of two streams with the same kind, type, identifiers and content
+pub record SameRow (s : List ℕ) (row : Row) (t : List ℕ) (other : Row) : Type 0 where
+  pub kind : row .kind ≡ other .kind
+  pub object : row .object ≡ other .object
+  pub identifier : octetsIn s (row .identifier) ≡ octetsIn t (other .identifier)
+  pub logical : octetsIn s (row .logical) ≡ octetsIn t (other .logical)
+  pub content : octetsIn s (row .content) ≡ octetsIn t (other .content)
+
+-- Demand 2, of a letter with these headers and elements.
+pub record OfLetter (s : List ℕ) (headers : ℕ) (elements : List Element) : Type 0 where
+  -- the check accepts it, if the table has rows enough
+  pub checks : (table : List ℕ) → length elements ≤ length table / rowWidth
+      → (checked s table ≡ record { number = 0; place = 0; headers = headers; elements = length elements }) × (checkedTable s table ≡ tableOf s table)
+  pub checks-16 : (table : List ℕ) → (checked s table .number ≡ 16) ↔ (length table / rowWidth < length elements)
+  -- "Elements meet end to end from 0 to the stream's length."; every pair lies in its element; a row for each element, which tells what it says
+  pub end-to-end : EndToEnd 0 (length s) (rowsIn s)
+  pub pairs-within : (j : ℕ) (row : Row) → getElem? (rowsIn s) j ≡ some row → PairsWithin row
+  pub rows-counted : length (rowsIn s) ≡ length elements
+  pub rows-tell : (j : ℕ) (row : Row) (element : Element) → getElem? (rowsIn s) j ≡ some row → getElem? elements j ≡ some element → RowTells s row element
+  -- the content of a text unit is what its 04 says, and of any other number nothing
+  pub content : (j : ℕ) (unit : Element) → getElem? elements j ≡ some unit → unit .kind ≡ unitKind
+      → fetched s j ≡ record { number = 0; place = 0; part = contentOf (unit .content) }
+  pub content-20 : (j : ℕ) → (fetched s j .number ≡ 20) ↔ ((unit : Element) → getElem? elements j ≡ some unit → unit .kind ≡ unitKind → ⊥)
+  -- the normal form is written, unless it passes the limit, 17, or else the output, 18
+  pub writes : (out : List ℕ) → length (normalForm s) ≤ streamLimit → length (normalForm s) ≤ length out
+      → (written s out ≡ record { number = 0; place = 0; length = length (normalForm s) }) × (writtenOutput s out ≡ onto (normalForm s) out)
+  pub writes-17 : (out : List ℕ) → (written s out .number ≡ 17) ↔ (streamLimit < length (normalForm s))
+  pub writes-18 : (out : List ℕ) → (written s out .number ≡ 18) ↔ ((length (normalForm s) ≤ streamLimit) × (length out < length (normalForm s)))
+  -- and it is accepted by every rule, with the same header count and the same elements, the same tree, and row by row the same kinds,
+  -- types, identifiers and content
+  pub normal-accepted : length (normalForm s) ≤ streamLimit → letterIn (normalForm s) ≡ letter headers elements
+  pub normal-tree : length (normalForm s) ≤ streamLimit → treeOf (normalForm s) ≡ treeOf s
+  pub normal-rows : length (normalForm s) ≤ streamLimit → (j : ℕ) (row other : Row)
+      → getElem? (rowsIn s) j ≡ some row → getElem? (rowsIn (normalForm s)) j ≡ some other → SameRow s row (normalForm s) other
+  pub normal-again : length (normalForm s) ≤ streamLimit → normalForm (normalForm s) ≡ normalForm s
+
+-- Demand 2: accepted is what X.209 and the shapes say, and what is accepted is kept by the normal form.
+pub record Demand2 : Type 0 where
+  pub accepted-is : (s : List ℕ) (headers : ℕ) (elements : List Element) → (letterIn s ≡ letter headers elements) ↔ IsLetterOf s headers elements
+  pub of-letter : (s : List ℕ) (headers : ℕ) (elements : List Element) → letterIn s ≡ letter headers elements → OfLetter s headers elements
+
+-- a record stands somewhere in a list
+abbrev pub In : Match → List Match → Type 0
+In m ms = (i : ℕ) × (getElem? ms i ≡ some m)
+
+-- Demand 3, of a letter with these elements.
+pub record ListOf (side : Side) (s : List ℕ) (elements : List Element) : Type 0 where
+  -- the list has exactly the matches, none twice, "in stream order and then portion order"
+  pub exactly : (m : Match) → In m (matchesIn side s) ↔ IsMatch side elements m
+  pub once : (i j : ℕ) (m : Match) → getElem? (matchesIn side s) i ≡ some m → getElem? (matchesIn side s) j ≡ some m → i ≡ j
+  pub ordered : (i j : ℕ) (m n : Match) → i < j → getElem? (matchesIn side s) i ≡ some m → getElem? (matchesIn side s) j ≡ some n → Before m n
+  -- it is given, with the table, and refused by 16 and 19 alone
+  pub lists : (table : List ℕ) (list : List Match) → length elements ≤ length table / rowWidth → length (matchesIn side s) ≤ length list
+      → (listed side s table (length list) ≡ record { number = 0; place = 0; elements = length elements; matches = length (matchesIn side s) })
+      × (listedTable side s table (length list) ≡ tableOf s table) × (listedList side s table list ≡ onto (matchesIn side s) list)
+  pub lists-16 : (table : List ℕ) (room : ℕ) → (listed side s table room .number ≡ 16) ↔ (length table / rowWidth < length elements)
+  pub lists-19 : (table : List ℕ) (room : ℕ)
+      → (listed side s table room .number ≡ 19) ↔ ((length elements ≤ length table / rowWidth) × (room < length (matchesIn side s)))
+  pub lists-else : (table : List ℕ) (room : ℕ) → (listed side s table room .number ≡ 16 → ⊥) → (listed side s table room .number ≡ 19 → ⊥)
+      → listed side s table room .number ≡ 0
+  -- and the normal form has the same list
+  pub normal-list : length (normalForm s) ≤ streamLimit → matchesIn side (normalForm s) ≡ matchesIn side s
+
+-- Demand 3: the reading list of either side.
+pub record Demand3 : Type 0 where
+  pub of-letter : (side : Side) (s : List ℕ) (headers : ℕ) (elements : List Element) → letterIn s ≡ letter headers elements → ListOf side s elements

@@ -1,0 +1,3 @@
+-- Demands: what is promised. Examples: the starred examples of document 01.
+pub mod Demands
+pub mod Examples

@@ -1,0 +1,5 @@
+pub mod Table
+pub mod Lengths
+pub mod Usual
+pub mod Lies
+pub mod Passed

@@ -1,0 +1,79 @@
+-- `octets::big_endian` meets its contract: after i turns n is the number of the first i octets. Assumes nothing.
+use mathlib.Core.Path.{_≡_, refl, sym}
+use Prim.Native.Nat.{_+_, _-_, _^_, _≤_, _<_}
+use borrow.Author.Needs.{needs}
+use native.Mathlib.Omega.{arith}
+use lib.ListN.{take, drop}
+use Rattle.headers.specs.Lengths.{bigEndian, bigEndianFrom}
+use Rattle.headers.proofs.Lengths.{be-more, be-grows, be-small}
+use Rattle.headers.proofs.big_endian.Statement.{statement}
+use Rattle.headers.proofs.big_endian.Tie as tie
+use Rattle.headers.proofs.big_endian.Reads as reads
+use Rattle.headers.proofs.big_endian.Lts as lts
+use Rattle.headers.proofs.wide.Reads as wide-reads
+
+abbrev Inv-loop : tie.InvT-loop
+Inv-loop s from k n₀ i₀ n i = (i ≤ k) × (n ≡ bigEndian (take i (drop from s))) × (n < 256 ^ i)
+
+abbrev μ-loop : tie.MeasureT-loop
+μ-loop s from k n₀ i₀ n i = k - i
+
+loop-holds : tie.Need-loop-holds Inv-loop μ-loop
+unfolding bigEndianFrom
+loop-holds c = (search needs, refl, search needs)
+
+mul-n : tie.Need-mul-n Inv-loop μ-loop
+mul-n c = omega (arith, be-small (c .before .loop .i) (omega arith))
+
+add-wide : tie.Need-add-wide Inv-loop μ-loop
+add-wide c = omega arith
+
+shared-slice-read-wide : tie.Need-shared-slice-read-wide Inv-loop μ-loop
+shared-slice-read-wide c = omega arith
+
+wide-requires : tie.Need-wide-requires Inv-loop μ-loop
+wide-requires c κs = search needs
+
+add-n : tie.Need-add-n Inv-loop μ-loop
+add-n c =
+    let l = c .before .before .before .loop in
+    let a = c .before .before .before .before .before .args in
+    omega (arith, be-small (l .i) (omega arith), be-small (l .i + 1) (omega arith), c .before .shared-slice-known2 .given (a .from + l .i), c .wide .ensures)
+
+add-i : tie.Need-add-i Inv-loop μ-loop
+add-i c = omega arith
+
+loop-less : tie.Need-loop-less Inv-loop μ-loop
+loop-less c = omega arith
+
+loop-again : tie.Need-loop-again Inv-loop μ-loop
+loop-again c =
+    let l = c .before .before .before .loop in
+    let a = c .before .before .before .before .before .args in
+    let b : c .wide .result < 256 = omega (arith, c .before .shared-slice-known2 .given (a .from + l .i)) in (
+      omega arith,
+      simp (l .inv .1, c .wide .ensures) (sym (be-more (a .s .now) (a .from) (l .i) (omega arith))),
+      be-grows (l .i) (l .n) (c .wide .result) (l .inv .2) b,
+    )
+
+returns : tie.Need-returns Inv-loop μ-loop
+returns c =
+    let e : c .before .loop .i ≡ c .before .before .before .args .k = omega arith in
+    rw (← e) (c .before .loop .inv .1)
+
+pub big-endian-spec : {M : Type 1} → statement M
+big-endian-spec =
+    tie.close
+    (tie.spec
+    Inv-loop
+    μ-loop
+    loop-holds
+    mul-n
+    add-wide
+    shared-slice-read-wide
+    wide-requires
+    add-n
+    add-i
+    loop-less
+    loop-again
+    returns)

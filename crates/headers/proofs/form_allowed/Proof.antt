@@ -1,0 +1,26 @@
+use borrow.Author.Needs.{needs}
+use borrow.Author.Tests.{lt-ltb, le-ltb}
+use Rattle.headers.specs.First.{formAllowed}
+use Rattle.headers.proofs.form_allowed.Statement.{statement}
+use Rattle.headers.proofs.form_allowed.Tie as tie
+use Rattle.headers.proofs.form_allowed.Reads as reads
+use Rattle.headers.proofs.form_allowed.Lts as lts
+use Rattle.headers.proofs.permitted.Reads as permitted-reads
+use Rattle.headers.proofs.wide.Reads as wide-reads
+
+wide-requires : tie.Need-wide-requires
+wide-requires c κs = search needs
+
+permitted-requires : tie.Need-permitted-requires
+permitted-requires c κs = search needs
+
+returns : tie.Need-returns
+unfolding formAllowed
+returns c = simp (c .permitted .ensures, c .before .wide .ensures, lt-ltb _ _ (c .before .before .if1 .taken))
+
+returns-2 : tie.Need-returns-2
+unfolding formAllowed
+returns-2 c = simp (le-ltb _ _ (c .if1 .left))
+
+pub form-allowed-spec : {M : Type 1} → statement M
+form-allowed-spec = tie.close (tie.spec wide-requires permitted-requires returns returns-2)

@@ -1,0 +1,337 @@
+// X.209 at one position: what reading there yields, a header, a closing mark or a refusal by one of 2 to 8.
+ghost use mathlib.Core.Path.{_≡_};
+ghost use mathlib.Core.Bool.{true, false};
+ghost use Prim.Native.Nat.{_+_, _<_, _≤_};
+ghost use lib.ListN.{length, take, drop};
+ghost use Rattle.headers.specs.First.{number, permits, formAllowed};
+ghost use Rattle.headers.specs.Lengths.{misfits, bigEndian};
+ghost use Rattle.headers.specs.Head.{definiteAt, indefiniteAt, longAt, lengthAt, closingAt, headAt, Passed};
+ghost use Rattle.headers.specs.declared.Head.the-variants.{Item};
+
+// A header that passed. The value starts at `start`. A definite value ends at `bound`; an indefinite one (`marked`) ends at its
+// closing mark, before `bound`, which is then the limit. (The octet is as wide as the rest: a narrow field of an enum goes through
+// memory where two paths meet.)
+pub struct Header {
+    pub octet: usize,
+    pub start: usize,
+    pub bound: usize,
+    pub marked: bool,
+}
+
+// What reading at a position yields.
+pub enum Head {
+    Item(Header),
+    ClosingMark,
+    Refusal { number: usize, place: usize },
+}
+
+// The forms that each universal number may have: 0 never, 1 primitive, 2 constructed, 3 either.
+const FORMS: [u8; 31] = [
+    0,
+    1,
+    1,
+    3,
+    3,
+    1,
+    1,
+    3,
+    2,
+    1,
+    1,
+    3,
+    0,
+    0,
+    0,
+    0,
+    2,
+    2,
+    3,
+    3,
+    3,
+    3,
+    3,
+    3,
+    3,
+    3,
+    3,
+    3,
+    0,
+    0,
+    0,
+];
+
+fn wide(x: u8) -> usize
+    ensures { λ r. ⌜ r ≡ x ⌝ }
+{
+    x as usize
+}
+
+fn permitted(number: usize, constructed: bool) -> bool
+    requires { ⌜ number < 31 ⌝ }
+    ensures { λ r. ⌜ r ≡ permits number constructed ⌝ }
+{
+    let form = FORMS[number];
+    if constructed {
+        form / 2 == 1
+    } else {
+        form % 2 == 1
+    }
+}
+
+fn form_allowed(octet: u8) -> bool
+    requires { ⌜ (number octet ≡ 31 → ⊥) ⌝ }
+    ensures { λ r. ⌜ r ≡ formAllowed octet ⌝ }
+{
+    if octet < 64 {
+        return permitted(wide(octet % 32), octet / 32 % 2 == 1);
+    }
+    true
+}
+
+// The number that the k octets from `from` are, most significant first.
+fn big_endian(s: &[u8], from: usize, k: usize) -> usize
+    requires { ⌜ (from + k ≤ length (now s)) × (k ≤ 4) ⌝ }
+    ensures { λ r. ⌜ r ≡ bigEndian (take k (drop from (now (s .entry)))) ⌝ }
+{
+    let mut n: usize = 0;
+    let mut i: usize = 0;
+    while i < k {
+        n = n * 256 + wide(s[from + i]);
+        i += 1;
+    }
+    n
+}
+
+fn is_misfit(octet: u8, len: usize) -> bool
+    ensures { λ r. ⌜ r ≡ misfits octet len ⌝ }
+{
+    match octet {
+        1 => len != 1,
+        5 => len != 0,
+        2 | 10 => len == 0,
+        _ => false,
+    }
+}
+
+fn definite_at(octet: u8, at: usize, start: usize, len: usize, limit: usize) -> Head
+    requires { ⌜ start ≤ limit ⌝ }
+    ensures { λ r. ⌜ r ≡ definiteAt octet at start len limit ⌝ }
+{
+    if limit - start < len {
+        return Head::Refusal {
+            number: 7,
+            place: at,
+        };
+    }
+    if is_misfit(octet, len) {
+        return Head::Refusal {
+            number: 8,
+            place: at,
+        };
+    }
+    Head::Item(Header {
+        octet: wide(octet),
+        start,
+        bound: start + len,
+        marked: false,
+    })
+}
+
+fn indefinite_at(octet: u8, at: usize, limit: usize) -> Head
+    requires { ⌜ at + 2 ≤ limit ⌝ }
+    ensures { λ r. ⌜ r ≡ indefiniteAt octet at limit ⌝ }
+{
+    if octet / 32 % 2 != 1 {
+        return Head::Refusal {
+            number: 6,
+            place: at,
+        };
+    }
+    Head::Item(Header {
+        octet: wide(octet),
+        start: at + 2,
+        bound: limit,
+        marked: true,
+    })
+}
+
+fn long_at(s: &[u8], octet: u8, at: usize, k: usize, limit: usize) -> Head
+    requires { ⌜ (at + 2 ≤ limit) × (limit ≤ length (now s)) × (k ≤ 4) ⌝ }
+    ensures { λ r. ⌜ r ≡ longAt (now (s .entry)) octet at k limit ⌝ }
+{
+    let first = at + 2;
+    if limit - first < k {
+        return Head::Refusal {
+            number: 7,
+            place: at,
+        };
+    }
+    definite_at(octet, at, first + k, big_endian(s, first, k), limit)
+}
+
+fn length_at(s: &[u8], octet: u8, at: usize, limit: usize) -> Head
+    requires { ⌜ (at < limit) × (limit ≤ length (now s)) ⌝ }
+    ensures { λ r. ⌜ r ≡ lengthAt (now (s .entry)) octet at limit ⌝ }
+{
+    let next = at + 1;
+    if limit <= next {
+        return Head::Refusal {
+            number: 7,
+            place: at,
+        };
+    }
+    let first = s[next];
+    match first {
+        0x00..=0x7F => definite_at(octet, at, at + 2, wide(first), limit),
+        0x80 => indefinite_at(octet, at, limit),
+        0x81..=0x84 => long_at(s, octet, at, wide(first - 0x80), limit),
+        0x85..=0xFF => Head::Refusal {
+            number: 6,
+            place: at,
+        },
+    }
+}
+
+// A 00 at `at`.
+fn closing_at(s: &[u8], at: usize, limit: usize, marked: bool) -> Head
+    requires { ⌜ (at < limit) × (limit ≤ length (now s)) ⌝ }
+    ensures { λ r. ⌜ r ≡ closingAt (now (s .entry)) at limit marked ⌝ }
+{
+    if marked {
+        let next = at + 1;
+        if next < limit {
+            if s[next] == 0 {
+                return Head::ClosingMark;
+            }
+            return Head::Refusal {
+                number: 2,
+                place: at,
+            };
+        }
+        return Head::Refusal {
+            number: 7,
+            place: at,
+        };
+    }
+    Head::Refusal {
+        number: 2,
+        place: at,
+    }
+}
+
+// What stands at `at`, rule by rule.
+fn read_head(s: &[u8], at: usize, limit: usize, marked: bool, room: usize) -> Head
+    requires { ⌜ (at < limit) × (limit ≤ length (now s)) ⌝ }
+    ensures { λ r. ⌜ r ≡ headAt (now (s .entry)) at limit marked room ⌝ }
+{
+    let octet = s[at];
+    if octet == 0 {
+        return closing_at(s, at, limit, marked);
+    }
+    if room == 0 {
+        return Head::Refusal {
+            number: 3,
+            place: at,
+        };
+    }
+    if octet % 32 == 31 {
+        return Head::Refusal {
+            number: 4,
+            place: at,
+        };
+    }
+    if !form_allowed(octet) {
+        return Head::Refusal {
+            number: 5,
+            place: at,
+        };
+    }
+    length_at(s, octet, at, limit)
+}
+
+// Whether an item passes 2 to 8 for sure: one of the octets that letters are made of, with one length octet and room for its value
+// among the octets that are left from there.
+fn is_usual(octet: u8, len: u8, left: usize, room: usize) -> bool
+    ensures { λ r. ⌜ (r ≡ true → (0 < room) × (len < left) × (len < 128) × ((octet ≡ 0 → ⊥) × (number octet ≡ 31 → ⊥) × (formAllowed octet ≡ true) × (misfits octet len ≡ false))) ⌝ }
+{
+    if room == 0 {
+        return false;
+    }
+    if left <= wide(len) {
+        return false;
+    }
+    if 0x7F < len {
+        return false;
+    }
+    match octet {
+        0x02 => len != 0,
+        0x05 => len == 0,
+        0x04 | 0x12 | 0x30 | 0x31 => true,
+        0x40..=0xFF => octet % 32 != 31,
+        _ => false,
+    }
+}
+
+// What stands at `at`, before `limit`, with `room` levels left. A usual item is told at once; `read_head` has the rest.
+pub fn head_at(s: &[u8], at: usize, limit: usize, marked: bool, room: usize) -> Head
+    requires { ⌜ (at < limit) × (limit ≤ length (now s)) ⌝ }
+    ensures { λ r. ⌜ r ≡ headAt (now (s .entry)) at limit marked room ⌝ }
+{
+    let next = at + 1;
+    if next < limit {
+        let octet = s[at];
+        let len = s[next];
+        if is_usual(octet, len, limit - next, room) {
+            return Head::Item(Header {
+                octet: wide(octet),
+                start: at + 2,
+                bound: at + 2 + wide(len),
+                marked: false,
+            });
+        }
+    }
+    read_head(s, at, limit, marked, room)
+}
+
+// The header of an item with k further length octets that was passed before.
+fn passed_long(s: &[u8], octet: u8, at: usize, k: usize) -> Head
+    requires { ⌜ (at + 2 + k + bigEndian (take k (drop (at + 2) (now s))) ≤ length (now s)) × (k ≤ 4) ⌝ }
+    ensures { λ r. ⌜ r ≡ Item (record { octet = octet; start = at + 2 + k; bound = at + 2 + k + bigEndian (take k (drop (at + 2) (now (s .entry)))); marked = false }) ⌝ }
+{
+    let start = at + 2 + k;
+    Head::Item(Header {
+        octet: wide(octet),
+        start,
+        bound: start + big_endian(s, at + 2, k),
+        marked: false,
+    })
+}
+
+// What stands at `at` in a run whose walk ended: `head_at` again, for later passes, with nothing left to judge.
+pub fn passed_head(s: &[u8], at: usize, limit: usize, marked: bool, room: usize) -> Head
+    requires { ⌜ (at < limit) × (limit ≤ length (now s)) × Passed (headAt (now s) at limit marked room) ⌝ }
+    ensures { λ r. ⌜ r ≡ headAt (now (s .entry)) at limit marked room ⌝ }
+{
+    let octet = s[at];
+    if octet == 0 {
+        return Head::ClosingMark;
+    }
+    let first = s[at + 1];
+    if first < 0x80 {
+        return Head::Item(Header {
+            octet: wide(octet),
+            start: at + 2,
+            bound: at + 2 + wide(first),
+            marked: false,
+        });
+    }
+    if first == 0x80 {
+        return Head::Item(Header {
+            octet: wide(octet),
+            start: at + 2,
+            bound: limit,
+            marked: true,
+        });
+    }
+    passed_long(s, octet, at, wide(first - 0x80))
+}
