@@ -13,7 +13,7 @@ use Rattle.elements.specs.Shape.{edition1988}
 use Rattle.elements.specs.Element.{Element}
 use Rattle.elements.specs.Rows.{numbers}
 use Rattle.letters.specs.Letter.{letter, refusal}
-use Rattle.answers.specs.Answers.{letterIn, rowsIn, tableOf, checked, checkedTable, CheckOutcome}
+use Rattle.answers.specs.Answers.{letterIn, rowsIn, tableOf, refusedCheck, checked, checkedTable, CheckOutcome}
 use Rattle.answers.proofs.Small.{refusal-small}
 
 -- a stream's rows in scratch, in front of what the table held, are the finished table
@@ -25,7 +25,7 @@ table-filled s table scratch n w long =
 
 module _ (s table : List ℕ) where
   pub checks-refused : (number place headers : ℕ) → letterIn s ≡ refusal number place headers
-      → CheckOutcome s table (record { number = number; place = place; headers = headers; elements = 0 }) table
+      → CheckOutcome s table (refusedCheck number place headers) table
   unfolding checked checkedTable
   checks-refused number place headers e =
       let low = refusal-small edition1988 s number place headers e .low in
@@ -33,7 +33,7 @@ module _ (s table : List ℕ) where
       record { answered = rw e; tabled = rw (e, some) }
 
   pub checks-16 : (headers : ℕ) (elements : List Element) → letterIn s ≡ letter headers elements → length table / rowWidth < length elements
-      → CheckOutcome s table (record { number = 16; place = 0; headers = headers; elements = 0 }) table
+      → CheckOutcome s table (refusedCheck 16 0 headers) table
   unfolding checked checkedTable
   checks-16 headers elements e few =
       let t : ltb (length table / rowWidth) (length elements) ≡ true = lt-ltb _ _ few in

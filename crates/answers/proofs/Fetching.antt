@@ -17,8 +17,8 @@ use Rattle.elements.specs.Element.{Element}
 use Rattle.elements.specs.Rows.{cells}
 use Rattle.elements.specs.Says.{Bounds}
 use Rattle.letters.specs.Letter.{refusal}
-use Rattle.letters.proofs.Lists.{at-below}
-use Rattle.letters.proofs.Rows.{RowOf, row-of, saying-length}
+use Rattle.judging.proofs.Lists.{at-below}
+use Rattle.judging.proofs.Rows.{RowOf, row-of, saying-length}
 use Rattle.reading.specs.Match.{unitKind}
 use Rattle.answers.specs.Answers.{letterIn, rowsIn, contentOf, noUnit, fetched, nowhere, located}
 use Rattle.answers.proofs.Small.{refusal-small}

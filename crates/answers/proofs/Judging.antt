@@ -1,26 +1,31 @@
 -- What is known once a stream is walked and judged: what the stream is, and where its rows are. Assumes nothing.
-use mathlib.Core.Path.{_≡_, refl, sym, _∙_, subst}
+use mathlib.Core.Path.{_≡_, refl, ap, sym, _∙_, subst}
 use mathlib.Core.List.{List}
 use mathlib.Core.Option.{some}
-use Prim.Native.Nat.{ℕ, _+_, _*_, _<_, _≤_}
+use Prim.Native.Nat.{ℕ, suc, _+_, _*_, _<_, _≤_}
+use native.Mathlib.Omega.{arith}
 use lib.ListN.{length, take, getD, getElem?}
 use Rattle.octets.specs.declared.Outcome.the-variants.{Ended}
+use Rattle.octets.specs.Items.{Items, none, item}
 use Rattle.octets.specs.Walk.{streamLimit, walkOf}
 use Rattle.tree.specs.Tree.{treeOf}
 use Rattle.tree.specs.Accepts.{Accepts}
+use Rattle.runs.specs.Runs.{tops}
 use Rattle.runs.proofs.Laws.{stream-within}
 use Rattle.index.specs.Rows.{rowWidth}
 use Rattle.elements.specs.Shape.{edition1988}
 use Rattle.elements.specs.Element.{Element}
 use Rattle.elements.specs.Judge.{mostElements, accepted, judge}
 use Rattle.elements.specs.declared.Row.{Row}
-use Rattle.elements.specs.Rows.{cells, numbers}
+use Rattle.elements.specs.Rows.{cells, rowsOf, numbers}
 use Rattle.letters.specs.declared.Verdict.{Verdict}
 use Rattle.letters.specs.declared.Verdict.the-variants.{Accepted, Refused}
-use Rattle.letters.specs.Letter.{letter, refusal}
-use Rattle.letters.specs.Scratch.{Saying, Filled, Stopped, Gives}
+use Rattle.letters.specs.Letter.{itemsOfStream, letter, refusal}
+use Rattle.letters.specs.Lent.{rowsNeeded}
+use Rattle.judging.specs.Held.{Saying}
+use Rattle.letters.specs.Scratch.{Filled, Stopped, Gives}
 use Rattle.letters.specs.Table.{Apart}
-use Rattle.letters.proofs.Rows.{cell-at}
+use Rattle.judging.proofs.Rows.{saying-length, cell-at}
 use Rattle.letters.proofs.Apart.{accepted-apart}
 use Rattle.answers.specs.Answers.{letterIn, rowsIn}
 use Rattle.answers.specs.Asking.{Judged, Decides}
@@ -32,6 +37,12 @@ pub record Refusing (s : List ℕ) (number place headers : ℕ) : Type 0 where
   pub judged : letterIn s ≡ refusal number place headers
   pub small : Small s number place headers
 
+-- there is a row for each item of the stream
+rows-tops : (s : List ℕ) (items : Items) → length (rowsOf edition1988 s items) ≡ tops items
+unfolding rowsOf
+rows-tops s none = refl
+rows-tops s (item at octet first past inside after) = ap suc (rows-tops s after)
+
 -- a letter of count elements, whose rows are the first in scratch
 pub record Accepting (s rows : List ℕ) (count headers : ℕ) : Type 0 where
   pub elements : List Element
@@ -40,6 +51,7 @@ pub record Accepting (s rows : List ℕ) (count headers : ℕ) : Type 0 where
   pub apart : Apart elements
   pub counted : length elements ≡ count
   pub few : count ≤ mostElements
+  pub needed : count ≤ rowsNeeded s
   pub within-limit : length s ≤ streamLimit
   pub within : count * rowWidth ≤ length rows
   pub written : take (count * rowWidth) rows ≡ numbers (rowsIn s)
@@ -59,13 +71,15 @@ module _ {s rows : List ℕ} {verdict : Verdict} {at headers : ℕ} (walked : wa
       let k = subst (Judged s rows) e j in
       let filled : Filled s rows (k .head) (k .next) (k .head2) (k .next2) count = k .gives in
       let holds = filled .holds in
+      let few : count ≤ mostElements = subst (λ (n : ℕ). n ≤ mostElements) (holds .counted) (accepted-apart edition1988 (treeOf s) (filled .elements) (filled .judged) .few) in
       record {
         elements = filled .elements;
         judged = accepted-letter edition1988 s at headers (filled .elements) walked (filled .judged);
         judge-accepted = filled .judged;
         apart = accepted-apart edition1988 (treeOf s) (filled .elements) (filled .judged);
         counted = holds .counted;
-        few = subst (λ (n : ℕ). n ≤ mostElements) (holds .counted) (accepted-apart edition1988 (treeOf s) (filled .elements) (filled .judged) .few);
+        few = few;
+        needed = omega (arith, few, rows-tops s (itemsOfStream s), saying-length (holds .saying), holds .counted);
         within-limit = stream-within s at headers walked;
         within = holds .identifiers .in-table;
         written = holds .written;

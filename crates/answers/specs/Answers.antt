@@ -50,11 +50,13 @@ abbrev pub tooFewRows : (table : List ℕ) → List Element → Bool
 tooFewRows table elements = ltb (length table / rowWidth) (length elements)
 
 -- The check: "With every answer of the check comes a header count"; "With a refusal these are 0".
+abbrev pub refusedCheck : (number place headers : ℕ) → Checked
+refusedCheck number place headers = record { number = number; place = place; headers = headers; elements = 0 }
+
 abbrev pub checkedBy : Letter → (table : List ℕ) → Checked
-checkedBy (refusal number place headers) table = record { number = number; place = place; headers = headers; elements = 0 }
+checkedBy (refusal number place headers) table = refusedCheck number place headers
 checkedBy (letter headers elements) table =
-    cond (tooFewRows table elements)
-    (record { number = 16; place = 0; headers = headers; elements = 0 })
+    cond (tooFewRows table elements) (refusedCheck 16 0 headers)
     (record { number = 0; place = 0; headers = headers; elements = length elements })
 
 unfoldable pub checked : (s table : List ℕ) → Checked

@@ -6,12 +6,15 @@ use mathlib.Core.List.{List, []}
 use Prim.Native.Nat.{ℕ, _*_, _≤_}
 use lib.Dec.{eqb}
 use lib.ListN.{length}
-use Rattle.octets.specs.Walk.{streamLimit}
+use Rattle.octets.specs.declared.Outcome.{Outcome}
+use Rattle.octets.specs.declared.Outcome.the-variants.{Ended, Refused as Faulty}
+use Rattle.octets.specs.Walk.{streamLimit, walkOf}
 use Rattle.index.specs.Rows.{kindAt, firstAt, pastAt}
 use Rattle.elements.specs.Element.{Element}
 use Rattle.letters.specs.declared.Verdict.{Verdict}
 use Rattle.letters.specs.declared.Verdict.the-variants.{Accepted, Refused}
 use Rattle.letters.specs.Letter.{letter, refusal}
+use Rattle.letters.specs.Lent.{rowsNeeded}
 use Rattle.letters.specs.Scratch.{Gives}
 use Rattle.reading.specs.declared.Side.{Side}
 use Rattle.reading.specs.Match.{unitKind}
@@ -66,6 +69,16 @@ pub record Finds (s : List ℕ) (asked : ℕ) (told : Located) : Type 0 where
   pub low-number : told .number ≤ 20
   pub near-place : told .place ≤ streamLimit
   pub near-past : told .past ≤ streamLimit
+
+-- how many rows a stream can need after its walk: none if the walk refused it
+abbrev pub rowsAfter : Outcome → (s : List ℕ) → ℕ
+rowsAfter (Ended at headers) s = rowsNeeded s
+rowsAfter (Faulty number place headers) s = 0
+
+-- a stream was walked with this outcome, and can need no more rows than so many
+pub record Sized (s : List ℕ) (walked : Outcome) (most : ℕ) : Type 0 where
+  pub outcome : walkOf s ≡ walked
+  pub enough : rowsAfter walked s ≤ most
 
 -- the reading list as numbers, three a record: as many as are answered, all matches if the number is 0
 pub record ListsFlat (side : Side) (s table : List ℕ) (room : ℕ) (answer : Listed) (tableAfter flat : List ℕ) : Type 0 where

@@ -27,7 +27,7 @@ use Rattle.elements.specs.Element.{Element}
 use Rattle.elements.specs.Judge.{accepted, judge}
 use Rattle.letters.specs.Letter.{letter, itemsOfStream}
 use Rattle.letters.proofs.Table.{end-to-end, pairs-within}
-use Rattle.letters.proofs.Lists.{below-length, at-below}
+use Rattle.judging.proofs.Lists.{below-length, at-below}
 use Rattle.reading.specs.Match.{unitKind}
 use Rattle.answers.specs.Answers.{letterIn, rowsIn, onto, tableOf, checked, checkedTable, written, writtenOutput, contentOf, fetched, fetchedOf}
 use Rattle.demands.specs.Demands.{IsLetterOf, RowTells, SameRow, OfLetter, Demand2, itemsIn}

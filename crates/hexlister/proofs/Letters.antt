@@ -18,8 +18,8 @@ use Rattle.elements.specs.Shape.{edition1988}
 use Rattle.elements.specs.Element.{Element}
 use Rattle.elements.specs.Rows.{cells, numbers}
 use Rattle.letters.specs.Letter.{Letter, letter, refusal}
-use Rattle.letters.proofs.Lists.{below-length}
-use Rattle.letters.proofs.Rows.{numbers-length, numbers-at}
+use Rattle.judging.proofs.Lists.{below-length}
+use Rattle.judging.proofs.Rows.{numbers-length, numbers-at}
 use Rattle.letters.proofs.Apart.{accepted-apart}
 use Rattle.reading.specs.declared.Match.{Match}
 use Rattle.reading.specs.declared.Side.{Side}

@@ -3,7 +3,7 @@ use mathlib.Core.Path.{_≡_, refl, sym, _∙_, subst}
 use mathlib.Core.Bool.{Bool, true, false, not, xor, _||_, true≢false}
 use mathlib.Core.List.{List, [], _∷_, _++_, map}
 use mathlib.Core.Option.{some}
-use Prim.Native.Nat.{ℕ, _<_, _≤_}
+use Prim.Native.Nat.{ℕ, _<_}
 use native.Mathlib.Omega.{arith}
 use borrow.Author.Tests.{eqb-true, eq-eqb, leb-false, not-false}
 use borrow.Table.Steps.{cases}
@@ -18,8 +18,8 @@ use Rattle.elements.specs.Shape.{Edition, shapeOf}
 use Rattle.elements.specs.Element.{Element, elementOf, asTabled, typeFits, namesFit}
 use Rattle.elements.specs.Judge.{mostElements, profile, shares, clash, twice, refusalOf, Judged, accepted, refused, judgeOne, judgeFrom, judge}
 use Rattle.letters.specs.Table.{Apart}
-use Rattle.letters.proofs.Lists.{Last, before, last, below-length, at-last, any-none}
-use Rattle.letters.proofs.Steps.{passed}
+use Rattle.judging.proofs.Lists.{Last, before, last, below-length, at-last, any-none}
+use Rattle.judging.proofs.Steps.{passed}
 
 or-false : (a b : Bool) → a || b ≡ false → (a ≡ false) × (b ≡ false)
 or-false true b e = absurd (true≢false e)

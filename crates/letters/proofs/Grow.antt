@@ -14,9 +14,9 @@ use Rattle.elements.specs.Element.{Element}
 use Rattle.elements.specs.Rows.{cells}
 use Rattle.elements.specs.Says.{Says, RowPlaced}
 use Rattle.letters.specs.Numbers.{Narrow}
-use Rattle.letters.specs.Scratch.{more, Holds}
-use Rattle.letters.specs.Judges.{Indexes}
-use Rattle.letters.proofs.Rows.{written-more, saying-length}
+use Rattle.judging.specs.Held.{more, Holds}
+use Rattle.judging.specs.Judges.{Indexes}
+use Rattle.judging.proofs.Rows.{written-more, saying-length}
 
 -- the numbers of a row of a stream are small
 pub narrow : (s : List ℕ) (row : Row) → length s ≤ streamLimit → RowPlaced s row → Narrow row

@@ -1,10 +1,5 @@
--- Lists: a list with one more. Rows: the numbers of rows. Meetings: what is met in a run.
-pub mod Lists
-pub mod Rows
-pub mod Clash
+-- Grow: one row more in the scratch. State: the state of the judge. Meetings: what is met in a run. Nested, Apart, Table: the table.
 pub mod Grow
-pub mod Steps
-pub mod Bare
 pub mod State
 pub mod Meetings
 pub mod Nested

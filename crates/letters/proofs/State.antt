@@ -22,15 +22,16 @@ use Rattle.elements.specs.Shape.{edition1988}
 use Rattle.elements.specs.Element.{Element}
 use Rattle.elements.specs.Judge.{mostElements, judgeFrom, judge}
 use Rattle.elements.specs.Rows.{rowsOf, numbers, placeOf}
-use Rattle.letters.specs.declared.Hashes.{Hashes}
-use Rattle.letters.specs.declared.Item.{Item}
-use Rattle.letters.specs.declared.Judgement.the-variants.{Fails}
+use Rattle.judging.specs.declared.Hashes.{Hashes}
+use Rattle.judging.specs.declared.Item.{Item}
+use Rattle.judging.specs.declared.Judgement.the-variants.{Fails}
 use Rattle.letters.specs.Letter.{itemsOfStream, rowsOfStream}
-use Rattle.letters.specs.Scratch.{none, Holds, Filled, Stopped, Gives}
+use Rattle.judging.specs.Held.{none, Holds}
+use Rattle.letters.specs.Scratch.{Filled, Stopped, Gives}
 use Rattle.letters.specs.Lent.{rowsNeeded, Lent, endVerdict}
-use Rattle.letters.specs.Judges.{Indexes, element1988, Passing, Judges}
+use Rattle.judging.specs.Judges.{Indexes, element1988, Passing, Judges}
 use Rattle.letters.proofs.Meetings.{nothing-inside}
-use Rattle.letters.proofs.Steps.{unrefused-few, judged-refused, judged-passed, judge-some}
+use Rattle.judging.proofs.Steps.{unrefused-few, judged-refused, judged-passed, judge-some}
 
 pub record Judging (s scratch head next head2 next2 : List ℕ) (n : ℕ) (cur : Run) : Type 0 where
   pub fine : Fine s cur

@@ -20,9 +20,9 @@ use Rattle.elements.specs.Rows.{bodyIn, rowOf, rowsOf}
 use Rattle.elements.specs.Says.{Bounds, Says}
 use Rattle.letters.specs.Letter.{itemsOfStream, rowsOfStream}
 use Rattle.letters.specs.Scratch.{Filled}
-use Rattle.letters.specs.Judges.{bytesIn}
+use Rattle.judging.specs.Judges.{bytesIn}
 use Rattle.letters.specs.Table.{EndToEnd, PairsWithin, Apart}
-use Rattle.letters.proofs.Rows.{RowOf, row-of}
+use Rattle.judging.proofs.Rows.{RowOf, row-of}
 use Rattle.letters.proofs.Nested.{Nested, Separate, separate, bounds-within, body-within}
 use Rattle.letters.proofs.Apart.{accepted-apart}
 

@@ -1,7 +1,7 @@
 // The judge of a whole stream: elements in order, rules 9 to 15 in order within each; and the rows of its table.
-use elements::Row;
+use judging::Item;
+use judging::Judgement;
 use runs::Met;
-use runs::Run;
 ghost use mathlib.Core.Path.{_≡_};
 ghost use mathlib.Core.List.{_++_};
 ghost use Prim.Native.Nat.{_*_, _≤_};
@@ -12,33 +12,12 @@ ghost use Rattle.index.specs.Rows.{rowWidth};
 ghost use Rattle.letters.specs.Scratch.{Gives};
 ghost use Rattle.letters.specs.Lent.{Lent, endVerdict};
 
-mod rules; // rules.rt: rules 9 to 15 for one element
 mod writing; // writing.rt: rows, to the scratch and to a table
 
 // What the judge of a stream gives: accepted with so many elements, or refused by a number at a place.
 pub enum Verdict {
     Accepted { count: usize },
     Refused { number: usize, place: usize },
-}
-
-// An item of the stream that is to be judged: its octet, where it stands, and the run inside it.
-pub struct Item {
-    pub octet: usize,
-    pub first: usize,
-    pub past: usize,
-    pub inner: Run,
-}
-
-// What rules 9 to 15 say of an element: a refusal number, or its row.
-pub enum Judgement {
-    Fails { number: usize },
-    Passes { row: Row, hashes: Hashes },
-}
-
-// The hashes of a row's identifier and logical identifier: looked up by them, and then inserted.
-pub struct Hashes {
-    pub identifier: usize,
-    pub logical: usize,
 }
 
 // How many elements a stream has that the walk has passed. Whoever judges it sizes the scratch by that.
@@ -109,7 +88,7 @@ pub fn judge_stream(
                     past: rest.at,
                     inner,
                 };
-                match rules::judge_element(s, rows, head, next, head2, next2, bounds, n, item) {
+                match judging::judge_element(s, rows, head, next, head2, next2, bounds, n, item) {
                     Judgement::Fails { number } => return Verdict::Refused {
                         number,
                         place: cur.at,

@@ -1,6 +1,6 @@
 // Writing rows: to the scratch, with both indexes, and to a table.
-use super::Hashes;
 use elements::Row;
+use judging::Hashes;
 ghost use mathlib.Core.Path.{_≡_};
 ghost use Prim.Native.Nat.{_+_, _*_, _<_, _≤_};
 ghost use lib.ListN.{length};
@@ -11,7 +11,7 @@ ghost use Rattle.elements.specs.Judge.{mostElements};
 ghost use Rattle.elements.specs.Rows.{cells};
 ghost use Rattle.elements.specs.Says.{RowPlaced};
 ghost use Rattle.letters.specs.Numbers.{Narrow};
-ghost use Rattle.letters.specs.Judges.{Indexes, hashesOf, Grows};
+ghost use Rattle.judging.specs.Judges.{Indexes, hashesOf, Grows};
 
 // Copies the first numbers of one slice to a place of another.
 pub fn copy_numbers(from: &[u32], count: usize, to: &mut [u32], at: usize)

@@ -2,4 +2,5 @@
 -- sides for C.
 pub mod Writing
 pub mod Lending
+pub mod Filling
 pub mod Exporting

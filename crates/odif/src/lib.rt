@@ -13,6 +13,9 @@ pub use reading::Side;
 ghost use mathlib.Core.Path.{_≡_};
 ghost use mathlib.Core.List.{List};
 ghost use Rattle.answers.specs.Answers.{CheckOutcome, NormalOutcome, ListOutcome, fetched, whyNot, Fetches};
+ghost use Rattle.answers.specs.Asking.{Sized};
+
+const NO_UNIT: u32 = 20;
 
 // Checks a stream and fills the element table, twelve numbers a row. The viewer asks this first.
 pub fn check(stream: &[u8], table: &mut [u32]) -> Checked
@@ -24,12 +27,7 @@ pub fn check(stream: &[u8], table: &mut [u32]) -> Checked
             number,
             place,
             count,
-        } => Checked {
-            number: number as u32,
-            place: place as u32,
-            headers: count as u32,
-            elements: 0,
-        },
+        } => answers::refused_check(number as u32, place as u32, count as u32),
     }
 }
 
@@ -62,8 +60,45 @@ pub fn normal(stream: &[u8], out: &mut [u8]) -> Written
 pub fn list(stream: &[u8], side: Side, table: &mut [u32], list: &mut [Match]) -> Listed
     ensures { λ r. ⌜ ListOutcome side (now (stream .entry)) (now (table .entry)) (now (list .entry)) r (now (table .exit)) (now (list .exit)) ⌝ }
 {
+    let walked = octets::walk(stream);
+    if answers::needs_few(stream, walked) {
+        return list_few(stream, walked, side, table, list);
+    }
+    list_many(stream, walked, side, table, list)
+}
+
+// The list of a stream that was walked and has few elements. There are never more matches than elements, so numbers for as many records are
+// enough, and these are soon cleared.
+fn list_few(
+    stream: &[u8],
+    walked: Outcome,
+    side: Side,
+    table: &mut [u32],
+    list: &mut [Match],
+) -> Listed
+    requires { ⌜ Sized (now stream) walked 512 ⌝ }
+    ensures { λ r. ⌜ ListOutcome side (now (stream .entry)) (now (table .entry)) (now (list .entry)) r (now (table .exit)) (now (list .exit)) ⌝ }
+{
+    let mut flat = [0u32; 1536];
+    let answer = answers::list_flat(stream, walked, side, list.len(), table, &mut flat);
+    let count = answer.matches as usize;
+    reading::fill(&flat, count, list);
+    answer
+}
+
+// The list of one that has many.
+fn list_many(
+    stream: &[u8],
+    walked: Outcome,
+    side: Side,
+    table: &mut [u32],
+    list: &mut [Match],
+) -> Listed
+    requires { ⌜ Sized (now stream) walked 4096 ⌝ }
+    ensures { λ r. ⌜ ListOutcome side (now (stream .entry)) (now (table .entry)) (now (list .entry)) r (now (table .exit)) (now (list .exit)) ⌝ }
+{
     let mut flat = [0u32; 12288];
-    let answer = answers::list_flat(stream, side, list.len(), table, &mut flat);
+    let answer = answers::list_flat(stream, walked, side, list.len(), table, &mut flat);
     let count = answer.matches as usize;
     reading::fill(&flat, count, list);
     answer
@@ -113,7 +148,7 @@ fn locate(stream: &[u8], element: usize) -> Located
             past: 0,
         },
         Found::NoUnit => Located {
-            number: 20,
+            number: NO_UNIT,
             place: 0,
             first: 0,
             past: 0,

@@ -29,7 +29,7 @@ use Rattle.index.specs.Rows.{identifierColumn, kindAt, firstAt, pastAt, Bounded
 use Rattle.index.specs.Index.{Finds}
 use Rattle.elements.specs.Element.{Element}
 use Rattle.elements.specs.Says.{Placed}
-use Rattle.letters.specs.Judges.{bytesIn}
+use Rattle.judging.specs.Judges.{bytesIn}
 use Rattle.reading.specs.declared.Match.{Match}
 use Rattle.reading.specs.declared.Side.{Side}
 use Rattle.reading.specs.Match.{kindsOf, forEach, portionMatches, elementMatches}

@@ -18,8 +18,8 @@ use Rattle.index.specs.declared.Found.the-variants.{At, Nothing}
 use Rattle.index.specs.Rows.{kindAt, firstAt, pastAt, space}
 use Rattle.index.specs.Index.{Has, Finds}
 use Rattle.elements.specs.Element.{Element}
-use Rattle.letters.specs.Judges.{bytesIn}
-use Rattle.letters.proofs.Lists.{below-length}
+use Rattle.judging.specs.Judges.{bytesIn}
+use Rattle.judging.proofs.Lists.{below-length}
 use Rattle.reading.specs.declared.Match.{Match}
 use Rattle.reading.specs.declared.Side.{Side}
 use Rattle.reading.specs.declared.Side.the-variants.{Layout, Logical}

@@ -15,7 +15,7 @@ use Rattle.portions.specs.Portions.{mostPortions, all, among, repeats, wellSpel
 use Rattle.elements.specs.Element.{Element, spelt, namesFit}
 use Rattle.elements.specs.Judge.{clash}
 use Rattle.letters.specs.Table.{Apart}
-use Rattle.letters.proofs.Lists.{any-true}
+use Rattle.judging.proofs.Lists.{any-true}
 
 -- the portions of a well spelt element are at most 64,
 module _ (e : Element) (fits : namesFit e ≡ true) where

@@ -21,7 +21,7 @@ use Rattle.elements.specs.Rows.{cells}
 use Rattle.elements.specs.Says.{Names, portionsRun}
 use Rattle.letters.specs.Letter.{rowsOfStream}
 use Rattle.letters.specs.Scratch.{Filled}
-use Rattle.letters.proofs.Rows.{RowOf, kind-at, first-at, past-at}
+use Rattle.judging.proofs.Rows.{RowOf, kind-at, first-at, past-at}
 use Rattle.letters.proofs.Table.{filled-apart, filled-row}
 use Rattle.reading.specs.declared.Side.{Side}
 use Rattle.reading.specs.declared.Side.the-variants.{Layout, Logical}

@@ -19,7 +19,7 @@ use Rattle.index.specs.Rows.{identifierColumn, logicalColumn, kindAt, firstAt, 
 use Rattle.index.specs.Index.{Indexed}
 use Rattle.elements.specs.Element.{Element}
 use Rattle.elements.specs.Says.{portionsRun}
-use Rattle.letters.specs.Judges.{bytesIn}
+use Rattle.judging.specs.Judges.{bytesIn}
 use Rattle.letters.specs.Table.{Apart}
 use Rattle.reading.specs.declared.Match.{Match}
 use Rattle.reading.specs.declared.Side.{Side}

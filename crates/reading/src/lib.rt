@@ -22,7 +22,7 @@ ghost use Rattle.elements.specs.Shape.{edition1988};
 ghost use Rattle.elements.specs.Element.{Element};
 ghost use Rattle.elements.specs.Judge.{accepted, judge};
 ghost use Rattle.elements.specs.Says.{Placed};
-ghost use Rattle.letters.specs.Judges.{bytesIn};
+ghost use Rattle.judging.specs.Judges.{bytesIn};
 ghost use Rattle.letters.specs.Scratch.{Filled};
 ghost use Rattle.reading.specs.Match.{kindsOf};
 ghost use Rattle.reading.specs.Records.{recordAt, records, Puts, Lists};

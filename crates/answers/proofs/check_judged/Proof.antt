@@ -11,32 +11,39 @@ use Rattle.answers.proofs.check_judged.Tie as tie
 enum-known-verdict : tie.Need-enum-known-verdict
 enum-known-verdict c = search needs
 
-cast-t10 : tie.Need-cast-t10
-cast-t10 c =
+cast-refused-check : tie.Need-cast-refused-check
+cast-refused-check c =
     let a = c .before .before .before .before .before .before in
     let r = refused-judged (a .pre .0) (a .pre .1) (c .before .verdict .given .1) in
     omega arith
 
-cast-t11 : tie.Need-cast-t11
-cast-t11 c =
+cast-refused-check-2 : tie.Need-cast-refused-check-2
+cast-refused-check-2 c =
     let a = c .before .before .before .before .before .before in
     let r = refused-judged (a .pre .0) (a .pre .1) (c .before .verdict .given .1) in
     omega arith
+
+refused-check-requires : tie.Need-refused-check-requires
+refused-check-requires c κs = search needs
 
 enum-known-verdict-2 : tie.Need-enum-known-verdict-2
 enum-known-verdict-2 c = search needs
 
+refused-check-requires-2 : tie.Need-refused-check-requires-2
+refused-check-requires-2 c κs = search needs
+
 returns : tie.Need-returns
 returns c =
-    let a = c .before .before .before .before .before .before .before in
-    let l = accepted-judged (a .pre .0) (a .pre .1) (c .before .before .verdict2 .given .1) in
-    checks-16 (now (a .args .stream)) (now (a .args .table)) (a .args .headers) (l .elements) (l .judged) (omega arith)
+    let a = c .before .before .before .before .before .before .before .before in
+    let l = accepted-judged (a .pre .0) (a .pre .1) (c .before .before .before .verdict2 .given .1) in
+    let r = checks-16 (now (a .args .stream)) (now (a .args .table)) (a .args .headers) (l .elements) (l .judged) (omega arith) in
+    record { answered = c .refused-check2 .ensures ∙ r .answered; tabled = r .tabled }
 
 put-table-requires : tie.Need-put-table-requires
 put-table-requires c κs =
     let a = c .before .before .before .before .before .before .before .before in
     let l = accepted-judged (a .pre .0) (a .pre .1) (c .before .before .before .verdict2 .given .1) in
-    (l .within, omega arith)
+    (omega (arith, l .within), omega arith)
 
 cast-t18 : tie.Need-cast-t18
 cast-t18 c =
@@ -46,9 +53,10 @@ cast-t18 c =
 
 returns-2 : tie.Need-returns-2
 returns-2 c =
-    let a = c .before .before .before .before .before .before in
-    let r = refused-judged (a .pre .0) (a .pre .1) (c .before .verdict .given .1) in
-    checks-refused (now (a .args .stream)) (now (a .args .table)) _ _ (a .args .headers) (r .judged)
+    let a = c .before .before .before .before .before .before .before in
+    let j = refused-judged (a .pre .0) (a .pre .1) (c .before .before .verdict .given .1) in
+    let r = checks-refused (now (a .args .stream)) (now (a .args .table)) _ _ (a .args .headers) (j .judged) in
+    record { answered = c .refused-check .ensures ∙ r .answered; tabled = r .tabled }
 
 same-length : tie.Need-same-length
 same-length c = search needs
@@ -67,9 +75,11 @@ check-judged-spec =
     tie.close
     (tie.spec
     enum-known-verdict
-    cast-t10
-    cast-t11
+    cast-refused-check
+    cast-refused-check-2
+    refused-check-requires
     enum-known-verdict-2
+    refused-check-requires-2
     returns
     put-table-requires
     cast-t18

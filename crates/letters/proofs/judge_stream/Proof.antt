@@ -6,9 +6,9 @@ use native.Mathlib.Omega.{arith}
 use borrow.Author.Needs.{needs}
 use lib.ListN.{length}
 use Rattle.runs.specs.Runs.{Meeting}
-use Rattle.letters.specs.declared.Item.{Item}
-use Rattle.letters.specs.declared.Judgement.{Judgement}
-use Rattle.letters.specs.Judges.{Judges, Passing}
+use Rattle.judging.specs.declared.Item.{Item}
+use Rattle.judging.specs.declared.Judgement.{Judgement}
+use Rattle.judging.specs.Judges.{Judges, Passing}
 use Rattle.letters.proofs.Meetings.{met}
 use Rattle.letters.proofs.State.{Judging, judging-none, end-gives, refused-at, few, needed, judging-more, indexes-of}
 use Rattle.letters.proofs.judge_stream.Statement.{statement}

@@ -30,23 +30,26 @@ check-walked-requires c κs =
 enum-known-number : tie.Need-enum-known-number
 enum-known-number c = search needs
 
-cast-t12 : tie.Need-cast-t12
-cast-t12 c =
+cast-refused-check : tie.Need-cast-refused-check
+cast-refused-check c =
     let w = sym (c .before .before .before .walk .ensures) ∙ c .before .number .given .1 in
     let r = walk-small _ _ _ _ w in
     omega arith
 
-cast-t13 : tie.Need-cast-t13
-cast-t13 c =
+cast-refused-check-2 : tie.Need-cast-refused-check-2
+cast-refused-check-2 c =
     let w = sym (c .before .before .before .walk .ensures) ∙ c .before .number .given .1 in
     let r = walk-small _ _ _ _ w in
     omega arith
 
-cast-t14 : tie.Need-cast-t14
-cast-t14 c =
+cast-refused-check-3 : tie.Need-cast-refused-check-3
+cast-refused-check-3 c =
     let w = sym (c .before .before .before .walk .ensures) ∙ c .before .number .given .1 in
     let r = walk-small _ _ _ _ w in
     omega arith
+
+refused-check-requires : tie.Need-refused-check-requires
+refused-check-requires c κs = search needs
 
 same-length : tie.Need-same-length
 same-length c = search needs
@@ -56,9 +59,10 @@ returns c = search needs
 
 returns-2 : tie.Need-returns-2
 returns-2 c =
-    let a = c .before .before .before .before .before .before .args in
-    let w = sym (c .before .before .before .walk .ensures) ∙ c .before .number .given .1 in
-    checks-refused (now (a .stream)) (now (a .table)) _ _ _ (refused-walk edition1988 _ _ _ _ w)
+    let a = c .before .before .before .before .before .before .before .args in
+    let w = sym (c .before .before .before .before .walk .ensures) ∙ c .before .before .number .given .1 in
+    let r = checks-refused (now (a .stream)) (now (a .table)) _ _ _ (refused-walk edition1988 _ _ _ _ w) in
+    record { answered = c .refused-check .ensures ∙ r .answered; tabled = r .tabled }
 
 pub check-spec : {M : Type 1} → statement M
 check-spec =
@@ -69,9 +73,10 @@ check-spec =
     cast-check-walked
     check-walked-requires
     enum-known-number
-    cast-t12
-    cast-t13
-    cast-t14
+    cast-refused-check
+    cast-refused-check-2
+    cast-refused-check-3
+    refused-check-requires
     same-length
     returns
     returns-2)

@@ -25,13 +25,13 @@ part-result-start : tie.Need-part-result-start
 part-result-start c =
     let a = c .before .before .before .before .before .args in
     let f = subst (λ (x : Found). Finds (now (a .stream)) (a .element) (toldOf x)) (c .before .first .given .1) (c .before .before .before .fetch .ensures) in
-    f .fetches .order
+    omega (arith, f .fetches .order)
 
 part-result-end : tie.Need-part-result-end
 part-result-end c =
     let a = c .before .before .before .before .before .args in
     let f = subst (λ (x : Found). Finds (now (a .stream)) (a .element) (toldOf x)) (c .before .first .given .1) (c .before .before .before .fetch .ensures) in
-    f .fetches .inside
+    omega (arith, f .fetches .order, f .fetches .inside)
 
 enum-told : tie.Need-enum-told
 enum-told c = search needs

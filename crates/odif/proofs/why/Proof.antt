@@ -7,7 +7,10 @@ locate-requires : tie.Need-locate-requires
 locate-requires c κs = search needs
 
 returns : tie.Need-returns
-returns c = rw (c .locate .ensures .number, c .locate .ensures .place)
+returns c =
+    let number = c .locate .ensures .number in
+    let place = c .locate .ensures .place in
+    cc
 
 pub why-spec : {M : Type 1} → statement M
 why-spec = tie.close (tie.spec locate-requires returns)

@@ -12,7 +12,7 @@ use Rattle.names.specs.Names.{spaceByte}
 use Rattle.index.specs.Rows.{identifierColumn}
 use Rattle.index.specs.Index.{Finds}
 use Rattle.elements.specs.Says.{Placed}
-use Rattle.letters.specs.Judges.{bytesIn}
+use Rattle.judging.specs.Judges.{bytesIn}
 use Rattle.reading.specs.Ready.{columnOf, unitSpace, spanAt}
 use Rattle.reading.proofs.list_portions.Statement.{statement}
 use Rattle.reading.proofs.list_portions.Tie as tie

@@ -58,7 +58,7 @@ use Rattle.answers.specs.Answers.{ListOutcome}
 use Rattle.answers.proofs.Listed as L
 use Rattle.answers.proofs.Listed.Laws as L′
 use Rattle.odif.proofs.Lending.{arrayTy, to-cells, to-parts, from-parts, big}
-use Rattle.odif.proofs.Exporting.{mach}
+use Rattle.odif.proofs.Filling.{mach}
 use Rattle.odif.proofs.list as list
 use Rattle.odif.proofs.list.Symbol as list-def
 use Rattle.odif.proofs.list.Symbol.{name as #odif·list}

@@ -2,7 +2,7 @@
 use mathlib.Core.Path.{sym, ap, _∙_}
 use native.Mathlib.Omega.{arith}
 use Rattle.names.specs.Hash.{hash}
-use Rattle.letters.specs.declared.Hashes.{Hashes}
+use Rattle.judging.specs.declared.Hashes.{Hashes}
 use Rattle.letters.proofs.Grow.{narrow, identifier-written, logical-written, holds-more}
 use borrow.Author.Needs.{needs}
 use Rattle.letters.proofs.writing.add_row.Statement.{statement}

@@ -1,0 +1,137 @@
+-- An element in which nothing stands: whatever its shape it says no more than its kind, so it shares no name and its row is soon made.
+-- Assumes nothing.
+use mathlib.Core.Path.{_≡_, refl, sym, ap, _∙_, subst}
+use mathlib.Core.Bool.{Bool, true, false, cond, _&&_}
+use mathlib.Core.List.{List, [], _∷_}
+use Prim.Native.Nat.{ℕ, _%_, _≤_}
+use native.Mathlib.Omega.{arith}
+use lib.Dec.{eqb}
+use lib.ListN.{length}
+use Rattle.octets.specs.Items.{none}
+use Rattle.octets.specs.Walk.{Walked, ends}
+use Rattle.octets.specs.Rules.{at-limit}
+use Rattle.octets.proofs.RulesHold.{derived}
+use Rattle.tree.specs.Tree.{empty, plain}
+use Rattle.runs.specs.Whole.{Whole}
+use Rattle.runs.specs.Runs.{walkIn, itemsOf, Fine}
+use Rattle.names.specs.Hash.{hashFrom}
+use Rattle.contents.specs.Search.{Value, absent, octets, firstValue, firstRun, boundsOf, itemsIn}
+use Rattle.portions.specs.Portions.{allPortions, values, wellSpelt, repeats}
+use Rattle.index.specs.Rows.{space}
+use Rattle.elements.specs.declared.Row.{Row}
+use Rattle.elements.specs.declared.Shape.{Shape}
+use Rattle.elements.specs.Shape.{edition1988}
+use Rattle.elements.specs.Element.{Element, noType, bodyOf, elementOf, namesFit}
+use Rattle.elements.specs.Judge.{shares, clash, twice, refusalOf}
+use Rattle.elements.specs.Rows.{bodyIn, rowOf}
+use Rattle.elements.specs.Says.{noSpan, portionsRun, Says}
+use Rattle.judging.specs.declared.Item.{Item}
+use Rattle.judging.specs.Judges.{earlyRefusal, shape1988, element1988, MayBeBare, Passing}
+use Rattle.judging.proofs.Lists.{any-false}
+use Rattle.judging.proofs.Steps.{refused-early, refused-last}
+
+-- what it says, and its row
+abbrev bareElement : (octet : ℕ) → Element
+bareElement octet = record { kind = octet % 32; object = noType; identifier = absent; logical = absent; portions = []; content = absent }
+
+abbrev bareRow : (octet first past : ℕ) → Row
+bareRow octet first past = record {
+  kind = octet % 32;
+  object = noType;
+  whole = record { first = first; past = past };
+  identifier = noSpan;
+  logical = noSpan;
+  portions = noSpan;
+  content = noSpan;
+}
+
+either : {A : Type 0} (b : Bool) (x : A) → cond b x x ≡ x
+either true x = refl
+either false x = refl
+
+module _ (shape : Shape) where
+  body-empty : bodyOf shape empty ≡ empty
+  unfolding bodyOf firstRun
+  body-empty = rw (either (eqb (shape .within) 0) empty) (either (shape .looked) empty)
+
+  body-none : bodyIn shape none ≡ none
+  unfolding bodyIn itemsIn
+  body-none = rw (either (eqb (shape .within) 0) none) (either (shape .looked) none)
+
+  says-nothing : elementOf shape empty ≡ bareElement (shape .octet)
+  unfolding elementOf firstValue firstRun values
+  says-nothing = rw body-empty
+
+  row-of-none : (s : List ℕ) (first past : ℕ) → rowOf shape s first past none ≡ bareRow (shape .octet) first past
+  unfolding rowOf boundsOf
+  row-of-none s first past = rw (body-none, says-nothing)
+
+-- it shares no name
+shares-absent : (v : Value) → shares v absent ≡ false
+shares-absent absent = refl
+shares-absent (octets bytes) = refl
+
+and-false : (b : Bool) → b && false ≡ false
+and-false true = refl
+and-false false = refl
+
+never-twice : (done : List Element) (octet : ℕ) → twice done (bareElement octet) ≡ false
+unfolding twice clash repeats
+never-twice done octet =
+    rw (any-false (λ d. clash d (bareElement octet)) done
+    (λ j d e. rw (shares-absent (d .identifier), shares-absent (d .logical)) (and-false (eqb (space (d .kind)) (space (octet % 32))))))
+
+-- no portions stand between 0 and 0
+walked-nothing : (s : List ℕ) → walkIn s (portionsRun noSpan) ≡ record { items = none; how = ends 0 }
+walked-nothing s = sym (derived (at-limit refl))
+
+nothing-fine : (s : List ℕ) → Fine s (portionsRun noSpan)
+nothing-fine s = record { order = omega arith; inside = omega arith; whole = subst (λ (w : Walked). Whole (w .how)) (sym (walked-nothing s)) tt }
+
+row-says : (s : List ℕ) (octet first past : ℕ) → Says s (bareRow octet first past) (bareElement octet)
+unfolding allPortions values namesFit wellSpelt
+row-says s octet first past =
+    let nothing : itemsOf s (portionsRun noSpan) ≡ none = ap (λ (w : Walked). w .items) (walked-nothing s) in
+    record {
+      kind = refl;
+      object = refl;
+      identifier = refl;
+      logical = refl;
+      portions-fine = nothing-fine s;
+      only-portions = rw nothing;
+      portions = rw nothing;
+      content = refl;
+      spelt = refl;
+    }
+
+-- rules 9 to 15 of an item in which nothing stands
+module _ (s : List ℕ) (done : List Element) (item : Item) (may : MayBeBare (item .octet)) (bare : itemsOf s (item .inner) ≡ none) where
+  abbrev early : ℕ
+  early = earlyRefusal (length done) (item .octet) (item .octet)
+
+  pub bare-refused : (n : ℕ) → n ≡ early → (n ≡ 0 → ⊥) → refusalOf edition1988 done (item .octet ∷ []) (plain s (itemsOf s (item .inner))) ≡ n
+  bare-refused n e some = refused-early done (item .octet) (plain s (itemsOf s (item .inner))) n (rw (may .known) e) some
+
+  module _ (passed : early ≡ 0) (order : item .first ≤ item .past) (inside : item .past ≤ length s) where
+    abbrev its-element : element1988 (item .octet) empty ≡ bareElement (item .octet)
+    its-element = says-nothing (shape1988 (item .octet)) ∙ ap bareElement (may .known)
+
+    pub bare-passes : Passing s done item (bareRow (item .octet) (item .first) (item .past)) (record { identifier = 0; logical = 0 })
+    unfolding hashFrom
+    bare-passes =
+        record {
+          unrefused =
+              rw bare (refused-last done (item .octet) empty (rw (may .known) passed) (may .fits) false (rw its-element (never-twice done (item .octet))));
+          row-is = rw bare (sym (row-of-none (shape1988 (item .octet)) s (item .first) (item .past) ∙ ap (λ (o : ℕ). bareRow o (item .first) (item .past)) (may .known)));
+          says = rw (bare, its-element) (row-says s (item .octet) (item .first) (item .past));
+          placed = record {
+            kind = omega arith;
+            object = omega arith;
+            whole = record { order = order; inside = inside };
+            identifier = record { order = omega arith; inside = omega arith };
+            logical = record { order = omega arith; inside = omega arith };
+            portions = record { order = omega arith; inside = omega arith };
+            content = record { order = omega arith; inside = omega arith };
+          };
+          hashed = refl;
+        }

@@ -1,0 +1,87 @@
+-- The rules of an element in three steps, 9 to 11, 12 to 14 and 15, of which the first that refuses counts; and what an element does to
+-- the judge of a run. Assumes nothing.
+use mathlib.Core.Path.{_≡_, refl, _∙_}
+use mathlib.Core.Bool.{Bool, true, false, cond, xor}
+use mathlib.Core.List.{List, [], _∷_, _++_}
+use Prim.Native.Nat.{ℕ, _+_, _<_}
+use native.Mathlib.Omega.{arith}
+use borrow.Author.Tests.{ne-eqb, leb-false}
+use borrow.Table.Steps.{cases}
+use lib.Dec.{eqb, leb}
+use lib.ListN.{length}
+use Rattle.headers.specs.First.{constructed}
+use Rattle.octets.specs.Items.{Items, none, item}
+use Rattle.tree.specs.Tree.{Tree, plain}
+use Rattle.runs.specs.Runs.{tops}
+use Rattle.elements.specs.Shape.{edition1988}
+use Rattle.elements.specs.Element.{Element}
+use Rattle.elements.specs.Judge.{mostElements, profile, twice, shapeRefusal, refusalOf, refused, judgeOne, judgeFrom, judge}
+use Rattle.elements.proofs.Refusals.{refusal-9, refusal-10, refusal-11, refusal-by-shape}
+use Rattle.judging.specs.Judges.{earlyRefusal, shape1988, element1988}
+
+-- of rules that do not refuse the first does not, nor do those after it
+pub passed : (number : ℕ) (refuses : Bool) (others : ℕ) → (number ≡ 0 → ⊥) → cond refuses number others ≡ 0 → (refuses ≡ false) × (others ≡ 0)
+passed number true others some e = absurd (some e)
+passed number false others some e = (refl, e)
+
+module _ (done : List Element) (octet : ℕ) (run : Tree) where
+  abbrev early : ℕ
+  early = earlyRefusal (length done) octet (shape1988 octet .octet)
+
+  abbrev later : ℕ
+  later = shapeRefusal (shape1988 octet) run
+
+  abbrev number : ℕ
+  number = refusalOf edition1988 done (octet ∷ []) run
+
+  in-steps : number ≡ cond (eqb early 0) (cond (eqb later 0) (cond (twice done (element1988 octet run)) 15 0) later) early
+  unfolding earlyRefusal
+  in-steps =
+      let type = octet ∷ [] in
+      cases (leb mostElements (length done)) (λ many. refusal-9 edition1988 done type run many ∙ rw many)
+      (λ few.
+      cases (eqb octet (shape1988 octet .octet))
+      (λ known.
+      cases (xor (eqb (length done) 0) (eqb octet profile))
+      (λ misplaced. refusal-11 edition1988 done type run few known misplaced ∙ rw (few, known, misplaced))
+      (λ placed. refusal-by-shape edition1988 done type run few known placed ∙ rw (few, known, placed)))
+      (λ unknown. refusal-10 edition1988 done type run few unknown ∙ rw (few, unknown)))
+
+  pub refused-early : (n : ℕ) → n ≡ early → (n ≡ 0 → ⊥) → number ≡ n
+  refused-early n e some = in-steps ∙ rw (← e, ne-eqb n 0 some)
+
+  module _ (first-passed : early ≡ 0) where
+    pub refused-later : (n : ℕ) → n ≡ later → (n ≡ 0 → ⊥) → number ≡ n
+    refused-later n e some = in-steps ∙ rw (first-passed, ← e, ne-eqb n 0 some)
+
+    pub refused-last : later ≡ 0 → (b : Bool) → twice done (element1988 octet run) ≡ b → number ≡ cond b 15 0
+    refused-last passed b e = in-steps ∙ rw (first-passed, passed, e)
+
+  -- an element that no rule refuses has a number below 4,096
+  pub unrefused-few : number ≡ 0 → length done < mostElements
+  unfolding refusalOf
+  unrefused-few e = leb-false mostElements (length done) (passed 9 (leb mostElements (length done)) _ (λ q. absurd (omega arith)) e .0)
+
+-- an item of a run, and then those after it
+module _ (s : List ℕ) (done : List Element) (at octet first past : ℕ) (inside after : Items) (nothing-inside : constructed octet ≡ false → inside ≡ none) where
+  judged-one : judgeFrom edition1988 done (plain s (item at octet first past inside after))
+      ≡ judgeOne edition1988 done (octet ∷ []) (plain s inside) (λ more. judgeFrom edition1988 more (plain s after))
+  unfolding judgeFrom
+  judged-one = cases (constructed octet) (λ t. rw t) (λ t. rw (t, nothing-inside t))
+
+  pub judged-refused : (n : ℕ) → refusalOf edition1988 done (octet ∷ []) (plain s inside) ≡ n → (n ≡ 0 → ⊥)
+      → judgeFrom edition1988 done (plain s (item at octet first past inside after)) ≡ refused n (length done)
+  unfolding judgeOne
+  judged-refused n e some = judged-one ∙ rw (e, ne-eqb n 0 some)
+
+  pub judged-passed : refusalOf edition1988 done (octet ∷ []) (plain s inside) ≡ 0
+      → judgeFrom edition1988 done (plain s (item at octet first past inside after))
+      ≡ judgeFrom edition1988 (done ++ element1988 octet (plain s inside) ∷ []) (plain s after)
+  unfolding judgeOne
+  judged-passed e = judged-one ∙ rw e
+
+-- a stream with elements is judged from its first
+pub judge-some : (s : List ℕ) (items : Items) → 0 < tops items → judge edition1988 (plain s items) ≡ judgeFrom edition1988 [] (plain s items)
+unfolding judge
+judge-some s none some = absurd (omega arith)
+judge-some s (item at octet first past inside after) some = cases (constructed octet) (λ t. rw t) (λ t. rw t)

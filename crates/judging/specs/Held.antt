@@ -1,0 +1,28 @@
+-- What the scratch holds while a stream is judged: the rows of the elements that are done, and an index of their identifiers and of their
+-- logical identifiers. Nobody but the code that lends it sees it. Definitions only: assumes nothing.
+use mathlib.Core.Path.{_≡_}
+use mathlib.Core.List.{List, [], _∷_, _++_}
+use Prim.Native.Nat.{ℕ, _*_}
+use lib.ListN.{length, take}
+use Rattle.index.specs.Rows.{rowWidth, identifierColumn, logicalColumn, Bounded}
+use Rattle.index.specs.Index.{Indexed}
+use Rattle.elements.specs.declared.Row.{Row}
+use Rattle.elements.specs.Element.{Element}
+use Rattle.elements.specs.Rows.{numbers}
+use Rattle.elements.specs.Says.{Says}
+
+-- each row says what its element says
+pub data Saying (s : List ℕ) : List Row → List Element → Type 0 where
+  none : Saying s [] []
+  more : {row : Row} {element : Element} {rows : List Row} {elements : List Element}
+      → Saying s rows elements → Says s row element → Saying s (rows ++ (row ∷ [])) (elements ++ (element ∷ []))
+
+-- n elements are done: their rows are the scratch's first, and are indexed by identifier and by logical identifier
+pub record Holds (s scratch head next head2 next2 : List ℕ) (n : ℕ) (rows : List Row) (elements : List Element) : Type 0 where
+  pub counted : length elements ≡ n
+  pub written : take (n * rowWidth) scratch ≡ numbers rows
+  pub saying : Saying s rows elements
+  pub identifiers : Bounded s scratch identifierColumn n
+  pub logicals : Bounded s scratch logicalColumn n
+  pub by-identifier : Indexed s scratch identifierColumn head next n
+  pub by-logical : Indexed s scratch logicalColumn head2 next2 n

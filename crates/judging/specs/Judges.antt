@@ -1,0 +1,96 @@
+-- What the code learns of one element: the rules in three steps, whether an earlier row has its identifier, and its row.
+-- Definitions only: assumes nothing.
+use mathlib.Core.Path.{_≡_}
+use mathlib.Core.Bool.{Bool, true, false, not, xor}
+use mathlib.Core.List.{List, [], _∷_, _++_}
+use Prim.Native.Nat.{ℕ, _+_}
+use lib.Dec.{eqb, leb}
+use lib.Seq.{slice}
+use Rattle.tree.specs.Tree.{Tree, empty}
+use Rattle.runs.specs.Runs.{itemsOf, treeIn}
+use Rattle.names.specs.Hash.{hash}
+use Rattle.contents.specs.declared.Span.{Span}
+use Rattle.index.specs.Rows.{identifierColumn, logicalColumn, Bounded}
+use Rattle.index.specs.Index.{Indexed, Has}
+use Rattle.elements.specs.declared.Row.{Row}
+use Rattle.elements.specs.declared.Shape.{Shape}
+use Rattle.elements.specs.Shape.{edition1988, shapeOf}
+use Rattle.elements.specs.Element.{Element, elementOf}
+use Rattle.elements.specs.Judge.{mostElements, profile, twice, firstOf, _when_, shapeRefusal, refusalOf}
+use Rattle.elements.specs.Rows.{rowOf}
+use Rattle.elements.specs.Says.{Says, RowPlaced}
+use Rattle.judging.specs.declared.Hashes.{Hashes}
+use Rattle.judging.specs.declared.Item.{Item}
+use Rattle.judging.specs.declared.Judgement.{Judgement}
+use Rattle.judging.specs.declared.Judgement.the-variants.{Fails, Passes}
+use Rattle.judging.specs.Held.{Holds}
+
+-- rules 9 to 11, which look at an element's number and octet alone; `known` is the octet of its shape
+unfoldable pub earlyRefusal : (n octet known : ℕ) → ℕ
+earlyRefusal n octet known =
+    firstOf ((9 when leb mostElements n)
+    ∷ (10 when not (eqb octet known))
+    ∷ (11 when xor (eqb n 0) (eqb octet profile))
+    ∷ [])
+
+-- the bytes that a pair bounds
+abbrev pub bytesIn : List ℕ → Span → List ℕ
+bytesIn s pair = slice (pair .first) (pair .past) s
+
+-- whether one of the first n rows has these bytes at the column and is of the name space
+abbrev pub Taken : (s scratch : List ℕ) (column n nameSpace : ℕ) (bytes : List ℕ) → Bool → Type 0
+Taken s scratch column n nameSpace bytes true = (j : ℕ) × Has s scratch column n nameSpace bytes j
+Taken s scratch column n nameSpace bytes false = (j : ℕ) → Has s scratch column n nameSpace bytes j → ⊥
+
+-- the first n rows are indexed by identifier and by logical identifier
+pub record Indexes (s scratch head next head2 next2 : List ℕ) (n : ℕ) : Type 0 where
+  pub identifiers : Bounded s scratch identifierColumn n
+  pub logicals : Bounded s scratch logicalColumn n
+  pub by-identifier : Indexed s scratch identifierColumn head next n
+  pub by-logical : Indexed s scratch logicalColumn head2 next2 n
+
+-- the hashes of a row's identifier and logical identifier
+abbrev pub hashesOf : List ℕ → Row → Hashes
+hashesOf s row = record { identifier = hash (bytesIn s (row .identifier)); logical = hash (bytesIn s (row .logical)) }
+
+-- the shape of an element of 1988, and what it says
+abbrev pub shape1988 : (octet : ℕ) → Shape
+shape1988 octet = shapeOf edition1988 (octet ∷ [])
+
+abbrev pub element1988 : (octet : ℕ) → Tree → Element
+element1988 octet run = elementOf (shape1988 octet) run
+
+-- an element with no items that has this octet is refused by none of 10 and 12 to 14
+pub record MayBeBare (octet : ℕ) : Type 0 where
+  pub known : shape1988 octet .octet ≡ octet
+  pub fits : shapeRefusal (shape1988 octet) empty ≡ 0
+
+-- an element that is refused by no rule: its row, which says what it says
+pub record Passing (s : List ℕ) (done : List Element) (item : Item) (row : Row) (hashes : Hashes) : Type 0 where
+  pub unrefused : refusalOf edition1988 done (item .octet ∷ []) (treeIn s (item .inner)) ≡ 0
+  pub row-is : row ≡ rowOf (shape1988 (item .octet)) s (item .first) (item .past) (itemsOf s (item .inner))
+  pub says : Says s row (element1988 (item .octet) (treeIn s (item .inner)))
+  pub placed : RowPlaced s row
+  pub hashed : hashes ≡ hashesOf s row
+
+-- what rules 9 to 15 make of an item, after the elements that are done
+abbrev pub Judges : (s : List ℕ) (done : List Element) → Item → Judgement → Type 0
+Judges s done item (Fails number) = (refusalOf edition1988 done (item .octet ∷ []) (treeIn s (item .inner)) ≡ number) × (number ≡ 0 → ⊥)
+Judges s done item (Passes row hashes) = Passing s done item row hashes
+
+-- what is said of an item, whichever elements the scratch holds
+abbrev pub JudgesAfter : (s scratch head next head2 next2 : List ℕ) (n : ℕ) → Item → Judgement → Type 0
+JudgesAfter s scratch head next head2 next2 n item judgement =
+    (table : List Row) (done : List Element) → Holds s scratch head next head2 next2 n table done → Judges s done item judgement
+
+-- whether rule 15 refuses an element with a row and these portions, whichever elements the scratch holds
+abbrev pub TellsTwice : (s scratch head next head2 next2 : List ℕ) (n : ℕ) → Row → (portions : List (List ℕ)) → Bool → Type 0
+TellsTwice s scratch head next head2 next2 n row portions b =
+    (table : List Row) (done : List Element) (e : Element) → Holds s scratch head next head2 next2 n table done → Says s row e
+    → portions ≡ e .portions → b ≡ twice done e
+
+-- the scratch with one row more, whichever elements it held
+abbrev pub Grows : (s scratch head next head2 next2 scratch' head' next' head2' next2' : List ℕ) (n : ℕ) → Row → Type 0
+Grows s scratch head next head2 next2 scratch' head' next' head2' next2' n row =
+    (table : List Row) (done : List Element) (e : Element) → Holds s scratch head next head2 next2 n table done → Says s row e
+    → Holds s scratch' head' next' head2' next2' (n + 1) (table ++ row ∷ []) (done ++ e ∷ [])

@@ -1,0 +1,266 @@
+// Rules 9 to 15 for one element, after those that are done.
+use contents::Span;
+use elements::Row;
+use elements::Seen;
+use index::Found;
+use names::Asked;
+use runs::Run;
+ghost use mathlib.Core.Path.{_≡_};
+ghost use mathlib.Core.Bool.{true};
+ghost use mathlib.Core.List.{List};
+ghost use Prim.Native.Nat.{ℕ, _*_, _≤_};
+ghost use lib.ListN.{length, take};
+ghost use Rattle.octets.specs.Walk.{streamLimit};
+ghost use Rattle.octets.specs.Items.{none};
+ghost use Rattle.runs.specs.Runs.{itemsOf, Fine};
+ghost use Rattle.names.specs.Hash.{hash};
+ghost use Rattle.portions.specs.Portions.{mostPortions};
+ghost use Rattle.portions.specs.Bounds.{bounded, Inside};
+ghost use Rattle.index.specs.Rows.{Bounded};
+ghost use Rattle.index.specs.Index.{Indexed};
+ghost use Rattle.elements.specs.Says.{Placed, RowPlaced};
+ghost use Rattle.judging.specs.Judges.{earlyRefusal, bytesIn, Taken, Indexes, hashesOf, TellsTwice, MayBeBare, JudgesAfter};
+
+// An item of the stream that is to be judged: its octet, where it stands, and the run inside it.
+pub struct Item {
+    pub octet: usize,
+    pub first: usize,
+    pub past: usize,
+    pub inner: Run,
+}
+
+// What rules 9 to 15 say of an element: a refusal number, or its row.
+pub enum Judgement {
+    Fails { number: usize },
+    Passes { row: Row, hashes: Hashes },
+}
+
+// The hashes of a row's identifier and logical identifier: looked up by them, and then inserted.
+pub struct Hashes {
+    pub identifier: usize,
+    pub logical: usize,
+}
+
+const MOST_ELEMENTS: usize = 4096;
+
+const PROFILE: usize = 0xA0;
+
+const NO_TYPE: usize = 255;
+
+// Rules 9 to 11 for element n: the number of the one that refuses, or 0. `known` is the octet of its shape.
+fn early(n: usize, octet: usize, known: usize) -> usize
+    ensures { λ r. ⌜ r ≡ earlyRefusal n octet known ⌝ }
+{
+    if MOST_ELEMENTS <= n {
+        return 9;
+    }
+    if octet != known {
+        return 10;
+    }
+    if n == 0 {
+        if octet != PROFILE {
+            return 11;
+        }
+        return 0;
+    }
+    if octet == PROFILE {
+        return 11;
+    }
+    0
+}
+
+fn hashes_of(s: &[u8], row: Row) -> Hashes
+    requires { ⌜ Placed (now s) (row .identifier) × Placed (now s) (row .logical) ⌝ }
+    ensures { λ r. ⌜ r ≡ hashesOf (now (s .entry)) row ⌝ }
+{
+    let identifier = row.identifier;
+    let logical = row.logical;
+    Hashes {
+        identifier: names::hash_over(s, identifier.first, identifier.past, 0),
+        logical: names::hash_over(s, logical.first, logical.past, 0),
+    }
+}
+
+// Whether one of the first n rows is of the name space and has the name at the column.
+fn is_taken(
+    s: &[u8],
+    rows: &[u32],
+    head: &[u16],
+    next: &[u16],
+    n: usize,
+    column: usize,
+    space: u8,
+    hashed: usize,
+    name: Span,
+) -> bool
+    requires { ⌜ Bounded (now s) (now rows) column n ⌝ }
+    requires { ⌜ Indexed (now s) (now rows) column (now head) (now next) n ⌝ }
+    requires { ⌜ Placed (now s) name × (hashed ≡ hash (bytesIn (now s) name)) ⌝ }
+    ensures { λ r. ⌜ Taken (now (s .entry)) (now (rows .entry)) column n space (bytesIn (now (s .entry)) name) r ⌝ }
+{
+    let first = name.first;
+    let past = name.past;
+    if first == past {
+        return false;
+    }
+    let asked = Asked {
+        first,
+        past,
+        joined: false,
+        from: 0,
+        to: 0,
+    };
+    match index::find(s, rows, head, next, n, column, space, hashed, asked) {
+        Found::At(_) => true,
+        Found::Nothing => false,
+    }
+}
+
+// Rule 15: whether an element has an identifier that one of the n before it has, or a portion twice. The numbers that bound its
+// portions are those that were read with its row.
+fn has_double(
+    s: &[u8],
+    rows: &[u32],
+    head: &[u16],
+    next: &[u16],
+    head2: &[u16],
+    next2: &[u16],
+    bounds: &[u32],
+    n: usize,
+    seen: Seen,
+    hashes: Hashes,
+) -> bool
+    requires { ⌜ Indexes (now s) (now rows) (now head) (now next) (now head2) (now next2) n ⌝ }
+    requires { ⌜ RowPlaced (now s) (seen .row) × (hashes ≡ hashesOf (now s) (seen .row)) ⌝ }
+    requires { ⌜ (2 * seen .count ≤ length (now bounds)) × Inside (now s) (take (2 * seen .count) (now bounds)) ⌝ }
+    ensures { λ r. ⌜ TellsTwice (now (s .entry)) (now (rows .entry)) (now (head .entry)) (now (next .entry)) (now (head2 .entry)) (now (next2 .entry)) n (seen .row) (bounded (now (s .entry)) (take (2 * seen .count) (now (bounds .entry)))) r ⌝ }
+{
+    let row = seen.row;
+    let space = index::space_of(row.kind);
+    if is_taken(
+        s,
+        rows,
+        head,
+        next,
+        n,
+        index::IDENTIFIER,
+        space,
+        hashes.identifier,
+        row.identifier,
+    ) {
+        return true;
+    }
+    if is_taken(
+        s,
+        rows,
+        head2,
+        next2,
+        n,
+        index::LOGICAL,
+        space,
+        hashes.logical,
+        row.logical,
+    ) {
+        return true;
+    }
+    portions::has_repeats(s, bounds, seen.count)
+}
+
+// Whether an element with the octet may have no items: the profile, and an object.
+fn may_be_bare(octet: usize) -> bool
+    ensures { λ b. ⌜ (b ≡ true → MayBeBare octet) ⌝ }
+{
+    match octet {
+        0xA0 | 0xA2 | 0xA6 => true,
+        _ => false,
+    }
+}
+
+// Rules 9 to 15 for element n, in which nothing stands and nothing has to: it has no name, so it shares none.
+fn judge_bare(n: usize, item: Item) -> Judgement
+    requires { ⌜ MayBeBare (item .octet) × (item .first ≤ item .past) ⌝ }
+    ensures { λ r. ⌜ ((s scratch head next head2 next2 : List ℕ) → itemsOf s (item .inner) ≡ none → item .past ≤ length s → JudgesAfter s scratch head next head2 next2 n item r) ⌝ }
+{
+    let number = early(n, item.octet, item.octet);
+    if number != 0 {
+        return Judgement::Fails { number };
+    }
+    Judgement::Passes {
+        row: Row {
+            kind: item.octet % 32,
+            object: NO_TYPE,
+            whole: Span {
+                first: item.first,
+                past: item.past,
+            },
+            identifier: Span { first: 0, past: 0 },
+            logical: Span { first: 0, past: 0 },
+            portions: Span { first: 0, past: 0 },
+            content: Span { first: 0, past: 0 },
+        },
+        hashes: Hashes {
+            identifier: 0,
+            logical: 0,
+        },
+    }
+}
+
+// Rules 9 to 15 for element n, whatever stands in it. The bounds lent are for its portions.
+fn judge_any(
+    s: &[u8],
+    rows: &[u32],
+    head: &[u16],
+    next: &[u16],
+    head2: &[u16],
+    next2: &[u16],
+    bounds: &mut [u32],
+    n: usize,
+    item: Item,
+) -> Judgement
+    requires { ⌜ Indexes (now s) (now rows) (now head) (now next) (now head2) (now next2) n ⌝ }
+    requires { ⌜ Fine (now s) (item .inner) × (length (now s) ≤ streamLimit) × (item .first ≤ item .past) × (item .past ≤ length (now s)) × (2 * mostPortions ≤ length (now bounds)) ⌝ }
+    ensures { λ r. ⌜ JudgesAfter (now (s .entry)) (now (rows .entry)) (now (head .entry)) (now (next .entry)) (now (head2 .entry)) (now (next2 .entry)) n item r ⌝ }
+{
+    let shape = elements::shape_1988(item.octet);
+    let number = early(n, item.octet, shape.octet);
+    if number != 0 {
+        return Judgement::Fails { number };
+    }
+    let seen = elements::see(s, shape, item.inner, item.first, item.past, bounds);
+    if seen.refusal != 0 {
+        return Judgement::Fails {
+            number: seen.refusal,
+        };
+    }
+    let row = seen.row;
+    let hashes = hashes_of(s, row);
+    if has_double(s, rows, head, next, head2, next2, bounds, n, seen, hashes) {
+        return Judgement::Fails { number: 15 };
+    }
+    Judgement::Passes { row, hashes }
+}
+
+// Rules 9 to 15 for element n. One in which nothing stands is told at once; `judge_any` has the rest.
+pub fn judge_element(
+    s: &[u8],
+    rows: &[u32],
+    head: &[u16],
+    next: &[u16],
+    head2: &[u16],
+    next2: &[u16],
+    bounds: &mut [u32],
+    n: usize,
+    item: Item,
+) -> Judgement
+    requires { ⌜ Indexes (now s) (now rows) (now head) (now next) (now head2) (now next2) n ⌝ }
+    requires { ⌜ Fine (now s) (item .inner) × (length (now s) ≤ streamLimit) × (item .first ≤ item .past) × (item .past ≤ length (now s)) × (2 * mostPortions ≤ length (now bounds)) ⌝ }
+    ensures { λ r. ⌜ JudgesAfter (now (s .entry)) (now (rows .entry)) (now (head .entry)) (now (next .entry)) (now (head2 .entry)) (now (next2 .entry)) n item r ⌝ }
+{
+    let inner = item.inner;
+    if inner.at == inner.limit {
+        if may_be_bare(item.octet) {
+            return judge_bare(n, item);
+        }
+    }
+    judge_any(s, rows, head, next, head2, next2, bounds, n, item)
+}
