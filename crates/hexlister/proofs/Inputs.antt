@@ -3,7 +3,7 @@
 use mathlib.Core.Path.{_≡_, refl, sym, ap, subst, _∙_}
 use mathlib.Core.List.{List, [], _∷_, _++_, flatten, append-nil}
 use Prim.Native.Nat.{ℕ}
-use lib.ListN.{length, take}
+use lib.ListN.{length}
 use Rattle.hex.specs.declared.State.{State}
 use Rattle.hex.specs.declared.State.the-variants.{Stopped}
 use Rattle.hex.specs.Lines.{streamLimit, Outcome, reads}
@@ -12,7 +12,7 @@ use Rattle.hex.specs.Blocks.{Standing, standing, started, fed, finished}
 use Rattle.hex.specs.Promise.{Answers}
 use Rattle.hex.proofs.Blocks.{fed-join, fed-stopped, fed-flatten}
 use Rattle.hex.proofs.Promise.{any-cutting}
-use Rattle.hexlister.specs.Output.{streamLines, outcomeLines, output}
+use Rattle.hexlister.specs.Output.{streamLines, outcomeLines}
 use Rattle.hexlister.specs.Inputs.{Leads, Heard, readLines, Prints, PrintsAll}
 
 -- nothing was read yet

@@ -1,13 +1,13 @@
 -- What the questions' answers give to print: by the demands on them, an accepted stream has no more elements than the table rows, no more
 -- matches than elements, and a row for each. Assumes nothing.
-use mathlib.Core.Path.{_≡_, refl, sym, ap, ap₂, subst, _∙_}
-use mathlib.Core.Bool.{Bool, true, false}
+use mathlib.Core.Path.{_≡_, refl, sym, ap, ap₂, _∙_}
+use mathlib.Core.Bool.{true, false}
 use mathlib.Core.List.{List, [], _∷_, _++_}
 use mathlib.Core.Option.{some}
-use Prim.Native.Nat.{ℕ, zero, suc, _+_, _*_, _/_, _<_, _≤_}
+use Prim.Native.Nat.{ℕ, suc, _+_, _*_, _/_, _<_, _≤_}
 use native.Mathlib.Omega.{arith}
 use lib.Dec.{eqb, ltb}
-use lib.ListN.{length, take, drop, getD, getElem?, length-replicate, length-append, length-drop, List·getD-append}
+use lib.ListN.{length, take, getD, getElem?, length-replicate, length-append, length-drop, List·getD-append}
 use lib.Seq.{take-append-seam}
 use borrow.Author.Tests.{ltb-false, eq-eqb, ne-eqb}
 use borrow.Table.Steps.{cases}
@@ -32,7 +32,7 @@ use Rattle.answers.proofs.Small.{refusal-small}
 use Rattle.answers.proofs.Letters.{letter-found}
 use Rattle.demands.proofs.Demand2.{demand2}
 use Rattle.demands.proofs.Demand3.{demand3}
-use Rattle.hexlister.specs.Output.{lentTable, noRecord, lentList, elementLines, acceptedLines, streamLines}
+use Rattle.hexlister.specs.Output.{rowsLent, recordsLent, tableRoom, lentTable, noRecord, lentList, elementLines, acceptedLines, streamLines}
 use Rattle.hexlister.specs.Pages.{wholeColumn, rowLine, rowLines}
 
 -- a stream that is accepted on the lent table
@@ -40,7 +40,7 @@ pub record Accepted (s : List ℕ) : Type 0 where
   pub headers : ℕ
   pub elements : List Element
   pub judged : letterIn s ≡ letter headers elements
-  pub few : length elements ≤ 1024
+  pub few : length elements ≤ rowsLent
 
 module _ (s : List ℕ) where
   by-rows : (headers : ℕ) (elements : List Element) → letterIn s ≡ letter headers elements → checkedBy (letter headers elements) lentTable .number ≡ 0 → Accepted s
@@ -48,7 +48,7 @@ module _ (s : List ℕ) where
       cases (ltb (length lentTable / rowWidth) (length elements))
       (λ t. rw t (λ n. absurd (omega arith)))
       (λ t n.
-      let rows : length lentTable / rowWidth ≡ 1024 = ap (λ (k : ℕ). k / rowWidth) (length-replicate {A = ℕ} 12288 0) in
+      let rows : length lentTable / rowWidth ≡ rowsLent = ap (λ (k : ℕ). k / rowWidth) (length-replicate {A = ℕ} tableRoom 0) in
       record { headers = headers; elements = elements; judged = e; few = omega (arith, ltb-false (length lentTable / rowWidth) (length elements) t) })
 
   by-letter : (l : Letter) → letterIn s ≡ l → checkedBy l lentTable .number ≡ 0 → Accepted s
@@ -92,23 +92,23 @@ module _ (rows : List Row) (rest : List ℕ) where
 -- the list of a side, asked on a table and a list as they are lent
 pub record Listing (side : Side) (s : List ℕ) (answer : Listed) (records : List Match) : Type 0 where
   pub count : answer .matches ≡ length (matchesIn side s)
-  pub few : answer .matches ≤ 1024
+  pub few : answer .matches ≤ recordsLent
   pub first : take (answer .matches) records ≡ matchesIn side s
 
 pub lists-all :
     (side : Side) (s table : List ℕ) {answer : Listed} {tableAfter : List ℕ} {records : List Match} →
     checked s lentTable .number ≡ 0 →
-    length table ≡ 12288 →
+    length table ≡ tableRoom →
     ListOutcome side s table lentList answer tableAfter records →
     Listing side s answer records
 lists-all side s table {answer} {tableAfter} {records} n full o =
     let a = accepted-on s n in
     let e = a .judged in
-    let rows : length table / rowWidth ≡ 1024 = ap (λ (k : ℕ). k / rowWidth) full in
+    let rows : length table / rowWidth ≡ rowsLent = ap (λ (k : ℕ). k / rowWidth) full in
     let found = letter-found edition1988 s (a .headers) (a .elements) e in
     let same : matchesIn side s ≡ matches side (a .elements) = rw e in
     let below : length (matchesIn side s) ≤ length (a .elements) = rw same (no-more-than-elements (a .elements) (accepted-apart edition1988 _ _ (found .judged)) side) in
-    let room : length lentList ≡ 1024 = length-replicate 1024 noRecord in
+    let room : length lentList ≡ recordsLent = length-replicate recordsLent noRecord in
     let given = demand3 .of-letter side s (a .headers) (a .elements) e .lists table lentList (omega (arith, a .few)) (omega (arith, a .few)) in
     let count : answer .matches ≡ length (matchesIn side s) = ap (λ (r : Listed). r .matches) (o .answered ∙ given .0) in
     record { count = count; few = omega (arith, a .few); first = rw (o .filled, given .2, count) (take-append-seam (matchesIn side s) _) }
@@ -116,8 +116,8 @@ lists-all side s table {answer} {tableAfter} {records} n full o =
 -- the check's answer, and the table as it leaves it
 pub record Checking (s : List ℕ) (answer : Checked) (table : List ℕ) : Type 0 where
   pub accepted : checked s lentTable .number ≡ 0
-  pub few : answer .elements ≤ 1024
-  pub full : length table ≡ 12288
+  pub few : answer .elements ≤ rowsLent
+  pub full : length table ≡ tableRoom
   pub lines : rowLines table 0 (answer .elements) ≡ elementLines 0 (rowsIn s)
 
 pub checks-all : (s : List ℕ) {answer : Checked} {table : List ℕ} → answer .number ≡ 0 → CheckOutcome s lentTable answer table → Checking s answer table
@@ -125,8 +125,8 @@ checks-all s {answer} {table} zero-number o =
     let n : checked s lentTable .number ≡ 0 = ap (λ (r : Checked). r .number) (sym (o .answered)) ∙ zero-number in
     let a = accepted-on s n in
     let d = demand2 .of-letter s (a .headers) (a .elements) (a .judged) in
-    let all : length lentTable ≡ 12288 = length-replicate {A = ℕ} 12288 0 in
-    let rows : length lentTable / rowWidth ≡ 1024 = ap (λ (k : ℕ). k / rowWidth) all in
+    let all : length lentTable ≡ tableRoom = length-replicate {A = ℕ} tableRoom 0 in
+    let rows : length lentTable / rowWidth ≡ rowsLent = ap (λ (k : ℕ). k / rowWidth) all in
     let given = d .checks lentTable (omega (arith, a .few)) in
     let count : answer .elements ≡ length (rowsIn s) = ap (λ (r : Checked). r .elements) (o .answered ∙ given .0) ∙ sym (d .rows-counted) in
     let kept : table ≡ tableOf s lentTable = o .tabled ∙ given .1 in

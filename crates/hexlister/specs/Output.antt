@@ -18,14 +18,24 @@ use Rattle.answers.specs.declared.Checked.{Checked}
 use Rattle.answers.specs.Answers.{checked, rowsIn, matchesIn}
 
 -- "It lends 1,024 table rows and 1,024 records"
+abbrev pub rowsLent : ℕ
+rowsLent = 1024
+
+abbrev pub recordsLent : ℕ
+recordsLent = 1024
+
+-- the table and the list, as they are lent
+abbrev pub tableRoom : ℕ
+tableRoom = rowsLent * rowWidth
+
 abbrev pub lentTable : List ℕ
-lentTable = replicate (1024 * rowWidth) 0
+lentTable = replicate tableRoom 0
 
 abbrev pub noRecord : Match
 noRecord = record { element = 0; portion = 0; unit = 0 }
 
 abbrev pub lentList : List Match
-lentList = replicate 1024 noRecord
+lentList = replicate recordsLent noRecord
 
 -- "one element a line": "element, first, past, kind", from a number on
 unfoldable pub elementLines : ℕ → List Row → List ℕ

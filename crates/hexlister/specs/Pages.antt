@@ -1,21 +1,28 @@
 -- What the functions put on the page that is written: lines, one after another, from a place on.
-use Prim.Native.Nat.{ℕ, zero, suc, _+_, _≤_}
+use Prim.Native.Nat.{ℕ, zero, suc, _+_, _*_, _≤_}
 use mathlib.Core.Path.{_≡_}
 use mathlib.Core.List.{List, [], _++_}
 use lib.ListN.{length}
 use lib.Seq.{sets}
 use Rattle.text.specs.Lines.{element}
 use Rattle.index.specs.Rows.{kindAt, firstAt, pastAt}
+use Rattle.hexlister.specs.Output.{rowsLent, recordsLent}
 
--- room for one line, for the most lines of elements and of either side's matches, and for them all
+-- room for any line
 abbrev pub lineRoom : ℕ
 lineRoom = 128
 
-abbrev pub sideRoom : ℕ
-sideRoom = 131072
+-- for a line for each element
+abbrev pub elementsRoom : ℕ
+elementsRoom = lineRoom * rowsLent
 
+-- for a line for each match of a side
+abbrev pub sideRoom : ℕ
+sideRoom = lineRoom * recordsLent
+
+-- and for all that is written
 abbrev pub pageRoom : ℕ
-pageRoom = 393344
+pageRoom = lineRoom + elementsRoom + (sideRoom + sideRoom)
 
 -- bytes were put on a page from a place on, within some room; the place past them is told
 pub record Puts (bytes page : List ℕ) (at told : ℕ) (pageAfter : List ℕ) (room : ℕ) : Type 0 where

@@ -2,6 +2,7 @@
 use hex::Read;
 use hex::STREAM_LIMIT;
 use hex::State;
+use index::ROW_WIDTH;
 use odif::Checked;
 use odif::Listed;
 use reading::Match;
@@ -13,23 +14,21 @@ ghost use lib.ListN.{length, take};
 ghost use Rattle.text.specs.Lines.{accepted, refused, unreadable, Written};
 ghost use Rattle.index.specs.Rows.{rowWidth};
 ghost use Rattle.answers.specs.Answers.{checked, matchesIn, CheckOutcome, ListOutcome};
-ghost use Rattle.hexlister.specs.Output.{lentTable, lentList, matchLine, matchLines, sideLines, acceptedLines, streamLines};
-ghost use Rattle.hexlister.specs.Pages.{lineRoom, sideRoom, pageRoom, Puts, rowLine, rowLines};
+ghost use Rattle.hexlister.specs.Output.{rowsLent, recordsLent, tableRoom, lentTable, lentList, matchLine, matchLines, sideLines, acceptedLines, streamLines};
+ghost use Rattle.hexlister.specs.Pages.{lineRoom, elementsRoom, sideRoom, pageRoom, Puts, rowLine, rowLines};
 ghost use Rattle.hexlister.specs.Inputs.{readLines};
 ghost use Rattle.hex.specs.Blocks.{finished};
 
-// The lent table has 1,024 rows of 12 numbers, and the lent list 1,024 records.
-const TABLE_ROOM: usize = 12288;
+// What is lent to the questions.
+const ROWS: usize = 1024;
 
 const RECORDS: usize = 1024;
-
-const ROW_WIDTH: usize = 12;
 
 // Where a row has the bounds of its element.
 const WHOLE: usize = 2;
 
 // Room for a line of the whole stream, one for each row, and one for each record of either side.
-pub const PAGE_ROOM: usize = 393344;
+pub const PAGE_ROOM: usize = (1 + ROWS + 2 * RECORDS) * LINE_ROOM;
 
 // What the list of a side answers, and the list.
 struct SideList {
@@ -63,8 +62,9 @@ fn append(page: &mut [u8], at: usize, line: &[u8]) -> usize
     at + i
 }
 
+// The line of an element, from its row in the table.
 fn put_element(page: &mut [u8], at: usize, table: &[u32], number: usize) -> usize
-    requires { ⌜ (number < 1024) × (number * rowWidth + rowWidth ≤ length (now table)) × (at + lineRoom ≤ length (now page)) ⌝ }
+    requires { ⌜ (number < rowsLent) × (number * rowWidth + rowWidth ≤ length (now table)) × (at + lineRoom ≤ length (now page)) ⌝ }
     ensures { λ r. ⌜ Puts (rowLine (now (table .entry)) number) (now (page .entry)) at r (now (page .exit)) lineRoom ⌝ }
 {
     let row = number * ROW_WIDTH;
@@ -78,8 +78,8 @@ fn put_element(page: &mut [u8], at: usize, table: &[u32], number: usize) -> usiz
 
 // The lines of the first rows.
 fn put_elements(page: &mut [u8], at: usize, table: &[u32], count: usize) -> usize
-    requires { ⌜ (count ≤ 1024) × (count * rowWidth ≤ length (now table)) × (at + sideRoom ≤ length (now page)) ⌝ }
-    ensures { λ r. ⌜ Puts (rowLines (now (table .entry)) 0 count) (now (page .entry)) at r (now (page .exit)) sideRoom ⌝ }
+    requires { ⌜ (count ≤ rowsLent) × (count * rowWidth ≤ length (now table)) × (at + elementsRoom ≤ length (now page)) ⌝ }
+    ensures { λ r. ⌜ Puts (rowLines (now (table .entry)) 0 count) (now (page .entry)) at r (now (page .exit)) elementsRoom ⌝ }
 {
     let mut here = at;
     let mut i = 0;
@@ -90,6 +90,7 @@ fn put_elements(page: &mut [u8], at: usize, table: &[u32], count: usize) -> usiz
     here
 }
 
+// The line of a match.
 fn put_match(page: &mut [u8], at: usize, side: Side, m: Match) -> usize
     requires { ⌜ at + lineRoom ≤ length (now page) ⌝ }
     ensures { λ r. ⌜ Puts (matchLine side m) (now (page .entry)) at r (now (page .exit)) lineRoom ⌝ }
@@ -115,7 +116,7 @@ fn put_matches(
     records: [Match; RECORDS],
     count: usize,
 ) -> usize
-    requires { ⌜ (count ≤ 1024) × (at + sideRoom ≤ length (now page)) ⌝ }
+    requires { ⌜ (count ≤ recordsLent) × (at + sideRoom ≤ length (now page)) ⌝ }
     ensures { λ r. ⌜ Puts (matchLines side (take count records)) (now (page .entry)) at r (now (page .exit)) sideRoom ⌝ }
 {
     let mut here = at;
@@ -130,7 +131,7 @@ fn put_matches(
 
 // The matches of a side of a stream that the check has accepted.
 fn put_side(page: &mut [u8], at: usize, side: Side, stream: &[u8], table: &mut [u32]) -> usize
-    requires { ⌜ (at + sideRoom ≤ length (now page)) × (length (now table) ≡ 12288) × (checked (now stream) lentTable .number ≡ 0) ⌝ }
+    requires { ⌜ (at + sideRoom ≤ length (now page)) × (length (now table) ≡ tableRoom) × (checked (now stream) lentTable .number ≡ 0) ⌝ }
     ensures { λ r. ⌜ Puts (matchLines side (matchesIn side (now (stream .entry)))) (now (page .entry)) at r (now (page .exit)) sideRoom ⌝ }
 {
     let found = list_side(stream, side, table);
@@ -140,6 +141,16 @@ fn put_side(page: &mut [u8], at: usize, side: Side, stream: &[u8], table: &mut [
     put_matches(page, at, side, records, count)
 }
 
+// The matches of both sides of such a stream.
+fn put_sides(page: &mut [u8], at: usize, stream: &[u8], table: &mut [u32]) -> usize
+    requires { ⌜ (at + sideRoom + sideRoom ≤ length (now page)) × (length (now table) ≡ tableRoom) × (checked (now stream) lentTable .number ≡ 0) ⌝ }
+    ensures { λ r. ⌜ Puts (sideLines (now (stream .entry))) (now (page .entry)) at r (now (page .exit)) (sideRoom + sideRoom) ⌝ }
+{
+    let layout = put_side(page, at, Side::Layout, stream, table);
+    put_side(page, layout, Side::Logical, stream, table)
+}
+
+// The first line of an accepted stream.
 fn put_accepted(page: &mut [u8], elements: u32, headers: u32) -> usize
     requires { ⌜ lineRoom ≤ length (now page) ⌝ }
     ensures { λ r. ⌜ Puts (accepted elements headers) (now (page .entry)) 0 r (now (page .exit)) lineRoom ⌝ }
@@ -149,6 +160,7 @@ fn put_accepted(page: &mut [u8], elements: u32, headers: u32) -> usize
     append(page, 0, &line[..n])
 }
 
+// The one line of a refused stream.
 fn put_refused(page: &mut [u8], number: u32, place: u32) -> usize
     requires { ⌜ lineRoom ≤ length (now page) ⌝ }
     ensures { λ r. ⌜ Puts (refused number place) (now (page .entry)) 0 r (now (page .exit)) lineRoom ⌝ }
@@ -158,6 +170,7 @@ fn put_refused(page: &mut [u8], number: u32, place: u32) -> usize
     append(page, 0, &line[..n])
 }
 
+// The one line of a text that cannot be read.
 fn put_unreadable(page: &mut [u8], number: u64) -> usize
     requires { ⌜ lineRoom ≤ length (now page) ⌝ }
     ensures { λ r. ⌜ Puts (unreadable number) (now (page .entry)) 0 r (now (page .exit)) lineRoom ⌝ }
@@ -167,16 +180,7 @@ fn put_unreadable(page: &mut [u8], number: u64) -> usize
     append(page, 0, &line[..n])
 }
 
-// The matches of both sides of such a stream.
-fn put_sides(page: &mut [u8], at: usize, stream: &[u8], table: &mut [u32]) -> usize
-    requires { ⌜ (at + sideRoom + sideRoom ≤ length (now page)) × (length (now table) ≡ 12288) × (checked (now stream) lentTable .number ≡ 0) ⌝ }
-    ensures { λ r. ⌜ Puts (sideLines (now (stream .entry))) (now (page .entry)) at r (now (page .exit)) (sideRoom + sideRoom) ⌝ }
-{
-    let layout = put_side(page, at, Side::Layout, stream, table);
-    put_side(page, layout, Side::Logical, stream, table)
-}
-
-// All lines of such a stream, by the check's answer and the table that it filled.
+// All lines of a stream that the check has accepted, by the check's answer and the table that it filled.
 fn put_letter(page: &mut [u8], stream: &[u8], answer: Checked, table: &mut [u32]) -> usize
     requires { ⌜ (length (now page) ≡ pageRoom) × (answer .number ≡ 0) × CheckOutcome (now stream) lentTable answer (now table) ⌝ }
     ensures { λ r. ⌜ Puts (acceptedLines (answer .elements) (answer .headers) (now (stream .entry))) (now (page .entry)) 0 r (now (page .exit)) pageRoom ⌝ }
@@ -186,12 +190,12 @@ fn put_letter(page: &mut [u8], stream: &[u8], answer: Checked, table: &mut [u32]
     put_sides(page, elements, stream, table)
 }
 
-// What a stream is: one line if it is refused.
+// The lines of a stream: its elements and matches, or the one line of its refusal.
 fn put_stream(page: &mut [u8], stream: &[u8]) -> usize
     requires { ⌜ length (now page) ≡ pageRoom ⌝ }
     ensures { λ r. ⌜ Puts (streamLines (now (stream .entry))) (now (page .entry)) 0 r (now (page .exit)) pageRoom ⌝ }
 {
-    let mut table = [0u32; TABLE_ROOM];
+    let mut table = [0u32; ROWS * ROW_WIDTH];
     let answer = odif::check(stream, &mut table);
     if answer.number != 0 {
         return put_refused(page, answer.number, answer.place);
@@ -199,7 +203,7 @@ fn put_stream(page: &mut [u8], stream: &[u8]) -> usize
     put_letter(page, stream, answer, &mut table)
 }
 
-// The whole output for a text that was read, at the front of the page. Tells its length.
+// The whole output, at the front of the page, for a text that led the reading here. Tells its length.
 pub fn put_output(page: &mut [u8; PAGE_ROOM], state: State, octets: &[u8; STREAM_LIMIT]) -> usize
     ensures { λ r. ⌜ Written (readLines (finished state) (now (octets .entry))) (now (page .entry)) r (now (page .exit)) ⌝ }
 {

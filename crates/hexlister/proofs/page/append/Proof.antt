@@ -1,9 +1,9 @@
 -- `page::append` meets its contract. The loop's invariant: storing what is left of the line from here is storing the whole of it from the start. The
 -- measure is how many bytes are left. Assumes nothing.
-use Prim.Native.Nat.{ℕ, _+_, _-_, _≤_, _<_}
+use Prim.Native.Nat.{_+_, _-_, _≤_}
 use native.Mathlib.Omega.{arith}
 use native.Mathlib.Nat.{add-zero}
-use mathlib.Core.Path.{_≡_, refl, sym, _∙_}
+use mathlib.Core.Path.{_≡_, refl, _∙_}
 use denote.Ref.{now}
 use lib.ListN.{length, length-set, drop, drop-of-length-le}
 use lib.Seq.{sets}

@@ -1,8 +1,8 @@
 -- `page::list_side` meets its contract: a walk of its MIR, by hand. An array of the function's own is lent as a slice of records for a
 -- lifetime that is made for the call of `odif::list`, comes back at the list that it left, and goes into the result. Of `odif::list` the
 -- proof knows its contract alone. Assumes nothing.
-use mathlib.Core.Path.{_≡_, refl, sym, ap, subst, _∙_}
-use Prim.Native.Nat.{ℕ, _<_, _^_}
+use mathlib.Core.Path.{_≡_, refl, sym, ap, subst}
+use Prim.Native.Nat.{ℕ}
 use mathlib.Core.List.{[], _∷_, List, map, map-map}
 use lib.Dec.{lit<}
 use lib.ListN.{length, replicate, length-replicate}

@@ -1,11 +1,11 @@
 -- `page::put_elements` meets its contract. The loop's invariant: the lines of the rows so far are put. The measure is how many rows are left.
 -- Assumes nothing.
-use Prim.Native.Nat.{ℕ, _+_, _-_, _*_, _≤_}
+use Prim.Native.Nat.{ℕ, _-_, _*_, _≤_}
 use native.Mathlib.Omega.{arith}
 use mathlib.Core.Path.{_≡_, refl, subst, _∙_}
 use denote.Ref.{now}
 use lib.ListN.{length}
-use Rattle.hexlister.specs.Pages.{lineRoom, sideRoom, Puts, rowLines}
+use Rattle.hexlister.specs.Pages.{lineRoom, Puts, rowLines}
 use Rattle.hexlister.proofs.Pages.{puts-nothing, puts-within, puts-row}
 use Rattle.hexlister.proofs.page.put_elements.Statement.{statement}
 use Rattle.hexlister.proofs.page.put_elements.Tie as tie

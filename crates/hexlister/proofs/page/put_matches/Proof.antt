@@ -1,13 +1,13 @@
 -- `page::put_matches` meets its contract. The loop's invariant: the lines of the records so far are put. The measure is how many records are left.
 -- Assumes nothing.
-use Prim.Native.Nat.{ℕ, _+_, _-_, _*_, _≤_}
+use Prim.Native.Nat.{ℕ, _-_, _*_, _≤_}
 use native.Mathlib.Omega.{arith}
 use mathlib.Core.Path.{_≡_, refl, subst, _∙_}
 use mathlib.Core.List.{flatten}
 use denote.Ref.{now}
 use lib.ListN.{length, take}
 use Rattle.hexlister.specs.Output.{noRecord, matchLines}
-use Rattle.hexlister.specs.Pages.{lineRoom, sideRoom, Puts}
+use Rattle.hexlister.specs.Pages.{lineRoom, Puts}
 use Rattle.hexlister.proofs.Pages.{puts-nothing, puts-within, puts-match}
 use Rattle.hexlister.proofs.page.put_matches.Statement.{statement}
 use Rattle.hexlister.proofs.page.put_matches.Tie as tie
