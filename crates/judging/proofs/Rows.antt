@@ -34,7 +34,7 @@ written-more scratch n rows row t size long =
     let whole : length (numbers (rows ++ row ∷ [])) ≡ (n + 1) * rowWidth = numbers-length (rows ++ row ∷ []) ∙ simp length-append (omega arith) in
     ap (take ((n + 1) * rowWidth)) all ∙ take-at (numbers (rows ++ row ∷ [])) (drop (n * rowWidth + rowWidth) scratch) ((n + 1) * rowWidth) whole
 
-numbers-at : (rows : List Row) (j : ℕ) (row : Row) → getElem? rows j ≡ some row → (c : ℕ) → c < rowWidth
+pub numbers-at : (rows : List Row) (j : ℕ) (row : Row) → getElem? rows j ≡ some row → (c : ℕ) → c < rowWidth
     → getD (numbers rows) (j * rowWidth + c) 0 ≡ getD (cells row) c 0
 unfolding numbers
 numbers-at [] j row e c l = let z : _≡_ {A = ℕ} 0 1 = cc in absurd (omega arith)

@@ -1,332 +1,180 @@
-// Runs the checked examples of document 01 and prints what the check answers to each: `accepted` with elements and headers, or
-// `refused` with number and place.
+// Runs the checked examples of document 01 and the worked examples of X.209, the streams of vectors/, and prints what comes out: octets,
+// then for each stream the check's number, place and header count, and a normal form, or - where it is refused.
+use hex::Read;
+use hex::STREAM_LIMIT;
 use libc::STDOUT_FILENO;
+ghost use Prim.Native.Nat.{_<_};
 
-fn show(stream: &[u8]) {
-    let mut table = [0u32; 120];
-    let answer = odif::check(stream, &mut table);
-    let mut line = [0u8; text::LINE_ROOM];
-    if answer.number == 0 {
-        let n = text::put_accepted(&mut line, answer.elements, answer.headers);
-        io::write_all(STDOUT_FILENO, &line[..n]);
+// Room for the rows of ten elements: no example has more.
+const TABLE_ROOM: usize = 120;
+
+fn digit(value: u8) -> u8
+    requires { ⌜ value < 16 ⌝ }
+{
+    if value < 10 {
+        b'0' + value
     } else {
-        let n = text::put_refused(&mut line, answer.number, answer.place);
-        io::write_all(STDOUT_FILENO, &line[..n]);
+        b'A' + (value - 10)
     }
 }
 
-// The empty stream.
-fn example_1() {
-    let none = [0u8; 1];
-    show(&none[..0]);
+fn print_pair(octet: u8) {
+    let pair = [digit(octet / 16), digit(octet % 16)];
+    io::write_all(STDOUT_FILENO, &pair);
 }
 
-// A profile.
-fn example_2() {
-    let stream = [0xA0u8, 0x00];
-    show(&stream);
+fn print_pairs(octets: &[u8]) {
+    let mut i = 0;
+    while i < octets.len() {
+        print_pair(octets[i]);
+        i += 1;
+    }
 }
 
-// An indefinite profile.
-fn example_3() {
-    let stream = [0xA0u8, 0x80, 0x00, 0x00];
-    show(&stream);
+// What the check answers.
+fn print_check(stream: &[u8]) {
+    let mut table = [0u32; TABLE_ROOM];
+    let answer = odif::check(stream, &mut table);
+    io::print_decimal(STDOUT_FILENO, answer.number as u64);
+    io::write_all(STDOUT_FILENO, b" ");
+    io::print_decimal(STDOUT_FILENO, answer.place as u64);
+    io::write_all(STDOUT_FILENO, b" ");
+    io::print_decimal(STDOUT_FILENO, answer.headers as u64);
 }
 
-// An indefinite profile that is not closed.
-fn example_4() {
-    let stream = [0xA0u8, 0x80];
-    show(&stream);
+fn print_normal(stream: &[u8]) {
+    let mut form = [0u8; STREAM_LIMIT];
+    let answer = odif::normal(stream, &mut form);
+    if answer.number == 0 {
+        print_pairs(hex::part(&form, answer.length as usize));
+    } else {
+        io::write_all(STDOUT_FILENO, b"-");
+    }
 }
 
-// 00 inside a definite item.
-fn example_5() {
-    let stream = [0xA0u8, 0x01, 0x00];
-    show(&stream);
+fn print_between() {
+    io::write_all(STDOUT_FILENO, b" ; ");
 }
 
-// 80 on a primitive.
-fn example_6() {
-    let stream = [0x80u8, 0x80];
-    show(&stream);
+// Reads three parts of one line of pairs.
+fn read(before: &[u8], pairs: &[u8], after: &[u8], octets: &mut [u8; STREAM_LIMIT]) -> usize {
+    let opened = hex::feed(hex::start(), before, octets);
+    let inside = hex::feed(opened, pairs, octets);
+    match hex::finish(hex::feed(inside, after, octets)) {
+        Read::Stream { length } => length,
+        Read::Unreadable { line: _ } => 0,
+    }
 }
 
-// A value past the stream's end.
-fn example_7() {
-    let stream = [0xA0u8, 0x02, 0x05];
-    show(&stream);
+// What the check answers of an item between what opens and what ends a profile, or of it alone.
+fn check_in(before: &[u8], pairs: &[u8], after: &[u8]) {
+    let mut octets = [0u8; STREAM_LIMIT];
+    let length = read(before, pairs, after, &mut octets);
+    print_check(hex::part(&octets, length));
 }
 
-// An empty boolean.
-fn example_8() {
-    let stream = [0xA0u8, 0x02, 0x01, 0x00];
-    show(&stream);
+fn normal_in(before: &[u8], pairs: &[u8], after: &[u8]) {
+    let mut octets = [0u8; STREAM_LIMIT];
+    let length = read(before, pairs, after, &mut octets);
+    print_normal(hex::part(&octets, length));
 }
 
-// A second profile.
-fn example_9() {
-    let stream = [0xA0u8, 0x00, 0xA0, 0x00];
-    show(&stream);
+// A stream.
+fn stream(pairs: &[u8]) {
+    io::write_all(STDOUT_FILENO, pairs);
+    print_between();
+    check_in(b"", pairs, b"");
+    print_between();
+    normal_in(b"", pairs, b"");
+    io::write_all(STDOUT_FILENO, b"\n");
 }
 
-// No such element.
-fn example_10() {
-    let stream = [0xA0u8, 0x00, 0xA4, 0x00];
-    show(&stream);
+// An item, alone, in a definite profile that begins with the pairs before it, and in an indefinite one.
+fn item(profile: &[u8], pairs: &[u8]) {
+    io::write_all(STDOUT_FILENO, pairs);
+    print_between();
+    check_in(b"", pairs, b"");
+    print_between();
+    check_in(profile, pairs, b"");
+    print_between();
+    normal_in(b"A080", pairs, b"0000");
+    io::write_all(STDOUT_FILENO, b"\n");
 }
 
-// Content in pieces.
-fn example_11() {
-    let stream = [
-        0xA0u8,
-        0x00,
-        0xA3,
-        0x08,
-        0x24,
-        0x06,
-        0x04,
-        0x01,
-        0x48,
-        0x04,
-        0x01,
-        0x69,
-    ];
-    show(&stream);
+// Document 01, "Checked examples".
+fn document_01() {
+    // empty
+    stream(b"");
+    // a profile
+    stream(b"A000");
+    // an indefinite profile
+    stream(b"A0800000");
+    // unclosed
+    stream(b"A080");
+    // 00 in a definite item
+    stream(b"A00100");
+    // 80 on a primitive
+    stream(b"8080");
+    // a value past the stream
+    stream(b"A00205");
+    // an empty boolean
+    stream(b"A0020100");
+    // a second profile
+    stream(b"A000A000");
+    // no such element
+    stream(b"A000A400");
+    // content in pieces
+    stream(b"A000A3082406040148040169");
+    // one header too many
+    stream(b"A000A311310B400940073120302032203004024869");
+    // level 16
+    stream(
+        b"A080A080A080A080A080A080A080A080A080A080A080A080A080A080A080A0800000000000000000000000000000000000000000000000000000000000000000",
+    );
+    // level 17
+    stream(
+        b"A080A080A080A080A080A080A080A080A080A080A080A080A080A080A080A080A08000000000000000000000000000000000000000000000000000000000000000000000",
+    );
 }
 
-// A text unit's identifier with one header too many.
-fn example_12() {
-    let stream = [
-        0xA0u8,
-        0x00,
-        0xA3,
-        0x11,
-        0x31,
-        0x0B,
-        0x40,
-        0x09,
-        0x40,
-        0x07,
-        0x31,
-        0x20,
-        0x30,
-        0x20,
-        0x32,
-        0x20,
-        0x30,
-        0x04,
-        0x02,
-        0x48,
-        0x69,
-    ];
-    show(&stream);
-}
-
-// Level 16.
-fn example_13() {
-    let stream = [
-        0xA0u8,
-        0x80,
-        0xA0,
-        0x80,
-        0xA0,
-        0x80,
-        0xA0,
-        0x80,
-        0xA0,
-        0x80,
-        0xA0,
-        0x80,
-        0xA0,
-        0x80,
-        0xA0,
-        0x80,
-        0xA0,
-        0x80,
-        0xA0,
-        0x80,
-        0xA0,
-        0x80,
-        0xA0,
-        0x80,
-        0xA0,
-        0x80,
-        0xA0,
-        0x80,
-        0xA0,
-        0x80,
-        0xA0,
-        0x80,
-        0x00,
-        0x00,
-        0x00,
-        0x00,
-        0x00,
-        0x00,
-        0x00,
-        0x00,
-        0x00,
-        0x00,
-        0x00,
-        0x00,
-        0x00,
-        0x00,
-        0x00,
-        0x00,
-        0x00,
-        0x00,
-        0x00,
-        0x00,
-        0x00,
-        0x00,
-        0x00,
-        0x00,
-        0x00,
-        0x00,
-        0x00,
-        0x00,
-        0x00,
-        0x00,
-        0x00,
-        0x00,
-    ];
-    show(&stream);
-}
-
-// Level 17.
-fn example_14() {
-    let stream = [
-        0xA0u8,
-        0x80,
-        0xA0,
-        0x80,
-        0xA0,
-        0x80,
-        0xA0,
-        0x80,
-        0xA0,
-        0x80,
-        0xA0,
-        0x80,
-        0xA0,
-        0x80,
-        0xA0,
-        0x80,
-        0xA0,
-        0x80,
-        0xA0,
-        0x80,
-        0xA0,
-        0x80,
-        0xA0,
-        0x80,
-        0xA0,
-        0x80,
-        0xA0,
-        0x80,
-        0xA0,
-        0x80,
-        0xA0,
-        0x80,
-        0xA0,
-        0x80,
-        0x00,
-        0x00,
-        0x00,
-        0x00,
-        0x00,
-        0x00,
-        0x00,
-        0x00,
-        0x00,
-        0x00,
-        0x00,
-        0x00,
-        0x00,
-        0x00,
-        0x00,
-        0x00,
-        0x00,
-        0x00,
-        0x00,
-        0x00,
-        0x00,
-        0x00,
-        0x00,
-        0x00,
-        0x00,
-        0x00,
-        0x00,
-        0x00,
-        0x00,
-        0x00,
-        0x00,
-        0x00,
-        0x00,
-        0x00,
-    ];
-    show(&stream);
-}
-
-// The hex lister's letter.
-fn example_15() {
-    let stream = [
-        0xA0u8,
-        0x00,
-        0xA2,
-        0x11,
-        0x02,
-        0x01,
-        0x04,
-        0x31,
-        0x0C,
-        0x41,
-        0x05,
-        0x31,
-        0x20,
-        0x30,
-        0x20,
-        0x32,
-        0xA1,
-        0x03,
-        0x12,
-        0x01,
-        0x30,
-        0xA3,
-        0x0F,
-        0x31,
-        0x09,
-        0x40,
-        0x07,
-        0x31,
-        0x20,
-        0x30,
-        0x20,
-        0x32,
-        0x20,
-        0x30,
-        0x04,
-        0x02,
-        0x48,
-        0x69,
-    ];
-    show(&stream);
+// X.209.
+fn x209() {
+    // BOOLEAN, true
+    item(b"A003", b"0101FF");
+    // BIT STRING 0A3B5F291CD, primitive
+    item(b"A009", b"0307040A3B5F291CD0");
+    // the same, constructed and indefinite
+    item(b"A010", b"23800303000A3B0305045F291CD00000");
+    // NULL
+    item(b"A002", b"0500");
+    // NULL, long form of the length
+    item(b"A003", b"058100");
+    // SEQUENCE of IA5String "Smith" and BOOLEAN
+    item(b"A00C", b"300A1605536D6974680101FF");
+    // VisibleString "Jones"
+    item(b"A007", b"1A054A6F6E6573");
+    // the same under [APPLICATION 3] IMPLICIT
+    item(b"A007", b"43054A6F6E6573");
+    // that under [2]
+    item(b"A009", b"A20743054A6F6E6573");
+    // that under [APPLICATION 7] IMPLICIT
+    item(b"A009", b"670743054A6F6E6573");
+    // [2] IMPLICIT
+    item(b"A007", b"82054A6F6E6573");
+    // OBJECT IDENTIFIER {2 100 3}
+    item(b"A005", b"0603813403");
+    // VisibleString "Jones", long form of the length
+    item(b"A008", b"1A81054A6F6E6573");
+    // VisibleString "Jones", constructed
+    item(b"A00B", b"3A0904034A6F6E04026573");
+    // the personnel record of the appendix
+    item(
+        b"A08188",
+        b"60818561101A044A6F686E1A01501A05536D697468A00A1A084469726563746F72420133A10A43083139373130393137A21261101A044D6172791A01541A05536D697468A342311F61111A0552616C70681A01541A05536D697468A00A43083139353731313131311F61111A05537573616E1A01421A054A6F6E6573A00A43083139353930373137",
+    );
 }
 
 fn main() {
-    example_1();
-    example_2();
-    example_3();
-    example_4();
-    example_5();
-    example_6();
-    example_7();
-    example_8();
-    example_9();
-    example_10();
-    example_11();
-    example_12();
-    example_13();
-    example_14();
-    example_15();
+    document_01();
+    x209();
 }

@@ -64,6 +64,7 @@ written first numbers lent with array at told past word count stores =
     record {
       count = sym whole;
       bytes = one ∙ front (line first numbers) lent (omega (arith, count .1));
+      fits = omega arith;
       within = within;
       part = sym (length-take-le told array within);
     }

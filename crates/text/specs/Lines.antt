@@ -47,6 +47,7 @@ unreadable number = line (ascii "unreadable") (number ∷ [])
 pub record Written (line lent : List ℕ) (told : ℕ) (array : List ℕ) : Type 0 where
   pub count : told ≡ length line
   pub bytes : array ≡ line ++ drop (length line) lent
-  -- both follow, and let a caller lend the line as a part of the array
+  -- these follow: the line fits the array, and can be lent as a part of it
+  pub fits : told ≤ length lent
   pub within : told ≤ length array
   pub part : told ≡ length (take told array)
