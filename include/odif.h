@@ -33,11 +33,17 @@
    18   the output is shorter than the normal form                                    0
    19   the list is shorter than the matches                                          0
    20   the asked element is no text unit or does not exist                           0
+   21   a part is asked of content in pieces, which is no one part of the stream      0
+   22   the output is shorter than the joined content                                 0
 
    1 comes first, then the first fault of 2 to 8 in stream order, then the elements in order, 9 to 15 in order within
-   each, then 16, 17, 18, 19 or 20 where the question can give it. A refusal leaves the lent table, list and output as
-   they were, except that 19 leaves the finished table. Counts are 0 with a refusal, except that 19 keeps the element
-   count and the check's header count comes with every answer. */
+   each, then 16, 17, 18, 19 or 20 where the question can give it; 21 and 22 come after 20. A refusal leaves the lent
+   table, list and output as they were, except that 19 leaves the finished table. Counts are 0 with a refusal, except
+   that 19 keeps the element count and the check's header count comes with every answer.
+
+   Content is one octet string, 04, or is saved in pieces: 24, which holds 04 and 24 items down to the deepest level.
+   Its octets are then the pieces joined in order. odif_joined copies them, a 04 being one piece; odif_content serves a
+   04 without a copy. */
 #ifndef ODIF_H
 #define ODIF_H
 
@@ -68,7 +74,8 @@ enum {
     ODIF_LOGICAL_PAST     = 7,
     ODIF_PORTIONS_FIRST   = 8,  /* the portions of a class or object */
     ODIF_PORTIONS_PAST    = 9,
-    ODIF_CONTENT_FIRST    = 10, /* a text unit's content */
+    ODIF_CONTENT_FIRST    = 10, /* a text unit's content; if it is in pieces, the value of the 24 that holds them, with
+                                   their headers */
     ODIF_CONTENT_PAST     = 11
 };
 
@@ -93,11 +100,17 @@ typedef struct {
 } odif_listed;
 
 typedef struct {
-    uint32_t number;   /* 0, or the refusal: 1 to 15, 20 */
+    uint32_t number;   /* 0, or the refusal: 1 to 15, 20, 21 */
     uint32_t place;    /* the refusal's place */
     uint32_t first;    /* the content is stream[first] to stream[past - 1]; both are 0 with a refusal */
     uint32_t past;
 } odif_found;
+
+typedef struct {
+    uint32_t number;   /* 0, or the refusal: 1 to 15, 20, 22 */
+    uint32_t place;    /* the refusal's place */
+    uint32_t length;   /* the octets copied */
+} odif_copied;
 
 /* One match: the text unit's identifier is the element's identifier, one space, the portion. All count from 0. */
 typedef struct {
@@ -123,8 +136,12 @@ odif_listed odif_layout(const uint8_t *stream, size_t stream_len, uint32_t *tabl
 odif_listed odif_logical(const uint8_t *stream, size_t stream_len, uint32_t *table, size_t table_len,
                          odif_match *list, size_t list_len);
 
-/* Finds the content of the text unit in row `element`, which may be any number. */
+/* Finds the content of the text unit in row `element`, which may be any number. Content in pieces is refused by 21. */
 odif_found odif_content(const uint8_t *stream, size_t stream_len, uint32_t element);
+
+/* Copies the content of the text unit in row `element`, which may be any number: its pieces joined in order. Octets of
+   out past it stay. As many octets as the row's content has are always enough. */
+odif_copied odif_joined(const uint8_t *stream, size_t stream_len, uint32_t element, uint8_t *out, size_t out_len);
 
 #ifdef __cplusplus
 }

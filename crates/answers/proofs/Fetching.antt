@@ -1,29 +1,35 @@
--- The content of an element, case by case: a row bounds what its element says. Assumes nothing.
-use mathlib.Core.Path.{_≡_, refl, ap, sym, _∙_}
-use mathlib.Core.Bool.{true, false}
+-- The content of an element, case by case: what holds it is a part of the stream or pieces, and both questions are answered by that.
+-- Assumes nothing.
+use mathlib.Core.Path.{_≡_, refl, ap, sym, _∙_, subst}
+use mathlib.Core.Bool.{false}
 use mathlib.Core.List.{List, [], _∷_}
 use mathlib.Core.Option.{none, some}
-use Prim.Native.Nat.{ℕ, zero, suc, _+_, _-_, _*_, _<_, _≤_}
+use Prim.Native.Nat.{ℕ, zero, suc, _+_, _*_, _<_, _≤_}
 use native.Mathlib.Omega.{arith}
 use lib.Dec.{eqb}
-use lib.ListN.{length, take, drop, getD, getElem?}
-use lib.Seq.{slice, take-nil}
-use borrow.Table.Steps.{cases}
-use Rattle.index.specs.Rows.{rowWidth, kindAt, firstAt, pastAt}
+use lib.ListN.{length, getD, getElem?}
+use lib.Seq.{length-slice}
+use borrow.Author.Tests.{eq-eqb, ne-eqb}
+use Rattle.runs.specs.declared.Run.{Run}
+use Rattle.index.specs.Rows.{rowWidth, kindAt}
 use Rattle.contents.specs.declared.Span.{Span}
 use Rattle.contents.specs.Search.{Value, absent, octets}
+use Rattle.pieces.proofs.Joined.{joined-fits}
 use Rattle.elements.specs.Shape.{edition1988}
-use Rattle.elements.specs.Element.{Element}
-use Rattle.elements.specs.Rows.{cells}
+use Rattle.elements.specs.Element.{Content, single, joinedContent, Element}
 use Rattle.elements.specs.Says.{Bounds}
-use Rattle.letters.specs.Letter.{refusal}
+use Rattle.letters.specs.Letter.{letter, refusal}
+use Rattle.letters.specs.Content.{HeldWhole, HeldInPieces}
 use Rattle.judging.proofs.Lists.{at-below}
-use Rattle.judging.proofs.Rows.{RowOf, row-of, saying-length}
+use Rattle.judging.proofs.Rows.{RowOf, row-of}
+use Rattle.letters.proofs.Fetching.{part-joined}
 use Rattle.reading.specs.Match.{unitKind}
-use Rattle.answers.specs.Answers.{letterIn, rowsIn, contentOf, noUnit, fetched, nowhere, located}
+use Rattle.answers.specs.declared.Found.{Found}
+use Rattle.answers.specs.declared.Found.the-variants.{Refused as Not, NoUnit, Content as Part, Pieces}
+use Rattle.answers.specs.Answers.{letterIn, rowsIn, Fetched, handed, withheld, fetchedBy, bytesOf, partOf, fetched, located, allOf, joinedIn}
 use Rattle.answers.proofs.Small.{refusal-small}
 use Rattle.answers.proofs.Judging.{Accepting}
-use Rattle.answers.specs.Asking.{contentColumn, contentAt, toldOf, Finds}
+use Rattle.answers.specs.Asking.{ContentAt, otherKind, heldWhole, heldInPieces, Finds}
 
 -- past the end of a list there is nothing
 nothing-past : {A : Type 0} (xs : List A) (k : ℕ) → length xs ≤ k → getElem? xs k ≡ none
@@ -31,90 +37,118 @@ nothing-past [] k l = refl
 nothing-past (x ∷ xs) zero l = absurd (omega arith)
 nothing-past (x ∷ xs) (suc k) l = nothing-past xs k (omega arith)
 
--- a part of a slice, as its bounds say it
-pub part-slice : {A : Type 0} (first past : ℕ) (xs : List A) → first ≤ past → take (past - first) (drop first xs) ≡ slice first past xs
-part-slice zero past xs l = let e : past - 0 ≡ past = omega arith in rw e
-part-slice (suc first) zero xs l = absurd (omega arith)
-part-slice (suc first) (suc past) [] l = take-nil (suc past - suc first)
-part-slice (suc first) (suc past) (x ∷ xs) l =
-    let e : suc past - suc first ≡ past - first = omega arith in rw e (part-slice first past xs (omega arith))
+-- a pair that bounds a value lies in the stream
+bounded : (s : List ℕ) (pair : Span) (v : Value) → Bounds s pair v → (pair .first ≤ pair .past) × (pair .past ≤ length s)
+bounded s pair absent b = rw b (omega arith, omega arith)
+bounded s pair (octets bytes) b = (b .placed .order, b .placed .inside)
 
--- a pair that bounds a content lies in the stream
-pub bounded-content : (s : List ℕ) (pair : Span) (v : Value) → Bounds s pair v
-    → (slice (pair .first) (pair .past) s ≡ contentOf v) × ((pair .first ≤ pair .past) × (pair .past ≤ length s))
-bounded-content s pair absent b = rw b (refl, (omega arith, omega arith))
-bounded-content s pair (octets bytes) b = (b .value, (b .placed .order, b .placed .inside))
+-- "a 04 being one piece"
+pub one-piece : (v : Value) → joinedContent (single v) ≡ bytesOf v
+one-piece absent = refl
+one-piece (octets bytes) = refl
 
 module _ (s : List ℕ) (asked : ℕ) where
   -- 1 to 15
-  pub finds-refused : (number place headers : ℕ) → letterIn s ≡ refusal number place headers → Finds s asked (nowhere number place)
-  unfolding fetched located
+  pub finds-refused : (number place headers : ℕ) → letterIn s ≡ refusal number place headers → Finds s asked (Not number place)
+  unfolding fetched located joinedIn
   finds-refused number place headers e =
       let small = refusal-small edition1988 s number place headers e in
+      let some-number : eqb number 0 ≡ false = ne-eqb number 0 (λ z. omega arith) in
       record {
-        fetches = record { answered = rw e; number = rw e; place = rw e; part = rw e; order = omega arith; inside = omega arith };
+        fetches = record { answered = rw (e, some-number); number = rw e; place = rw e; part = rw e; order = omega arith; inside = omega arith };
+        joins = rw e;
+        known = small .low;
         low-number = omega arith;
         near-place = small .near;
         near-past = omega arith;
+        short = omega arith;
       }
 
-  no-unit : located s asked ≡ nowhere 20 0 → fetched s asked ≡ noUnit → Finds s asked (nowhere 20 0)
-  no-unit e f =
+  -- of a text unit, what is wanted of its content
+  pub of-unit : {headers : ℕ} {elements : List Element} {unit : Element} → letterIn s ≡ letter headers elements → getElem? elements asked ≡ some unit
+      → unit .kind ≡ unitKind → (wanted : Content → Fetched) → fetchedBy wanted (letterIn s) asked ≡ wanted (unit .content)
+  of-unit {unit = unit} e there kind wanted = rw (e, there, eq-eqb (unit .kind) unitKind kind)
+
+  -- 20, whatever is wanted of the content
+  no-unit : ((wanted : Content → Fetched) → fetchedBy wanted (letterIn s) asked ≡ withheld 20 0) → Finds s asked NoUnit
+  unfolding fetched located joinedIn
+  no-unit e =
+      let f : fetched s asked ≡ withheld 20 0 = e partOf in
       record {
-        fetches = record { answered = sym e; number = rw f; place = rw f; part = rw f; order = omega arith; inside = omega arith };
+        fetches = record { answered = rw f; number = rw f; place = rw f; part = rw f; order = omega arith; inside = omega arith };
+        joins = e allOf;
+        known = tt;
         low-number = omega arith;
         near-place = omega arith;
         near-past = omega arith;
+        short = omega arith;
       }
 
-  -- 20 ".. or doesn't exist"
-  pub finds-missing : {rows : List ℕ} {count headers : ℕ} → Accepting s rows count headers → count ≤ asked → Finds s asked (nowhere 20 0)
-  unfolding fetched located
-  finds-missing l past =
-      let e = l .judged in
-      let no-element = nothing-past (l .elements) asked (omega (arith, l .counted)) in
-      let no-row = nothing-past (rowsIn s) asked (omega (arith, l .counted, saying-length (l .saying))) in
-      no-unit (rw (e, no-row)) (rw (e, no-element))
-
-  module _ {rows : List ℕ} {count headers : ℕ} (l : Accepting s rows count headers) (element : Element) (there : getElem? (l .elements) asked ≡ some element) (row : RowOf s (rowsIn s) asked element) where
-    -- 20 "asked element is no text unit"
-    finds-other : eqb (row .row .kind) unitKind ≡ false → Finds s asked (nowhere 20 0)
-    unfolding fetched located
-    finds-other kind =
+  module _ {rows : List ℕ} {count headers : ℕ} (l : Accepting s rows count headers) where
+    -- 20 ".. or doesn't exist"
+    pub finds-missing : count ≤ asked → Finds s asked NoUnit
+    finds-missing past =
         let e = l .judged in
-        let stands = row .stands in
-        let same-kind = row .says .kind in
-        let kind′ : eqb (element .kind) unitKind ≡ false = ap (λ (k : ℕ). eqb k unitKind) (sym same-kind) ∙ kind in
-        no-unit (rw (e, stands, kind)) (rw (e, there, kind′))
+        let no-element = nothing-past (l .elements) asked (omega (arith, l .counted)) in
+        no-unit (λ wanted. rw (e, no-element))
 
-    finds-content : eqb (row .row .kind) unitKind ≡ true
-        → Finds s asked (record { number = 0; place = 0; first = row .row .content .first; past = row .row .content .past })
-    unfolding fetched located
-    finds-content kind =
-        let e = l .judged in
-        let stands = row .stands in
-        let same-kind = row .says .kind in
-        let kind′ : eqb (element .kind) unitKind ≡ true = ap (λ (k : ℕ). eqb k unitKind) (sym same-kind) ∙ kind in
-        let b = bounded-content s (row .row .content) (element .content) (row .says .content) in
-        let within = l .within-limit in
-        record {
-          fetches = record { answered = rw (e, stands, kind); number = rw (e, there, kind′); place = rw (e, there, kind′); part = rw (e, there, kind′) (b .0); order = b .1 .0; inside = b .1 .1 };
-          low-number = omega arith;
-          near-place = omega arith;
-          near-past = omega arith;
-        }
+    module _ (element : Element) (there : getElem? (l .elements) asked ≡ some element) where
+      -- 20 "asked element is no text unit"
+      finds-other : (element .kind ≡ unitKind → ⊥) → Finds s asked NoUnit
+      finds-other other = let e = l .judged in no-unit (λ wanted. rw (e, there, ne-eqb (element .kind) unitKind other))
 
-  -- what the scratch has of an element that is there
-  pub finds-row : {rows : List ℕ} {count headers : ℕ} → Accepting s rows count headers → asked < count → Finds s asked (toldOf (contentAt rows asked))
-  finds-row {rows} {count} l below =
-      let (element, there) = at-below (l .elements) asked (omega (arith, l .counted)) in
-      let row = row-of (l .saying) asked element there in
-      let cell : (c : ℕ) → c < rowWidth → getD rows (asked * rowWidth + c) 0 ≡ getD (cells (row .row)) c 0 = l .cells-at asked (row .row) (row .stands) in
-      let to : asked * rowWidth ≡ asked * rowWidth + 0 = omega arith in
-      let next : asked * rowWidth + contentColumn + 1 ≡ asked * rowWidth + 11 = omega arith in
-      let kind : kindAt rows asked ≡ row .row .kind = ap (λ (i : ℕ). getD rows i 0) to ∙ cell 0 (omega arith) in
-      let first : firstAt rows contentColumn asked ≡ row .row .content .first = cell contentColumn (omega arith) in
-      let past : pastAt rows contentColumn asked ≡ row .row .content .past = ap (λ (i : ℕ). getD rows i 0) next ∙ cell 11 (omega arith) in
-      cases (eqb (row .row .kind) unitKind)
-      (λ t. rw (kind, t, first, past) (finds-content l element there row t))
-      (λ t. rw (kind, t) (finds-other l element there row t))
+      finds-part : (row : RowOf s (rowsIn s) asked element) (first past : ℕ) → element .kind ≡ unitKind
+          → HeldWhole s first past (row .row .content) (element .content) → Finds s asked (Part first past)
+      unfolding fetched located joinedIn
+      finds-part row first past kind h =
+          let within = l .within-limit in
+          let stands = row .stands in
+          let pair = h .fields-are in
+          let f : fetched s asked ≡ handed (bytesOf (h .value)) = of-unit (l .judged) there kind partOf ∙ ap partOf (h .content-is) in
+          let all = part-joined h in
+          let part = all ∙ ap joinedContent (h .content-is) ∙ one-piece (h .value) in
+          let (order, inside) = bounded s (record { first = first; past = past }) (h .value) (subst (λ (v : Span). Bounds s v (h .value)) pair (h .bounds)) in
+          let size = length-slice first past s inside in
+          record {
+            fetches = record { answered = rw (f, stands, pair); number = rw f; place = rw f; part = part ∙ rw f; order = order; inside = inside };
+            joins = of-unit (l .judged) there kind allOf ∙ ap handed (sym all);
+            known = tt;
+            low-number = omega arith;
+            near-place = omega arith;
+            near-past = omega arith;
+            short = omega arith;
+          }
+
+      finds-pieces : (run : Run) → element .kind ≡ unitKind → HeldInPieces s run (element .content) → Finds s asked (Pieces run)
+      unfolding fetched located joinedIn
+      finds-pieces run kind h =
+          let within = l .within-limit in
+          let size = joined-fits (h .fine) in
+          let f : fetched s asked ≡ withheld 21 0 = of-unit (l .judged) there kind partOf ∙ ap partOf (h .content-is) in
+          record {
+            fetches = record { answered = rw f; number = rw f; place = rw f; part = rw f; order = omega arith; inside = omega arith };
+            joins = of-unit (l .judged) there kind allOf ∙ ap allOf (h .content-is);
+            known = h .fine;
+            low-number = omega arith;
+            near-place = omega arith;
+            near-past = omega arith;
+            short = omega arith;
+          }
+
+    finds-by : (element : Element) → getElem? (l .elements) asked ≡ some element → (row : RowOf s (rowsIn s) asked element)
+        → kindAt rows asked ≡ element .kind → {found : Found} → ContentAt s rows asked found → Finds s asked found
+    finds-by element there row kind (otherKind other) = finds-other element there (λ k. other (kind ∙ k))
+    finds-by element there row kind (heldWhole {first} {past} is holds) =
+        finds-part element there row first past (sym kind ∙ is) (holds (l .elements) (row .row) element (l .judge-accepted) (row .stands) there)
+    finds-by element there row kind (heldInPieces {run} is holds) =
+        finds-pieces element there run (sym kind ∙ is) (holds (l .elements) (row .row) element (l .judge-accepted) (row .stands) there)
+
+    -- what was found of it
+    pub finds-at : {found : Found} → asked < count → ContentAt s rows asked found → Finds s asked found
+    finds-at below found =
+        let (element, there) = at-below (l .elements) asked (omega (arith, l .counted)) in
+        let row = row-of (l .saying) asked element there in
+        let to : asked * rowWidth ≡ asked * rowWidth + 0 = omega arith in
+        let kind : kindAt rows asked ≡ element .kind =
+        ap (λ (i : ℕ). getD rows i 0) to ∙ l .cells-at asked (row .row) (row .stands) 0 (omega arith) ∙ row .says .kind in
+        finds-by element there row kind found

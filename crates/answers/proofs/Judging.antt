@@ -25,8 +25,10 @@ use Rattle.letters.specs.Lent.{rowsNeeded}
 use Rattle.judging.specs.Held.{Saying}
 use Rattle.letters.specs.Scratch.{Filled, Stopped, Gives}
 use Rattle.letters.specs.Table.{Apart}
+use Rattle.letters.specs.Content.{RowIn}
 use Rattle.judging.proofs.Rows.{saying-length, cell-at}
 use Rattle.letters.proofs.Apart.{accepted-apart}
+use Rattle.letters.proofs.Fetching.{filled-row-in}
 use Rattle.answers.specs.Answers.{letterIn, rowsIn}
 use Rattle.answers.specs.Asking.{Judged, Decides}
 use Rattle.answers.proofs.Letters.{refused-element, accepted-letter}
@@ -56,6 +58,7 @@ pub record Accepting (s rows : List ℕ) (count headers : ℕ) : Type 0 where
   pub within : count * rowWidth ≤ length rows
   pub written : take (count * rowWidth) rows ≡ numbers (rowsIn s)
   pub saying : Saying s (rowsIn s) elements
+  pub row-in : (j : ℕ) → j < count → RowIn s rows j
   pub cells-at : (j : ℕ) (row : Row) → getElem? (rowsIn s) j ≡ some row → (c : ℕ) → c < rowWidth → getD rows (j * rowWidth + c) 0 ≡ getD (cells row) c 0
 
 module _ {s rows : List ℕ} {verdict : Verdict} {at headers : ℕ} (walked : walkOf s ≡ Ended at headers) (j : Judged s rows verdict) where
@@ -84,6 +87,7 @@ module _ {s rows : List ℕ} {verdict : Verdict} {at headers : ℕ} (walked : wa
         within = holds .identifiers .in-table;
         written = holds .written;
         saying = holds .saying;
+        row-in = filled-row-in filled;
         cells-at = λ j row stands c l. cell-at holds j row stands c l;
       }
 

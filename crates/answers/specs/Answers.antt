@@ -1,5 +1,5 @@
--- The five public questions: what each answers, and what it leaves in what it was lent. Document 01, "Numbers given back" and "Table, list,
--- part, normal form". A contract of crate odif says that the result and every lent buffer at exit are these definitions of the values at
+-- The six public questions: what each answers, and what it leaves in what it was lent. Document 01, "Numbers given back" and "Table, list,
+-- part, normal form"; of the content, W-201. A contract of crate odif says that the result and every lent buffer at exit are these definitions of the values at
 -- entry. Definitions only: assumes nothing.
 use mathlib.Core.Path.{_≡_}
 use Prim.Native.Nat.{ℕ, _/_, _≤_}
@@ -13,11 +13,13 @@ use Rattle.headers.specs.First.{isIn}
 use Rattle.octets.specs.Walk.{streamLimit}
 use Rattle.normal.specs.Normal.{normalForm}
 use Rattle.index.specs.Rows.{rowWidth}
+use Rattle.contents.specs.declared.Span.{Span}
 use Rattle.contents.specs.Search.{Value, absent, octets}
 use Rattle.elements.specs.declared.Row.{Row}
 use Rattle.elements.specs.Shape.{edition1988}
-use Rattle.elements.specs.Element.{Element}
+use Rattle.elements.specs.Element.{Content, single, inPieces, joinedContent, Element}
 use Rattle.elements.specs.Rows.{numbers}
+use Rattle.elements.specs.Says.{noSpan}
 use Rattle.letters.specs.Letter.{Letter, letter, refusal, letterOf, rowsOfStream}
 use Rattle.reading.specs.declared.Match.{Match}
 use Rattle.reading.specs.declared.Side.{Side}
@@ -27,6 +29,7 @@ use Rattle.answers.specs.declared.Written.{Written}
 use Rattle.answers.specs.declared.Listed.{Listed}
 use Rattle.answers.specs.declared.Reason.{Reason}
 use Rattle.answers.specs.declared.Located.{Located}
+use Rattle.answers.specs.declared.Copied.{Copied}
 
 -- what a stream is by rules 1 to 15, in the edition of 1988
 abbrev pub letterIn : List ℕ → Letter
@@ -125,50 +128,55 @@ pub record ListOutcome (side : Side) (s table : List ℕ) (list : List Match) (a
   pub tabled : tableAfter ≡ listedTable side s table (length list)
   pub filled : listAfter ≡ listedList side s table list
 
--- The content of one text unit, with the number and place of a refusal; "a refused fetch gives an empty part".
+-- What is fetched of one text unit, with the number and place of a refusal.
 pub record Fetched : Type 0 where
   pub number : ℕ
   pub place : ℕ
   pub part : List ℕ
 
--- 20 "asked element is no text unit or doesn't exist"
-abbrev pub noUnit : Fetched
-noUnit = record { number = 20; place = 0; part = [] }
+abbrev pub handed : (part : List ℕ) → Fetched
+handed part = record { number = 0; place = 0; part = part }
 
-abbrev pub contentOf : Value → List ℕ
-contentOf absent = []
-contentOf (octets bytes) = bytes
+-- "a refused fetch gives an empty part"
+abbrev pub withheld : (number place : ℕ) → Fetched
+withheld number place = record { number = number; place = place; part = [] }
 
-abbrev pub fetchedOf : Option Element → Fetched
-fetchedOf none = noUnit
-fetchedOf (some e) = cond (eqb (e .kind) unitKind) (record { number = 0; place = 0; part = contentOf (e .content) }) noUnit
+-- 20 "asked element is no text unit or doesn't exist"; of a text unit, what is wanted of its content
+abbrev pub fetchedOf : (wanted : Content → Fetched) → Option Element → Fetched
+fetchedOf wanted none = withheld 20 0
+fetchedOf wanted (some e) = cond (eqb (e .kind) unitKind) (wanted (e .content)) (withheld 20 0)
 
-abbrev pub fetchedBy : Letter → (asked : ℕ) → Fetched
-fetchedBy (refusal number place headers) asked = record { number = number; place = place; part = [] }
-fetchedBy (letter headers elements) asked = fetchedOf (getElem? elements asked)
+abbrev pub fetchedBy : (wanted : Content → Fetched) → Letter → (asked : ℕ) → Fetched
+fetchedBy wanted (refusal number place headers) asked = withheld number place
+fetchedBy wanted (letter headers elements) asked = fetchedOf wanted (getElem? elements asked)
+
+-- the octets of a value that is there
+abbrev pub bytesOf : Value → List ℕ
+bytesOf absent = []
+bytesOf (octets bytes) = bytes
+
+-- The part: "The part question still serves 04"; 21 "part asked of content in pieces, after 20".
+abbrev pub partOf : Content → Fetched
+partOf (single value) = handed (bytesOf value)
+partOf (inPieces run) = withheld 21 0
 
 unfoldable pub fetched : (s : List ℕ) → (asked : ℕ) → Fetched
-fetched s asked = fetchedBy (letterIn s) asked
+fetched s asked = fetchedBy partOf (letterIn s) asked
 
 -- "number and place of that refusal, 0 if answered"
 abbrev pub whyNot : (s : List ℕ) → (asked : ℕ) → Reason
 whyNot s asked = record { number = fetched s asked .number; place = fetched s asked .place }
 
 -- The same question for callers that take bounds: those of the content in the unit's row, and 0 and 0 with a refusal.
-abbrev pub nowhere : (number place : ℕ) → Located
-nowhere number place = record { number = number; place = place; first = 0; past = 0 }
+abbrev pub contentIn : Option Row → Span
+contentIn none = noSpan
+contentIn (some row) = row .content
 
-abbrev pub locatedOf : Option Row → Located
-locatedOf none = nowhere 20 0
-locatedOf (some row) =
-    cond (eqb (row .kind) unitKind) (record { number = 0; place = 0; first = row .content .first; past = row .content .past }) (nowhere 20 0)
-
-abbrev pub locatedBy : Letter → List Row → (asked : ℕ) → Located
-locatedBy (refusal number place headers) rows asked = nowhere number place
-locatedBy (letter headers elements) rows asked = locatedOf (getElem? rows asked)
+abbrev pub locatedAt : Fetched → Span → Located
+locatedAt told pair = record { number = told .number; place = told .place; first = pair .first; past = pair .past }
 
 unfoldable pub located : (s : List ℕ) → (asked : ℕ) → Located
-located s asked = locatedBy (letterIn s) (rowsIn s) asked
+located s asked = locatedAt (fetched s asked) (cond (eqb (fetched s asked .number) 0) (contentIn (getElem? (rowsIn s) asked)) noSpan)
 
 -- They are where the content stands that the question in its other form hands back: in the stream, and nothing is left open.
 pub record Fetches (s : List ℕ) (asked : ℕ) (told : Located) : Type 0 where
@@ -178,3 +186,30 @@ pub record Fetches (s : List ℕ) (asked : ℕ) (told : Located) : Type 0 where
   pub part : slice (told .first) (told .past) s ≡ fetched s asked .part
   pub order : told .first ≤ told .past
   pub inside : told .past ≤ length s
+
+-- The joined content: "The content is the pieces joined in order", "a 04 being one piece".
+abbrev pub allOf : Content → Fetched
+allOf content = handed (joinedContent content)
+
+unfoldable pub joinedIn : (s : List ℕ) → (asked : ℕ) → Fetched
+joinedIn s asked = fetchedBy allOf (letterIn s) asked
+
+-- It is copied "into a lent buffer": its length, "0 if refused"; 22 "copy buffer too short, after 20".
+abbrev pub copiedFrom : Fetched → (out : List ℕ) → Copied
+copiedFrom content out =
+    cond (eqb (content .number) 0)
+    (cond (ltb (length out) (length (content .part))) (record { number = 22; place = 0; length = 0 })
+    (record { number = 0; place = 0; length = length (content .part) }))
+    (record { number = content .number; place = content .place; length = 0 })
+
+unfoldable pub copied : (s : List ℕ) → (asked : ℕ) → (out : List ℕ) → Copied
+copied s asked out = copiedFrom (joinedIn s asked) out
+
+-- "buffer untouched"; "bytes past it stay"
+unfoldable pub copiedOutput : (s : List ℕ) → (asked : ℕ) → (out : List ℕ) → List ℕ
+copiedOutput s asked out = cond (eqb (copied s asked out .number) 0) (onto (joinedIn s asked .part) out) out
+
+-- the contract of the joined content: its answer, and the buffer at exit
+pub record JoinedOutcome (s : List ℕ) (asked : ℕ) (out : List ℕ) (answer : Copied) (outAfter : List ℕ) : Type 0 where
+  pub answered : answer ≡ copied s asked out
+  pub put : outAfter ≡ copiedOutput s asked out

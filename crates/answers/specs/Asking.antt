@@ -1,4 +1,4 @@
--- What the work behind the questions learns: of a stream that was judged, and of a content that was fetched. Definitions only: assumes
+-- What the work behind the questions learns: of a stream that was judged, and of a content that was fetched or copied. Definitions only: assumes
 -- nothing.
 use mathlib.Core.Path.{_≡_}
 use mathlib.Core.Bool.{cond}
@@ -6,24 +6,31 @@ use mathlib.Core.List.{List, []}
 use Prim.Native.Nat.{ℕ, _*_, _≤_}
 use lib.Dec.{eqb}
 use lib.ListN.{length}
+use lib.Seq.{slice}
 use Rattle.octets.specs.declared.Outcome.{Outcome}
 use Rattle.octets.specs.declared.Outcome.the-variants.{Ended, Refused as Faulty}
 use Rattle.octets.specs.Walk.{streamLimit, walkOf}
-use Rattle.index.specs.Rows.{kindAt, firstAt, pastAt}
+use Rattle.runs.specs.declared.Run.{Run}
+use Rattle.runs.specs.Runs.{treeIn, Fine}
+use Rattle.index.specs.Rows.{kindAt}
+use Rattle.pieces.specs.Pieces.{joined}
 use Rattle.elements.specs.Element.{Element}
+use Rattle.letters.specs.declared.Held.the-variants.{Part, Pieces as PiecesIn}
 use Rattle.letters.specs.declared.Verdict.{Verdict}
 use Rattle.letters.specs.declared.Verdict.the-variants.{Accepted, Refused}
 use Rattle.letters.specs.Letter.{letter, refusal}
 use Rattle.letters.specs.Lent.{rowsNeeded}
 use Rattle.letters.specs.Scratch.{Gives}
+use Rattle.letters.specs.Content.{HoldsElement}
 use Rattle.reading.specs.declared.Side.{Side}
 use Rattle.reading.specs.Match.{unitKind}
 use Rattle.reading.specs.Records.{records}
+use Rattle.answers.specs.declared.Copied.{Copied}
 use Rattle.answers.specs.declared.Listed.{Listed}
 use Rattle.answers.specs.declared.Located.{Located}
 use Rattle.answers.specs.declared.Found.{Found}
-use Rattle.answers.specs.declared.Found.the-variants.{Refused as Not, NoUnit, Content}
-use Rattle.answers.specs.Answers.{letterIn, nowhere, Fetches, listed, listedTable, matchesIn}
+use Rattle.answers.specs.declared.Found.the-variants.{Refused as Not, NoUnit, Content, Pieces}
+use Rattle.answers.specs.Answers.{letterIn, listed, listedTable, matchesIn, onto, Fetched, handed, withheld, Fetches, joinedIn, copiedFrom}
 
 -- a stream was judged with this verdict, and these are its rows in scratch, whatever the indexes hold
 pub record Judged (s rows : List ℕ) (verdict : Verdict) : Type 0 where
@@ -49,26 +56,51 @@ abbrev pub Decides : (s : List ℕ) → Verdict → Type 0
 Decides s (Accepted count) = IsLetter s
 Decides s (Refused number place) = IsRefused s number place
 
--- where a row has the bounds of the content
-abbrev pub contentColumn : ℕ
-contentColumn = 10
+-- what is found of the element in row j: no text unit, or where its content stands
+pub data ContentAt (s rows : List ℕ) (j : ℕ) : Found → Type 0 where
+  otherKind : (kindAt rows j ≡ unitKind → ⊥) → ContentAt s rows j NoUnit
+  heldWhole : {first past : ℕ} → kindAt rows j ≡ unitKind → HoldsElement s j (Part first past) → ContentAt s rows j (Content first past)
+  heldInPieces : {run : Run} → kindAt rows j ≡ unitKind → HoldsElement s j (PiecesIn run) → ContentAt s rows j (Pieces run)
 
--- the content of row j, if it is a text unit's
-abbrev pub contentAt : (rows : List ℕ) → (j : ℕ) → Found
-contentAt rows j = cond (eqb (kindAt rows j) unitKind) (Content (firstAt rows contentColumn j) (pastAt rows contentColumn j)) NoUnit
+-- the bounds of a refused fetch
+abbrev pub nowhere : (number place : ℕ) → Located
+nowhere number place = record { number = number; place = place; first = 0; past = 0 }
 
 -- the number, place and bounds that document 01 gives each case of a fetch
 abbrev pub toldOf : Found → Located
 toldOf (Not number place) = nowhere number place
 toldOf NoUnit = nowhere 20 0
 toldOf (Content first past) = record { number = 0; place = 0; first = first; past = past }
+toldOf (Pieces run) = nowhere 21 0
+
+-- the joined content in each case, before it is known whether there is room for it
+abbrev pub joinedOf : (s : List ℕ) → Found → Fetched
+joinedOf s (Not number place) = withheld number place
+joinedOf s NoUnit = withheld 20 0
+joinedOf s (Content first past) = handed (slice first past s)
+joinedOf s (Pieces run) = handed (joined (treeIn s run))
+
+-- what else is known in each case: a refusal has a number, and pieces can be met one after another
+abbrev pub Known : (s : List ℕ) → Found → Type 0
+Known s (Not number place) = 1 ≤ number
+Known s NoUnit = Unit {0}
+Known s (Content first past) = Unit {0}
+Known s (Pieces run) = Fine s run
 
 -- what is fetched, in numbers that fit 32 bits
-pub record Finds (s : List ℕ) (asked : ℕ) (told : Located) : Type 0 where
-  pub fetches : Fetches s asked told
-  pub low-number : told .number ≤ 20
-  pub near-place : told .place ≤ streamLimit
-  pub near-past : told .past ≤ streamLimit
+pub record Finds (s : List ℕ) (asked : ℕ) (found : Found) : Type 0 where
+  pub fetches : Fetches s asked (toldOf found)
+  pub joins : joinedIn s asked ≡ joinedOf s found
+  pub known : Known s found
+  pub low-number : toldOf found .number ≤ 21
+  pub near-place : toldOf found .place ≤ streamLimit
+  pub near-past : toldOf found .past ≤ streamLimit
+  pub short : length (joinedOf s found .part) ≤ streamLimit
+
+-- octets are copied to a lent buffer, unless it is too short
+pub record Copies (content out : List ℕ) (answer : Copied) (outAfter : List ℕ) : Type 0 where
+  pub answered : answer ≡ copiedFrom (handed content) out
+  pub put : outAfter ≡ cond (eqb (answer .number) 0) (onto content out) out
 
 -- how many rows a stream can need after its walk: none if the walk refused it
 abbrev pub rowsAfter : Outcome → (s : List ℕ) → ℕ

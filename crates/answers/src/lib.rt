@@ -1,33 +1,36 @@
 // The work behind the questions: scratch sized to the stream that is judged in it, and what each question does with a judged stream.
 // Nothing that was lent to a question is written before all that can refuse it is known.
+use letters::Held;
 use letters::Verdict;
 use octets::Outcome;
 use reading::Side;
+use runs::Run;
 ghost use mathlib.Core.Path.{_≡_};
 ghost use mathlib.Core.Bool.{true, cond};
 ghost use mathlib.Core.List.{List};
-ghost use mathlib.Core.Bool.{true};
-ghost use Prim.Native.Nat.{_+_, _*_, _/_, _<_, _≤_};
+ghost use Prim.Native.Nat.{_*_, _/_, _<_, _≤_};
 ghost use lib.ListN.{length};
+ghost use lib.Seq.{slice};
 ghost use Rattle.octets.specs.Walk.{walkOf};
 ghost use Rattle.tree.specs.Tree.{treeOf};
 ghost use Rattle.tree.specs.Accepts.{Accepts};
-ghost use Rattle.index.specs.Rows.{rowWidth};
+ghost use Rattle.runs.specs.Runs.{wholeStream, treeIn, Fine};
+ghost use Rattle.pieces.specs.Pieces.{joined};
 ghost use Rattle.letters.specs.Lent.{rowsNeeded};
 ghost use Rattle.letters.specs.Scratch.{Gives};
+ghost use Rattle.letters.specs.Content.{RowIn};
 ghost use Rattle.answers.specs.Answers.{refusedCheck, CheckOutcome};
-ghost use Rattle.answers.specs.Asking.{Judged, Decides, contentAt, toldOf, Finds, Sized, ListsFlat};
+ghost use Rattle.answers.specs.Asking.{Judged, Decides, ContentAt, Finds, Copies, Sized, ListsFlat};
 
 const ROW_WIDTH: usize = 12;
-
-// Where a row has the bounds of the content.
-const CONTENT: usize = 10;
 
 const TEXT_UNIT: u32 = 3;
 
 const TOO_FEW_ROWS: u32 = 16;
 
 const LIST_TOO_SHORT: u32 = 19;
+
+const COPY_TOO_SHORT: u32 = 22;
 
 // Scratch for so many elements is soon cleared, and most letters have no more.
 const FEW: usize = 512;
@@ -77,11 +80,20 @@ pub struct Located {
     pub past: u32,
 }
 
-// What a fetch of content finds.
+// What the copier of a joined content answers.
+#[repr(C)]
+pub struct Copied {
+    pub number: u32,
+    pub place: u32,
+    pub length: u32,
+}
+
+// What a fetch of content finds: a part of the stream, or pieces.
 pub enum Found {
     Refused { number: usize, place: usize },
     NoUnit,
     Content { first: usize, past: usize },
+    Pieces { run: Run },
 }
 
 fn wide(x: u32) -> usize
@@ -280,30 +292,31 @@ pub fn judge(stream: &[u8]) -> Verdict
 }
 
 // The content of the element whose row is given, if it is a text unit.
-fn content_at(rows: &[u32], element: usize) -> Found
-    requires { ⌜ (element < 4096) × (element * rowWidth + rowWidth ≤ length (now rows)) ⌝ }
-    ensures { λ r. ⌜ r ≡ contentAt (now (rows .entry)) element ⌝ }
+fn content_at(stream: &[u8], rows: &[u32], element: usize) -> Found
+    requires { ⌜ Fine (now stream) (wholeStream (now stream)) ⌝ }
+    requires { ⌜ (element < 4096) × RowIn (now stream) (now rows) element ⌝ }
+    ensures { λ r. ⌜ ContentAt (now (stream .entry)) (now (rows .entry)) element r ⌝ }
 {
-    let at = element * ROW_WIDTH;
-    if rows[at] != TEXT_UNIT {
+    if rows[element * ROW_WIDTH] != TEXT_UNIT {
         return Found::NoUnit;
     }
-    let first = wide(rows[at + CONTENT]);
-    let past = wide(rows[at + CONTENT + 1]);
-    Found::Content { first, past }
+    match letters::content_of(stream, rows, element) {
+        Held::Part { first, past } => Found::Content { first, past },
+        Held::Pieces { run } => Found::Pieces { run },
+    }
 }
 
 // The content of an element of a stream that was judged: 20, or where it stands.
 fn fetch_judged(stream: &[u8], element: usize, rows: &[u32], verdict: Verdict) -> Found
     requires { ⌜ Accepts (now stream) (treeOf (now stream)) ⌝ }
     requires { ⌜ Judged (now stream) (now rows) verdict ⌝ }
-    ensures { λ r. ⌜ Finds (now (stream .entry)) element (toldOf r) ⌝ }
+    ensures { λ r. ⌜ Finds (now (stream .entry)) element r ⌝ }
 {
     match verdict {
         Verdict::Refused { number, place } => Found::Refused { number, place },
         Verdict::Accepted { count } => {
             if element < count {
-                return content_at(rows, element);
+                return content_at(stream, rows, element);
             }
             Found::NoUnit
         }
@@ -313,7 +326,7 @@ fn fetch_judged(stream: &[u8], element: usize, rows: &[u32], verdict: Verdict) -
 fn fetch_few(stream: &[u8], element: usize) -> Found
     requires { ⌜ Accepts (now stream) (treeOf (now stream)) ⌝ }
     requires { ⌜ rowsNeeded (now stream) ≤ 512 ⌝ }
-    ensures { λ r. ⌜ Finds (now (stream .entry)) element (toldOf r) ⌝ }
+    ensures { λ r. ⌜ Finds (now (stream .entry)) element r ⌝ }
 {
     let mut rows = [0u32; 6144];
     let mut head = [0u16; 1024];
@@ -335,7 +348,7 @@ fn fetch_few(stream: &[u8], element: usize) -> Found
 
 fn fetch_many(stream: &[u8], element: usize) -> Found
     requires { ⌜ Accepts (now stream) (treeOf (now stream)) ⌝ }
-    ensures { λ r. ⌜ Finds (now (stream .entry)) element (toldOf r) ⌝ }
+    ensures { λ r. ⌜ Finds (now (stream .entry)) element r ⌝ }
 {
     let mut rows = [0u32; 49152];
     let mut head = [0u16; 8192];
@@ -357,7 +370,7 @@ fn fetch_many(stream: &[u8], element: usize) -> Found
 
 // The content of an element of a stream, by rules 1 to 15 and then 20.
 pub fn fetch(stream: &[u8], element: usize) -> Found
-    ensures { λ r. ⌜ Finds (now (stream .entry)) element (toldOf r) ⌝ }
+    ensures { λ r. ⌜ Finds (now (stream .entry)) element r ⌝ }
 {
     match octets::walk(stream) {
         Outcome::Ended { at: _, count } => {
@@ -371,6 +384,46 @@ pub fn fetch(stream: &[u8], element: usize) -> Found
             place,
             count: _,
         } => Found::Refused { number, place },
+    }
+}
+
+// Copies a part of the stream to a lent buffer, unless that is too short.
+pub fn copy_part(stream: &[u8], first: usize, past: usize, out: &mut [u8]) -> Copied
+    requires { ⌜ (first ≤ past) × (past ≤ length (now stream)) × (past ≤ 1048576) ⌝ }
+    ensures { λ r. ⌜ Copies (slice first past (now (stream .entry))) (now (out .entry)) r (now (out .exit)) ⌝ }
+{
+    if out.len() < past - first {
+        return Copied {
+            number: COPY_TOO_SHORT,
+            place: 0,
+            length: 0,
+        };
+    }
+    let length = bytes::copy(&stream[first..past], out);
+    Copied {
+        number: 0,
+        place: 0,
+        length: length as u32,
+    }
+}
+
+// Copies the pieces of a run, joined in order, to a lent buffer, unless that is too short: they are measured before any is written.
+pub fn copy_pieces(stream: &[u8], run: Run, out: &mut [u8]) -> Copied
+    requires { ⌜ Fine (now stream) run × (length (joined (treeIn (now stream) run)) ≤ 1048576) ⌝ }
+    ensures { λ r. ⌜ Copies (joined (treeIn (now (stream .entry)) run)) (now (out .entry)) r (now (out .exit)) ⌝ }
+{
+    if out.len() < pieces::joined_length(stream, run) {
+        return Copied {
+            number: COPY_TOO_SHORT,
+            place: 0,
+            length: 0,
+        };
+    }
+    let length = pieces::put_joined(stream, run, out);
+    Copied {
+        number: 0,
+        place: 0,
+        length: length as u32,
     }
 }
 

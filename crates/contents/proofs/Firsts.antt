@@ -1,6 +1,6 @@
 -- What a search in a run learns of the item that it meets: it is the first with the octet, or the search goes on after it.
 -- Assumes nothing.
-use mathlib.Core.Path.{_≡_, refl, ap, _∙_, subst}
+use mathlib.Core.Path.{_≡_, refl, ap, sym, _∙_, subst}
 use mathlib.Core.Bool.{Bool, true, false, cond, true≢false, false≢true}
 use mathlib.Core.List.{List, [], _∷_}
 use Prim.Native.Nat.{ℕ, _+_}
@@ -54,18 +54,20 @@ module _ (octet type : ℕ) (value : List ℕ) (inside after : Tree) where
 
 -- a search that starts at `from` is one that starts at `to`
 pub record Alike (s : List ℕ) (octet : ℕ) (from to : Run) : Type 0 where
+  pub amounts : amount octet (treeIn s from) ≡ amount octet (treeIn s to)
   pub bounds : boundsOf octet (itemsOf s from) ≡ boundsOf octet (itemsOf s to)
   pub items : itemsIn octet (itemsOf s from) ≡ itemsIn octet (itemsOf s to)
   pub value : firstValue octet (treeIn s from) ≡ firstValue octet (treeIn s to)
   pub tree : firstRun octet (treeIn s from) ≡ firstRun octet (treeIn s to)
 
 pub same-search : (s : List ℕ) (octet : ℕ) (r : Run) → Alike s octet r r
-same-search s octet r = record { bounds = refl; items = refl; value = refl; tree = refl }
+same-search s octet r = record { amounts = refl; bounds = refl; items = refl; value = refl; tree = refl }
 
 module _ {s : List ℕ} {octet : ℕ} {from to : Run} (a : Alike s octet from to) where
   pub alike-on : {rest : Run} → Alike s octet to rest → Alike s octet from rest
   alike-on b =
       record {
+        amounts = a .amounts ∙ b .amounts;
         bounds = a .bounds ∙ b .bounds;
         items = a .items ∙ b .items;
         value = a .value ∙ b .value;
@@ -78,6 +80,7 @@ module _ {s : List ℕ} {octet : ℕ} {from to : Run} (a : Alike s octet from to
         octet-is = h .octet-is;
         octet-not-zero = h .octet-not-zero;
         octet-small = h .octet-small;
+        there = λ z. h .there (sym (a .amounts) ∙ z);
         starts = h .starts;
         order = h .order;
         inside = h .inside;
@@ -91,6 +94,7 @@ module _ {s : List ℕ} {octet : ℕ} {from to : Run} (a : Alike s octet from to
   pub lacks-before : Lacks s to octet → Lacks s from octet
   lacks-before l =
       record {
+        amount-is = a .amounts ∙ l .amount-is;
         bounds = a .bounds ∙ l .bounds;
         items = a .items ∙ l .items;
         value = a .value ∙ l .value;
@@ -99,19 +103,20 @@ module _ {s : List ℕ} {octet : ℕ} {from to : Run} (a : Alike s octet from to
 
 -- at the end of a run
 module _ (s : List ℕ) (octet : ℕ) (r : Run) (e : itemsOf s r ≡ none) where
+  pub amount-at-end : amount octet (treeIn s r) ≡ 0
+  unfolding amount
+  amount-at-end = ap (amount octet) (tree-none s r e)
+
   pub lacks-at-end : Lacks s r octet
   unfolding boundsOf itemsIn firstValue firstRun
   lacks-at-end =
       record {
+        amount-is = amount-at-end;
         bounds = ap (boundsOf octet) e;
         items = ap (itemsIn octet) e;
         value = ap (firstValue octet) (tree-none s r e);
         tree = ap (firstRun octet) (tree-none s r e);
       }
-
-  pub amount-at-end : amount octet (treeIn s r) ≡ 0
-  unfolding amount
-  amount-at-end = ap (amount octet) (tree-none s r e)
 
 -- at an item
 module _ (s : List ℕ) (r : Run) (p : Part) (rest : Run) (m : Begins s r p rest) (octet : ℕ) where
@@ -124,6 +129,7 @@ module _ (s : List ℕ) (r : Run) (p : Part) (rest : Run) (m : Begins s r p rest
   unfolding boundsOf itemsIn
   alike-after n =
       record {
+        amounts = amount-of-item ∙ rw (ne-eqb (p .octet) octet n) (omega arith);
         bounds = ap (boundsOf octet) (m .tree) ∙ rw (ne-eqb (p .octet) octet n);
         items = ap (itemsIn octet) (m .tree) ∙ rw (ne-eqb (p .octet) octet n);
         value = ap (firstValue octet) (tree-meets m)
@@ -139,6 +145,7 @@ module _ (s : List ℕ) (r : Run) (p : Part) (rest : Run) (m : Begins s r p rest
         octet-is = e;
         octet-not-zero = λ z. m .octet-not-zero (e ∙ z);
         octet-small = omega (arith, m .octet-small);
+        there = λ z. let one : 1 + amount octet (treeIn s rest) ≡ 0 = sym (amount-of-item ∙ rw (eq-eqb (p .octet) octet e)) ∙ z in omega arith;
         starts = omega (arith, m .starts);
         order = m .value-order;
         inside = m .value-inside;

@@ -12,7 +12,7 @@ use Rattle.runs.specs.declared.Run.{Run}
 use Rattle.runs.specs.Runs.{itemsOf, treeIn, Fine}
 use Rattle.contents.specs.declared.Part.{Part}
 use Rattle.contents.specs.declared.Span.{Span}
-use Rattle.contents.specs.Search.{absent, octets, firstValue, firstRun, boundsOf, itemsIn}
+use Rattle.contents.specs.Search.{amount, absent, octets, firstValue, firstRun, boundsOf, itemsIn}
 
 -- the bounds of a part's value
 abbrev pub spanOf : Part → Span
@@ -23,6 +23,7 @@ pub record Holds (s : List ℕ) (r : Run) (octet : ℕ) (p : Part) : Type 0 wher
   pub octet-is : p .octet ≡ octet
   pub octet-not-zero : octet ≡ 0 → ⊥
   pub octet-small : octet < 256
+  pub there : amount octet (treeIn s r) ≡ 0 → ⊥
   pub starts : 0 < p .first
   pub order : p .first ≤ p .past
   pub inside : p .past ≤ length s
@@ -34,6 +35,7 @@ pub record Holds (s : List ℕ) (r : Run) (octet : ℕ) (p : Part) : Type 0 wher
 
 -- no item of the run r has the octet: "Absent is 0 and 0."
 pub record Lacks (s : List ℕ) (r : Run) (octet : ℕ) : Type 0 where
+  pub amount-is : amount octet (treeIn s r) ≡ 0
   pub bounds : boundsOf octet (itemsOf s r) ≡ record { first = 0; past = 0 }
   pub items : itemsIn octet (itemsOf s r) ≡ none
   pub value : firstValue octet (treeIn s r) ≡ absent

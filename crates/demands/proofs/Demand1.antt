@@ -18,7 +18,7 @@ use Rattle.headers.proofs.Lies.{cond-holds}
 use Rattle.octets.proofs.Half.{half}
 use Rattle.tree.specs.Tree.{treeOf}
 use Rattle.elements.specs.Shape.{edition1988}
-use Rattle.elements.specs.Element.{Element}
+use Rattle.elements.specs.Element.{Content, single, inPieces, Element}
 use Rattle.elements.specs.Judge.{Judged, accepted, refused, judge}
 use Rattle.letters.specs.Letter.{Letter, letter, refusal, itemsOfStream, afterWalk, byWalk, letterOf}
 use Rattle.reading.specs.declared.Side.{Side}
@@ -27,7 +27,8 @@ use Rattle.normal.specs.Normal.{normalForm}
 use Rattle.answers.specs.declared.Checked.{Checked}
 use Rattle.answers.specs.declared.Written.{Written}
 use Rattle.answers.specs.declared.Listed.{Listed}
-use Rattle.answers.specs.Answers.{letterIn, tooFewRows, checkedBy, checked, checkedTable, writtenBy, written, writtenOutput, listedBy, listed, listedTable, listedList, Fetched, fetchedOf, fetchedBy, fetched}
+use Rattle.answers.specs.declared.Copied.{Copied}
+use Rattle.answers.specs.Answers.{letterIn, tooFewRows, checkedBy, checked, checkedTable, writtenBy, written, writtenOutput, listedBy, listed, listedTable, listedList, Fetched, fetchedOf, fetchedBy, partOf, fetched, allOf, joinedIn, copiedFrom, copied, copiedOutput}
 use Rattle.demands.specs.Demands.{Told, Demand1}
 use Rattle.answers.proofs.Small.{Small, refusal-small}
 
@@ -68,14 +69,27 @@ module _ (s : List ℕ) where
       cond-holds (λ (a : Listed). Told s (16 ∷ 19 ∷ []) (a .number) (a .place)) (tooFewRows table elements) (λ _. told-own s (16 ∷ 19 ∷ []) 16 refl)
       (λ _. cond-holds (λ (a : Listed). Told s (16 ∷ 19 ∷ []) (a .number) (a .place)) (ltb room (length (matches side elements))) (λ _. told-own s (16 ∷ 19 ∷ []) 19 refl) (λ _. told-zero s (16 ∷ 19 ∷ [])))
 
-  content-told-of : (e : Option Element) → Told s (20 ∷ []) (fetchedOf e .number) (fetchedOf e .place)
-  content-told-of none = told-own s (20 ∷ []) 20 refl
-  content-told-of (some e) =
-      cond-holds (λ (a : Fetched). Told s (20 ∷ []) (a .number) (a .place)) (eqb (e .kind) unitKind) (λ _. told-zero s (20 ∷ [])) (λ _. told-own s (20 ∷ []) 20 refl)
+  -- whatever is wanted of the content of a text unit
+  module _ (own : List ℕ) (no-unit : isIn 20 own ≡ true) (wanted : Content → Fetched) (told : (c : Content) → Told s own (wanted c .number) (wanted c .place)) where
+    fetched-told-of : (e : Option Element) → Told s own (fetchedOf wanted e .number) (fetchedOf wanted e .place)
+    fetched-told-of none = told-own s own 20 no-unit
+    fetched-told-of (some e) =
+        cond-holds (λ (a : Fetched). Told s own (a .number) (a .place)) (eqb (e .kind) unitKind) (λ _. told (e .content)) (λ _. told-own s own 20 no-unit)
 
-  content-told-by : (asked : ℕ) (l : Letter) → letterIn s ≡ l → Told s (20 ∷ []) (fetchedBy l asked .number) (fetchedBy l asked .place)
-  content-told-by asked (refusal number place headers) e = told-small (20 ∷ []) (small-in s number place headers e)
-  content-told-by asked (letter headers elements) e = content-told-of (getElem? elements asked)
+    fetched-told-by : (asked : ℕ) (l : Letter) → letterIn s ≡ l → Told s own (fetchedBy wanted l asked .number) (fetchedBy wanted l asked .place)
+    fetched-told-by asked (refusal number place headers) e = told-small own (small-in s number place headers e)
+    fetched-told-by asked (letter headers elements) e = fetched-told-of (getElem? elements asked)
+
+  part-told : (c : Content) → Told s (20 ∷ 21 ∷ []) (partOf c .number) (partOf c .place)
+  part-told (single value) = told-zero s (20 ∷ 21 ∷ [])
+  part-told (inPieces run) = told-own s (20 ∷ 21 ∷ []) 21 refl
+
+  copied-told : (f : Fetched) (out : List ℕ) → Told s (20 ∷ 22 ∷ []) (f .number) (f .place)
+      → Told s (20 ∷ 22 ∷ []) (copiedFrom f out .number) (copiedFrom f out .place)
+  copied-told f out told =
+      cond-holds (λ (a : Copied). Told s (20 ∷ 22 ∷ []) (a .number) (a .place)) (eqb (f .number) 0)
+      (λ _. cond-holds (λ (a : Copied). Told s (20 ∷ 22 ∷ []) (a .number) (a .place)) (ltb (length out) (length (f .part))) (λ _. told-own s (20 ∷ 22 ∷ []) 22 refl) (λ _. told-zero s (20 ∷ 22 ∷ [])))
+      (λ _. told)
 
 -- the header count of either
 abbrev headersOf : Letter → ℕ
@@ -131,31 +145,48 @@ list-counts-by side table room (letter headers elements) =
     cond-holds ListCounts (tooFewRows table elements) (λ _ n. (refl, λ _. refl))
     (λ _. cond-holds ListCounts (ltb room (length (matches side elements))) (λ _ n. (refl, λ m. absurd (m refl))) (λ _ n. absurd (n refl)))
 
-empty-of : (e : Option Element) → (fetchedOf e .number ≡ 0 → ⊥) → fetchedOf e .part ≡ []
-empty-of none = λ n. refl
-empty-of (some e) = cond-holds (λ (a : Fetched). (a .number ≡ 0 → ⊥) → a .part ≡ []) (eqb (e .kind) unitKind) (λ _ n. absurd (n refl)) (λ _ n. refl)
+copied-counts : (f : Fetched) (out : List ℕ) → (copiedFrom f out .number ≡ 0 → ⊥) → copiedFrom f out .length ≡ 0
+copied-counts f out =
+    cond-holds (λ (a : Copied). (a .number ≡ 0 → ⊥) → a .length ≡ 0) (eqb (f .number) 0)
+    (λ _. cond-holds (λ (a : Copied). (a .number ≡ 0 → ⊥) → a .length ≡ 0) (ltb (length out) (length (f .part))) (λ _ n. refl) (λ _ n. absurd (n refl)))
+    (λ _ n. refl)
 
-content-empty-by : (asked : ℕ) (l : Letter) → (fetchedBy l asked .number ≡ 0 → ⊥) → fetchedBy l asked .part ≡ []
+abbrev EmptyIfRefused : Fetched → Type 0
+EmptyIfRefused a = (a .number ≡ 0 → ⊥) → a .part ≡ []
+
+part-empty : (c : Content) → EmptyIfRefused (partOf c)
+part-empty (single value) = λ n. absurd (n refl)
+part-empty (inPieces run) = λ n. refl
+
+empty-of : (e : Option Element) → EmptyIfRefused (fetchedOf partOf e)
+empty-of none = λ n. refl
+empty-of (some e) = cond-holds EmptyIfRefused (eqb (e .kind) unitKind) (λ _. part-empty (e .content)) (λ _ n. refl)
+
+content-empty-by : (asked : ℕ) (l : Letter) → EmptyIfRefused (fetchedBy partOf l asked)
 content-empty-by asked (refusal number place headers) = λ n. refl
 content-empty-by asked (letter headers elements) = empty-of (getElem? elements asked)
 
 pub demand1 : Demand1
-unfolding checked checkedTable written writtenOutput listed listedTable listedList fetched
+unfolding checked checkedTable written writtenOutput listed listedTable listedList fetched joinedIn copied copiedOutput
 demand1 = record {
   check-told = λ s table. check-told-by s table (letterIn s) refl;
   normal-told = λ s out. normal-told-by s (normalForm s) out (letterIn s) refl;
   list-told = λ side s table room. list-told-by s side table room (letterIn s) refl;
-  content-told = λ s asked. content-told-by s asked (letterIn s) refl;
+  content-told = λ s asked. fetched-told-by s (20 ∷ 21 ∷ []) refl partOf (part-told s) asked (letterIn s) refl;
+  joined-told = λ s asked out. copied-told s (joinedIn s asked) out
+      (fetched-told-by s (20 ∷ 22 ∷ []) refl allOf (λ _. told-zero s (20 ∷ 22 ∷ [])) asked (letterIn s) refl);
   headers = λ s table l. headers-told s table ∙ walk-headers s l;
   headers-half = λ s table. let h = half s in let e = headers-told s table in omega arith;
   headers-after-1 = λ s table l. headers-told s table ∙ walk-over s l;
   check-counts = λ s table. check-counts-by table (letterIn s);
   normal-counts = λ s out. normal-counts-by (normalForm s) out (letterIn s);
   list-counts = λ side s table room. list-counts-by side table room (letterIn s);
+  joined-counts = λ s asked out. copied-counts (joinedIn s asked) out;
   check-untouched = λ s table n. rw (ne-eqb (checked s table .number) 0 n);
   normal-untouched = λ s out n. rw (ne-eqb (written s out .number) 0 n);
   list-untouched = λ side s table list n. rw (ne-eqb (listed side s table (length list) .number) 0 n);
   list-table-untouched = λ side s table room n m. rw (ne-eqb (listed side s table room .number) 0 n, ne-eqb (listed side s table room .number) 19 m);
   list-table-finished = λ side s table room e. rw e;
+  joined-untouched = λ s asked out n. rw (ne-eqb (copied s asked out .number) 0 n);
   content-empty = λ s asked. content-empty-by asked (letterIn s);
 }

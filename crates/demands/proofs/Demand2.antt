@@ -2,14 +2,14 @@
 -- tree, so all that depends on the tree alone is the same of it. Assumes nothing.
 use mathlib.Core.Path.{_≡_, refl, ap, sym, _∙_}
 use mathlib.Core.Logic.{_↔_}
-use mathlib.Core.Bool.{true, false}
+use mathlib.Core.Bool.{false}
 use mathlib.Core.List.{List}
-use mathlib.Core.Option.{Option, none, some}
+use mathlib.Core.Option.{some}
 use Prim.Native.Nat.{ℕ, _/_, _<_, _≤_}
 use native.Mathlib.Omega.{arith}
-use lib.Dec.{eqb, ltb}
+use lib.Dec.{ltb}
 use lib.ListN.{length, getElem?}
-use borrow.Author.Tests.{le-ltb, ltb-true, ltb-false, eq-eqb, eqb-true}
+use borrow.Author.Tests.{le-ltb, ltb-true, ltb-false}
 use borrow.Table.Steps.{cases}
 use Rattle.octets.specs.declared.Outcome.the-variants.{Ended}
 use Rattle.octets.specs.Walk.{streamLimit, deepest, walkOf}
@@ -27,13 +27,14 @@ use Rattle.elements.specs.Element.{Element}
 use Rattle.elements.specs.Judge.{accepted, judge}
 use Rattle.letters.specs.Letter.{letter, itemsOfStream}
 use Rattle.letters.proofs.Table.{end-to-end, pairs-within}
+use Rattle.letters.proofs.Coding.{content-codes}
 use Rattle.judging.proofs.Lists.{below-length, at-below}
-use Rattle.reading.specs.Match.{unitKind}
-use Rattle.answers.specs.Answers.{letterIn, rowsIn, onto, tableOf, checked, checkedTable, written, writtenOutput, contentOf, fetched, fetchedOf}
+use Rattle.answers.specs.Answers.{letterIn, rowsIn, onto, tableOf, checked, checkedTable, written, writtenOutput}
 use Rattle.demands.specs.Demands.{IsLetterOf, RowTells, SameRow, OfLetter, Demand2, itemsIn}
 use Rattle.answers.proofs.Letters.{Found, letter-found, accepted-letter}
 use Rattle.answers.proofs.Judging.{accepts-walked}
 use Rattle.demands.proofs.Telling.{Proper, proper, count-tree, rows-counted, rows-tell}
+use Rattle.demands.proofs.Joining.{told-within, same-content, tells-content, content, content-20, content-21, joins, joins-20, joins-22, part-joined, same-joined}
 use Rattle.answers.proofs.Checks.{checks-letter}
 
 -- the header count of a walk that ended is the tree's item count
@@ -67,7 +68,15 @@ module _ (s : List ℕ) (headers : ℕ) (elements : List Element) (e : letterIn 
   counted = rows-counted s (proper-stream s) elements (found .judged)
 
   tell : (j : ℕ) (row : Row) (element : Element) → getElem? (rowsIn s) j ≡ some row → getElem? elements j ≡ some element → RowTells s row element
-  tell = rows-tell s (proper-stream s) elements (found .judged)
+  tell j row element p there =
+      let t = rows-tell s (proper-stream s) elements (found .judged) j row element p there in
+      record {
+        kind = t .kind;
+        object = t .object;
+        identifier = t .identifier;
+        logical = t .logical;
+        content = tells-content (element .content) (t .whole) (λ run is. content-codes (stream-fine s (found .at) headers (found .walked)) elements (found .judged) j row p element there run is);
+      }
 
   -- the check
   checks : (table : List ℕ) → length elements ≤ length table / rowWidth
@@ -80,32 +89,6 @@ module _ (s : List ℕ) (headers : ℕ) (elements : List Element) (e : letterIn 
       cases (ltb (length table / rowWidth) (length elements))
       (λ t. rw (e, t) (λ _. ltb-true (length table / rowWidth) (length elements) t, λ _. refl))
       (λ t. rw (e, t) (λ p. absurd (omega arith), λ l. absurd (omega (arith, ltb-false (length table / rowWidth) (length elements) t))))
-
-  -- the content
-  content : (j : ℕ) (unit : Element) → getElem? elements j ≡ some unit → unit .kind ≡ unitKind
-      → fetched s j ≡ record { number = 0; place = 0; part = contentOf (unit .content) }
-  unfolding fetched
-  content j unit there is = rw (e, there, eq-eqb (unit .kind) unitKind is)
-
-  no-content : (found-at : Option Element)
-      → (fetchedOf found-at .number ≡ 20) ↔ ((unit : Element) → found-at ≡ some unit → unit .kind ≡ unitKind → ⊥)
-  no-content none = (λ _ unit p k. let z : _≡_ {A = ℕ} 0 1 = cc in omega arith, λ _. refl)
-  no-content (some own) =
-      cases (eqb (own .kind) unitKind)
-      (λ t. rw t (λ p. absurd (omega arith), λ n. absurd (n own refl (eqb-true (own .kind) unitKind t))))
-      (λ t. rw t (
-        λ _ unit p k.
-            let q : own ≡ unit = cc in
-            let y : eqb (own .kind) unitKind ≡ true = eq-eqb (own .kind) unitKind (ap (λ (x : Element). x .kind) q ∙ k) in
-            let z : true ≡ false = sym y ∙ t in
-            let o : _≡_ {A = ℕ} 0 1 = cc in
-            omega arith,
-        λ _. refl,
-      ))
-
-  content-20 : (j : ℕ) → (fetched s j .number ≡ 20) ↔ ((unit : Element) → getElem? elements j ≡ some unit → unit .kind ≡ unitKind → ⊥)
-  unfolding fetched
-  content-20 j = rw e (no-content (getElem? elements j))
 
   -- the normal form that is written
   abbrev size : ℕ
@@ -155,21 +138,20 @@ module _ (s : List ℕ) (headers : ℕ) (elements : List Element) (e : letterIn 
     normal-tree : treeOf (normalForm s) ≡ treeOf s
     normal-tree = accepts-again .tree
 
-same-rows : {s t : List ℕ} {row other : Row} {element : Element} → RowTells s row element → RowTells t other element → SameRow s row t other
-same-rows a b =
+same-rows : {s t : List ℕ} {row other : Row} {element : Element} → RowTells s row element → RowTells t other element → SameRow element s row t other
+same-rows {element = element} a b =
     record {
       kind = a .kind ∙ sym (b .kind);
       object = a .object ∙ sym (b .object);
       identifier = a .identifier ∙ sym (b .identifier);
       logical = a .logical ∙ sym (b .logical);
-      content = a .content ∙ sym (b .content);
+      content = same-content (element .content) _ _ (a .content) (b .content);
     }
 
 normal-rows : (s : List ℕ) (headers : ℕ) (elements : List Element) (e : letterIn s ≡ letter headers elements) → length (normalForm s) ≤ streamLimit
-    → (j : ℕ) (row other : Row) → getElem? (rowsIn s) j ≡ some row → getElem? (rowsIn (normalForm s)) j ≡ some other → SameRow s row (normalForm s) other
-normal-rows s headers elements e within j row other p q =
-    let below = below-length (rowsIn s) j row p in
-    let (element, there) = at-below elements j (omega (arith, counted s headers elements e)) in
+    → (j : ℕ) (element : Element) (row other : Row) → getElem? elements j ≡ some element → getElem? (rowsIn s) j ≡ some row
+    → getElem? (rowsIn (normalForm s)) j ≡ some other → SameRow element s row (normalForm s) other
+normal-rows s headers elements e within j element row other there p q =
     same-rows (tell s headers elements e j row element p there)
     (tell (normalForm s) headers elements (normal-accepted s headers elements e within) j other element q there)
 
@@ -186,12 +168,19 @@ of-letter s headers elements e =
       rows-tell = tell s headers elements e;
       content = content s headers elements e;
       content-20 = content-20 s headers elements e;
+      content-21 = content-21 s headers elements e;
+      joins = joins s headers elements e;
+      joins-20 = joins-20 s headers elements e;
+      joins-22 = joins-22 s headers elements e;
+      joins-within = λ j unit at row p. told-within (unit .content) _ (tell s headers elements e j row unit p (at .there) .content);
+      part-joined = part-joined s headers elements e;
       writes = writes s headers elements e;
       writes-17 = writes-17 s headers elements e;
       writes-18 = writes-18 s headers elements e;
       normal-accepted = normal-accepted s headers elements e;
       normal-tree = normal-tree s headers elements e;
       normal-rows = normal-rows s headers elements e;
+      normal-joined = λ within. same-joined s (normalForm s) e (normal-accepted s headers elements e within);
       normal-again = again s (treeOf s) (accepts-walked (f .walked));
     }
 

@@ -9,7 +9,8 @@ use Rattle.answers.specs.declared.Written.{Written}
 use Rattle.answers.specs.declared.Listed.{Listed}
 use Rattle.answers.specs.declared.Reason.{Reason}
 use Rattle.answers.specs.declared.Located.{Located}
-use Rattle.answers.specs.Answers.{CheckOutcome, NormalOutcome, ListOutcome, fetched, whyNot, Fetches}
+use Rattle.answers.specs.declared.Copied.{Copied}
+use Rattle.answers.specs.Answers.{CheckOutcome, NormalOutcome, ListOutcome, fetched, whyNot, Fetches, JoinedOutcome}
 
 pub check-determined : {s table : List ℕ} {a b : Checked} {t u : List ℕ} → CheckOutcome s table a t → CheckOutcome s table b u → (a ≡ b) × (t ≡ u)
 check-determined x y = (x .answered ∙ sym (y .answered), x .tabled ∙ sym (y .tabled))
@@ -30,3 +31,7 @@ why-determined s asked a b x y = x ∙ sym y
 
 pub located-determined : {s : List ℕ} {asked : ℕ} {a b : Located} → Fetches s asked a → Fetches s asked b → a ≡ b
 located-determined x y = x .answered ∙ sym (y .answered)
+
+pub joined-determined : {s : List ℕ} {asked : ℕ} {out : List ℕ} {a b : Copied} {t u : List ℕ}
+    → JoinedOutcome s asked out a t → JoinedOutcome s asked out b u → (a ≡ b) × (t ≡ u)
+joined-determined x y = (x .answered ∙ sym (y .answered), x .put ∙ sym (y .put))

@@ -1,7 +1,8 @@
--- Demand1, Demand2, Demand3: a value of each demand. Telling: a row tells what its element says. Examples: the starred examples hold.
--- Determined: two outcomes of one contract are equal. Wrong: the wrong programs of document 01 meet no contract.
+-- Demand1, Demand2, Demand3: a value of each demand. Telling: a row tells what its element says. Joining: of the content. Examples: the
+-- examples hold. Determined: two outcomes of one contract are equal. Wrong: the wrong programs of document 01 meet no contract.
 pub mod Demand1
 pub mod Telling
+pub mod Joining
 pub mod Demand2
 pub mod Demand3
 pub mod Examples

@@ -17,17 +17,17 @@ use Rattle.octets.specs.Walk.{End}
 use Rattle.octets.specs.Rules.{Runs, at-limit, unclosed, closes, refuses, primitive, passes, breaks}
 use Rattle.tree.specs.Tree.{Tree, empty, leaf, branch, formed, plain}
 use Rattle.runs.specs.Runs.{startOf}
-use Rattle.contents.specs.Search.{firstValue, firstRun, boundsOf, itemsIn as insideOf}
+use Rattle.contents.specs.Search.{Value, firstValue, firstRun, boundsOf, itemsIn as insideOf}
 use Rattle.elements.specs.declared.Row.{Row}
 use Rattle.elements.specs.declared.Shape.{Shape}
 use Rattle.elements.specs.Shape.{Edition, edition1988, shapeOf}
-use Rattle.elements.specs.Element.{Element, bodyOf, elementOf}
+use Rattle.elements.specs.Element.{noneOf, single, inPieces, contentOf, Element, bodyOf, elementOf}
 use Rattle.elements.specs.Judge.{Judged, accepted, refused, refusalOf, judgeOne, judgeFrom, judge}
-use Rattle.elements.specs.Rows.{bodyIn, rowOf, rowsOf}
+use Rattle.elements.specs.Rows.{bodyIn, contentOctet, rowOf, rowsOf}
 use Rattle.elements.specs.WellMade.{WellMade}
 use Rattle.elements.proofs.Made.{made-1988}
-use Rattle.answers.specs.Answers.{contentOf}
-use Rattle.demands.specs.Demands.{itemsIn, octetsIn, RowTells}
+use Rattle.answers.specs.Answers.{bytesOf}
+use Rattle.demands.specs.Demands.{itemsIn, octetsIn}
 
 -- a primitive item has no items inside
 pub data Proper : Items → Type 0 where
@@ -54,9 +54,17 @@ count-tree (primitive l h c r) = rw c (let e = count-tree r in omega arith)
 count-tree (passes l h c v r) = rw c (let e = count-tree v in let f = count-tree r in omega arith)
 count-tree (breaks l h c v) = rw c (let e = count-tree v in omega arith)
 
+-- what a row tells of its element; of its content, if that is one value
+pub record Tells (s : List ℕ) (row : Row) (element : Element) : Type 0 where
+  pub kind : row .kind ≡ element .kind
+  pub object : row .object ≡ element .object
+  pub identifier : octetsIn s (row .identifier) ≡ bytesOf (element .identifier)
+  pub logical : octetsIn s (row .logical) ≡ bytesOf (element .logical)
+  pub whole : (value : Value) → element .content ≡ single value → octetsIn s (row .content) ≡ bytesOf value
+
 module _ (s : List ℕ) where
   -- the bounds of the first primitive item with an octet bound its value
-  value-at : (octet : ℕ) → constructed octet ≡ false → (i : Items) → octetsIn s (boundsOf octet i) ≡ contentOf (firstValue octet (plain s i))
+  value-at : (octet : ℕ) → constructed octet ≡ false → (i : Items) → octetsIn s (boundsOf octet i) ≡ bytesOf (firstValue octet (plain s i))
   unfolding boundsOf firstValue
   value-at octet c none = refl
   value-at octet c (item at type start past inside after) =
@@ -98,16 +106,31 @@ module _ (s : List ℕ) where
       rw (l, z) (run-at (shape .within) held i)))
       (λ l. rw l)
 
-  row-tells : (shape : Shape) → WellMade shape → (first past : ℕ) (i : Items) → RowTells s (rowOf shape s first past i) (elementOf shape (plain s i))
+  -- the content fields of an element whose content is one value bound that
+  whole-at : (shape : Shape) → WellMade shape → (i : Items) (value : Value) → contentOf shape (plain s i) ≡ single value
+      → octetsIn s (boundsOf (contentOctet shape (plain s i)) i) ≡ bytesOf value
+  unfolding contentOf contentOctet
+  whole-at shape made i value e =
+      cases (noneOf (shape .pieces) (plain s i))
+      (λ t.
+      let q : single (firstValue (shape .content) (plain s i)) ≡ single value = rw t at e in
+      let v : firstValue (shape .content) (plain s i) ≡ value = cc in
+      rw t (value-at (shape .content) (made .content) i ∙ ap bytesOf v))
+      (λ t.
+      let q : inPieces (firstRun (shape .pieces) (plain s i)) ≡ single value = rw t at e in
+      let z : _≡_ {A = ℕ} 0 1 = cc in
+      absurd (omega arith))
+
+  row-tells : (shape : Shape) → WellMade shape → (first past : ℕ) (i : Items) → Tells s (rowOf shape s first past i) (elementOf shape (plain s i))
   unfolding rowOf elementOf
   row-tells shape made first past i =
       let body : plain s (bodyIn shape i) ≡ bodyOf shape (plain s i) = body-at shape made i in
       record {
         kind = refl;
         object = refl;
-        identifier = value-at (shape .identifier .octet) (made .identifier) (bodyIn shape i) ∙ ap (λ (t : Tree). contentOf (firstValue (shape .identifier .octet) t)) body;
-        logical = value-at (shape .logical) (made .logical) (bodyIn shape i) ∙ ap (λ (t : Tree). contentOf (firstValue (shape .logical) t)) body;
-        content = value-at (shape .content) (made .content) i;
+        identifier = value-at (shape .identifier .octet) (made .identifier) (bodyIn shape i) ∙ ap (λ (t : Tree). bytesOf (firstValue (shape .identifier .octet) t)) body;
+        logical = value-at (shape .logical) (made .logical) (bodyIn shape i) ∙ ap (λ (t : Tree). bytesOf (firstValue (shape .logical) t)) body;
+        whole = whole-at shape made i;
       }
 
 -- what the elements of a tree say, whether or not a rule refuses them
@@ -153,7 +176,7 @@ same-element s octet value inside after n =
     (λ c. let e : inside ≡ none = n c in rw (c, e))
 
 rows-tell-by : (s : List ℕ) {i : Items} → Proper i → (j : ℕ) (row : Row) (element : Element) → getElem? (rowsOf edition1988 s i) j ≡ some row
-    → getElem? (elementsOf edition1988 (plain s i)) j ≡ some element → RowTells s row element
+    → getElem? (elementsOf edition1988 (plain s i)) j ≡ some element → Tells s row element
 unfolding rowsOf elementsOf
 rows-tell-by s nothing j row element e f = let z : _≡_ {A = ℕ} 0 1 = cc in absurd (omega arith)
 rows-tell-by s (more {at} {octet} {start} {past} {inside} {after} n p) zero row element e f =
@@ -162,7 +185,7 @@ rows-tell-by s (more {at} {octet} {start} {past} {inside} {after} n p) zero row 
     ap (λ (es : List Element). getElem? es 0) (sym (same-element s octet (slice start past s) inside (plain s after) n)) ∙ f in
     let r : rowOf shape s at (startOf (length s) after) inside ≡ row = cc in
     let x : elementOf shape (plain s inside) ≡ element = cc in
-    subst (RowTells s row) x (subst (λ (o : Row). RowTells s o (elementOf shape (plain s inside))) r (row-tells s shape (made-1988 octet) at (startOf (length s) after) inside))
+    subst (Tells s row) x (subst (λ (o : Row). Tells s o (elementOf shape (plain s inside))) r (row-tells s shape (made-1988 octet) at (startOf (length s) after) inside))
 rows-tell-by s (more {at} {octet} {start} {past} {inside} {after} n p) (suc j) row element e f =
     let g : getElem? (elementsOf edition1988 (plain s after)) j ≡ some element =
     ap (λ (es : List Element). getElem? es (suc j)) (sym (same-element s octet (slice start past s) inside (plain s after) n)) ∙ f in
@@ -180,6 +203,6 @@ module _ (s : List ℕ) {i : Items} (p : Proper i) (elements : List Element) (ju
   rows-counted = rows-count s p ∙ ap length (sym (accepted-elements edition1988 (plain s i) elements judged))
 
   pub rows-tell : (j : ℕ) (row : Row) (element : Element) → getElem? (rowsOf edition1988 s i) j ≡ some row → getElem? elements j ≡ some element
-      → RowTells s row element
+      → Tells s row element
   rows-tell j row element e f =
       rows-tell-by s p j row element e (ap (λ (es : List Element). getElem? es j) (sym (accepted-elements edition1988 (plain s i) elements judged)) ∙ f)

@@ -3,25 +3,29 @@
 use mathlib.Core.Path.{_≡_, refl, ap, sym, _∙_}
 use mathlib.Core.Bool.{xor}
 use mathlib.Core.List.{List, [], _∷_}
+use mathlib.Core.Option.{some}
 use Prim.Native.Nat.{ℕ}
 use native.Mathlib.Omega.{arith}
-use lib.ListN.{length, getD, replicate}
+use lib.ListN.{length, getD, getElem?, replicate}
 use Rattle.headers.specs.First.{permits, formAllowed}
 use Rattle.headers.specs.Lengths.{bigEndianFrom, misfits}
 use Rattle.headers.specs.Head.{definiteAt, indefiniteAt, longAt, byFirst, lengthAt, itemAt, closingAt, headAt}
 use Rattle.octets.specs.Walk.{runFor, run, walkOf}
+use Rattle.tree.specs.Tree.{Tree, empty, leaf, branch}
 use Rattle.names.specs.Names.{digit, grouped, isIdentifier, digits as allDigits, isPortion, same}
 use Rattle.normal.specs.Length.{digits}
 use Rattle.normal.specs.Normal.{normalOf}
 use Rattle.index.specs.Rows.{space}
-use Rattle.contents.specs.Search.{amount, firstValue, firstRun}
+use Rattle.contents.specs.Search.{absent, amount, firstValue, firstRun, boundsOf, itemsIn}
 use Rattle.contents.specs.Order.{inOrder}
+use Rattle.pieces.specs.Pieces.{onlyPieces, joined}
 use Rattle.portions.specs.Portions.{allPortions, values, wellSpelt, among, repeats}
 use Rattle.elements.specs.Shape.{shapeOf}
-use Rattle.elements.specs.Element.{bodyOf, elementOf, asTabled, namesFit}
+use Rattle.elements.specs.Element.{Content, single, inPieces, contentOf, joinedContent, Element, bodyOf, elementOf, ordered, asTabled, namesFit}
 use Rattle.elements.specs.Judge.{clash, twice, refusalOf, judgeOne, judgeFrom, judge}
-use Rattle.elements.specs.Rows.{placeOf}
-use Rattle.letters.specs.Letter.{letterOf}
+use Rattle.elements.specs.declared.Row.{Row}
+use Rattle.elements.specs.Rows.{bodyIn, contentOctet, rowOf, rowsOf, placeOf}
+use Rattle.letters.specs.Letter.{letter, letterOf}
 use Rattle.reading.specs.declared.Match.{Match}
 use Rattle.reading.specs.declared.Side.{Side}
 use Rattle.reading.specs.declared.Side.the-variants.{Layout}
@@ -29,7 +33,9 @@ use Rattle.reading.specs.Match.{joins, forEach, portionMatches, elementMatches,
 use Rattle.answers.specs.declared.Checked.{Checked}
 use Rattle.answers.specs.declared.Written.{Written}
 use Rattle.answers.specs.declared.Listed.{Listed}
-use Rattle.answers.specs.Answers.{onto, checked, CheckOutcome, written, writtenOutput, NormalOutcome, listed, listedList, ListOutcome, fetched}
+use Rattle.answers.specs.declared.Copied.{Copied}
+use Rattle.answers.specs.Answers.{letterIn, rowsIn, onto, checked, CheckOutcome, written, writtenOutput, NormalOutcome, listed, listedList, ListOutcome, fetched, joinedIn, copied, copiedOutput, JoinedOutcome}
+use Rattle.demands.specs.Demands.{octetsIn}
 
 -- programs: what they answer, and what they leave in what they were lent
 abbrev Checker : Type 0
@@ -44,6 +50,9 @@ Lister = (side : Side) (s table : List ℕ) (list : List Match) → Listed × Li
 abbrev Fetcher : Type 0
 Fetcher = (s : List ℕ) (asked : ℕ) → List ℕ
 
+abbrev Joiner : Type 0
+Joiner = (s : List ℕ) (asked : ℕ) (out : List ℕ) → Copied × List ℕ
+
 -- programs that meet the contracts
 abbrev pub Checks : Checker → Type 0
 Checks f = (s table : List ℕ) → CheckOutcome s table (f s table .0) (f s table .1)
@@ -56,6 +65,9 @@ Lists f = (side : Side) (s table : List ℕ) (list : List Match) → ListOutcome
 
 abbrev pub FetchesParts : Fetcher → Type 0
 FetchesParts f = (s : List ℕ) (asked : ℕ) → f s asked ≡ fetched s asked .part
+
+abbrev pub Joins : Joiner → Type 0
+Joins f = (s : List ℕ) (asked : ℕ) (out : List ℕ) → JoinedOutcome s asked out (f s asked out .0) (f s asked out .1)
 
 -- a table of three rows
 abbrev table : List ℕ
@@ -82,6 +94,29 @@ printed =
     ∷ 0xA2 ∷ 0x11 ∷ 0x02 ∷ 0x01 ∷ 0x04 ∷ 0x31 ∷ 0x0C ∷ 0x41 ∷ 0x05 ∷ 0x31 ∷ 0x20 ∷ 0x30 ∷ 0x20 ∷ 0x32 ∷ 0xA1 ∷ 0x03 ∷ 0x12 ∷ 0x01 ∷ 0x30
     ∷ 0xA3 ∷ 0x0F ∷ 0x31 ∷ 0x09 ∷ 0x40 ∷ 0x07 ∷ 0x31 ∷ 0x20 ∷ 0x30 ∷ 0x20 ∷ 0x32 ∷ 0x20 ∷ 0x30 ∷ 0x04 ∷ 0x02 ∷ 0x48 ∷ 0x69 ∷ []
 
+-- the letter with content in pieces that document 01 prints, and what its elements say
+abbrev pieced : List ℕ
+pieced = 0xA0 ∷ 0x00 ∷ 0xA3 ∷ 0x08 ∷ 0x24 ∷ 0x06 ∷ 0x04 ∷ 0x01 ∷ 0x48 ∷ 0x04 ∷ 0x01 ∷ 0x69 ∷ []
+
+abbrev saying : (kind : ℕ) → Content → Element
+saying kind content = record { kind = kind; object = 255; identifier = absent; logical = absent; portions = []; content = content }
+
+abbrev unit : Element
+unit = saying 3 (inPieces (leaf (0x04 ∷ []) (0x48 ∷ []) (leaf (0x04 ∷ []) (0x69 ∷ []) empty)))
+
+abbrev piecedElements : List Element
+piecedElements = saying 0 (single absent) ∷ unit ∷ []
+
+-- the first piece of a content
+abbrev firstOf : Tree → List ℕ
+firstOf empty = []
+firstOf (leaf type value after) = value
+firstOf (branch type inside after) = firstOf inside
+
+abbrev firstPiece : Content → List ℕ
+firstPiece (single value) = joinedContent (single value)
+firstPiece (inPieces run) = firstOf run
+
 abbrev firstElement : List Match → ℕ
 firstElement [] = 0
 firstElement (m ∷ ms) = m .element
@@ -90,7 +125,7 @@ abbrev noMatch : Match
 noMatch = record { element = 9; portion = 9; unit = 9 }
 
 accepts-profile : checked profile table ≡ record { number = 0; place = 0; headers = 1; elements = 1 }
-unfolding permits formAllowed bigEndianFrom misfits definiteAt indefiniteAt longAt byFirst lengthAt itemAt closingAt headAt runFor run walkOf amount firstValue firstRun allPortions values wellSpelt repeats shapeOf bodyOf elementOf asTabled namesFit clash twice refusalOf judgeOne judgeFrom judge placeOf letterOf checked xor
+unfolding permits formAllowed bigEndianFrom misfits definiteAt indefiniteAt longAt byFirst lengthAt itemAt closingAt headAt runFor run walkOf amount firstValue firstRun allPortions values wellSpelt repeats shapeOf bodyOf contentOf elementOf ordered asTabled namesFit clash twice refusalOf judgeOne judgeFrom judge placeOf letterOf checked xor
 accepts-profile = refl
 
 refuses-nothing : checked [] table .number ≡ 11
@@ -98,24 +133,48 @@ unfolding runFor run walkOf judge placeOf letterOf checked
 refuses-nothing = refl
 
 two-headers : checked two table .headers ≡ 2
-unfolding permits formAllowed bigEndianFrom misfits definiteAt indefiniteAt longAt byFirst lengthAt itemAt closingAt headAt runFor run walkOf amount firstValue firstRun allPortions values wellSpelt repeats shapeOf bodyOf elementOf asTabled namesFit clash twice refusalOf judgeOne judgeFrom judge placeOf letterOf checked xor
+unfolding permits formAllowed bigEndianFrom misfits definiteAt indefiniteAt longAt byFirst lengthAt itemAt closingAt headAt runFor run walkOf amount firstValue firstRun allPortions values wellSpelt repeats shapeOf bodyOf contentOf elementOf ordered asTabled namesFit clash twice refusalOf judgeOne judgeFrom judge placeOf letterOf checked xor
 two-headers = refl
 
 one-header : checked marked table .headers ≡ 1
-unfolding permits formAllowed bigEndianFrom misfits definiteAt indefiniteAt longAt byFirst lengthAt itemAt closingAt headAt runFor run walkOf amount firstValue firstRun allPortions values wellSpelt repeats shapeOf bodyOf elementOf asTabled namesFit clash twice refusalOf judgeOne judgeFrom judge placeOf letterOf checked xor
+unfolding permits formAllowed bigEndianFrom misfits definiteAt indefiniteAt longAt byFirst lengthAt itemAt closingAt headAt runFor run walkOf amount firstValue firstRun allPortions values wellSpelt repeats shapeOf bodyOf contentOf elementOf ordered asTabled namesFit clash twice refusalOf judgeOne judgeFrom judge placeOf letterOf checked xor
 one-header = refl
 
 shorter-form : (written marked nines .number ≡ 0) × (writtenOutput marked nines ≡ 0xA0 ∷ 0x00 ∷ 9 ∷ 9 ∷ [])
-unfolding permits formAllowed bigEndianFrom misfits definiteAt indefiniteAt longAt byFirst lengthAt itemAt closingAt headAt runFor run walkOf amount firstValue firstRun allPortions values wellSpelt repeats shapeOf bodyOf elementOf asTabled namesFit clash twice refusalOf judgeOne judgeFrom judge placeOf letterOf digits normalOf written writtenOutput xor
+unfolding permits formAllowed bigEndianFrom misfits definiteAt indefiniteAt longAt byFirst lengthAt itemAt closingAt headAt runFor run walkOf amount firstValue firstRun allPortions values wellSpelt repeats shapeOf bodyOf contentOf elementOf ordered asTabled namesFit clash twice refusalOf judgeOne judgeFrom judge placeOf letterOf digits normalOf written writtenOutput xor
 shorter-form = (refl, refl)
 
 one-match : listedList Layout printed table (noMatch ∷ []) ≡ record { element = 1; portion = 0; unit = 2 } ∷ []
-unfolding permits formAllowed bigEndianFrom misfits definiteAt indefiniteAt longAt byFirst lengthAt itemAt closingAt headAt runFor run walkOf amount firstValue firstRun inOrder allPortions values wellSpelt among repeats digit grouped isIdentifier allDigits isPortion same space shapeOf bodyOf elementOf asTabled namesFit clash twice refusalOf judgeOne judgeFrom judge placeOf letterOf joins forEach portionMatches elementMatches matches listed listedList xor
+unfolding permits formAllowed bigEndianFrom misfits definiteAt indefiniteAt longAt byFirst lengthAt itemAt closingAt headAt runFor run walkOf amount firstValue firstRun inOrder allPortions values wellSpelt among repeats digit grouped isIdentifier allDigits isPortion same space shapeOf bodyOf contentOf elementOf ordered asTabled namesFit clash twice refusalOf judgeOne judgeFrom judge placeOf letterOf joins forEach portionMatches elementMatches matches listed listedList xor
 one-match = refl
 
 some-content : fetched printed 2 .part ≡ 0x48 ∷ 0x69 ∷ []
-unfolding permits formAllowed bigEndianFrom misfits definiteAt indefiniteAt longAt byFirst lengthAt itemAt closingAt headAt runFor run walkOf amount firstValue firstRun inOrder allPortions values wellSpelt among repeats digit grouped isIdentifier allDigits isPortion same space shapeOf bodyOf elementOf asTabled namesFit clash twice refusalOf judgeOne judgeFrom judge placeOf letterOf fetched xor
+unfolding permits formAllowed bigEndianFrom misfits definiteAt indefiniteAt longAt byFirst lengthAt itemAt closingAt headAt runFor run walkOf amount firstValue firstRun inOrder allPortions values wellSpelt among repeats digit grouped isIdentifier allDigits isPortion same space shapeOf bodyOf contentOf elementOf ordered asTabled namesFit clash twice refusalOf judgeOne judgeFrom judge placeOf letterOf fetched xor
 some-content = refl
+
+pieced-letter : letterIn pieced ≡ letter 5 piecedElements
+unfolding permits formAllowed bigEndianFrom misfits definiteAt indefiniteAt longAt byFirst lengthAt itemAt closingAt headAt runFor run walkOf amount firstValue firstRun inOrder allPortions values wellSpelt among repeats digit grouped isIdentifier allDigits isPortion same space onlyPieces shapeOf bodyOf contentOf elementOf ordered asTabled namesFit clash twice refusalOf judgeOne judgeFrom judge placeOf letterOf xor
+pieced-letter = refl
+
+joined-pieces : (copied pieced 1 nines .number ≡ 0) × (copiedOutput pieced 1 nines ≡ 0x48 ∷ 0x69 ∷ 9 ∷ 9 ∷ [])
+unfolding permits formAllowed bigEndianFrom misfits definiteAt indefiniteAt longAt byFirst lengthAt itemAt closingAt headAt runFor run walkOf amount firstValue firstRun inOrder allPortions values wellSpelt among repeats digit grouped isIdentifier allDigits isPortion same space shapeOf bodyOf contentOf elementOf ordered asTabled namesFit clash twice refusalOf judgeOne judgeFrom judge placeOf letterOf onlyPieces joined joinedIn copied copiedOutput xor
+joined-pieces = (refl, refl)
+
+-- the row of its text unit, whose content fields give the value of the 24
+abbrev piecedRow : Row
+piecedRow = record {
+  kind = 3;
+  object = 255;
+  whole = record { first = 2; past = 12 };
+  identifier = record { first = 0; past = 0 };
+  logical = record { first = 0; past = 0 };
+  portions = record { first = 0; past = 0 };
+  content = record { first = 6; past = 12 };
+}
+
+row-of-pieces : getElem? (rowsIn pieced) 1 ≡ some piecedRow
+unfolding permits formAllowed bigEndianFrom misfits definiteAt indefiniteAt longAt byFirst lengthAt itemAt closingAt headAt runFor run walkOf amount firstValue firstRun inOrder allPortions values wellSpelt among repeats digit grouped isIdentifier allDigits isPortion same space shapeOf bodyOf contentOf elementOf ordered asTabled namesFit clash twice refusalOf judgeOne judgeFrom judge placeOf letterOf onlyPieces bodyIn contentOctet boundsOf itemsIn rowOf rowsOf xor
+row-of-pieces = refl
 
 -- no checker refuses every stream,
 pub refuses-all : (f : Checker) → Checks f → ((s rows : List ℕ) → f s rows .0 .number ≡ 0 → ⊥) → ⊥
@@ -149,10 +208,31 @@ fetches-nothing f meets wrong =
     let z : _≡_ {A = ℕ} 0 2 = ap length (sym (wrong printed 2) ∙ meets printed 2 ∙ some-content) in
     omega arith
 
--- and no writer copies its input wherever it writes.
+-- no writer copies its input wherever it writes;
 pub copies-input : (f : Writer) → Writes f → ((s out : List ℕ) → f s out .0 .number ≡ 0 → f s out .1 ≡ onto s out) → ⊥
 copies-input f meets wrong =
     let m = meets marked nines in
     let w : f marked nines .0 .number ≡ 0 = ap (λ (a : Written). a .number) (m .answered) ∙ shorter-form .0 in
     let z : _≡_ {A = ℕ} 0x80 0 = ap (λ (octets : List ℕ). getD octets 1 0) (sym (wrong marked nines w) ∙ m .put ∙ shorter-form .1) in
+    omega arith
+
+-- no joiner gives the first piece alone;
+pub joins-first : (f : Joiner) → Joins f
+    → ((s : List ℕ) (asked : ℕ) (out : List ℕ) (headers : ℕ) (elements : List Element) (element : Element) → letterIn s ≡ letter headers elements
+    → getElem? elements asked ≡ some element → f s asked out .0 .number ≡ 0 → f s asked out .1 ≡ onto (firstPiece (element .content)) out) → ⊥
+joins-first f meets wrong =
+    let m = meets pieced 1 nines in
+    let w : f pieced 1 nines .0 .number ≡ 0 = ap (λ (a : Copied). a .number) (m .answered) ∙ joined-pieces .0 in
+    let z : _≡_ {A = ℕ} 9 0x69 =
+    ap (λ (octets : List ℕ). getD octets 1 0) (sym (wrong pieced 1 nines 5 piecedElements unit pieced-letter refl w) ∙ m .put ∙ joined-pieces .1) in
+    omega arith
+
+-- and none copies what the row bounds, the pieces with their headers.
+pub joins-headers : (f : Joiner) → Joins f
+    → ((s : List ℕ) (asked : ℕ) (out : List ℕ) (row : Row) → getElem? (rowsIn s) asked ≡ some row → f s asked out .0 .number ≡ 0
+    → f s asked out .1 ≡ onto (octetsIn s (row .content)) out) → ⊥
+joins-headers f meets wrong =
+    let m = meets pieced 1 nines in
+    let w : f pieced 1 nines .0 .number ≡ 0 = ap (λ (a : Copied). a .number) (m .answered) ∙ joined-pieces .0 in
+    let z : _≡_ {A = ℕ} 0x04 0x48 = ap (λ (octets : List ℕ). getD octets 0 0) (sym (wrong pieced 1 nines piecedRow row-of-pieces w) ∙ m .put ∙ joined-pieces .1) in
     omega arith

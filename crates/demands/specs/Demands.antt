@@ -16,9 +16,10 @@ use Rattle.tree.specs.Codes.{Codes}
 use Rattle.normal.specs.Normal.{normalForm}
 use Rattle.index.specs.Rows.{rowWidth}
 use Rattle.contents.specs.declared.Span.{Span}
+use Rattle.contents.specs.Search.{Value}
 use Rattle.elements.specs.declared.Row.{Row}
 use Rattle.elements.specs.Shape.{edition1988}
-use Rattle.elements.specs.Element.{Element}
+use Rattle.elements.specs.Element.{Content, single, inPieces, joinedContent, Element}
 use Rattle.elements.specs.Judge.{accepted, judge}
 use Rattle.letters.specs.Letter.{letter, itemsOfStream}
 use Rattle.letters.specs.Table.{EndToEnd, PairsWithin}
@@ -26,7 +27,7 @@ use Rattle.reading.specs.declared.Match.{Match}
 use Rattle.reading.specs.declared.Side.{Side}
 use Rattle.reading.specs.Match.{unitKind, matches}
 use Rattle.reading.specs.Promises.{IsMatch, Before}
-use Rattle.answers.specs.Answers.{letterIn, rowsIn, onto, tableOf, checked, checkedTable, written, writtenOutput, listed, listedTable, matchesIn, listedList, contentOf, fetched}
+use Rattle.answers.specs.Answers.{letterIn, rowsIn, onto, tableOf, checked, checkedTable, written, writtenOutput, listed, listedTable, matchesIn, listedList, handed, bytesOf, fetched, joinedIn, copied, copiedOutput}
 
 -- A number that a question may give, and its place: 0, one of 1 to 15, or one of the question's own, "where the question can give it". The
 -- place lies in the stream; it is 0 with 0 and from 16 on.
@@ -41,7 +42,8 @@ pub record Demand1 : Type 0 where
   pub check-told : (s table : List ℕ) → Told s (16 ∷ []) (checked s table .number) (checked s table .place)
   pub normal-told : (s out : List ℕ) → Told s (17 ∷ 18 ∷ []) (written s out .number) (written s out .place)
   pub list-told : (side : Side) (s table : List ℕ) (room : ℕ) → Told s (16 ∷ 19 ∷ []) (listed side s table room .number) (listed side s table room .place)
-  pub content-told : (s : List ℕ) (asked : ℕ) → Told s (20 ∷ []) (fetched s asked .number) (fetched s asked .place)
+  pub content-told : (s : List ℕ) (asked : ℕ) → Told s (20 ∷ 21 ∷ []) (fetched s asked .number) (fetched s asked .place)
+  pub joined-told : (s : List ℕ) (asked : ℕ) (out : List ℕ) → Told s (20 ∷ 22 ∷ []) (copied s asked out .number) (copied s asked out .place)
   -- "the header count is the number of items that passed 2 to 8, at most half the stream's bytes .. After 1 it is 0"
   pub headers : (s table : List ℕ) → length s ≤ streamLimit → checked s table .headers ≡ count (itemsOfStream s)
   pub headers-half : (s table : List ℕ) → checked s table .headers + checked s table .headers ≤ length s
@@ -51,6 +53,8 @@ pub record Demand1 : Type 0 where
   pub normal-counts : (s out : List ℕ) → (written s out .number ≡ 0 → ⊥) → written s out .length ≡ 0
   pub list-counts : (side : Side) (s table : List ℕ) (room : ℕ) → (listed side s table room .number ≡ 0 → ⊥)
       → (listed side s table room .matches ≡ 0) × ((listed side s table room .number ≡ 19 → ⊥) → listed side s table room .elements ≡ 0)
+  -- "gives its length, 0 if refused"
+  pub joined-counts : (s : List ℕ) (asked : ℕ) (out : List ℕ) → (copied s asked out .number ≡ 0 → ⊥) → copied s asked out .length ≡ 0
   -- "A refusal leaves the lent table, list and output untouched, except that 19 leaves the finished table."
   pub check-untouched : (s table : List ℕ) → (checked s table .number ≡ 0 → ⊥) → checkedTable s table ≡ table
   pub normal-untouched : (s out : List ℕ) → (written s out .number ≡ 0 → ⊥) → writtenOutput s out ≡ out
@@ -60,6 +64,7 @@ pub record Demand1 : Type 0 where
       → (listed side s table room .number ≡ 19 → ⊥) → listedTable side s table room ≡ table
   pub list-table-finished : (side : Side) (s table : List ℕ) (room : ℕ) → listed side s table room .number ≡ 19
       → listedTable side s table room ≡ tableOf s table
+  pub joined-untouched : (s : List ℕ) (asked : ℕ) (out : List ℕ) → (copied s asked out .number ≡ 0 → ⊥) → copiedOutput s asked out ≡ out
   -- "a refused fetch gives an empty part"
   pub content-empty : (s : List ℕ) (asked : ℕ) → (fetched s asked .number ≡ 0 → ⊥) → fetched s asked .part ≡ []
 
@@ -81,21 +86,47 @@ pub record IsLetterOf (s : List ℕ) (headers : ℕ) (elements : List Element) :
 abbrev pub octetsIn : List ℕ → Span → List ℕ
 octetsIn s pair = slice (pair .first) (pair .past) s
 
+-- the levels that are left for pieces: an element stands at level 1, the 24 at level 2, and "level 16 is the deepest"
+abbrev pub pieceLevels : ℕ
+pieceLevels = 14
+
+-- the octets that the content fields of a row bound are the value of one item; or, if the content is in pieces, octets that code the pieces
+abbrev pub TellsContent : List ℕ → Content → Type 0
+TellsContent bytes (single value) = bytes ≡ bytesOf value
+TellsContent bytes (inPieces run) = Codes pieceLevels run bytes
+
 -- a row tells what its element says: its kind and object type, and octets of the stream
 pub record RowTells (s : List ℕ) (row : Row) (element : Element) : Type 0 where
   pub kind : row .kind ≡ element .kind
   pub object : row .object ≡ element .object
-  pub identifier : octetsIn s (row .identifier) ≡ contentOf (element .identifier)
-  pub logical : octetsIn s (row .logical) ≡ contentOf (element .logical)
-  pub content : octetsIn s (row .content) ≡ contentOf (element .content)
+  pub identifier : octetsIn s (row .identifier) ≡ bytesOf (element .identifier)
+  pub logical : octetsIn s (row .logical) ≡ bytesOf (element .logical)
+  pub content : TellsContent (octetsIn s (row .content)) (element .content)
 
--- two rows of two streams with the same kind, type, identifiers and content
-pub record SameRow (s : List ℕ) (row : Row) (t : List ℕ) (other : Row) : Type 0 where
+-- two contents of one element, in two streams: the same octets; or, if it is in pieces, octets that code the same pieces
+abbrev pub SameContent : Content → (bytes other : List ℕ) → Type 0
+SameContent (single value) bytes other = bytes ≡ other
+SameContent (inPieces run) bytes other = Codes pieceLevels run bytes × Codes pieceLevels run other
+
+-- two rows of two streams, for one element, with the same kind, type, identifiers and content
+pub record SameRow (element : Element) (s : List ℕ) (row : Row) (t : List ℕ) (other : Row) : Type 0 where
   pub kind : row .kind ≡ other .kind
   pub object : row .object ≡ other .object
   pub identifier : octetsIn s (row .identifier) ≡ octetsIn t (other .identifier)
   pub logical : octetsIn s (row .logical) ≡ octetsIn t (other .logical)
-  pub content : octetsIn s (row .content) ≡ octetsIn t (other .content)
+  pub content : SameContent (element .content) (octetsIn s (row .content)) (octetsIn t (other .content))
+
+-- element j is a text unit
+pub record UnitAt (elements : List Element) (j : ℕ) (unit : Element) : Type 0 where
+  pub there : getElem? elements j ≡ some unit
+  pub kind : unit .kind ≡ unitKind
+
+-- element j is a text unit with content in pieces
+pub record PiecesAt (elements : List Element) (j : ℕ) : Type 0 where
+  pub unit : Element
+  pub is-unit : UnitAt elements j unit
+  pub run : Tree
+  pub content : unit .content ≡ inPieces run
 
 -- Demand 2, of a letter with these headers and elements.
 pub record OfLetter (s : List ℕ) (headers : ℕ) (elements : List Element) : Type 0 where
@@ -108,10 +139,21 @@ pub record OfLetter (s : List ℕ) (headers : ℕ) (elements : List Element) : T
   pub pairs-within : (j : ℕ) (row : Row) → getElem? (rowsIn s) j ≡ some row → PairsWithin row
   pub rows-counted : length (rowsIn s) ≡ length elements
   pub rows-tell : (j : ℕ) (row : Row) (element : Element) → getElem? (rowsIn s) j ≡ some row → getElem? elements j ≡ some element → RowTells s row element
-  -- the content of a text unit is what its 04 says, and of any other number nothing
-  pub content : (j : ℕ) (unit : Element) → getElem? elements j ≡ some unit → unit .kind ≡ unitKind
-      → fetched s j ≡ record { number = 0; place = 0; part = contentOf (unit .content) }
-  pub content-20 : (j : ℕ) → (fetched s j .number ≡ 20) ↔ ((unit : Element) → getElem? elements j ≡ some unit → unit .kind ≡ unitKind → ⊥)
+  -- "The part question still serves 04": the part is what the 04 says; it is refused by 20 of what is no text unit, and by 21 of pieces
+  pub content : (j : ℕ) (unit : Element) → UnitAt elements j unit → (value : Value) → unit .content ≡ single value → fetched s j ≡ handed (bytesOf value)
+  pub content-20 : (j : ℕ) → (fetched s j .number ≡ 20) ↔ ((unit : Element) → UnitAt elements j unit → ⊥)
+  pub content-21 : (j : ℕ) → (fetched s j .number ≡ 21) ↔ PiecesAt elements j
+  -- the joined content of a text unit is copied, unless the buffer is shorter, 22; the value that the row bounds is never shorter
+  pub joins : (j : ℕ) (unit : Element) → UnitAt elements j unit → (out : List ℕ) → length (joinedContent (unit .content)) ≤ length out
+      → (copied s j out ≡ record { number = 0; place = 0; length = length (joinedContent (unit .content)) })
+      × (copiedOutput s j out ≡ onto (joinedContent (unit .content)) out)
+  pub joins-20 : (j : ℕ) (out : List ℕ) → (copied s j out .number ≡ 20) ↔ ((unit : Element) → UnitAt elements j unit → ⊥)
+  pub joins-22 : (j : ℕ) (unit : Element) → UnitAt elements j unit → (out : List ℕ)
+      → (copied s j out .number ≡ 22) ↔ (length out < length (joinedContent (unit .content)))
+  pub joins-within : (j : ℕ) (unit : Element) → UnitAt elements j unit → (row : Row) → getElem? (rowsIn s) j ≡ some row
+      → length (joinedContent (unit .content)) ≤ length (octetsIn s (row .content))
+  -- "a 04 being one piece": where there is a part, it is the joined content
+  pub part-joined : (j : ℕ) → fetched s j .number ≡ 0 → joinedIn s j ≡ fetched s j
   -- the normal form is written, unless it passes the limit, 17, or else the output, 18
   pub writes : (out : List ℕ) → length (normalForm s) ≤ streamLimit → length (normalForm s) ≤ length out
       → (written s out ≡ record { number = 0; place = 0; length = length (normalForm s) }) × (writtenOutput s out ≡ onto (normalForm s) out)
@@ -121,8 +163,10 @@ pub record OfLetter (s : List ℕ) (headers : ℕ) (elements : List Element) : T
   -- types, identifiers and content
   pub normal-accepted : length (normalForm s) ≤ streamLimit → letterIn (normalForm s) ≡ letter headers elements
   pub normal-tree : length (normalForm s) ≤ streamLimit → treeOf (normalForm s) ≡ treeOf s
-  pub normal-rows : length (normalForm s) ≤ streamLimit → (j : ℕ) (row other : Row)
-      → getElem? (rowsIn s) j ≡ some row → getElem? (rowsIn (normalForm s)) j ≡ some other → SameRow s row (normalForm s) other
+  pub normal-rows : length (normalForm s) ≤ streamLimit → (j : ℕ) (element : Element) (row other : Row) → getElem? elements j ≡ some element
+      → getElem? (rowsIn s) j ≡ some row → getElem? (rowsIn (normalForm s)) j ≡ some other → SameRow element s row (normalForm s) other
+  -- "Normal form keeps the pieces": unit by unit its joined content is the same
+  pub normal-joined : length (normalForm s) ≤ streamLimit → (j : ℕ) → joinedIn (normalForm s) j ≡ joinedIn s j
   pub normal-again : length (normalForm s) ≤ streamLimit → normalForm (normalForm s) ≡ normalForm s
 
 -- Demand 2: accepted is what X.209 and the shapes say, and what is accepted is kept by the normal form.

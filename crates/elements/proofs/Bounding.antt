@@ -6,78 +6,102 @@ use Prim.Native.Nat.{ℕ, zero, suc, _+_, _<_}
 use native.Mathlib.Omega.{arith}
 use lib.Dec.{eqb}
 use lib.Seq.{slice}
+use borrow.Author.Tests.{eqb-false}
 use Rattle.headers.specs.First.{constructed}
 use Rattle.octets.specs.Items.{Items, none, item}
 use Rattle.octets.specs.Walk.{Walked}
 use Rattle.octets.specs.Rules.{at-limit}
 use Rattle.octets.proofs.RulesHold.{derived}
-use Rattle.tree.specs.Tree.{plain}
+use Rattle.tree.specs.Tree.{empty, plain}
 use Rattle.runs.specs.Whole.{Whole}
 use Rattle.runs.specs.declared.Run.{Run}
 use Rattle.runs.specs.Runs.{itemsOf, treeIn, definiteRun, Fine}
 use Rattle.contents.specs.declared.Part.{Part}
 use Rattle.contents.specs.declared.Span.{Span}
-use Rattle.contents.specs.Search.{Value, absent, octets, amount, firstValue, boundsOf, itemsIn}
+use Rattle.contents.specs.Search.{absent, amount, firstValue, firstRun, boundsOf, itemsIn}
 use Rattle.contents.specs.First.{spanOf, Holds, Lacks}
 use Rattle.contents.specs.Gather.{Counted}
-use Rattle.contents.proofs.Firsts.{amount-formed}
+use Rattle.contents.proofs.Firsts.{amount-formed, value-after, run-after}
 use Rattle.elements.specs.Says.{Placed, noSpan, Bounds}
 use Rattle.elements.specs.Frames.{Bounding, Inner}
 
--- a pair that bounds a value, or nothing, lies in the stream
-bounds-placed : (s : List ℕ) (v : Span) (value : Value) → Bounds s v value → Placed s v
-bounds-placed s v absent b = rw b (record { order = omega arith; inside = omega arith })
-bounds-placed s v (octets bytes) b = b .placed
+pub no-span-placed : (s : List ℕ) → Placed s noSpan
+no-span-placed s = record { order = omega arith; inside = omega arith }
 
-pub bounding-placed : {s : List ℕ} {r : Run} {octet : ℕ} {v : Span} → Bounding s r octet v → Placed s v
-bounding-placed {s} {r} {octet} {v} b = bounds-placed s v (firstValue octet (treeIn s r)) (b .value)
+module _ {s : List ℕ} {r : Run} {octet : ℕ} {p : Part} (h : Holds s r octet p) where
+  pub held-placed : Placed s (spanOf p)
+  held-placed = record { order = h .order; inside = h .inside }
 
-pub held-bounding : {s : List ℕ} {r : Run} {octet : ℕ} {p : Part} → Holds s r octet p → constructed octet ≡ false
-    → Bounding s r octet (spanOf p)
-held-bounding {s} {r} {octet} {p} h c =
-    let there : 0 < p .past = omega (arith, h .starts, h .order) in
-    record {
-      pair = sym (h .bounds);
-      value =
-          subst (Bounds s (spanOf p)) (sym (h .value c))
-          (record { placed = record { order = h .order; inside = h .inside }; there = there; value = refl });
-    }
+  pub held-there : 0 < p .past
+  held-there = omega (arith, h .starts, h .order)
+
+  pub held-bounding : Bounding s r octet (spanOf p)
+  held-bounding =
+      record {
+        pair = sym (h .bounds);
+        placed = held-placed;
+        value = λ c. subst (Bounds s (spanOf p)) (sym (h .value c)) (record { placed = held-placed; there = held-there; value = refl });
+      }
+
+  pub held-inner : constructed octet ≡ true → Inner s r octet (p .inner)
+  held-inner c = record { fine = h .inner-fine; items = sym (h .items); tree = sym (h .tree c) }
 
 pub lacked-bounding : {s : List ℕ} {r : Run} {octet : ℕ} → Lacks s r octet → Bounding s r octet noSpan
-lacked-bounding {s} l = record { pair = sym (l .bounds); value = subst (Bounds s noSpan) (sym (l .value)) refl }
+lacked-bounding {s} l =
+    record { pair = sym (l .bounds); placed = no-span-placed s; value = λ _. subst (Bounds s noSpan) (sym (l .value)) refl }
 
 not-here : (b : Bool) (n : ℕ) → cond {A = ℕ} b 1 0 + n ≡ 0 → (b ≡ false) × (n ≡ 0)
 not-here true n e = absurd (omega arith)
 not-here false n e = (refl, omega arith)
 
--- where no item has the octet, the pair is that of what is absent, and nothing is inside
-nothing-there : (s : List ℕ) (octet : ℕ) (i : Items) → amount octet (plain s i) ≡ 0
-    → (boundsOf octet i ≡ noSpan) × (itemsIn octet i ≡ none)
-unfolding boundsOf itemsIn
-nothing-there s octet none e = (refl, refl)
-nothing-there s octet (item at type start past inside after) e =
-    let counted = amount-formed octet type (slice start past s) (plain s inside) (plain s after) (constructed type) in
-    let k = not-here (eqb type octet) (amount octet (plain s after)) (sym counted ∙ e) in
-    rw (k .0) (nothing-there s octet after (k .1))
+-- items of which none has the octet
+record Without (s : List ℕ) (octet : ℕ) (i : Items) : Type 0 where
+  bounds : boundsOf octet i ≡ noSpan
+  items : itemsIn octet i ≡ none
+  value : firstValue octet (plain s i) ≡ absent
+  tree : firstRun octet (plain s i) ≡ empty
+
+without : (s : List ℕ) (octet : ℕ) (i : Items) → amount octet (plain s i) ≡ 0 → Without s octet i
+unfolding boundsOf itemsIn firstValue firstRun
+without s octet none e = record { bounds = refl; items = refl; value = refl; tree = refl }
+without s octet (item at type start past inside after) e =
+    let value = slice start past s in
+    let form = constructed type in
+    let k = not-here (eqb type octet) (amount octet (plain s after)) (sym (amount-formed octet type value (plain s inside) (plain s after) form) ∙ e) in
+    let other = eqb-false type octet (k .0) in
+    let w = without s octet after (k .1) in
+    record {
+      bounds = rw (k .0) (w .bounds);
+      items = rw (k .0) (w .items);
+      value = value-after octet type value (plain s inside) (plain s after) form other ∙ w .value;
+      tree = run-after octet type value (plain s inside) (plain s after) form other ∙ w .tree;
+    }
+
+-- what is not counted is lacked
+pub none-lacked : {s : List ℕ} {r : Run} {octet : ℕ} → amount octet (treeIn s r) ≡ 0 → Lacks s r octet
+none-lacked {s} {r} {octet} e =
+    let w = without s octet (itemsOf s r) e in
+    record { amount-is = e; bounds = w .bounds; items = w .items; value = w .value; tree = w .tree }
 
 module _ {s : List ℕ} {r : Run} {octet n : ℕ} {v : Span} (c : Counted s r octet n v) where
+  lacked : n ≡ 0 → Lacks s r octet
+  lacked z = none-lacked (sym (c .amount-is) ∙ z)
+
   -- what was not counted has nothing inside
   pub uncounted : n ≡ 0 → itemsIn octet (itemsOf s r) ≡ none
-  uncounted z = nothing-there s octet (itemsOf s r) (sym (c .amount-is) ∙ z) .1
-
-  counted-by : (m : ℕ) → n ≡ m → constructed octet ≡ false → Bounds s v (firstValue octet (treeIn s r))
-  counted-by zero z p =
-      subst (Bounds s v) (sym (c .missing z)) (c .bounds ∙ nothing-there s octet (itemsOf s r) (sym (c .amount-is) ∙ z) .0)
-  counted-by (suc m) e p =
-      let some : (n ≡ 0 → ⊥) = λ z. omega arith in
-      subst (Bounds s v) (sym (c .value some p))
-      (record { placed = record { order = c .order; inside = c .inside }; there = c .present some; value = refl })
-
-  pub counted-bounding : constructed octet ≡ false → Bounding s r octet v
-  counted-bounding p = record { pair = c .bounds; value = counted-by n refl p }
+  uncounted z = lacked z .items
 
   pub counted-placed : Placed s v
   counted-placed = record { order = c .order; inside = c .inside }
+
+  counted-by : (m : ℕ) → n ≡ m → constructed octet ≡ false → Bounds s v (firstValue octet (treeIn s r))
+  counted-by zero z p = subst (Bounds s v) (sym (c .missing z)) (c .bounds ∙ lacked z .bounds)
+  counted-by (suc m) e p =
+      let some : (n ≡ 0 → ⊥) = λ z. omega arith in
+      subst (Bounds s v) (sym (c .value some p)) (record { placed = counted-placed; there = c .present some; value = refl })
+
+  pub counted-bounds : constructed octet ≡ false → Bounds s v (firstValue octet (treeIn s r))
+  counted-bounds = counted-by n refl
 
 -- a run that ends where it begins
 pub empty-items : (s : List ℕ) (room : ℕ) → itemsOf s (definiteRun 0 0 room) ≡ none
@@ -87,9 +111,6 @@ pub empty-fine : (s : List ℕ) (room : ℕ) → Fine s (definiteRun 0 0 room)
 empty-fine s room =
     let whole = subst (λ (w : Walked). Whole (w .how)) (derived {s = s} {room = room} (at-limit {limit = 0} refl)) tt in
     record { order = omega arith; inside = omega arith; whole = whole }
-
-pub held-inner : {s : List ℕ} {r : Run} {octet : ℕ} {p : Part} → Holds s r octet p → constructed octet ≡ true → Inner s r octet (p .inner)
-held-inner h c = record { fine = h .inner-fine; items = sym (h .items); tree = sym (h .tree c) }
 
 pub lacked-inner : {s : List ℕ} {r : Run} {octet : ℕ} → Lacks s r octet → Inner s r octet (definiteRun 0 0 0)
 lacked-inner {s} l =

@@ -20,19 +20,20 @@ use Rattle.portions.proofs.Judging.{well-spelt}
 use Rattle.elements.specs.declared.Frame.{Frame}
 use Rattle.elements.specs.declared.Shape.{Shape}
 use Rattle.elements.specs.declared.Typed.{Typed}
-use Rattle.elements.specs.Element.{Element, elementOf, asTabled, namesFit}
+use Rattle.elements.specs.Element.{contentOf, piecesAlone, Element, elementOf, asTabled, namesFit}
 use Rattle.elements.specs.Judge.{shapeRefusal}
 use Rattle.elements.specs.Says.{Bounds}
 use Rattle.elements.specs.Frames.{Framed, Types}
 use Rattle.elements.specs.Sees.{once, tabledBy, speltBy, numberOf, soughtOf}
 use Rattle.elements.specs.WellMade.{WellMade}
-use Rattle.elements.proofs.Bounding.{counted-bounding}
+use Rattle.elements.proofs.Bounding.{counted-bounds}
 
 -- what was found: the top of the element, what names it, its portions and its object type
 pub record Findings (s : List ℕ) (shape : Shape) (r : Run) (frame : Frame) (g : Gathered) (listed : Listed) (numbers : List ℕ)
     (typed : Typed) : Type 0 where
   pub made : WellMade shape
   pub framed : Framed s shape r frame
+  pub alone : piecesAlone (contentOf shape (treeIn s r)) ≡ true
   pub gathers : Gathers s (frame .body) (soughtOf shape) g
   pub lists : Lists s (g .list) listed numbers
   pub types : Types (shape .types) (firstValue (shape .object) (treeIn s r)) typed
@@ -63,7 +64,8 @@ module _ {s : List ℕ} {shape : Shape} {r : Run} {frame : Frame} {g : Gathered}
   unfolding tabledBy asTabled once
   tabled-by =
       rw (
-        f .framed .ordered,
+        f .framed .ordered-is,
+        f .alone,
         ← f .framed .tree,
         f .gathers .identifier .amount-is,
         f .gathers .logical .amount-is,
@@ -79,13 +81,13 @@ module _ {s : List ℕ} {shape : Shape} {r : Run} {frame : Frame} {g : Gathered}
   unfolding elementOf
   identifier-bounds =
       subst (λ (t : Tree). Bounds s (g .identifier) (firstValue (shape .identifier .octet) t)) (f .framed .tree)
-      (counted-bounding (f .gathers .identifier) (f .made .identifier) .value)
+      (counted-bounds (f .gathers .identifier) (f .made .identifier))
 
   pub logical-bounds : Bounds s (g .logical) (elementIn shape s r .logical)
   unfolding elementOf
   logical-bounds =
       subst (λ (t : Tree). Bounds s (g .logical) (firstValue (shape .logical) t)) (f .framed .tree)
-      (counted-bounding (f .gathers .logical) (f .made .logical) .value)
+      (counted-bounds (f .gathers .logical) (f .made .logical))
 
   pub portions-are : elementIn shape s r .portions ≡ values (treeIn s (g .list))
   unfolding elementOf

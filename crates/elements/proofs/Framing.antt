@@ -1,58 +1,59 @@
 -- The top of an element, by its shape: items that are free, items that are not looked at, and items in order, of which there are then no
 -- more than two. Assumes nothing.
 use mathlib.Core.Path.{_≡_, sym, ap, _∙_}
-use mathlib.Core.Bool.{Bool, true, false, false≢true}
+use mathlib.Core.Bool.{Bool, true, false, _||_, false≢true}
 use mathlib.Core.List.{List}
+use mathlib.Core.Logic.{_⊎_, inl, inr}
 use Prim.Native.Nat.{ℕ, _≤_}
-use native.Mathlib.Omega.{arith}
 use borrow.Author.Tests.{ne-eqb}
 use Rattle.headers.specs.First.{constructed}
 use Rattle.tree.specs.Tree.{plain}
 use Rattle.runs.specs.declared.Run.{Run}
 use Rattle.runs.specs.Runs.{treeIn, definiteRun, Fine}
 use Rattle.contents.specs.declared.Opening.{Opening}
-use Rattle.contents.specs.declared.Slot.{Slot}
 use Rattle.contents.specs.declared.Span.{Span}
 use Rattle.contents.specs.Order.{inOrder}
-use Rattle.contents.specs.Opening.{Opens, nothing, single, several, ends-here, goes-on}
-use Rattle.contents.proofs.Orders.{in-order-more}
+use Rattle.contents.specs.Opening.{Opens}
+use Rattle.contents.proofs.Orders.{in-order-few}
+use Rattle.elements.specs.declared.Holder.{Holder}
 use Rattle.elements.specs.declared.Shape.{Shape}
-use Rattle.elements.specs.Element.{bodyOf}
+use Rattle.elements.specs.Element.{bodyOf, ordered}
 use Rattle.elements.specs.Rows.{bodyIn}
 use Rattle.elements.specs.Says.{noSpan}
-use Rattle.elements.specs.Frames.{Bounding, Inner, Frames}
+use Rattle.elements.specs.Frames.{Bounding, Inner, Holding, noHolder, Frames}
 use Rattle.elements.specs.WellMade.{WellMade}
-use Rattle.elements.proofs.Bounding.{empty-fine, empty-items}
-use Rattle.elements.proofs.Zero.{zero-bounding}
-
--- items in order are no more than two
-few-items : (s : List ℕ) (r : Run) (o : Opening) (one two : Slot) → Opens s r o → inOrder one two (treeIn s r) ≡ true → o .count ≤ 2
-few-items s r o one two (nothing z e) t = omega arith
-few-items s r o one two (single rest z m e) t = omega arith
-few-items s r o one two (several rest last m n (ends-here z e)) t = omega arith
-few-items s r o one two (several rest last m n (goes-on third beyond z k)) t =
-    absurd (false≢true (sym (in-order-more s one two r (o .one) rest m (o .two) last n third beyond k) ∙ t))
+use Rattle.elements.proofs.Bounding.{empty-fine, empty-items, lacked-bounding}
+use Rattle.elements.proofs.Zero.{zero-lacked}
+use Rattle.elements.proofs.Holding.{lacked-holding}
 
 -- a constructed octet is not 0
 not-zero : (octet : ℕ) → constructed octet ≡ true → octet ≡ 0 → ⊥
 not-zero octet c z = false≢true (sym (ap constructed z) ∙ c)
 
+either : (a b : Bool) → a || b ≡ true → (a ≡ true) ⊎ (b ≡ true)
+either true b e = inl e
+either false b e = inr e
+
 module _ (s : List ℕ) (shape : Shape) (r : Run) (fine : Fine s r) (made : WellMade shape) where
   module _ (f : shape .free ≡ true) where
+    free-ordered : ordered shape (treeIn s r) ≡ true
+    unfolding ordered
+    free-ordered = rw f
+
     no-object : Bounding s r (shape .object) noSpan
-    no-object = zero-bounding (shape .object) (made .no-object f) fine
+    no-object = lacked-bounding (zero-lacked (shape .object) (made .no-object f) fine)
 
-    no-content : Bounding s r (shape .content) noSpan
-    no-content = zero-bounding (shape .content) (made .no-content f) fine
+    no-content : Holding s shape r noHolder
+    no-content = lacked-holding made (zero-lacked (shape .pieces) (made .no-pieces f) fine) (lacked-bounding (zero-lacked (shape .content) (made .no-content f) fine))
 
-    pub free-frame : shape .looked ≡ true → Frames s shape r (record { fits = true; body = r; object = noSpan; content = noSpan })
+    pub free-frame : shape .looked ≡ true → Frames s shape r (record { fits = true; body = r; object = noSpan; content = noHolder })
     unfolding bodyOf bodyIn
     free-frame l =
         record {
-          fits = rw f;
+          fits = sym free-ordered;
           framed =
               λ _. record {
-                ordered = rw f;
+                ordered-is = free-ordered;
                 fine = fine;
                 items = rw (l, made .itself f);
                 tree = rw (l, made .itself f);
@@ -62,14 +63,14 @@ module _ (s : List ℕ) (shape : Shape) (r : Run) (fine : Fine s r) (made : Well
         }
 
     pub unlooked-frame : shape .looked ≡ false
-        → Frames s shape r (record { fits = true; body = definiteRun 0 0 0; object = noSpan; content = noSpan })
+        → Frames s shape r (record { fits = true; body = definiteRun 0 0 0; object = noSpan; content = noHolder })
     unfolding bodyOf bodyIn
     unlooked-frame l =
         record {
-          fits = rw f;
+          fits = sym free-ordered;
           framed =
               λ _. record {
-                ordered = rw f;
+                ordered-is = free-ordered;
                 fine = empty-fine s 0;
                 items = rw l (empty-items s 0);
                 tree = rw l (ap (plain s) (empty-items s 0));
@@ -78,27 +79,37 @@ module _ (s : List ℕ) (shape : Shape) (r : Run) (fine : Fine s r) (made : Well
               };
         }
 
-  module _ (f : shape .free ≡ false) (o : Opening) (opens : Opens s r o)
-      (fits : Bool) (fills : fits ≡ inOrder (shape .one) (shape .two) (treeIn s r))
-      (body : Run) (inner : o .count ≤ 2 → constructed (shape .within) ≡ true → Inner s r (shape .within) body)
-      (object : Span) (object-is : o .count ≤ 2 → constructed (shape .object) ≡ false → Bounding s r (shape .object) object)
-      (content : Span) (content-is : o .count ≤ 2 → constructed (shape .content) ≡ false → Bounding s r (shape .content) content) where
-    pub ordered-frame : Frames s shape r (record { fits = fits; body = body; object = object; content = content })
-    unfolding bodyOf bodyIn
-    ordered-frame =
-        record {
-          fits = rw f fills;
-          framed =
-              λ t.
-              let few = few-items s r o (shape .one) (shape .two) opens (sym fills ∙ t) in
-              let in-body = inner few (made .within f) in
-              let there = ne-eqb (shape .within) 0 (not-zero (shape .within) (made .within f)) in
-              record {
-                ordered = rw f (sym fills ∙ t);
-                fine = in-body .fine;
-                items = rw (made .looked f, there) (in-body .items);
-                tree = rw (made .looked f, there) (in-body .tree);
-                object = object-is few (made .object);
-                content = content-is few (made .content);
-              };
-        }
+  module _ (f : shape .free ≡ false) (o : Opening) (opens : Opens s r o) where
+    few-by : (inOrder (shape .one) (shape .two) (treeIn s r) ≡ true) ⊎ (inOrder (shape .one) (shape .instead) (treeIn s r) ≡ true) → o .count ≤ 2
+    few-by (inl e) = in-order-few s r o (shape .one) (shape .two) opens e
+    few-by (inr e) = in-order-few s r o (shape .one) (shape .instead) opens e
+
+    -- items in order are no more than two
+    few-items : ordered shape (treeIn s r) ≡ true → o .count ≤ 2
+    unfolding ordered
+    few-items t =
+        few-by (either (inOrder (shape .one) (shape .two) (treeIn s r)) (inOrder (shape .one) (shape .instead) (treeIn s r)) (rw f at t))
+
+    module _ (fits : Bool) (stands : fits ≡ ordered shape (treeIn s r))
+        (body : Run) (inner : o .count ≤ 2 → constructed (shape .within) ≡ true → Inner s r (shape .within) body)
+        (object : Span) (object-is : o .count ≤ 2 → Bounding s r (shape .object) object)
+        (content : Holder) (content-is : o .count ≤ 2 → Holding s shape r content) where
+      pub ordered-frame : Frames s shape r (record { fits = fits; body = body; object = object; content = content })
+      unfolding bodyOf bodyIn
+      ordered-frame =
+          record {
+            fits = stands;
+            framed =
+                λ t.
+                let few = few-items (sym stands ∙ t) in
+                let in-body = inner few (made .within f) in
+                let there = ne-eqb (shape .within) 0 (not-zero (shape .within) (made .within f)) in
+                record {
+                  ordered-is = sym stands ∙ t;
+                  fine = in-body .fine;
+                  items = rw (made .looked f, there) (in-body .items);
+                  tree = rw (made .looked f, there) (in-body .tree);
+                  object = object-is few;
+                  content = content-is few;
+                };
+          }

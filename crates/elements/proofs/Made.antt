@@ -22,11 +22,13 @@ tests shape =
     ∷ (not (shape .free) || eqb (shape .within) 0)
     ∷ (not (shape .free) || eqb (shape .object) 0)
     ∷ (not (shape .free) || eqb (shape .content) 0)
+    ∷ (not (shape .free) || eqb (shape .pieces) 0)
     ∷ not (constructed (shape .identifier .octet))
     ∷ not (constructed (shape .logical))
     ∷ not (constructed (shape .object))
     ∷ not (constructed (shape .content))
     ∷ (eqb (shape .portions) 0 || constructed (shape .portions))
+    ∷ (eqb (shape .pieces) 0 || constructed (shape .pieces))
     ∷ []
 
 -- all of some tests hold
@@ -60,11 +62,13 @@ well-made shape e =
       itself = λ f. eqb-true (shape .within) 0 (where-true (shape .free) (eqb (shape .within) 0) (k .1 .1 .0) f);
       no-object = λ f. eqb-true (shape .object) 0 (where-true (shape .free) (eqb (shape .object) 0) (k .1 .1 .1 .0) f);
       no-content = λ f. eqb-true (shape .content) 0 (where-true (shape .free) (eqb (shape .content) 0) (k .1 .1 .1 .1 .0) f);
-      identifier = not-true (constructed (shape .identifier .octet)) (k .1 .1 .1 .1 .1 .0);
-      logical = not-true (constructed (shape .logical)) (k .1 .1 .1 .1 .1 .1 .0);
-      object = not-true (constructed (shape .object)) (k .1 .1 .1 .1 .1 .1 .1 .0);
-      content = not-true (constructed (shape .content)) (k .1 .1 .1 .1 .1 .1 .1 .1 .0);
-      portions = either (shape .portions) (eqb (shape .portions) 0) (constructed (shape .portions)) refl (k .1 .1 .1 .1 .1 .1 .1 .1 .1 .0);
+      no-pieces = λ f. eqb-true (shape .pieces) 0 (where-true (shape .free) (eqb (shape .pieces) 0) (k .1 .1 .1 .1 .1 .0) f);
+      identifier = not-true (constructed (shape .identifier .octet)) (k .1 .1 .1 .1 .1 .1 .0);
+      logical = not-true (constructed (shape .logical)) (k .1 .1 .1 .1 .1 .1 .1 .0);
+      object = not-true (constructed (shape .object)) (k .1 .1 .1 .1 .1 .1 .1 .1 .0);
+      content = not-true (constructed (shape .content)) (k .1 .1 .1 .1 .1 .1 .1 .1 .1 .0);
+      portions = either (shape .portions) (eqb (shape .portions) 0) (constructed (shape .portions)) refl (k .1 .1 .1 .1 .1 .1 .1 .1 .1 .1 .0);
+      pieces = either (shape .pieces) (eqb (shape .pieces) 0) (constructed (shape .pieces)) refl (k .1 .1 .1 .1 .1 .1 .1 .1 .1 .1 .1 .0);
     }
 
 one-of : (b : Bool) (x y : Shape) → WellMade x → WellMade y → WellMade (cond b x y)

@@ -9,7 +9,7 @@ use borrow.Author.Tests.{leb-true}
 use Rattle.octets.specs.Items.{Items}
 use Rattle.tree.specs.Tree.{plain}
 use Rattle.runs.specs.declared.Run.{Run}
-use Rattle.runs.specs.Runs.{itemsOf, allPrimitive}
+use Rattle.runs.specs.Runs.{itemsOf, treeIn, allPrimitive}
 use Rattle.contents.specs.declared.Gathered.{Gathered}
 use Rattle.contents.specs.declared.Span.{Span}
 use Rattle.contents.specs.Search.{itemsIn}
@@ -20,11 +20,12 @@ use Rattle.portions.proofs.Meetings.{portions-primitive}
 use Rattle.elements.specs.declared.Frame.{Frame}
 use Rattle.elements.specs.declared.Shape.{Shape}
 use Rattle.elements.specs.declared.Typed.{Typed}
-use Rattle.elements.specs.Element.{elementOf, spelt}
+use Rattle.elements.specs.Element.{contentOf, elementOf, spelt}
 use Rattle.elements.specs.Rows.{rowOf}
 use Rattle.elements.specs.Says.{Says, portionsRun}
 use Rattle.elements.specs.Sees.{listSpelt, speltBy, rowBy, Passes}
 use Rattle.elements.proofs.Findings.{Findings, elementIn, identifier-bounds, logical-bounds, portions-are, names-by}
+use Rattle.elements.proofs.Holding.{held-contains}
 use Rattle.elements.proofs.Relisting.{relisted-fine, relisted-items}
 use Rattle.elements.proofs.Values.{named}
 
@@ -78,7 +79,7 @@ module _ {s : List ℕ} {shape : Shape} {r : Run} {frame : Frame} {g : Gathered}
             portions-fine = relisted-fine (f .framed .fine) (f .gathers .portions) (f .made .portions) primitive;
             only-portions = ap (λ (i : Items). allPortions (plain s i)) same-items ∙ only-portions (f .lists) none;
             portions = ap (λ (i : Items). values (plain s i)) same-items ∙ sym (portions-are f);
-            content = f .framed .content .value;
+            content = held-contains s (frame .content) (f .framed .content .placed) (contentOf shape (treeIn s r)) (f .framed .content .held);
             spelt = sym (names-by f none) ∙ q;
           }
 

@@ -1,6 +1,6 @@
 -- What is seen of an element is what was found of it: the first rule of 12 to 14 that refuses, or its row. Assumes nothing.
 use mathlib.Core.Path.{_≡_, refl, sym, _∙_}
-use mathlib.Core.Bool.{Bool, true, false, _||_}
+use mathlib.Core.Bool.{Bool, true, false, and-false}
 use mathlib.Core.List.{List}
 use Prim.Native.Nat.{ℕ, _<_}
 use native.Mathlib.Nat.{mod-lt}
@@ -12,32 +12,39 @@ use Rattle.runs.specs.declared.Run.{Run}
 use Rattle.runs.specs.Runs.{treeIn}
 use Rattle.contents.specs.declared.Gathered.{Gathered}
 use Rattle.contents.specs.declared.Span.{Span}
-use Rattle.contents.specs.Order.{inOrder}
 use Rattle.portions.specs.declared.Listed.{Listed}
 use Rattle.elements.specs.declared.Frame.{Frame}
 use Rattle.elements.specs.declared.Row.{Row}
 use Rattle.elements.specs.declared.Seen.{Seen}
 use Rattle.elements.specs.declared.Shape.{Shape}
 use Rattle.elements.specs.declared.Typed.{Typed}
-use Rattle.elements.specs.Element.{asTabled}
+use Rattle.elements.specs.Element.{contentOf, piecesAlone, ordered, asTabled}
 use Rattle.elements.specs.Judge.{shapeRefusal}
-use Rattle.elements.specs.Says.{Placed, noSpan, RowPlaced}
+use Rattle.elements.specs.Says.{Placed, RowPlaced}
 use Rattle.elements.specs.Sees.{tabledBy, speltBy, numberOf, rowBy, noRow, refusedBy, seenBy, Sees}
-use Rattle.elements.proofs.Bounding.{counted-placed}
+use Rattle.elements.proofs.Bounding.{no-span-placed, counted-placed}
 use Rattle.elements.proofs.Findings.{Findings, elementIn, no-others, names-by, number-by}
 use Rattle.elements.proofs.Passing.{passes-by}
 
 no-row-placed : (s : List ℕ) → RowPlaced s noRow
 no-row-placed s =
-    let none : Placed s noSpan = record { order = omega arith; inside = omega arith } in
+    let none = no-span-placed s in
     record { kind = omega arith; object = omega arith; whole = none; identifier = none; logical = none; portions = none; content = none }
 
--- items that do not stand as tabled: 12
-pub sees-unordered : (s : List ℕ) (shape : Shape) (r : Run) (first past : ℕ) (numbers : List ℕ)
-    → (shape .free || inOrder (shape .one) (shape .two) (treeIn s r)) ≡ false → Sees s shape r first past numbers (refusedBy 12)
-unfolding shapeRefusal asTabled
-sees-unordered s shape r first past numbers e =
-    record { refusal = rw e; placed = no-row-placed s; passes = λ z. absurd (omega arith) }
+-- contents not as tabled: items out of order, or another item among the pieces
+untabled : (s : List ℕ) (shape : Shape) (r : Run) (first past : ℕ) (numbers : List ℕ)
+    → asTabled shape (treeIn s r) ≡ false → Sees s shape r first past numbers (refusedBy 12)
+unfolding shapeRefusal
+untabled s shape r first past numbers e = record { refusal = rw e; placed = no-row-placed s; passes = λ z. absurd (omega arith) }
+
+module _ (s : List ℕ) (shape : Shape) (r : Run) (first past : ℕ) (numbers : List ℕ) where
+  pub sees-unordered : ordered shape (treeIn s r) ≡ false → Sees s shape r first past numbers (refusedBy 12)
+  unfolding asTabled
+  sees-unordered e = untabled s shape r first past numbers (rw e)
+
+  pub sees-others : piecesAlone (contentOf shape (treeIn s r)) ≡ false → Sees s shape r first past numbers (refusedBy 12)
+  unfolding asTabled
+  sees-others e = untabled s shape r first past numbers (rw (e, and-false (ordered shape (treeIn s r))))
 
 -- none of the rules refuses
 all-well : (a b c : Bool) → numberOf a b c ≡ 0 → (a ≡ true) × (b ≡ true) × (c ≡ true)
@@ -48,7 +55,7 @@ all-well false b c e = absurd (omega arith)
 
 module _ {s : List ℕ} {shape : Shape} {r : Run} {frame : Frame} {g : Gathered} {listed : Listed} {numbers : List ℕ} {typed : Typed}
     (f : Findings s shape r frame g listed numbers typed) (whole : Span)
-    (small : typed .value < 256) (w : Placed s whole) (content : Placed s (frame .content)) where
+    (small : typed .value < 256) (w : Placed s whole) (content : Placed s (frame .content .value)) where
   row-placed : RowPlaced s (rowBy shape frame (typed .value) g whole)
   row-placed =
       record {

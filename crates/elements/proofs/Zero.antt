@@ -18,34 +18,27 @@ use Rattle.tree.specs.Tree.{plain}
 use Rattle.runs.specs.declared.Run.{Run}
 use Rattle.runs.specs.Runs.{Fine}
 use Rattle.runs.proofs.Heads.{item-octet}
-use Rattle.contents.specs.Search.{absent, firstValue, boundsOf}
-use Rattle.contents.proofs.Firsts.{value-after}
-use Rattle.elements.specs.Says.{noSpan}
-use Rattle.elements.specs.Frames.{Bounding}
+use Rattle.contents.specs.First.{Lacks}
+use Rattle.contents.specs.Search.{amount}
+use Rattle.contents.proofs.Firsts.{amount-formed}
+use Rattle.elements.proofs.Bounding.{none-lacked}
 
 -- no item of a run has octet 0
 record Without (s : List ℕ) (i : Items) : Type 0 where
-  pair : boundsOf 0 i ≡ noSpan
-  value : firstValue 0 (plain s i) ≡ absent
+  amount-is : amount 0 (plain s i) ≡ 0
 
 without-none : (s : List ℕ) → Without s none
-unfolding boundsOf firstValue
-without-none s = record { pair = refl; value = refl }
+unfolding amount
+without-none s = record { amount-is = refl }
 
-module _ (s : List ℕ) (room at limit : ℕ) (marked : Bool) (h : Header) (e : headAt s at limit marked room ≡ Item h) where
-  -- an item has the octet that stands at its place
-  not-zero : h .octet ≡ 0 → ⊥
-  not-zero z = let o = item-octet s at limit marked room h e in o .1 (sym (o .0) ∙ z)
-
-  without-item : {start past : ℕ} {inside after : Items} → Without s after → Without s (item at (h .octet) start past inside after)
-  unfolding boundsOf
-  without-item {start} {past} {inside} {after} w =
-      record {
-        pair = rw (ne-eqb (h .octet) 0 not-zero) (w .pair);
-        value =
-            value-after 0 (h .octet) (slice start past s) (plain s inside) (plain s after) (constructed (h .octet)) not-zero
-            ∙ w .value;
-      }
+-- an item has the octet that stands at its place
+without-item : (s : List ℕ) (room at limit : ℕ) (marked : Bool) (h : Header) → headAt s at limit marked room ≡ Item h
+    → {start past : ℕ} {inside after : Items} → Without s after → Without s (item at (h .octet) start past inside after)
+without-item s room at limit marked h e {start} {past} {inside} {after} w =
+    let o = item-octet s at limit marked room h e in
+    let other = ne-eqb (h .octet) 0 (λ z. o .1 (sym (o .0) ∙ z)) in
+    let counted = amount-formed 0 (h .octet) (slice start past s) (plain s inside) (plain s after) (constructed (h .octet)) in
+    record { amount-is = counted ∙ rw (other, w .amount-is) }
 
 without : {s : List ℕ} {room at limit : ℕ} {marked : Bool} {i : Items} {e : End} → Runs s room at limit marked i e → Without s i
 without {s} (at-limit p) = without-none s
@@ -56,8 +49,10 @@ without {s} (primitive {room} {at} {limit} {marked} {h} l p q r) = without-item 
 without {s} (passes {room} {at} {limit} {marked} {h} l p q v r) = without-item s room at limit marked h p (without r)
 without {s} (breaks {room} {at} {limit} {marked} {h} l p q v) = without-item s room at limit marked h p (without-none s)
 
--- what is sought by an octet 0 is absent
-pub zero-bounding : {s : List ℕ} {r : Run} (octet : ℕ) → octet ≡ 0 → Fine s r → Bounding s r octet noSpan
-zero-bounding {s} {r} octet z fine =
-    let w = without (derives (r .room) s (r .at) (r .limit) (r .marked) (fine .order)) in
-    rw z (record { pair = sym (w .pair); value = rw (w .value) refl })
+pub none-zero : {s : List ℕ} {room at limit : ℕ} {marked : Bool} {i : Items} {e : End} → Runs s room at limit marked i e
+    → (octet : ℕ) → octet ≡ 0 → amount octet (plain s i) ≡ 0
+none-zero runs octet z = rw z (without runs .amount-is)
+
+-- what is sought by an octet 0 is lacked
+pub zero-lacked : {s : List ℕ} {r : Run} (octet : ℕ) → octet ≡ 0 → Fine s r → Lacks s r octet
+zero-lacked {s} {r} octet z fine = none-lacked (none-zero (derives (r .room) s (r .at) (r .limit) (r .marked) (fine .order)) octet z)

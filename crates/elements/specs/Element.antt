@@ -9,6 +9,7 @@ use Rattle.names.specs.Names.{isIdentifier}
 use Rattle.contents.specs.Search.{Value, absent, octets, amount, firstValue, firstRun}
 use Rattle.contents.specs.Order.{inOrder}
 use Rattle.portions.specs.Portions.{all, allPortions, values, wellSpelt}
+use Rattle.pieces.specs.Pieces.{onlyPieces, joined}
 use Rattle.elements.specs.declared.Shape.{Shape}
 
 -- where the items stand that name an element: nowhere, among its own items, or in one of them
@@ -24,6 +25,32 @@ typeOf absent = noType
 typeOf (octets []) = noType
 typeOf (octets (x ∷ xs)) = x
 
+abbrev pub atMostOne : (octet : ℕ) → Tree → Bool
+atMostOne octet run = leb (amount octet run) 1
+
+abbrev pub noneOf : (octet : ℕ) → Tree → Bool
+noneOf octet run = eqb (amount octet run) 0
+
+-- A content: the value of one item, if there is one; or pieces, "the octet string is constructed, 24" (W-201).
+pub data Content : Type 0 where
+  single : Value → Content
+  inPieces : Tree → Content
+
+-- the content of an element of a shape with this run of items
+unfoldable pub contentOf : Shape → Tree → Content
+contentOf shape run = cond (noneOf (shape .pieces) run) (single (firstValue (shape .content) run)) (inPieces (firstRun (shape .pieces) run))
+
+-- "The content is the pieces joined in order", "a 04 being one piece" (W-201)
+abbrev pub joinedContent : Content → List ℕ
+joinedContent (single absent) = []
+joinedContent (single (octets bytes)) = bytes
+joinedContent (inPieces run) = joined run
+
+-- "12 for any other item among the pieces" (W-201)
+abbrev pub piecesAlone : Content → Bool
+piecesAlone (single value) = true
+piecesAlone (inPieces run) = onlyPieces run
+
 -- What an element says: "kind (the number bits of the element's octet ..), object type", its identifier (a unit's layout one), a unit's
 -- logical identifier, its portions and its content.
 pub record Element : Type 0 where
@@ -32,7 +59,7 @@ pub record Element : Type 0 where
   pub identifier : Value
   pub logical : Value
   pub portions : List (List ℕ)
-  pub content : Value
+  pub content : Content
 
 -- what an element of a shape with this run of items says
 unfoldable pub elementOf : Shape → Tree → Element
@@ -44,20 +71,19 @@ elementOf shape run =
       identifier = firstValue (shape .identifier .octet) body;
       logical = firstValue (shape .logical) body;
       portions = values (firstRun (shape .portions) body);
-      content = firstValue (shape .content) run;
+      content = contentOf shape run;
     }
 
-abbrev pub atMostOne : (octet : ℕ) → Tree → Bool
-atMostOne octet run = leb (amount octet run) 1
-
-abbrev pub noneOf : (octet : ℕ) → Tree → Bool
-noneOf octet run = eqb (amount octet run) 0
+-- The items of an element are free, or stand in order, the second as tabled or what may stand instead of it.
+unfoldable pub ordered : Shape → Tree → Bool
+ordered shape run = shape .free || (inOrder (shape .one) (shape .two) run || inOrder (shape .one) (shape .instead) run)
 
 -- 12 "contents not as tabled"
 unfoldable pub asTabled : Shape → Tree → Bool
 asTabled shape run =
     let body = bodyOf shape run in
-    all ((shape .free || inOrder (shape .one) (shape .two) run)
+    all (ordered shape run
+    ∷ piecesAlone (contentOf shape run)
     ∷ not (shape .identifier .needed && noneOf (shape .identifier .octet) body)
     ∷ atMostOne (shape .identifier .octet) body
     ∷ atMostOne (shape .logical) body

@@ -1,25 +1,28 @@
 -- What the code learns of the top of an element: whether its items stand as tabled, and where to look further. Definitions only: assumes
 -- nothing.
 use mathlib.Core.Path.{_≡_}
-use mathlib.Core.Bool.{true, _||_}
+use mathlib.Core.Bool.{true, false}
 use mathlib.Core.List.{List}
-use Prim.Native.Nat.{ℕ}
+use Prim.Native.Nat.{ℕ, _<_}
+use Rattle.headers.specs.First.{constructed}
 use Rattle.runs.specs.declared.Run.{Run}
-use Rattle.runs.specs.Runs.{itemsOf, treeIn, Fine}
+use Rattle.tree.specs.Tree.{Tree}
+use Rattle.runs.specs.Runs.{itemsOf, treeIn, definiteRun, Fine}
 use Rattle.contents.specs.declared.Span.{Span}
 use Rattle.contents.specs.Search.{Value, firstValue, firstRun, boundsOf, itemsIn}
-use Rattle.contents.specs.Order.{inOrder}
 use Rattle.elements.specs.declared.Frame.{Frame}
+use Rattle.elements.specs.declared.Holder.{Holder}
 use Rattle.elements.specs.declared.Shape.{Shape}
 use Rattle.elements.specs.declared.Typed.{Typed}
-use Rattle.elements.specs.Element.{bodyOf, typeOf, typeFits}
-use Rattle.elements.specs.Rows.{bodyIn}
-use Rattle.elements.specs.Says.{Bounds}
+use Rattle.elements.specs.Element.{bodyOf, Content, single, inPieces, contentOf, ordered, typeOf, typeFits}
+use Rattle.elements.specs.Rows.{bodyIn, contentOctet}
+use Rattle.elements.specs.Says.{Placed, noSpan, Bounds}
 
--- v is the pair of the first item of the run r with the octet, and bounds its value
+-- v is the pair of the first item of the run r with the octet, and bounds its value, if that item is primitive
 pub record Bounding (s : List ℕ) (r : Run) (octet : ℕ) (v : Span) : Type 0 where
   pub pair : v ≡ boundsOf octet (itemsOf s r)
-  pub value : Bounds s v (firstValue octet (treeIn s r))
+  pub placed : Placed s v
+  pub value : constructed octet ≡ false → Bounds s v (firstValue octet (treeIn s r))
 
 -- inner is the run inside the first item of the run r with the octet, or an empty one
 pub record Inner (s : List ℕ) (r : Run) (octet : ℕ) (inner : Run) : Type 0 where
@@ -27,18 +30,44 @@ pub record Inner (s : List ℕ) (r : Run) (octet : ℕ) (inner : Run) : Type 0 w
   pub items : itemsOf s inner ≡ itemsIn octet (itemsOf s r)
   pub tree : treeIn s inner ≡ firstRun octet (treeIn s r)
 
+-- a content that is the value of an item: the holder bounds it
+pub record HoldsWhole (s : List ℕ) (holder : Holder) (value : Value) : Type 0 where
+  pub pieced : holder .pieced ≡ false
+  pub bounds : Bounds s (holder .value) value
+
+-- a content in pieces: the holder bounds the item's value, and has its run
+pub record HoldsPieces (s : List ℕ) (holder : Holder) (run : Tree) : Type 0 where
+  pub pieced : holder .pieced ≡ true
+  pub there : 0 < holder .value .past
+  pub tree : treeIn s (holder .pieces) ≡ run
+
+abbrev pub HoldsContent : List ℕ → Holder → Content → Type 0
+HoldsContent s holder (single value) = HoldsWhole s holder value
+HoldsContent s holder (inPieces run) = HoldsPieces s holder run
+
+-- what holds the content of an element of a shape with the run r
+pub record Holding (s : List ℕ) (shape : Shape) (r : Run) (holder : Holder) : Type 0 where
+  pub pair : holder .value ≡ boundsOf (contentOctet shape (treeIn s r)) (itemsOf s r)
+  pub placed : Placed s (holder .value)
+  pub fine : Fine s (holder .pieces)
+  pub held : HoldsContent s holder (contentOf shape (treeIn s r))
+
+-- nothing holds a content
+abbrev pub noHolder : Holder
+noHolder = record { value = noSpan; pieced = false; pieces = definiteRun 0 0 0 }
+
 -- where to look in an element whose items stand as tabled: what names it, its object type and its content
 pub record Framed (s : List ℕ) (shape : Shape) (r : Run) (frame : Frame) : Type 0 where
-  pub ordered : (shape .free || inOrder (shape .one) (shape .two) (treeIn s r)) ≡ true
+  pub ordered-is : ordered shape (treeIn s r) ≡ true
   pub fine : Fine s (frame .body)
   pub items : itemsOf s (frame .body) ≡ bodyIn shape (itemsOf s r)
   pub tree : treeIn s (frame .body) ≡ bodyOf shape (treeIn s r)
   pub object : Bounding s r (shape .object) (frame .object)
-  pub content : Bounding s r (shape .content) (frame .content)
+  pub content : Holding s shape r (frame .content)
 
 -- the top of an element
 pub record Frames (s : List ℕ) (shape : Shape) (r : Run) (frame : Frame) : Type 0 where
-  pub fits : frame .fits ≡ (shape .free || inOrder (shape .one) (shape .two) (treeIn s r))
+  pub fits : frame .fits ≡ ordered shape (treeIn s r)
   pub framed : frame .fits ≡ true → Framed s shape r frame
 
 -- 13, and "object type (255 if none)"

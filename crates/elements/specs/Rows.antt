@@ -7,17 +7,21 @@ use mathlib.Core.List.{List, [], _∷_, _++_}
 use lib.Dec.{eqb}
 use lib.ListN.{length}
 use Rattle.octets.specs.Items.{Items, none, item}
-use Rattle.tree.specs.Tree.{plain}
+use Rattle.tree.specs.Tree.{Tree, plain}
 use Rattle.runs.specs.Runs.{startOf}
 use Rattle.contents.specs.Search.{boundsOf, itemsIn}
 use Rattle.elements.specs.declared.Shape.{Shape}
 use Rattle.elements.specs.declared.Row.{Row}
 use Rattle.elements.specs.Shape.{Edition, shapeOf}
-use Rattle.elements.specs.Element.{elementOf}
+use Rattle.elements.specs.Element.{noneOf, elementOf}
 
 -- the items that name an element: `bodyOf` of another file, with places
 unfoldable pub bodyIn : Shape → Items → Items
 bodyIn shape items = cond (shape .looked) (cond (eqb (shape .within) 0) items (itemsIn (shape .within) items)) none
+
+-- the octet of the item that holds the content: "The content fields of the row give the value of the 24." (W-201)
+unfoldable pub contentOctet : Shape → Tree → ℕ
+contentOctet shape run = cond (noneOf (shape .pieces) run) (shape .content) (shape .pieces)
 
 -- the row of an element of a shape that stands from first to past and has these items
 unfoldable pub rowOf : Shape → List ℕ → (first past : ℕ) → Items → Row
@@ -31,7 +35,7 @@ rowOf shape s first past items =
       identifier = boundsOf (shape .identifier .octet) body;
       logical = boundsOf (shape .logical) body;
       portions = boundsOf (shape .portions) body;
-      content = boundsOf (shape .content) items;
+      content = boundsOf (contentOctet shape (plain s items)) items;
     }
 
 -- "Elements meet end to end from 0 to the stream's length."

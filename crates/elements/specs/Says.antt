@@ -12,7 +12,7 @@ use Rattle.contents.specs.declared.Span.{Span}
 use Rattle.contents.specs.Search.{Value, absent, octets}
 use Rattle.portions.specs.Portions.{allPortions, values}
 use Rattle.elements.specs.declared.Row.{Row}
-use Rattle.elements.specs.Element.{Element, namesFit}
+use Rattle.elements.specs.Element.{Content, single, inPieces, Element, namesFit}
 
 -- a pair that lies in the stream
 pub record Placed (s : List ℕ) (v : Span) : Type 0 where
@@ -39,6 +39,11 @@ abbrev pub Names : List ℕ → Span → Value → Type 0
 Names s v absent = v ≡ noSpan
 Names s v (octets bytes) = Covers s v bytes × (v .first < v .past)
 
+-- a pair bounds a content: the value of one item; or the value of an item that holds pieces, which is there
+abbrev pub Contains : List ℕ → Span → Content → Type 0
+Contains s v (single value) = Bounds s v value
+Contains s v (inPieces run) = Placed s v × (0 < v .past)
+
 -- the run of the portions, read again from the bounds of their value: it has primitive items alone, which takes one level
 abbrev pub portionsRun : Span → Run
 portionsRun v = definiteRun (v .first) (v .past) 1
@@ -52,7 +57,7 @@ pub record Says (s : List ℕ) (row : Row) (e : Element) : Type 0 where
   pub portions-fine : Fine s (portionsRun (row .portions))
   pub only-portions : allPortions (treeIn s (portionsRun (row .portions))) ≡ true
   pub portions : values (treeIn s (portionsRun (row .portions))) ≡ e .portions
-  pub content : Bounds s (row .content) (e .content)
+  pub content : Contains s (row .content) (e .content)
   pub spelt : namesFit e ≡ true
 
 -- the numbers of a row are small: its pairs lie in the stream

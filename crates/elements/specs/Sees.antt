@@ -70,7 +70,7 @@ rowBy shape frame object g whole = record {
   identifier = g .identifier;
   logical = g .logical;
   portions = g .portions;
-  content = frame .content;
+  content = frame .content .value;
 }
 
 -- a row of zeros
@@ -99,7 +99,7 @@ pub record Ready (s : List ℕ) (shape : Shape) (frame : Frame) (whole : Span) :
   pub small : length s ≤ streamLimit
   pub fine : Fine s (frame .body)
   pub object : Placed s (frame .object)
-  pub content : Placed s (frame .content)
+  pub content : Placed s (frame .content .value)
   pub whole-placed : Placed s whole
 
 -- an element that rules 12 to 14 do not refuse: its row, and the numbers that bound its portions

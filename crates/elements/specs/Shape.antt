@@ -25,6 +25,7 @@ profileShape octet = record {
   free = true;
   one = nothing;
   two = nothing;
+  instead = nothing;
   within = 0;
   identifier = nothing;
   logical = 0;
@@ -34,6 +35,7 @@ profileShape octet = record {
   object = 0;
   types = 0;
   content = 0;
+  pieces = 0;
 }
 
 -- "A1, A5 layout class, logical class: 02, then 31; 41 required in the 31". "In the 31 of a class or object: at most one 41 (its
@@ -45,6 +47,7 @@ classShape octet types = record {
   free = false;
   one = required 0x02;
   two = required 0x31;
+  instead = required 0x31;
   within = 0x31;
   identifier = required 0x41;
   logical = 0;
@@ -54,6 +57,7 @@ classShape octet types = record {
   object = 0x02;
   types = types;
   content = 0;
+  pieces = 0;
 }
 
 -- "A2, A6 layout object, logical object: 02 or nothing, then 31 or nothing"
@@ -64,6 +68,7 @@ objectShape octet types = record {
   free = false;
   one = optional 0x02;
   two = optional 0x31;
+  instead = optional 0x31;
   within = 0x31;
   identifier = optional 0x41;
   logical = 0;
@@ -73,10 +78,11 @@ objectShape octet types = record {
   object = 0x02;
   types = types;
   content = 0;
+  pieces = 0;
 }
 
 -- "A3 text unit: 31 or nothing, then 04". "In the 31 of a text unit: at most one 40 (layout identifier), at most one 84 (logical
--- identifier), no 60 and no A4." "Content is primitive 04."
+-- identifier), no 60 and no A4." Content is 04, or 24 holding 04 and 24 items down to the level limit (W-201).
 abbrev pub unitShape : (octet : ℕ) → Shape
 unitShape octet = record {
   octet = octet;
@@ -84,6 +90,7 @@ unitShape octet = record {
   free = false;
   one = optional 0x31;
   two = required 0x04;
+  instead = required 0x24;
   within = 0x31;
   identifier = optional 0x40;
   logical = 0x84;
@@ -93,6 +100,7 @@ unitShape octet = record {
   object = 0;
   types = 0;
   content = 0x04;
+  pieces = 0x24;
 }
 
 -- "A7, A8 presentation style, layout style: exactly one 45, other items free". "In a style: no 65."
@@ -103,6 +111,7 @@ styleShape octet = record {
   free = true;
   one = nothing;
   two = nothing;
+  instead = nothing;
   within = 0;
   identifier = required 0x45;
   logical = 0;
@@ -112,6 +121,7 @@ styleShape octet = record {
   object = 0;
   types = 0;
   content = 0;
+  pieces = 0;
 }
 
 -- the shape of no element

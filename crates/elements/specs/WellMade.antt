@@ -14,9 +14,11 @@ pub record WellMade (shape : Shape) : Type 0 where
   pub itself : shape .free ≡ true → shape .within ≡ 0
   pub no-object : shape .free ≡ true → shape .object ≡ 0
   pub no-content : shape .free ≡ true → shape .content ≡ 0
-  -- values are of primitive items, portions in a constructed one
+  pub no-pieces : shape .free ≡ true → shape .pieces ≡ 0
+  -- values are of primitive items, portions and pieces in a constructed one
   pub identifier : constructed (shape .identifier .octet) ≡ false
   pub logical : constructed (shape .logical) ≡ false
   pub object : constructed (shape .object) ≡ false
   pub content : constructed (shape .content) ≡ false
   pub portions : (shape .portions ≡ 0) ⊎ (constructed (shape .portions) ≡ true)
+  pub pieces : (shape .pieces ≡ 0) ⊎ (constructed (shape .pieces) ≡ true)

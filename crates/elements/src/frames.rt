@@ -1,5 +1,6 @@
 // The top of an element: which of its items stand where, by its shape.
 use super::Frame;
+use super::Holder;
 use super::Shape;
 use contents::Found;
 use contents::Opening;
@@ -10,10 +11,11 @@ ghost use mathlib.Core.Bool.{true, false};
 ghost use mathlib.Core.List.{List};
 ghost use Prim.Native.Nat.{ℕ, _≤_};
 ghost use Rattle.headers.specs.First.{constructed};
-ghost use Rattle.runs.specs.Runs.{definiteRun, Fine};
+ghost use Rattle.runs.specs.Runs.{treeIn, definiteRun, Fine};
 ghost use Rattle.contents.specs.Opening.{Opens};
+ghost use Rattle.elements.specs.Element.{Content, ordered, piecesAlone};
 ghost use Rattle.elements.specs.WellMade.{WellMade};
-ghost use Rattle.elements.specs.Frames.{Bounding, Inner, Frames};
+ghost use Rattle.elements.specs.Frames.{Bounding, Inner, HoldsContent, Holding, noHolder, Frames};
 
 fn no_run() -> Run
     ensures { λ r. ⌜ r ≡ definiteRun 0 0 0 ⌝ }
@@ -28,7 +30,7 @@ fn no_run() -> Run
 
 // The value of an opening's item with the octet.
 fn span_with(o: Opening, octet: usize) -> Span
-    ensures { λ v. ⌜ ((s : List ℕ) (r : Run) → Opens s r o → o .count ≤ 2 → constructed octet ≡ false → Bounding s r octet v) ⌝ }
+    ensures { λ v. ⌜ ((s : List ℕ) (r : Run) → Opens s r o → o .count ≤ 2 → Bounding s r octet v) ⌝ }
 {
     match contents::part_with(o, octet) {
         Found::At(p) => Span {
@@ -49,18 +51,66 @@ fn run_with(o: Opening, octet: usize) -> Run
     }
 }
 
+// Nothing holds a content.
+fn no_holder() -> Holder
+    ensures { λ holder. ⌜ holder ≡ noHolder ⌝ }
+{
+    Holder {
+        value: Span { first: 0, past: 0 },
+        pieced: false,
+        pieces: no_run(),
+    }
+}
+
+// What of an opening's items holds the content of an element.
+fn holder_with(o: Opening, shape: Shape) -> Holder
+    requires { ⌜ WellMade shape ⌝ }
+    ensures { λ holder. ⌜ ((s : List ℕ) (r : Run) → Opens s r o → o .count ≤ 2 → Holding s shape r holder) ⌝ }
+{
+    match contents::part_with(o, shape.pieces) {
+        Found::At(p) => {
+            let run = p.inner;
+            Holder {
+                value: Span {
+                    first: p.first,
+                    past: p.past,
+                },
+                pieced: true,
+                pieces: run,
+            }
+        }
+        Found::Missing => Holder {
+            value: span_with(o, shape.content),
+            pieced: false,
+            pieces: no_run(),
+        },
+    }
+}
+
+// Whether an opening's items stand in order, the second as tabled or what may stand instead of it.
+fn stands(o: Opening, shape: Shape) -> bool
+    requires { ⌜ shape .free ≡ false ⌝ }
+    ensures { λ b. ⌜ ((s : List ℕ) (r : Run) → Opens s r o → b ≡ ordered shape (treeIn s r)) ⌝ }
+{
+    let one = shape.one;
+    let two = shape.two;
+    if contents::fills(o, one, two) {
+        return true;
+    }
+    let instead = shape.instead;
+    contents::fills(o, one, instead)
+}
+
 // The top of an element whose items stand in order.
 fn frame_in_order(s: &[u8], shape: Shape, r: Run) -> Frame
     requires { ⌜ Fine (now s) r × WellMade shape × (shape .free ≡ false) ⌝ }
     ensures { λ frame. ⌜ Frames (now (s .entry)) shape r frame ⌝ }
 {
     let o = contents::opening_of(s, r);
-    let one = shape.one;
-    let two = shape.two;
-    let fits = contents::fills(o, one, two);
+    let fits = stands(o, shape);
     let body = run_with(o, shape.within);
     let object = span_with(o, shape.object);
-    let content = span_with(o, shape.content);
+    let content = holder_with(o, shape);
     Frame {
         fits,
         body,
@@ -82,13 +132,25 @@ pub fn frame_of(s: &[u8], shape: Shape, r: Run) -> Frame
             fits: true,
             body: r,
             object: Span { first: 0, past: 0 },
-            content: Span { first: 0, past: 0 },
+            content: no_holder(),
         };
     }
     Frame {
         fits: true,
         body: no_run(),
         object: Span { first: 0, past: 0 },
-        content: Span { first: 0, past: 0 },
+        content: no_holder(),
     }
+}
+
+// Whether nothing else stands among the pieces of a content. Most contents are in one, and nothing more is read.
+pub fn pieces_alone(s: &[u8], holder: Holder) -> bool
+    requires { ⌜ Fine (now s) (holder .pieces) ⌝ }
+    ensures { λ b. ⌜ ((content : Content) → HoldsContent (now (s .entry)) holder content → b ≡ piecesAlone content) ⌝ }
+{
+    if !holder.pieced {
+        return true;
+    }
+    let run = holder.pieces;
+    pieces::are_pieces(s, run)
 }

@@ -6,12 +6,14 @@ use contents::Span;
 use portions::Listed;
 use runs::Run;
 ghost use mathlib.Core.Path.{_≡_};
+ghost use mathlib.Core.Bool.{true};
 ghost use Prim.Native.Nat.{_≤_};
 ghost use lib.ListN.{length};
 ghost use Rattle.octets.specs.Items.{none};
 ghost use Rattle.octets.specs.Walk.{streamLimit};
-ghost use Rattle.runs.specs.Runs.{itemsOf, Fine};
+ghost use Rattle.runs.specs.Runs.{itemsOf, treeIn, Fine};
 ghost use Rattle.portions.specs.Lists.{Lists};
+ghost use Rattle.elements.specs.Element.{contentOf, piecesAlone};
 ghost use Rattle.elements.specs.WellMade.{WellMade};
 ghost use Rattle.elements.specs.Frames.{Framed};
 ghost use Rattle.elements.specs.Sees.{soughtOf, rowBy, refusedBy, seenBy, Ready, Sees};
@@ -31,6 +33,8 @@ pub struct Shape {
     pub free: bool,
     pub one: Slot,
     pub two: Slot,
+    // what may stand in the place of the second
+    pub instead: Slot,
     // the item in which it is named; 0: the element itself
     pub within: usize,
     // there: its identifier, a logical one, portions, each at most once; and two that may not stand there
@@ -39,10 +43,11 @@ pub struct Shape {
     pub portions: usize,
     pub never: usize,
     pub neither: usize,
-    // the item with the object type, which is below `types`; and the item with the content
+    // the item with the object type, which is below `types`; the item with the content, and the one with content in pieces
     pub object: usize,
     pub types: usize,
     pub content: usize,
+    pub pieces: usize,
 }
 
 // A table row.
@@ -56,12 +61,19 @@ pub struct Row {
     pub content: Span,
 }
 
-// The top of an element: whether its items stand as tabled, and if so the run that names it, its object type and its content.
+// What holds the content of an element: the bounds of its value, and whether that is a run of pieces.
+pub struct Holder {
+    pub value: Span,
+    pub pieced: bool,
+    pub pieces: Run,
+}
+
+// The top of an element: whether its items stand in order, and if so the run that names it, its object type and its content.
 pub struct Frame {
     pub fits: bool,
     pub body: Run,
     pub object: Span,
-    pub content: Span,
+    pub content: Holder,
 }
 
 // Whether an object type is in its range, and which it is.
@@ -145,7 +157,8 @@ fn row_of(shape: Shape, frame: Frame, object: usize, g: Gathered, whole: Span) -
     let identifier = g.identifier;
     let logical = g.logical;
     let portions = g.portions;
-    let content = frame.content;
+    let holder = frame.content;
+    let content = holder.value;
     Row {
         kind: shape.octet % 32,
         object,
@@ -160,7 +173,7 @@ fn row_of(shape: Shape, frame: Frame, object: usize, g: Gathered, whole: Span) -
 // What is seen of an element whose items stand as tabled. What names it is gathered once, and its portions are read once.
 fn see_body(s: &[u8], shape: Shape, frame: Frame, whole: Span, bounds: &mut [u32]) -> Seen
     requires { ⌜ Ready (now s) shape frame whole × (128 ≤ length (now bounds)) ⌝ }
-    ensures { λ seen. ⌜ ((r : Run) → Framed (now (s .entry)) shape r frame → Sees (now (s .entry)) shape r (whole .first) (whole .past) (now (bounds .exit)) seen) ⌝ }
+    ensures { λ seen. ⌜ ((r : Run) → Framed (now (s .entry)) shape r frame → piecesAlone (contentOf shape (treeIn (now (s .entry)) r)) ≡ true → Sees (now (s .entry)) shape r (whole .first) (whole .past) (now (bounds .exit)) seen) ⌝ }
 {
     let body = frame.body;
     let g = contents::gather(s, body, sought_of(shape));
@@ -183,6 +196,9 @@ pub fn see(s: &[u8], shape: Shape, r: Run, first: usize, past: usize, bounds: &m
 {
     let frame = frames::frame_of(s, shape, r);
     if !frame.fits {
+        return refused(12);
+    }
+    if !frames::pieces_alone(s, frame.content) {
         return refused(12);
     }
     see_body(s, shape, frame, Span { first, past }, bounds)

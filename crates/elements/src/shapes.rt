@@ -23,6 +23,7 @@ fn profile_shape(octet: usize) -> Shape
         free: true,
         one: NO_ITEM,
         two: NO_ITEM,
+        instead: NO_ITEM,
         within: 0,
         identifier: NO_ITEM,
         logical: 0,
@@ -32,6 +33,7 @@ fn profile_shape(octet: usize) -> Shape
         object: 0,
         types: 0,
         content: 0,
+        pieces: 0,
     }
 }
 
@@ -50,6 +52,10 @@ fn class_shape(octet: usize, types: usize) -> Shape
             octet: 0x31,
             needed: true,
         },
+        instead: Slot {
+            octet: 0x31,
+            needed: true,
+        },
         within: 0x31,
         identifier: Slot {
             octet: 0x41,
@@ -62,6 +68,7 @@ fn class_shape(octet: usize, types: usize) -> Shape
         object: 0x02,
         types,
         content: 0,
+        pieces: 0,
     }
 }
 
@@ -80,6 +87,10 @@ fn object_shape(octet: usize, types: usize) -> Shape
             octet: 0x31,
             needed: false,
         },
+        instead: Slot {
+            octet: 0x31,
+            needed: false,
+        },
         within: 0x31,
         identifier: Slot {
             octet: 0x41,
@@ -92,6 +103,7 @@ fn object_shape(octet: usize, types: usize) -> Shape
         object: 0x02,
         types,
         content: 0,
+        pieces: 0,
     }
 }
 
@@ -110,6 +122,10 @@ fn unit_shape(octet: usize) -> Shape
             octet: 0x04,
             needed: true,
         },
+        instead: Slot {
+            octet: 0x24,
+            needed: true,
+        },
         within: 0x31,
         identifier: Slot {
             octet: 0x40,
@@ -122,6 +138,7 @@ fn unit_shape(octet: usize) -> Shape
         object: 0,
         types: 0,
         content: 0x04,
+        pieces: 0x24,
     }
 }
 
@@ -134,6 +151,7 @@ fn style_shape(octet: usize) -> Shape
         free: true,
         one: NO_ITEM,
         two: NO_ITEM,
+        instead: NO_ITEM,
         within: 0,
         identifier: Slot {
             octet: 0x45,
@@ -146,6 +164,7 @@ fn style_shape(octet: usize) -> Shape
         object: 0,
         types: 0,
         content: 0,
+        pieces: 0,
     }
 }
 

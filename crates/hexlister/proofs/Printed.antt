@@ -18,14 +18,14 @@ use Rattle.contents.specs.Search.{amount, firstValue, firstRun, itemsIn, bounds
 use Rattle.contents.specs.Order.{inOrder}
 use Rattle.portions.specs.Portions.{allPortions, values, wellSpelt, among, repeats}
 use Rattle.elements.specs.Shape.{shapeOf}
-use Rattle.elements.specs.Element.{bodyOf, elementOf, asTabled, namesFit}
+use Rattle.elements.specs.Element.{bodyOf, contentOf, elementOf, ordered, asTabled, namesFit}
 use Rattle.elements.specs.Judge.{clash, twice, shapeRefusal, refusalOf, judgeOne, judgeFrom, judge}
-use Rattle.elements.specs.Rows.{bodyIn, rowOf, rowsOf, placeOf}
+use Rattle.elements.specs.Rows.{bodyIn, contentOctet, rowOf, rowsOf, placeOf}
 use Rattle.letters.specs.Letter.{letterOf}
 use Rattle.reading.specs.Match.{joins, forEach, portionMatches, elementMatches, matches}
 use Rattle.answers.specs.Answers.{checked}
 use Rattle.hexlister.specs.Output.{elementLines, matchLines, acceptedLines, streamLines, output}
 
 pub as-printed : output (ascii input) ≡ printed
-unfolding decimal decimalIn spaced flatten valueOf pairs lines readsFrom permits formAllowed bigEndianFrom misfits definiteAt indefiniteAt longAt byFirst lengthAt itemAt closingAt headAt runFor run walkOf digit grouped isIdentifier digits isPortion same amount firstValue firstRun itemsIn boundsOf inOrder space allPortions values wellSpelt among repeats shapeOf bodyOf elementOf asTabled namesFit clash twice shapeRefusal refusalOf judgeOne judgeFrom judge placeOf bodyIn rowOf rowsOf letterOf joins forEach portionMatches elementMatches matches checked elementLines matchLines acceptedLines streamLines xor
+unfolding decimal decimalIn spaced flatten valueOf pairs lines readsFrom permits formAllowed bigEndianFrom misfits definiteAt indefiniteAt longAt byFirst lengthAt itemAt closingAt headAt runFor run walkOf digit grouped isIdentifier digits isPortion same amount firstValue firstRun itemsIn boundsOf inOrder space allPortions values wellSpelt among repeats shapeOf bodyOf contentOf elementOf ordered asTabled namesFit clash twice shapeRefusal refusalOf judgeOne judgeFrom judge placeOf bodyIn contentOctet rowOf rowsOf letterOf joins forEach portionMatches elementMatches matches checked elementLines matchLines acceptedLines streamLines xor
 as-printed = refl

@@ -15,13 +15,13 @@ use Rattle.tree.specs.Tree.{empty, plain}
 use Rattle.runs.specs.Whole.{Whole}
 use Rattle.runs.specs.Runs.{walkIn, itemsOf, Fine}
 use Rattle.names.specs.Hash.{hashFrom}
-use Rattle.contents.specs.Search.{Value, absent, octets, firstValue, firstRun, boundsOf, itemsIn}
+use Rattle.contents.specs.Search.{Value, absent, octets, amount, firstValue, firstRun, boundsOf, itemsIn}
 use Rattle.portions.specs.Portions.{allPortions, values, wellSpelt, repeats}
 use Rattle.index.specs.Rows.{space}
 use Rattle.elements.specs.declared.Row.{Row}
 use Rattle.elements.specs.declared.Shape.{Shape}
 use Rattle.elements.specs.Shape.{edition1988}
-use Rattle.elements.specs.Element.{Element, noType, bodyOf, elementOf, namesFit}
+use Rattle.elements.specs.Element.{single, contentOf, Element, noType, bodyOf, elementOf, namesFit}
 use Rattle.elements.specs.Judge.{shares, clash, twice, refusalOf}
 use Rattle.elements.specs.Rows.{bodyIn, rowOf}
 use Rattle.elements.specs.Says.{noSpan, portionsRun, Says}
@@ -32,7 +32,7 @@ use Rattle.judging.proofs.Steps.{refused-early, refused-last}
 
 -- what it says, and its row
 abbrev bareElement : (octet : ℕ) → Element
-bareElement octet = record { kind = octet % 32; object = noType; identifier = absent; logical = absent; portions = []; content = absent }
+bareElement octet = record { kind = octet % 32; object = noType; identifier = absent; logical = absent; portions = []; content = single absent }
 
 abbrev bareRow : (octet first past : ℕ) → Row
 bareRow octet first past = record {
@@ -59,7 +59,7 @@ module _ (shape : Shape) where
   body-none = rw (either (eqb (shape .within) 0) none) (either (shape .looked) none)
 
   says-nothing : elementOf shape empty ≡ bareElement (shape .octet)
-  unfolding elementOf firstValue firstRun values
+  unfolding elementOf contentOf amount firstValue firstRun values
   says-nothing = rw body-empty
 
   row-of-none : (s : List ℕ) (first past : ℕ) → rowOf shape s first past none ≡ bareRow (shape .octet) first past

@@ -1,7 +1,11 @@
 -- Grow: one row more in the scratch. State: the state of the judge. Meetings: what is met in a run. Nested, Apart, Table: the table.
+-- Standing: where element j stands. Fetching: where its content does. Coding: what the content fields of content in pieces bound.
 pub mod Grow
 pub mod State
 pub mod Meetings
 pub mod Nested
 pub mod Apart
 pub mod Table
+pub mod Standing
+pub mod Fetching
+pub mod Coding

@@ -8,16 +8,16 @@ use native.Mathlib.Omega.{arith}
 use lib.ListN.{length, getElem?}
 use Rattle.octets.specs.Items.{Items, none, item}
 use Rattle.octets.proofs.RulesHold.{derives}
-use Rattle.tree.specs.Tree.{treeOf}
+use Rattle.tree.specs.Tree.{plain, treeOf}
 use Rattle.runs.specs.Runs.{wholeStream, startOf, Fine}
 use Rattle.runs.proofs.Laws.{start-at}
 use Rattle.contents.specs.Search.{octets}
 use Rattle.elements.specs.declared.Row.{Row}
 use Rattle.elements.specs.declared.Shape.{Shape}
 use Rattle.elements.specs.Shape.{Edition, edition1988, shapeOf}
-use Rattle.elements.specs.Element.{Element}
-use Rattle.elements.specs.Rows.{bodyIn, rowOf, rowsOf}
-use Rattle.elements.specs.Says.{Bounds, Says}
+use Rattle.elements.specs.Element.{single, Element}
+use Rattle.elements.specs.Rows.{bodyIn, contentOctet, rowOf, rowsOf}
+use Rattle.elements.specs.Says.{Contains, Says}
 use Rattle.letters.specs.Letter.{itemsOfStream, rowsOfStream}
 use Rattle.letters.specs.Scratch.{Filled}
 use Rattle.judging.specs.Judges.{bytesIn}
@@ -43,7 +43,7 @@ row-within shape s first past items nested =
       identifier = bounds-within first past (shape .identifier .octet) (bodyIn shape items) body;
       logical = bounds-within first past (shape .logical) (bodyIn shape items) body;
       portions = bounds-within first past (shape .portions) (bodyIn shape items) body;
-      content = bounds-within first past (shape .content) items nested;
+      content = bounds-within first past (contentOctet shape (plain s items)) items nested;
     }
 
 rows-within : (edition : Edition) (s : List ℕ) (items : Items) → Separate (length s) items → (j : ℕ) (row : Row)
@@ -74,5 +74,5 @@ module _ {s scratch head next head2 next2 : List ℕ} {count : ℕ} (filled : Fi
   filled-row = row-of (filled .holds .saying)
 
 -- the content pair of a row bounds the content of its element
-pub content-bytes : {s : List ℕ} {row : Row} {e : Element} → Says s row e → (bytes : List ℕ) → e .content ≡ octets bytes → bytesIn s (row .content) ≡ bytes
-content-bytes {s} {row} says bytes e = subst (Bounds s (row .content)) e (says .content) .value
+pub content-bytes : {s : List ℕ} {row : Row} {e : Element} → Says s row e → (bytes : List ℕ) → e .content ≡ single (octets bytes) → bytesIn s (row .content) ≡ bytes
+content-bytes {s} {row} says bytes e = subst (Contains s (row .content)) e (says .content) .value

@@ -2,6 +2,7 @@
 use judging::Item;
 use judging::Judgement;
 use runs::Met;
+use runs::Run;
 ghost use mathlib.Core.Path.{_≡_};
 ghost use mathlib.Core.List.{_++_};
 ghost use Prim.Native.Nat.{_*_, _≤_};
@@ -12,12 +13,21 @@ ghost use Rattle.index.specs.Rows.{rowWidth};
 ghost use Rattle.letters.specs.Scratch.{Gives};
 ghost use Rattle.letters.specs.Lent.{Lent, endVerdict};
 
+mod content; // content.rt: where the content of one element stands
 mod writing; // writing.rt: rows, to the scratch and to a table
+
+pub use content::content_of;
 
 // What the judge of a stream gives: accepted with so many elements, or refused by a number at a place.
 pub enum Verdict {
     Accepted { count: usize },
     Refused { number: usize, place: usize },
+}
+
+// Where the content of an element stands: a part of the stream, or a run of pieces.
+pub enum Held {
+    Part { first: usize, past: usize },
+    Pieces { run: Run },
 }
 
 // How many elements a stream has that the walk has passed. Whoever judges it sizes the scratch by that.

@@ -1,5 +1,6 @@
 // The public questions, and nothing else. None has a `requires`: any caller may ask, of any octets, with any buffers.
 pub use answers::Checked;
+pub use answers::Copied;
 use answers::Found;
 pub use answers::Listed;
 pub use answers::Located;
@@ -12,10 +13,12 @@ pub use reading::Match;
 pub use reading::Side;
 ghost use mathlib.Core.Path.{_≡_};
 ghost use mathlib.Core.List.{List};
-ghost use Rattle.answers.specs.Answers.{CheckOutcome, NormalOutcome, ListOutcome, fetched, whyNot, Fetches};
+ghost use Rattle.answers.specs.Answers.{CheckOutcome, NormalOutcome, ListOutcome, fetched, whyNot, Fetches, JoinedOutcome};
 ghost use Rattle.answers.specs.Asking.{Sized};
 
 const NO_UNIT: u32 = 20;
+
+const IN_PIECES: u32 = 21;
 
 // Checks a stream and fills the element table, twelve numbers a row. The viewer asks this first.
 pub fn check(stream: &[u8], table: &mut [u32]) -> Checked
@@ -104,8 +107,8 @@ fn list_many(
     answer
 }
 
-// The content of a text unit: a part of the caller's own stream, and an empty part if the stream or the element is refused. The viewer
-// asks this of an element of a match, and `why` if the part is empty.
+// The content of a text unit: a part of the caller's own stream, and an empty part if the stream or the element is refused, or the content
+// is in pieces. The viewer asks this of an element of a match, and `why` if the part is empty.
 pub fn content<'a>(stream: &'a [u8], element: usize) -> &'a [u8]
     ensures { λ r. ⌜ now r ≡ fetched (now (stream .entry)) element .part ⌝ }
 {
@@ -116,6 +119,7 @@ pub fn content<'a>(stream: &'a [u8], element: usize) -> &'a [u8]
             place: _,
         } => &stream[..0],
         Found::NoUnit => &stream[..0],
+        Found::Pieces { run: _ } => &stream[..0],
     }
 }
 
@@ -152,6 +156,33 @@ fn locate(stream: &[u8], element: usize) -> Located
             place: 0,
             first: 0,
             past: 0,
+        },
+        Found::Pieces { run: _ } => Located {
+            number: IN_PIECES,
+            place: 0,
+            first: 0,
+            past: 0,
+        },
+    }
+}
+
+// Copies the content of a text unit, its pieces joined in order, to a lent buffer. The viewer asks this where the content may be in pieces;
+// nothing is written to a buffer that is too short.
+pub fn joined(stream: &[u8], element: usize, out: &mut [u8]) -> Copied
+    ensures { λ r. ⌜ JoinedOutcome (now (stream .entry)) element (now (out .entry)) r (now (out .exit)) ⌝ }
+{
+    match answers::fetch(stream, element) {
+        Found::Content { first, past } => answers::copy_part(stream, first, past, out),
+        Found::Pieces { run } => answers::copy_pieces(stream, run, out),
+        Found::Refused { number, place } => Copied {
+            number: number as u32,
+            place: place as u32,
+            length: 0,
+        },
+        Found::NoUnit => Copied {
+            number: NO_UNIT,
+            place: 0,
+            length: 0,
         },
     }
 }
@@ -190,4 +221,11 @@ pub extern "C" fn odif_content(stream: &[u8], element: u32) -> Located
     ensures { λ r. ⌜ Fetches (now (stream .entry)) element r ⌝ }
 {
     locate(stream, element as usize)
+}
+
+#[no_mangle]
+pub extern "C" fn odif_joined(stream: &[u8], element: u32, out: &mut [u8]) -> Copied
+    ensures { λ r. ⌜ JoinedOutcome (now (stream .entry)) element (now (out .entry)) r (now (out .exit)) ⌝ }
+{
+    joined(stream, element as usize, out)
 }

@@ -4,14 +4,14 @@ use mathlib.Core.List.{List, [], _∷_, map}
 use Prim.Native.Nat.{ℕ}
 use Rattle.names.specs.Names.{same}
 use Rattle.contents.specs.Search.{Value, absent, octets}
-use Rattle.elements.specs.Element.{Element}
+use Rattle.elements.specs.Element.{single, Element}
 use Rattle.reading.specs.declared.Match.{Match}
 use Rattle.reading.specs.declared.Side.the-variants.{Layout, Logical}
 use Rattle.reading.specs.Match.{joins, forEach, portionMatches, elementMatches, matches}
 
 abbrev element : (kind : ℕ) → (identifier logical : Value) → List (List ℕ) → Element
 element kind identifier logical portions =
-    record { kind = kind; object = 255; identifier = identifier; logical = logical; portions = portions; content = absent }
+    record { kind = kind; object = 255; identifier = identifier; logical = logical; portions = portions; content = single absent }
 
 abbrev profile : Element
 profile = element 0 absent absent []

@@ -17,7 +17,7 @@ use Rattle.index.specs.declared.Found.{Found}
 use Rattle.index.specs.declared.Found.the-variants.{At, Nothing}
 use Rattle.index.specs.Rows.{identifierColumn, logicalColumn, kindAt, firstAt, pastAt, Bounded}
 use Rattle.index.specs.Index.{Indexed}
-use Rattle.elements.specs.Element.{Element}
+use Rattle.elements.specs.Element.{single, Element}
 use Rattle.elements.specs.Says.{portionsRun}
 use Rattle.judging.specs.Judges.{bytesIn}
 use Rattle.letters.specs.Table.{Apart}
@@ -90,7 +90,7 @@ FoundBelow n Nothing = Unit {0}
 
 -- the element past the last
 abbrev pub noElement : Element
-noElement = record { kind = 0; object = 0; identifier = absent; logical = absent; portions = []; content = absent }
+noElement = record { kind = 0; object = 0; identifier = absent; logical = absent; portions = []; content = single absent }
 
 abbrev pub elementAt : List Element → (e : ℕ) → Element
 elementAt elements e = getD elements e noElement

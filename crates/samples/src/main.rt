@@ -1,5 +1,6 @@
 // Runs the checked examples of document 01 and the worked examples of X.209, the streams of vectors/, and prints what comes out: octets,
-// then for each stream the check's number, place and header count, and a normal form, or - where it is refused.
+// then for each stream the check's number, place and header count, a normal form, or - where it is refused, and of a text unit its number
+// and its joined content.
 use hex::Read;
 use hex::STREAM_LIMIT;
 use libc::STDOUT_FILENO;
@@ -52,6 +53,18 @@ fn print_normal(stream: &[u8]) {
     }
 }
 
+fn print_joined(stream: &[u8], element: usize) {
+    let mut out = [0u8; STREAM_LIMIT];
+    let answer = odif::joined(stream, element, &mut out);
+    if answer.number == 0 {
+        io::print_decimal(STDOUT_FILENO, element as u64);
+        io::write_all(STDOUT_FILENO, b" ");
+        print_pairs(hex::part(&out, answer.length as usize));
+    } else {
+        io::write_all(STDOUT_FILENO, b"-");
+    }
+}
+
 fn print_between() {
     io::write_all(STDOUT_FILENO, b" ; ");
 }
@@ -79,13 +92,21 @@ fn normal_in(before: &[u8], pairs: &[u8], after: &[u8]) {
     print_normal(hex::part(&octets, length));
 }
 
-// A stream.
+fn joined_in(pairs: &[u8], element: usize) {
+    let mut octets = [0u8; STREAM_LIMIT];
+    let length = read(b"", pairs, b"", &mut octets);
+    print_joined(hex::part(&octets, length), element);
+}
+
+// A stream. Of its elements the one after the profile is asked for its content: no example has a text unit elsewhere.
 fn stream(pairs: &[u8]) {
     io::write_all(STDOUT_FILENO, pairs);
     print_between();
     check_in(b"", pairs, b"");
     print_between();
     normal_in(b"", pairs, b"");
+    print_between();
+    joined_in(pairs, 1);
     io::write_all(STDOUT_FILENO, b"\n");
 }
 

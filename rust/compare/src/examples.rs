@@ -34,9 +34,14 @@ fn lines(table: &str) -> impl Iterator<Item = Vec<&str>> {
 /// Holds both readers to the examples.
 pub fn hold(holder: &mut Holder) {
     for fields in lines(DOCUMENT_01) {
-        let [name, hex, answer, normal] = fields[..] else { panic!("a line of four fields: {fields:?}") };
+        let [name, hex, answer, normal, joined] = fields[..] else { panic!("a line of five fields: {fields:?}") };
+        let stream = octets(hex);
         let normal = (normal != "-").then(|| octets(normal));
-        example(holder, name, &octets(hex), answer, normal.as_deref());
+        example(holder, name, &stream, answer, normal.as_deref());
+        if let Some((element, content)) = joined.split_once(' ') {
+            let element = element.parse().expect("an element's number");
+            joined_example(holder, name, &stream, element, &octets(content));
+        }
     }
     for fields in lines(X209) {
         let [name, hex, alone, within, normal] = fields[..] else { panic!("a line of five fields: {fields:?}") };
@@ -64,6 +69,13 @@ fn example(holder: &mut Holder, name: &str, stream: &[u8], answer: &str, normal:
         let written = raw::normal(stream, &mut out);
         holder.tally.expect(written.number == 0 && out == normal, || format!("{name}: the normal form is {out:02X?}"));
     }
+}
+
+/// Holds the library to the joined content of an example.
+fn joined_example(holder: &mut Holder, name: &str, stream: &[u8], element: u32, content: &[u8]) {
+    let mut out = vec![0; content.len()];
+    let copied = raw::joined(stream, element, &mut out);
+    holder.tally.expect(copied.number == 0 && out == content, || format!("{name}: the joined content is {out:02X?}"));
 }
 
 /// What the lister of document 01 writes of a stream.

@@ -29,10 +29,12 @@ impl Holder {
         one.ask_list(Side::Logical, rng);
         one.ask_normal(rng);
         one.ask_content(rng);
+        one.ask_joined(rng);
         one.expect(before == stream, "the stream itself", || "it was written to".into());
         if reading.refusal().is_none() {
             one.tally.accepted += 1;
-            one.ask_round_trip();
+            one.ask_round_trip(rng);
+            one.ask_binding(rng);
             self.batch.add(stream, &reading, origin, &mut self.tally);
         }
     }
@@ -153,7 +155,8 @@ impl One<'_> {
         }
     }
 
-    fn ask_content(&mut self, rng: &mut Rng) {
+    /// Elements to ask about: all of a small letter, some of a large one, and numbers that are none.
+    fn elements(&self, rng: &mut Rng) -> Vec<u32> {
         let count = self.reading.element_count();
         let mut elements = vec![0, count, count + rng.below(5_000), rng.number() as u32 as usize, u32::MAX as usize];
         elements.extend((0..4).map(|_| rng.below(count + 1)));
@@ -162,8 +165,11 @@ impl One<'_> {
         if count <= 8 {
             elements.extend(0..count);
         }
-        for element in elements {
-            let element = element as u32;
+        elements.into_iter().map(|element| element as u32).collect()
+    }
+
+    fn ask_content(&mut self, rng: &mut Rng) {
+        for element in self.elements(rng) {
             let answer = raw::content(self.stream, element);
             let wanted = self.reading.content(element);
             self.tally.meet(answer.number);
@@ -173,8 +179,41 @@ impl One<'_> {
         }
     }
 
-    /// The library's normal form is accepted, is its own normal form, and has the same elements and matches.
-    fn ask_round_trip(&mut self) {
+    fn ask_joined(&mut self, rng: &mut Rng) {
+        for element in self.elements(rng) {
+            let lengths = match self.reading.joined_size(element) {
+                None => vec![rng.below(40)],
+                Some(0) => vec![0, rng.between(1, 9)],
+                Some(exact) => vec![exact, exact - 1, exact + rng.between(1, 9), rng.below(exact)],
+            };
+            for length in lengths {
+                self.ask_joined_with(element, length);
+            }
+        }
+    }
+
+    fn ask_joined_with(&mut self, element: u32, length: usize) {
+        let before = Lent::new(length, lent::octets);
+        let (mut ours, mut theirs) = (before.clone(), before.clone());
+        let answer = raw::joined(self.stream, element, ours.lend());
+        let wanted = self.reading.joined(element, theirs.lend());
+        self.tally.meet(answer.number);
+        let question = format!("joined content of {element} with an output of {length} octets");
+        let same = [answer.number, answer.place, answer.length] == [wanted.number, wanted.place, wanted.length];
+        self.expect(same, &question, || format!("{answer:?}, not {wanted:?}"));
+        self.expect(ours == theirs, &question, || format!("{}, not {}", hex(ours.cells()), hex(theirs.cells())));
+        let used = answer.length as usize;
+        self.expect(ours.is_untouched_past(used, &before), &question, || "written past its end".into());
+        let part = raw::content(self.stream, element);
+        if answer.number == 0 && part.number == 0 {
+            let part = &self.stream[part.first as usize..part.past as usize];
+            let same = ours.cells().get(..used) == Some(part);
+            self.expect(same, &question, || format!("it is not the part {}", hex(part)));
+        }
+    }
+
+    /// The library's normal form is accepted, is its own normal form, and has the same elements, matches and contents.
+    fn ask_round_trip(&mut self, rng: &mut Rng) {
         let mut out = vec![0; self.reading.normal_size().min(STREAM_LIMIT)];
         if raw::normal(self.stream, &mut out).number != 0 {
             return;
@@ -184,6 +223,25 @@ impl One<'_> {
         self.expect(written.number == 0 && again == out, "the normal form's own", || hex(&again));
         let (mine, normal) = (answers_of(self.stream), answers_of(&out));
         self.expect(mine == normal, "the normal form's answers", || format!("{normal:?}, not {mine:?}"));
+        for element in self.elements(rng) {
+            let (mine, normal) = (joined_of(self.stream, element), joined_of(&out, element));
+            self.expect(mine == normal, "the normal form's contents", || format!("{normal:?}, not {mine:?}"));
+        }
+    }
+
+    /// The crate's letter, which asks the library about a unit alone, has the contents that the library gives for the
+    /// whole stream.
+    fn ask_binding(&mut self, rng: &mut Rng) {
+        let Ok(letter) = odif::Letter::read(self.stream) else {
+            return self.expect(false, "the crate's letter", || "it is refused".into());
+        };
+        for element in self.elements(rng) {
+            let (number, joined) = joined_of(self.stream, element);
+            let wanted = (number == 0).then_some(joined);
+            let content = letter.content(element as usize);
+            let same = content.as_deref() == wanted.as_deref();
+            self.expect(same, "the crate's content", || format!("of {element}: {content:?}, not {wanted:?}"));
+        }
     }
 }
 
@@ -197,6 +255,14 @@ fn answers_of(stream: &[u8]) -> (u32, u32, Vec<u32>, Vec<raw::Match>) {
     list.truncate(layout + logical);
     let rows = table.chunks_exact(ROW_WIDTH).take(checked.elements as usize);
     (checked.number, checked.headers, rows.flat_map(|row| [row[0], row[1]]).collect(), list)
+}
+
+/// The number that the library gives for the joined content of an element, and the content.
+fn joined_of(stream: &[u8], element: u32) -> (u32, Vec<u8>) {
+    let mut out = vec![0; stream.len()];
+    let answer = raw::joined(stream, element, &mut out);
+    out.truncate(answer.length as usize);
+    (answer.number, out)
 }
 
 /// "Elements meet end to end from 0 to the stream's length."

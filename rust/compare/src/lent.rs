@@ -26,9 +26,11 @@ impl<T: Clone + PartialEq> Lent<T> {
         &self.cells[GUARD..self.cells.len() - GUARD]
     }
 
-    /// Is all as it was before, but for the first `used` cells?
+    /// Is all as it was before, but for the first `used` cells? More than were lent can't have been used.
     pub fn is_untouched_past(&self, used: usize, before: &Self) -> bool {
-        self.cells[..GUARD] == before.cells[..GUARD] && self.cells[GUARD + used..] == before.cells[GUARD + used..]
+        used <= self.cells().len()
+            && self.cells[..GUARD] == before.cells[..GUARD]
+            && self.cells[GUARD + used..] == before.cells[GUARD + used..]
     }
 }
 

@@ -172,9 +172,43 @@ fn unit(names: &mut Names, rng: &mut Rng) -> Option<Item> {
         rng.shuffle(&mut descriptor);
         run.push(Item::run(0x31, descriptor));
     }
-    let length = *rng.pick(&[0, 1, 5, 30, 127, 128, 300]);
-    run.push(Item::value(0x04, rng.octets(length)));
+    run.push(if rng.one_in(3) { content_in_pieces(rng) } else { text(rng) });
     Some(Item::run(0xA3, run))
+}
+
+/// The deepest level of an item.
+const DEEPEST: usize = 16;
+
+fn text(rng: &mut Rng) -> Item {
+    let length = *rng.pick(&[0, 1, 5, 30, 127, 128, 300]);
+    Item::value(0x04, rng.octets(length))
+}
+
+/// Content in pieces: a few of them, empty and nested ones among them, now and then down to the deepest level.
+fn content_in_pieces(rng: &mut Rng) -> Item {
+    let deepest = if rng.one_in(8) { DEEPEST } else { rng.between(3, 6) };
+    Item::run(0x24, pieces(rng, 3, deepest))
+}
+
+/// Pieces at this level. Where they are to reach a deep level, one of them leads there.
+fn pieces(rng: &mut Rng, level: usize, deepest: usize) -> Vec<Item> {
+    let count = rng.below(4);
+    let mut pieces: Vec<Item> = (0..count).map(|_| piece(rng, level, deepest)).collect();
+    if deepest == DEEPEST && level < DEEPEST {
+        let at = rng.below(count + 1);
+        pieces.insert(at, Item::run(0x24, self::pieces(rng, level + 1, deepest)));
+    }
+    pieces
+}
+
+fn piece(rng: &mut Rng, level: usize, deepest: usize) -> Item {
+    if !rng.one_in(3) {
+        let length = *rng.pick(&[0, 1, 2, 3, 60]);
+        return Item::value(0x04, rng.octets(length));
+    }
+    // Only one of a run goes on to a deep level, so that letters stay short.
+    let inner = if level < deepest.min(6) { pieces(rng, level + 1, deepest.min(6)) } else { Vec::new() };
+    Item::run(0x24, inner)
 }
 
 fn style(names: &mut Names, rng: &mut Rng) -> Item {
@@ -214,10 +248,11 @@ fn free_item(rng: &mut Rng, level: usize, deepest: usize, avoid: &[u8]) -> Item 
 
 /// One slip of a writer of letters.
 fn slip(elements: &mut Vec<Item>, rng: &mut Rng) {
-    match rng.below(4) {
+    match rng.below(5) {
         0 => slip_in_value(elements, rng),
         1 => slip_in_descriptor(elements, rng),
         2 => slip_in_element(elements, rng),
+        3 => slip_among_pieces(elements, rng),
         _ => slip_among_elements(elements, rng),
     }
 }
@@ -263,11 +298,11 @@ fn slip_in_descriptor(elements: &mut [Item], rng: &mut Rng) {
     }
 }
 
-/// An item too many, one too few, another order, or content in pieces.
+/// An item too many, one too few, or another order.
 fn slip_in_element(elements: &mut [Item], rng: &mut Rng) {
     let place = rng.below(elements.len());
     let Item::Constructed(_, run) = &mut elements[place] else { return };
-    match rng.below(4) {
+    match rng.below(3) {
         0 => {
             let item = match rng.below(4) {
                 0 => Item::value(0x02, [0]),
@@ -280,13 +315,37 @@ fn slip_in_element(elements: &mut [Item], rng: &mut Rng) {
         1 if !run.is_empty() => {
             run.remove(rng.below(run.len()));
         }
-        2 => rng.shuffle(run),
-        _ => {
-            if let Some(Item::Primitive(0x04, text)) = run.last().cloned() {
-                run.pop();
-                run.push(Item::run(0x24, vec![Item::value(0x04, text)]));
-            }
-        }
+        _ => rng.shuffle(run),
+    }
+}
+
+/// Somewhere among the pieces of a content, at whatever level, an item that is no piece, or almost one.
+fn slip_among_pieces(elements: &mut [Item], rng: &mut Rng) {
+    let contents = elements.iter_mut().filter_map(|element| match element {
+        Item::Constructed(0xA3, run) => run.last_mut(),
+        _ => None,
+    });
+    let mut in_pieces: Vec<_> = contents.filter(|content| octet_of(content) == 0x24).collect();
+    if in_pieces.is_empty() {
+        return;
+    }
+    let place = rng.below(in_pieces.len());
+    let item = match rng.below(4) {
+        0 => free_item(rng, DEEPEST, DEEPEST, &[]),
+        1 => Item::value(*rng.pick(&[0x03, 0x05, 0x12, 0x16, 0x44, 0x84, 0xC4]), Vec::new()),
+        _ => Item::run(*rng.pick(&[0x23, 0x31, 0x32, 0x34, 0x64, 0xA4, 0xE4]), Vec::new()),
+    };
+    put_among_pieces(in_pieces.swap_remove(place), item, rng);
+}
+
+/// Puts an item into the run of a 24, or into that of a 24 in it.
+fn put_among_pieces(pieces: &mut Item, item: Item, rng: &mut Rng) {
+    let Item::Constructed(_, run) = pieces else { return };
+    let nested: Vec<usize> = (0..run.len()).filter(|&place| octet_of(&run[place]) == 0x24).collect();
+    if nested.is_empty() || rng.one_in(4) {
+        run.insert(rng.below(run.len() + 1), item);
+    } else {
+        put_among_pieces(&mut run[*rng.pick(&nested)], item, rng);
     }
 }
 

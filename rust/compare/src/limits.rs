@@ -1,5 +1,7 @@
 //! Every limit of document 01 from both sides, and every small choice that it leaves.
 
+mod pieces;
+
 use odif::{MOST_ELEMENTS, STREAM_LIMIT};
 
 use crate::coding::{Form, indefinite, item, item_in};
@@ -13,7 +15,7 @@ const STYLES: [u8; 2] = [0xA7, 0xA8];
 const PROFILE: [u8; 2] = [0xA0, 0x00];
 
 /// The groups of cases. Each group is made when it is wanted, for some are large.
-pub const GROUPS: [fn() -> Vec<Case>; 19] = [
+pub const GROUPS: [fn() -> Vec<Case>; 23] = [
     stream_length,
     element_count,
     full_tables,
@@ -29,6 +31,10 @@ pub const GROUPS: [fn() -> Vec<Case>; 19] = [
     closing_marks,
     first_octets,
     contents,
+    pieces::short_runs,
+    pieces::deep,
+    pieces::many,
+    pieces::most,
     descriptors,
     normal_length,
     name_spaces,

@@ -3,7 +3,7 @@
 use std::fmt;
 
 /// The greatest refusal number.
-pub const LAST_NUMBER: usize = 20;
+pub const LAST_NUMBER: usize = 22;
 /// How many failures each thread prints in full.
 const SHOWN: u64 = 10;
 
@@ -84,7 +84,7 @@ impl Tally {
         }
     }
 
-    /// Every number from 1 to 20 must have been met.
+    /// Every number from 1 to the last must have been met.
     pub fn expect_every_number(&mut self) {
         for number in 1..=LAST_NUMBER {
             let met = self.met[number] > 0;

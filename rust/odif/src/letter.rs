@@ -1,10 +1,11 @@
 //! Letters: the questions of the library with the memory they need, answered as Rust values.
 
+use std::borrow::Cow;
 use std::fmt;
 use std::ops::Range;
 
 use crate::raw;
-use crate::refusal::Refusal;
+use crate::refusal::{Refusal, Rule};
 use crate::{MOST_ELEMENTS, ROW_WIDTH, STREAM_LIMIT};
 
 /// One side of a letter.
@@ -99,7 +100,8 @@ pub struct Element {
     pub logical_identifier: Option<Range<usize>>,
     /// The portions of a class or object.
     pub portions: Option<Range<usize>>,
-    /// A text unit's content.
+    /// A text unit's content. If that is in pieces, it is the value that holds them, with their headers; the joined
+    /// octets are [`Letter::content`].
     pub content: Option<Range<usize>>,
 }
 
@@ -150,12 +152,25 @@ fn check_with_table(stream: &[u8], table: &mut [u32]) -> Checked {
     Checked { headers: answer.headers as usize, verdict }
 }
 
-/// Fetches the content of a text unit, a part of the stream, from the library itself. For many units of one letter
-/// [`Letter::content`] is quicker: it does not check the stream again.
-pub fn content(stream: &[u8], element: usize) -> Result<&[u8], Refusal> {
-    let answer = raw::content(stream, u32::try_from(element).unwrap_or(u32::MAX));
+/// Fetches the content of a text unit: a part of the stream, or, where it was saved in pieces, those joined in order. For
+/// many units of one letter [`Letter::content`] is quicker: it does not check the whole stream again.
+pub fn content(stream: &[u8], element: usize) -> Result<Cow<'_, [u8]>, Refusal> {
+    let element = u32::try_from(element).unwrap_or(u32::MAX);
+    let answer = raw::content(stream, element);
+    match Refusal::unless_accepted(answer.number, answer.place) {
+        Ok(()) => Ok(Cow::Borrowed(&stream[answer.first as usize..answer.past as usize])),
+        Err(refusal) if refusal.rule == Rule::InPieces => joined(stream, element, stream.len()).map(Cow::Owned),
+        Err(refusal) => Err(refusal),
+    }
+}
+
+/// The joined content of a text unit, which has at most so many octets.
+fn joined(stream: &[u8], element: u32, most: usize) -> Result<Vec<u8>, Refusal> {
+    let mut out = vec![0; most];
+    let answer = raw::joined(stream, element, &mut out);
     Refusal::unless_accepted(answer.number, answer.place)?;
-    Ok(&stream[answer.first as usize..answer.past as usize])
+    out.truncate(answer.length as usize);
+    Ok(out)
 }
 
 /// Makes the normal form of a stream.
@@ -168,6 +183,9 @@ pub fn normal_form(stream: &[u8]) -> Result<Vec<u8>, Refusal> {
     out.truncate(answer.length as usize);
     Ok(out)
 }
+
+/// The shortest profile, and with it the shortest letter.
+const EMPTY_PROFILE: [u8; 2] = [0xA0, 0x00];
 
 /// A table that is long enough for any accepted stream of this length: an element has at least two octets.
 fn new_table(stream: &[u8]) -> Vec<u32> {
@@ -207,11 +225,18 @@ impl<'a> Letter<'a> {
         &self.elements
     }
 
-    /// The content of a text unit, a part of the caller's own stream; `None` where the element is no text unit or does
-    /// not exist.
-    pub fn content(&self, element: usize) -> Option<&'a [u8]> {
-        let bounds = self.elements.get(element)?.content.clone()?;
-        Some(&self.stream[bounds])
+    /// The content of a text unit: a part of the caller's own stream, or, where it was saved in pieces, those joined in
+    /// order. `None` where the element is no text unit or does not exist.
+    pub fn content(&self, element: usize) -> Option<Cow<'a, [u8]>> {
+        let unit = self.elements.get(element)?;
+        let part = &self.stream[unit.content.clone()?];
+        // The unit alone behind an empty profile is a letter too, no longer than this one, and its content is the same.
+        // So the library says how it was saved, and no other element is looked at again.
+        let alone = [&EMPTY_PROFILE, &self.stream[unit.place.clone()]].concat();
+        match content(&alone, 1).expect("a unit of an accepted letter") {
+            Cow::Borrowed(_) => Some(Cow::Borrowed(part)),
+            Cow::Owned(joined) => Some(Cow::Owned(joined)),
+        }
     }
 
     /// The identifier of an element; of a text unit the layout identifier.

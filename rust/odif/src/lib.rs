@@ -1,8 +1,9 @@
 //! A safe binding of the proved reader of ODIF letters.
 //!
 //! [`Letter::read`] checks a stream and keeps its table; the letter then gives its elements, the reading list of either
-//! side, the content of its text units as parts of the caller's own stream, and its normal form. What is refused comes
-//! back as a [`Refusal`], with the rule, its number, a sentence and the place.
+//! side, the content of its text units, and its normal form. Content is a part of the caller's own stream, or, where it
+//! was saved in pieces, those joined. What is refused comes back as a [`Refusal`], with the rule, its number, a sentence
+//! and the place.
 //!
 //! ```
 //! # fn main() -> Result<(), odif::Refusal> {
@@ -11,7 +12,7 @@
 //!     \xA3\x0F\x31\x09\x40\x071 0 2 0\x04\x02Hi";
 //! let letter = odif::Letter::read(stream)?;
 //! for found in letter.reading_list(odif::Side::Layout)? {
-//!     assert_eq!(letter.content(found.unit), Some(&b"Hi"[..]));
+//!     assert_eq!(letter.content(found.unit).as_deref(), Some(&b"Hi"[..]));
 //! }
 //! # Ok(())
 //! # }

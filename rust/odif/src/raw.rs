@@ -58,6 +58,18 @@ pub struct Found {
     pub past: u32,
 }
 
+/// The answer of [`joined`].
+#[repr(C)]
+#[derive(Clone, Copy, Debug, PartialEq, Eq)]
+pub struct Copied {
+    /// 0, or the number of the refusal.
+    pub number: u32,
+    /// The place of the refusal.
+    pub place: u32,
+    /// The octets copied.
+    pub length: u32,
+}
+
 /// One record of a reading list.
 #[repr(C)]
 #[derive(Clone, Copy, Debug, Default, PartialEq, Eq)]
@@ -90,6 +102,7 @@ unsafe extern "C" {
         list_len: usize,
     ) -> Listed;
     fn odif_content(stream: *const u8, stream_len: usize, element: u32) -> Found;
+    fn odif_joined(stream: *const u8, stream_len: usize, element: u32, out: *mut u8, out_len: usize) -> Copied;
 }
 
 // SAFETY, for each call below: a pointer and a length come from one slice, which is lent for the call alone; the
@@ -119,7 +132,12 @@ pub fn logical(stream: &[u8], table: &mut [u32], list: &mut [Match]) -> Listed {
     }
 }
 
-/// Finds the content of a text unit.
+/// Finds the content of a text unit, if it is one part of the stream.
 pub fn content(stream: &[u8], element: u32) -> Found {
     unsafe { odif_content(stream.as_ptr(), stream.len(), element) }
+}
+
+/// Copies the content of a text unit, its pieces joined in order.
+pub fn joined(stream: &[u8], element: u32, out: &mut [u8]) -> Copied {
+    unsafe { odif_joined(stream.as_ptr(), stream.len(), element, out.as_mut_ptr(), out.len()) }
 }

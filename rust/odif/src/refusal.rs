@@ -13,7 +13,7 @@ pub struct Refusal {
 }
 
 impl Refusal {
-    /// The number of the rule, 1 to 20.
+    /// The number of the rule, 1 to 22.
     pub fn number(&self) -> u32 {
         self.rule.number()
     }
@@ -82,11 +82,15 @@ pub enum Rule {
     ListTooShort,
     /// 20
     NoTextUnit,
+    /// 21; only [`crate::raw::content`] gives it
+    InPieces,
+    /// 22
+    CopyTooShort,
 }
 
 impl Rule {
     /// Every rule, in the order of the numbers.
-    pub const ALL: [Rule; 20] = [
+    pub const ALL: [Rule; 22] = [
         Rule::StreamTooLong,
         Rule::MisplacedZero,
         Rule::TooDeep,
@@ -107,6 +111,8 @@ impl Rule {
         Rule::OutputTooShort,
         Rule::ListTooShort,
         Rule::NoTextUnit,
+        Rule::InPieces,
+        Rule::CopyTooShort,
     ];
 
     /// The number of the rule.
@@ -146,6 +152,8 @@ impl Rule {
             Rule::OutputTooShort => "the output is shorter than the normal form",
             Rule::ListTooShort => "the list is shorter than the matches",
             Rule::NoTextUnit => "the asked element is no text unit or does not exist",
+            Rule::InPieces => "the content is in pieces, and no one part of the stream",
+            Rule::CopyTooShort => "the output is shorter than the joined content",
         }
     }
 }
@@ -162,11 +170,11 @@ mod tests {
 
     #[test]
     fn numbers_and_rules_agree() {
-        for number in 1..=20 {
+        for number in 1..=22 {
             assert_eq!(Rule::from_number(number).map(Rule::number), Some(number));
         }
         assert_eq!(Rule::from_number(0), None);
-        assert_eq!(Rule::from_number(21), None);
+        assert_eq!(Rule::from_number(23), None);
         assert_eq!(Refusal::unless_accepted(0, 0), Ok(()));
     }
 }

@@ -1,8 +1,9 @@
 //! The binding: letters, refusals, and parts of the caller's own stream.
 
+use std::borrow::Cow;
 use std::error::Error;
 
-use odif::{Kind, Letter, Refusal, Rule, Side};
+use odif::{Kind, Letter, Refusal, Rule, Side, raw};
 
 const LETTER: &[u8] = b"\xA0\x00\
     \xA2\x11\x02\x01\x04\x31\x0C\x41\x051 0 2\xA1\x03\x12\x010\
@@ -32,14 +33,58 @@ fn the_elements_of_a_letter() {
 #[test]
 fn contents_are_parts_of_the_caller_s_own_stream() {
     let letter = Letter::read(LETTER).unwrap();
-    let content = letter.content(2).unwrap();
-    assert_eq!(content, b"Hi");
-    assert_eq!(content.as_ptr(), LETTER[36..].as_ptr());
-    assert_eq!(odif::content(LETTER, 2).unwrap().as_ptr(), content.as_ptr());
+    for content in [letter.content(2).unwrap(), odif::content(LETTER, 2).unwrap()] {
+        let Cow::Borrowed(part) = content else { panic!("a part of the stream") };
+        assert_eq!((part, part.as_ptr()), (&b"Hi"[..], LETTER[36..].as_ptr()));
+    }
     assert_eq!((letter.content(1), letter.content(3)), (None, None));
     for element in [0, 1, 3, 4_096, usize::MAX] {
         assert_eq!(odif::content(LETTER, element), Err(Refusal { rule: Rule::NoTextUnit, place: 0 }), "{element}");
     }
+}
+
+/// A letter with a unit of each content. Some are indefinite, so that the units have closing marks behind the content.
+fn letter_of(contents: &[&[u8]]) -> Vec<u8> {
+    let unit = |content: &&[u8]| [&[0xA3, 0x80], *content, &[0x00, 0x00]].concat();
+    [vec![0xA0, 0x00], contents.iter().flat_map(unit).collect()].concat()
+}
+
+#[test]
+fn contents_in_pieces_are_joined() {
+    let stream = letter_of(&[
+        b"\x04\x02Hi",
+        b"\x24\x06\x04\x01H\x04\x01i",
+        b"\x31\x03\x40\x011\x24\x80\x24\x04\x04\x00\x24\x00\x24\x80\x04\x81\x01H\x00\x00\x04\x01i\x00\x00",
+        b"\x24\x00",
+        b"\x04\x00",
+    ]);
+    let letter = Letter::read(&stream).unwrap();
+    for (element, text) in [(1, "Hi"), (2, "Hi"), (3, "Hi"), (4, ""), (5, "")] {
+        let content = letter.content(element).unwrap();
+        assert_eq!(*content, *text.as_bytes(), "{element}");
+        assert_eq!(odif::content(&stream, element).unwrap(), content, "{element}");
+        assert_eq!(matches!(content, Cow::Borrowed(_)), matches!(element, 1 | 5), "{element}");
+    }
+    assert_eq!(
+        letter.elements()[2].content.as_ref().map(|value| &stream[value.clone()]),
+        Some(&b"\x04\x01H\x04\x01i"[..])
+    );
+    assert_eq!(odif::content(&stream, 6), Err(Refusal { rule: Rule::NoTextUnit, place: 0 }));
+    assert_eq!(refused(&letter_of(&[b"\x24\x02\x05\x00"])), Refusal { rule: Rule::Contents, place: 2 });
+}
+
+#[test]
+fn the_questions_behind_content() {
+    let stream = letter_of(&[b"\x24\x06\x04\x01H\x04\x01i"]);
+    let found = raw::content(&stream, 1);
+    assert_eq!((found.number, found.place, found.first, found.past), (Rule::InPieces.number(), 0, 0, 0));
+    let mut out = *b"....";
+    let copied = raw::joined(&stream, 1, &mut out[..1]);
+    assert_eq!((copied.number, copied.place, copied.length), (Rule::CopyTooShort.number(), 0, 0));
+    assert_eq!(&out, b"....");
+    let copied = raw::joined(&stream, 1, &mut out);
+    assert_eq!((copied.number, copied.place, copied.length), (0, 0, 2));
+    assert_eq!(&out, b"Hi..");
 }
 
 #[test]

@@ -12,6 +12,11 @@ const CLAIM: &str = "samples/letters/claim.odif";
 const IN_PIECES: &str = "samples/letters/in-pieces.odif";
 const CUT_SHORT: &str = "samples/letters/cut-short.odif";
 
+/// The octets of a letter whose unit, at octet 21, has an item among its pieces that is none.
+const WRONG_PIECE: &[u8] = b"\xA0\x00\
+    \xA2\x11\x02\x01\x04\x31\x0C\x41\x051 0 2\xA1\x03\x12\x010\
+    \xA3\x12\x31\x09\x40\x071 0 2 0\x24\x05\x04\x01H\x05\x00";
+
 /// With `--json` a file that can't be read is told as JSON too, by each subcommand that has it.
 fn assert_unreadable_json(name: &str) {
     let run = odif(&[name, "--json", "none"]);
@@ -132,17 +137,25 @@ mod check {
 
     #[test]
     fn unreadable_files_do_not_stop_it() {
-        let run = odif(&["check", "no-such-file.odif", CLAIM, "samples", IN_PIECES]);
+        let scratch = Scratch::new("check-unreadable");
+        let wrong_piece = scratch.write("wrong-piece.odif", WRONG_PIECE);
+        let run = odif(&["check", "no-such-file.odif", CLAIM, "samples", &wrong_piece, IN_PIECES]);
         assert_eq!(run.status, 2);
         assert!(run.stderr.contains("odif: no-such-file.odif: No such file"), "{}", run.stderr);
         assert!(run.stderr.contains("odif: samples: it is a folder; `odif survey` takes folders"), "{}", run.stderr);
         assert!(run.text().contains("claim.odif: accepted"));
-        assert!(run.text().contains("in-pieces.odif: refused, number 12 at octet 21"));
+        assert!(run.text().contains("wrong-piece.odif: refused, number 12 at octet 21: "));
+        let detail =
+            "element 2 (counted from 0), a text unit: an item among the pieces of the content is neither 04 nor 24";
+        assert!(run.text().contains(detail), "{}", run.text());
+        assert!(run.text().ends_with("in-pieces.odif: accepted, 3 elements, 13 items, 42 octets\n"), "{}", run.text());
     }
 
     #[test]
     fn json_lines() {
-        let run = odif(&["check", "--json", CLAIM, IN_PIECES, "none"]);
+        let scratch = Scratch::new("check-json");
+        let wrong_piece = scratch.write("wrong-piece.odif", WRONG_PIECE);
+        let run = odif(&["check", "--json", CLAIM, &wrong_piece, "none"]);
         assert_eq!(run.status, 2);
         let lines: Vec<&str> = run.text().lines().collect();
         assert_eq!(
@@ -151,7 +164,7 @@ mod check {
         );
         assert!(lines[1].contains(r#""outcome":"refused","number":12,"place":21,"#), "{}", lines[1]);
         assert!(lines[1].contains(r#""around":{"first":5,"hex":"0104310C"#), "{}", lines[1]);
-        assert!(lines[1].ends_with(r#","octets":42,"headers":13,"elements":0}"#), "{}", lines[1]);
+        assert!(lines[1].ends_with(r#","octets":41,"headers":13,"elements":0}"#), "{}", lines[1]);
         assert!(lines[2].starts_with(r#"{"file":"none","outcome":"unreadable","reason":""#), "{}", lines[2]);
         assert_eq!(lines.len(), 3);
     }
@@ -203,6 +216,13 @@ mod text {
     }
 
     #[test]
+    fn content_in_pieces_is_joined() {
+        let run = odif(&["text", IN_PIECES]);
+        assert_eq!((run.status, run.text(), run.stderr.as_str()), (0, "Hi", ""));
+        assert_eq!(odif(&["text", "--lines", "--escape", IN_PIECES]).text(), "Hi\n");
+    }
+
+    #[test]
     fn escaped_for_a_terminal() {
         let run = odif_with(&["text", "--escape", "-"], &letter(b"a\x1B[2J\\\r\n\xFFb"));
         assert_eq!(run.text(), "a\\x1B[2J\\\\\\r\n\\xFFb");
@@ -231,7 +251,7 @@ mod text {
     #[test]
     fn refused_empty_huge_and_unreadable_files() {
         let scratch = Scratch::new("text-bad");
-        let run = odif(&["text", IN_PIECES]);
+        let run = odif(&["text", &scratch.write("wrong-piece", WRONG_PIECE)]);
         assert_eq!((run.status, run.text()), (1, ""));
         assert!(run.stderr.contains("refused, number 12 at octet 21: "), "{}", run.stderr);
         assert_eq!(odif(&["text", &scratch.write("empty", b"")]).status, 1);
@@ -299,6 +319,18 @@ mod tree {
       34     2    universal 4                        length 2           content \"Hi\"
 ";
         assert_eq!(run.text(), wanted);
+    }
+
+    #[test]
+    fn pieces_with_their_names() {
+        let run = odif_with(&["tree", "--hex", "-"], b"A000 A30E 240C 040148 2405 2400 040169 2400 A303 040178");
+        let names: Vec<&str> = run.text().lines().skip(2).filter_map(|line| line.rsplit("  ").next()).collect();
+        let pieces = ["content in pieces", "piece \"H\"", "pieces", "pieces", "piece \"i\"", "pieces"];
+        assert_eq!(names, [&["element 1 text unit"], &pieces[..], &["element 2 text unit", "content \"x\""]].concat());
+        let run = odif_with(&["tree", "--hex", "-"], b"A000 A30A 2408 3102 0400 2402 0500");
+        assert_eq!(run.status, 1);
+        let unnamed = run.text().lines().filter(|line| line.ends_with("length 0") || line.ends_with("length 2"));
+        assert_eq!(unnamed.count(), 3, "{}", run.text());
     }
 
     #[test]
@@ -379,7 +411,7 @@ mod normal {
     fn a_refused_letter_leaves_the_file_alone() {
         let scratch = Scratch::new("normal-refused");
         let out = scratch.write("out.odif", b"as it was");
-        let run = odif(&["normal", IN_PIECES, "-o", &out]);
+        let run = odif(&["normal", &scratch.write("wrong-piece", WRONG_PIECE), "-o", &out]);
         assert_eq!(run.status, 1);
         assert!(run.stderr.contains("number 12 at octet 21"), "{}", run.stderr);
         assert_eq!(fs::read(&out).unwrap(), b"as it was");
@@ -431,17 +463,27 @@ mod list {
             run.text(),
             "{\"file\":\"standard input\",\"outcome\":\"accepted\",\"number\":0,\"place\":0,\
              \"side\":\"layout\",\"elements\":3,\"matches\":[\
-             {\"element\":1,\"portion\":0,\"unit\":2,\"identifier\":\"1 0 2 0\",\"first\":36,\"past\":38}]}\n"
+             {\"element\":1,\"portion\":0,\"unit\":2,\"identifier\":\"1 0 2 0\",\
+             \"octets\":2,\"in_pieces\":false,\"first\":36,\"past\":38}]}\n"
         );
-        let run = odif(&["list", "--json", IN_PIECES]);
+        let run = odif_with(&["list", "--json", "-"], WRONG_PIECE);
         assert_eq!(run.status, 1);
         assert!(run.text().contains("\"outcome\":\"refused\",\"number\":12,"), "{}", run.text());
     }
 
     #[test]
+    fn content_in_pieces_is_joined() {
+        let run = odif(&["list", IN_PIECES]);
+        assert!(run.text().ends_with("\n      1       0     2       2  1 0 2 0     Hi\n"), "{}", run.text());
+        let run = odif(&["list", "--json", IN_PIECES]);
+        assert_eq!(run.status, 0);
+        assert!(run.text().contains("\"octets\":2,\"in_pieces\":true,\"first\":36,\"past\":42}"), "{}", run.text());
+    }
+
+    #[test]
     fn refused_empty_huge_and_unreadable_files() {
         let scratch = Scratch::new("list-bad");
-        let run = odif(&["list", IN_PIECES]);
+        let run = odif(&["list", &scratch.write("wrong-piece", WRONG_PIECE)]);
         assert_eq!((run.status, run.text()), (1, ""));
         assert!(run.stderr.contains("number 12 at octet 21"), "{}", run.stderr);
         assert_eq!(odif(&["list", &scratch.write("empty", b"")]).status, 1);

@@ -11,7 +11,7 @@ static const uint8_t letter[] =
 
 typedef char sizes_are_as_they_should_be[
     sizeof(odif_checked) == 16 && sizeof(odif_written) == 12 && sizeof(odif_listed) == 16 && sizeof(odif_found) == 16
-    && sizeof(odif_match) == 12 ? 1 : -1];
+    && sizeof(odif_copied) == 12 && sizeof(odif_match) == 12 ? 1 : -1];
 
 int main(void) {
     size_t length = sizeof letter - 1;
@@ -33,6 +33,12 @@ int main(void) {
     odif_found found = odif_content(letter, length, 2);
     printf("content %" PRIu32 " %" PRIu32 " %.*s\n", found.number, found.place, (int)(found.past - found.first),
            (const char *)letter + found.first);
+    memset(out, '.', sizeof out);
+    odif_copied copied = odif_joined(letter, length, 2, out, sizeof out);
+    printf("joined %" PRIu32 " %" PRIu32 " %" PRIu32 " %.4s\n", copied.number, copied.place, copied.length,
+           (const char *)out);
+    copied = odif_joined(letter, length, 2, out, 1);
+    printf("too short %" PRIu32 " %" PRIu32 " %" PRIu32 "\n", copied.number, copied.place, copied.length);
     odif_written written = odif_normal(letter, length, out, sizeof out);
     printf("normal %" PRIu32 " %" PRIu32 " %" PRIu32 " %s\n", written.number, written.place, written.length,
            memcmp(out, letter, length) ? "differs" : "same");

@@ -23,6 +23,7 @@ static void ask_logical(void) {
     odif_logical(stream, length, table, sizeof table / sizeof *table, list, ODIF_MOST_ELEMENTS);
 }
 static void ask_content(void) { odif_content(stream, length, 1); }
+static void ask_joined(void) { odif_joined(stream, length, 1, out, sizeof out); }
 
 static const struct {
     const char *name;
@@ -31,7 +32,7 @@ static const struct {
 } questions[] = {
     {"check", ask_check, ODIF_STACK},          {"normal form", ask_normal, ODIF_STACK},
     {"layout list", ask_layout, ODIF_STACK_LISTS}, {"logical list", ask_logical, ODIF_STACK_LISTS},
-    {"content", ask_content, ODIF_STACK},
+    {"content", ask_content, ODIF_STACK},      {"joined content", ask_joined, ODIF_STACK},
 };
 
 static size_t stack_of(void (*ask)(void)) {
@@ -55,11 +56,14 @@ static void make_elements(size_t count) {
     }
 }
 
-/* An indefinite profile, and indefinite items in it down to the deepest level. */
+/* An indefinite profile and a text unit, each with indefinite items in it down to the deepest level. */
 static void make_levels(void) {
-    length = 64;
+    length = 128;
     memset(stream, 0, length);
-    for (size_t level = 0; level < 16; level++) memcpy(stream + 2 * level, "\xA0\x80", 2);
+    for (size_t level = 0; level < 16; level++) {
+        memcpy(stream + 2 * level, "\xA0\x80", 2);
+        memcpy(stream + 64 + 2 * level, level ? "\x24\x80" : "\xA3\x80", 2);
+    }
 }
 
 int main(void) {

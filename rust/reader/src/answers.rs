@@ -2,7 +2,7 @@
 
 use crate::ROW_WIDTH;
 use crate::STREAM_LIMIT;
-use crate::elements::{Row, kind};
+use crate::elements::{self, Row};
 use crate::items::Tree;
 use crate::letter::{self, Letter};
 use crate::matches;
@@ -66,6 +66,17 @@ pub struct Found {
     pub first: u32,
     /// Past the content.
     pub past: u32,
+}
+
+/// The answer of a copy of joined content.
+#[derive(Clone, Copy, Debug, Default, PartialEq, Eq)]
+pub struct Copied {
+    /// 0, or the number of the refusal.
+    pub number: u32,
+    /// The place of the refusal.
+    pub place: u32,
+    /// The octets written.
+    pub length: u32,
 }
 
 /// One record of a reading list.
@@ -152,16 +163,28 @@ impl<'a> Reading<'a> {
         }
     }
 
-    /// Where the content of a text unit lies.
+    /// Where the content of a text unit lies, if it is one part of the stream.
     pub fn content(&self, element: u32) -> Found {
-        match &self.letter {
-            Err(refusal) => Found { number: refusal.number(), place: refusal.place, ..Found::default() },
-            Ok(letter) => match letter.rows.get(element as usize) {
-                Some(row) if row.kind == kind::TEXT_UNIT => {
-                    Found { first: row.content.first, past: row.content.past, ..Found::default() }
-                }
-                _ => Found { number: 20, ..Found::default() },
-            },
+        match self.content_of(element) {
+            Err((number, place)) => Found { number, place, ..Found::default() },
+            Ok((_, place)) if self.tree.items()[place].is_constructed() => Found { number: 21, ..Found::default() },
+            Ok((row, _)) => Found { first: row.content.first, past: row.content.past, ..Found::default() },
+        }
+    }
+
+    /// Copies the content of a text unit, its pieces joined in order.
+    pub fn joined(&self, element: u32, out: &mut [u8]) -> Copied {
+        let pieces: Vec<&[u8]> = match self.content_of(element) {
+            Err((number, place)) => return Copied { number, place, ..Copied::default() },
+            Ok((_, place)) => elements::pieces(&self.tree, place).map(|item| &self.stream[item.value()]).collect(),
+        };
+        let joined = pieces.concat();
+        match out.get_mut(..joined.len()) {
+            Some(room) => {
+                room.copy_from_slice(&joined);
+                Copied { length: joined.len() as u32, ..Copied::default() }
+            }
+            None => Copied { number: 22, ..Copied::default() },
         }
     }
 
@@ -180,6 +203,19 @@ impl<'a> Reading<'a> {
         if self.letter.is_ok() { normal::size(&self.tree) } else { 0 }
     }
 
+    /// The size of the joined content of a text unit; `None` where there is none.
+    pub fn joined_size(&self, element: u32) -> Option<usize> {
+        let (_, place) = self.content_of(element).ok()?;
+        Some(elements::pieces(&self.tree, place).map(|item| item.value().len()).sum())
+    }
+
+    /// The row of a text unit, with the place of its content in the tree.
+    fn content_of(&self, element: u32) -> Result<(&Row, usize), (u32, u32)> {
+        let letter = self.letter.as_ref().map_err(|refusal| (refusal.number(), refusal.place))?;
+        let row = letter.rows.get(element as usize).ok_or((20, 0))?;
+        row.content_place.map(|place| (row, place)).ok_or((20, 0))
+    }
+
     /// The rows, if the stream is accepted and a table of `numbers` numbers holds them.
     fn rows_for(&self, numbers: usize) -> Result<&[Row], (u32, u32)> {
         let letter = self.letter.as_ref().map_err(|refusal| (refusal.number(), refusal.place))?;
@@ -190,5 +226,95 @@ impl<'a> Reading<'a> {
 fn fill(table: &mut [u32], rows: &[Row]) {
     for (numbers, row) in table.chunks_exact_mut(ROW_WIDTH).zip(rows) {
         numbers.copy_from_slice(&row.numbers());
+    }
+}
+
+#[cfg(test)]
+mod tests {
+    use super::*;
+    use crate::Why;
+
+    /// A profile and a text unit with this content, each of less than 128 octets.
+    fn unit(content: &[u8]) -> Vec<u8> {
+        [&[0xA0, 0x00, 0xA3, content.len() as u8], content].concat()
+    }
+
+    /// The joined content of element 1, copied to exactly as much room.
+    fn joined(stream: &[u8]) -> Vec<u8> {
+        let reading = Reading::of(stream);
+        assert_eq!(reading.refusal(), None);
+        let mut out = vec![0xEE; reading.joined_size(1).unwrap()];
+        let length = out.len() as u32;
+        assert_eq!(reading.joined(1, &mut out), Copied { number: 0, place: 0, length });
+        out
+    }
+
+    #[test]
+    fn content_in_pieces() {
+        let stream = unit(&[0x24, 0x06, 0x04, 0x01, b'H', 0x04, 0x01, b'i']);
+        let reading = Reading::of(&stream);
+        let mut table = [0; 2 * ROW_WIDTH];
+        assert_eq!(reading.check(&mut table), Checked { number: 0, place: 0, headers: 5, elements: 2 });
+        assert_eq!(table[ROW_WIDTH..], [3, 255, 2, 12, 0, 0, 0, 0, 0, 0, 6, 12]);
+        assert_eq!(reading.content(1), Found { number: 21, ..Found::default() });
+        assert_eq!(reading.content(0), Found { number: 20, ..Found::default() });
+        assert_eq!(joined(&stream), b"Hi");
+    }
+
+    #[test]
+    fn nested_empty_and_indefinite_pieces() {
+        assert_eq!(joined(&unit(&[0x04, 0x02, b'H', b'i'])), b"Hi");
+        assert_eq!(joined(&unit(&[0x24, 0x00])), b"");
+        assert_eq!(joined(&unit(&[0x24, 0x04, 0x04, 0x00, 0x24, 0x00])), b"");
+        let nested = [0x24, 0x09, 0x24, 0x03, 0x04, 0x01, b'a', 0x24, 0x00, 0x04, 0x00];
+        assert_eq!(joined(&unit(&nested)), b"a");
+        let marked = [0x24, 0x80, 0x04, 0x01, 0x00, 0x24, 0x80, 0x04, 0x81, 0x01, b'b', 0, 0, 0x04, 0x01, b'c', 0, 0];
+        assert_eq!(joined(&unit(&marked)), b"\0bc");
+        let mut table = [0; 2 * ROW_WIDTH];
+        Reading::of(&unit(&marked)).check(&mut table);
+        assert_eq!(table[ROW_WIDTH + 10..], [6, 6 + 14]);
+    }
+
+    #[test]
+    fn another_item_among_the_pieces() {
+        for wrong in [[0x05, 0x00], [0x31, 0x00], [0x12, 0x00], [0x44, 0x00], [0x64, 0x00], [0x84, 0x00], [0xA4, 0x00]]
+        {
+            for content in [
+                [&[0x24, 0x02][..], &wrong].concat(),
+                [&[0x24, 0x04, 0x04, 0x00][..], &wrong].concat(),
+                [&[0x24, 0x06, 0x24, 0x04, 0x24, 0x02][..], &wrong].concat(),
+                [&[0x24, 0x08, 0x24, 0x04][..], &wrong, &[0x04, 0x00, 0x04, 0x00]].concat(),
+            ] {
+                let stream = unit(&content);
+                let reading = Reading::of(&stream);
+                let refusal = reading.refusal().unwrap();
+                assert_eq!(refusal, Refusal { why: Why::NotAPiece, place: 2 }, "{content:02X?}");
+                assert_eq!(reading.joined(1, &mut [0; 9]), Copied { number: 12, place: 2, length: 0 });
+            }
+        }
+    }
+
+    #[test]
+    fn pieces_down_to_the_level_limit() {
+        // The content is at level 2, its innermost item at level 2 + `inner`.
+        let nested = |inner: usize| {
+            (0..inner).fold(vec![0x04, 0x01, b'x'], |item, _| [&[0x24, item.len() as u8], &item[..]].concat())
+        };
+        assert_eq!(joined(&unit(&nested(14))), b"x");
+        assert_eq!(Reading::of(&unit(&nested(15))).refusal().map(|refusal| refusal.why), Some(Why::TooDeep));
+    }
+
+    #[test]
+    fn a_buffer_that_is_too_short_is_left_alone() {
+        let stream = unit(&[0x24, 0x06, 0x04, 0x01, b'H', 0x04, 0x01, b'i']);
+        let reading = Reading::of(&stream);
+        let mut out = [0xEE; 3];
+        assert_eq!(reading.joined(1, &mut out[..1]), Copied { number: 22, ..Copied::default() });
+        assert_eq!(out, [0xEE; 3]);
+        assert_eq!(reading.joined(1, &mut out), Copied { length: 2, ..Copied::default() });
+        assert_eq!(out, [b'H', b'i', 0xEE]);
+        for element in [0, 2, u32::MAX] {
+            assert_eq!(reading.joined(element, &mut []), Copied { number: 20, ..Copied::default() });
+        }
     }
 }

@@ -16,6 +16,7 @@ const NO_OBJECT_TYPE: u32 = 255;
 mod octet {
     pub const OBJECT_TYPE: u8 = 0x02;
     pub const CONTENT: u8 = 0x04;
+    pub const CONTENT_IN_PIECES: u8 = 0x24;
     pub const PORTION: u8 = 0x12;
     pub const DESCRIPTOR: u8 = 0x31;
     pub const UNIT_LAYOUT_IDENTIFIER: u8 = 0x40;
@@ -70,6 +71,8 @@ pub(crate) struct Row {
     pub logical_identifier: Span,
     pub portions: Span,
     pub content: Span,
+    /// The place of the content in the tree's list.
+    pub content_place: Option<usize>,
     pub keys: Range<u32>,
 }
 
@@ -94,7 +97,7 @@ struct Parts<'t> {
     identifier: Option<&'t Item>,
     logical_identifier: Option<&'t Item>,
     portions: Option<(usize, &'t Item)>,
-    content: Option<&'t Item>,
+    content: Option<(usize, &'t Item)>,
 }
 
 /// Judges the element at this place of the tree by 12, 13 and 14, and adds its portions to `keys`.
@@ -124,7 +127,8 @@ pub(crate) fn judge(stream: &[u8], tree: &Tree, place: usize, keys: &mut Vec<u64
         identifier: Span::of_value(parts.identifier),
         logical_identifier: Span::of_value(parts.logical_identifier),
         portions: Span::of_value(parts.portions.map(|(_, item)| item)),
-        content: Span::of_value(parts.content),
+        content: Span::of_value(parts.content.map(|(_, item)| item)),
+        content_place: parts.content.map(|(place, _)| place),
         keys: first_key as u32..keys.len() as u32,
     })
 }
@@ -177,15 +181,18 @@ fn class_or_object(tree: &Tree, place: usize) -> Result<Parts<'_>, Why> {
     Ok(parts)
 }
 
-/// "31 or nothing, then 04."
+/// "31 or nothing, then 04", or "24, holding 04 and 24 items down to the level limit".
 fn unit(tree: &Tree, place: usize) -> Result<Parts<'_>, Why> {
     let mut run = tree.run(place).peekable();
     let descriptor = run.next_if(|(_, item)| item.octet() == octet::DESCRIPTOR);
-    let (_, content) = run.next().ok_or(Why::ItemMissing)?;
-    if content.octet() != octet::CONTENT || run.next().is_some() {
+    let (content, item) = run.next().ok_or(Why::ItemMissing)?;
+    if !is_piece(item) || run.next().is_some() {
         return Err(Why::ItemOutOfPlace);
     }
-    let mut parts = Parts { content: Some(content), ..Parts::default() };
+    if !tree.inside(content).iter().all(is_piece) {
+        return Err(Why::NotAPiece);
+    }
+    let mut parts = Parts { content: Some((content, item)), ..Parts::default() };
     if let Some((descriptor, _)) = descriptor {
         let once = [octet::UNIT_LAYOUT_IDENTIFIER, octet::UNIT_LOGICAL_IDENTIFIER];
         let [layout, logical] = sift(tree.run(descriptor), once, &[0x60, 0xA4])?;
@@ -193,6 +200,17 @@ fn unit(tree: &Tree, place: usize) -> Result<Parts<'_>, Why> {
         parts.logical_identifier = logical.map(|(_, item)| item);
     }
     Ok(parts)
+}
+
+/// Is it a 04, or a 24 that holds pieces?
+fn is_piece(item: &Item) -> bool {
+    matches!(item.octet(), octet::CONTENT | octet::CONTENT_IN_PIECES)
+}
+
+/// The pieces of the content at this place, in order: a 04 is one piece, a 24 has those of every 04 in it.
+pub(crate) fn pieces(tree: &Tree, place: usize) -> impl Iterator<Item = &Item> {
+    let content = &tree.items()[place];
+    std::iter::once(content).chain(tree.inside(place)).filter(|item| item.octet() == octet::CONTENT)
 }
 
 /// "exactly one 45, other items free", and no 65.

@@ -92,6 +92,11 @@ impl Tree {
         Run { items: &self.items, at: 0, past: self.items.len() }
     }
 
+    /// All items inside the item at this place of the list, of whatever level.
+    pub(crate) fn inside(&self, place: usize) -> &[Item] {
+        &self.items[place + 1..self.items[place].next as usize]
+    }
+
     /// The run of the item at this place of the list.
     pub(crate) fn run(&self, place: usize) -> Run<'_> {
         Run { items: &self.items, at: place + 1, past: self.items[place].next as usize }
@@ -235,6 +240,8 @@ mod tests {
         let (tree, _) = read(&stream);
         assert_eq!(tree.elements().map(|(place, _)| place).collect::<Vec<_>>(), [0, 4]);
         assert_eq!(tree.run(0).map(|(place, _)| place).collect::<Vec<_>>(), [1, 3]);
+        assert_eq!(tree.inside(0).iter().map(Item::first).collect::<Vec<_>>(), [2, 4, 8]);
+        assert!(tree.inside(4).is_empty());
     }
 
     #[test]

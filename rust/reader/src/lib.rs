@@ -25,7 +25,7 @@ mod normal;
 mod octets;
 mod refusal;
 
-pub use answers::{Checked, Found, Listed, Match, Reading, Side, Written};
+pub use answers::{Checked, Copied, Found, Listed, Match, Reading, Side, Written};
 pub use items::{Item, Tree};
 pub use octets::{Class, DEEPEST, Length};
 pub use refusal::{Refusal, Why};

@@ -71,6 +71,8 @@ pub enum Why {
     ItemForbidden,
     /// 12: an item among the portions that is no 12.
     NotAPortion,
+    /// 12: an item among the pieces of a content that is neither 04 nor 24.
+    NotAPiece,
     /// 13: an object type that is not one octet.
     ObjectTypeLength,
     /// 13: an object type outside its range.
@@ -122,6 +124,7 @@ impl Why {
             ItemAgain => (12, "the element has an item twice that may stand once"),
             ItemForbidden => (12, "the element has an item that must not stand there"),
             NotAPortion => (12, "an item among the portions is no 12"),
+            NotAPiece => (12, "an item among the pieces of the content is neither 04 nor 24"),
             ObjectTypeLength => (13, "the object type is not one octet"),
             ObjectTypeRange => (13, "the object type is outside its range"),
             IdentifierMisspelt => (14, "an identifier is misspelt"),

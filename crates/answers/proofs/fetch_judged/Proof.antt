@@ -1,12 +1,10 @@
--- `answers::fetch_judged` meets its contract: the verdict says what the stream is, and a row what its element says. Assumes nothing.
-use mathlib.Core.Path.{sym, subst}
+-- `answers::fetch_judged` meets its contract: the verdict says what the stream is, and a row where its element stands. Assumes nothing.
 use borrow.Author.Needs.{needs}
 use native.Mathlib.Omega.{arith}
 use denote.Ref.{now}
-use Rattle.answers.specs.declared.Found.{Found}
-use Rattle.answers.specs.Asking.{toldOf, Finds}
+use Rattle.runs.proofs.Laws.{stream-fine}
 use Rattle.answers.proofs.Judging.{refused-judged, accepted-judged}
-use Rattle.answers.proofs.Fetching.{finds-refused, finds-missing, finds-row}
+use Rattle.answers.proofs.Fetching.{finds-refused, finds-missing, finds-at}
 use Rattle.answers.proofs.fetch_judged.Statement.{statement}
 use Rattle.answers.proofs.fetch_judged.Tie as tie
 
@@ -18,16 +16,16 @@ enum-known-verdict-2 c = search needs
 
 content-at-requires : tie.Need-content-at-requires
 content-at-requires c κs =
-    let a = c .before .before .before .before .before .before .pre in
-    let l = accepted-judged (a .0 .ended) (a .1) (c .before .before .verdict2 .given .1) in
-    (omega arith, omega arith)
+    let a = c .before .before .before .before .before .before in
+    let s = now (a .args .stream) in
+    let l = accepted-judged (a .pre .0 .ended) (a .pre .1) (c .before .before .verdict2 .given .1) in
+    (stream-fine s _ _ (a .pre .0 .ended), (omega arith, l .row-in (a .args .element) (omega arith)))
 
 returns : tie.Need-returns
 returns c =
     let a = c .before .before .before .before .before .before .before in
     let l = accepted-judged (a .pre .0 .ended) (a .pre .1) (c .before .before .before .verdict2 .given .1) in
-    let s = now (a .args .stream) in
-    subst (λ (f : Found). Finds s (a .args .element) (toldOf f)) (sym (c .content-at .ensures)) (finds-row s (a .args .element) l (omega arith))
+    finds-at (now (a .args .stream)) (a .args .element) l (omega arith) (c .content-at .ensures)
 
 returns-2 : tie.Need-returns-2
 returns-2 c =

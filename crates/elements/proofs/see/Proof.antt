@@ -1,13 +1,22 @@
--- `elements::see` meets its contract: items that do not stand as tabled are refused by 12, and what the others hold is looked into.
--- Assumes nothing.
+-- `elements::see` meets its contract: items that do not stand in order, and another item among the pieces, are refused by 12, and what
+-- the others hold is looked into. Assumes nothing.
 use mathlib.Core.Path.{sym, _∙_, subst}
 use borrow.Author.Needs.{needs}
 use borrow.Author.Tests.{not-true, not-false}
+use Rattle.runs.specs.Runs.{treeIn}
+use Rattle.elements.specs.Element.{contentOf}
+use Rattle.elements.specs.Frames.{Framed}
 use Rattle.elements.specs.Sees.{Sees}
-use Rattle.elements.proofs.Bounding.{bounding-placed}
-use Rattle.elements.proofs.Seeing.{sees-unordered}
+use Rattle.elements.proofs.Seeing.{sees-unordered, sees-others}
 use Rattle.elements.proofs.see.Statement.{statement}
 use Rattle.elements.proofs.see.Tie as tie
+
+-- the items stand in order
+framed : (c : tie.Else1) → let a = c .before .before .before .before .before .args in
+    Framed (a .s .now) (a .shape) (a .r) (c .before .before .frame-of .result)
+framed c =
+    let frame = c .before .before .frame-of in
+    frame .ensures .framed (not-false (frame .result .fits) (c .if1 .left))
 
 frame-of-requires : tie.Need-frame-of-requires
 frame-of-requires c κs = search needs
@@ -23,17 +32,34 @@ returns c =
     subst (Sees (a .s .now) (a .shape) (a .r) (a .first) (a .past) _) (sym (c .refused .ensures))
     (sees-unordered (a .s .now) (a .shape) (a .r) (a .first) (a .past) _ unordered)
 
+pieces-alone-requires : tie.Need-pieces-alone-requires
+pieces-alone-requires c κs = framed c .content .fine
+
+refused-requires-2 : tie.Need-refused-requires-2
+refused-requires-2 c κs = search needs
+
+returns-2 : tie.Need-returns-2
+returns-2 c =
+    let at-alone = c .before .before in
+    let a = at-alone .before .before .before .before .before .before .args in
+    let alone = at-alone .pieces-alone in
+    let others =
+    sym (alone .ensures (contentOf (a .shape) (treeIn (a .s .now) (a .r))) (framed (at-alone .before) .content .held))
+    ∙ not-true (alone .result) (c .before .if2 .taken) in
+    subst (Sees (a .s .now) (a .shape) (a .r) (a .first) (a .past) _) (sym (c .refused2 .ensures))
+    (sees-others (a .s .now) (a .shape) (a .r) (a .first) (a .past) _ others)
+
 see-body-requires : tie.Need-see-body-requires
 see-body-requires c κs =
-    let start = c .before .before .before .before .before .before in
-    let frame = c .before .before .before .frame-of in
-    let framed = frame .ensures .framed (not-false (frame .result .fits) (c .before .if1 .left)) in (
+    let at-else = c .before .before .before in
+    let start = at-else .before .before .before .before .before in
+    let top = framed at-else in (
       record {
         made = start .pre .1;
         small = start .pre .2;
-        fine = framed .fine;
-        object = bounding-placed (framed .object);
-        content = bounding-placed (framed .content);
+        fine = top .fine;
+        object = top .object .placed;
+        content = top .content .placed;
         whole-placed = record { order = start .pre .3; inside = start .pre .4 };
       },
       start .pre .5,
@@ -42,14 +68,17 @@ see-body-requires c κs =
 same-length : tie.Need-same-length
 same-length c = search needs
 
-returns-2 : tie.Need-returns-2
-returns-2 c =
+returns-3 : tie.Need-returns-3
+returns-3 c =
     let at-body = c .before .before in
     let at-if = at-body .before .before in
-    let at-frame = at-if .before .before in
-    let frame = at-frame .frame-of in
-    let start = at-frame .before .before .before in
-    at-body .see-body .ensures (start .args .r) (frame .ensures .framed (not-false (frame .result .fits) (at-if .if1 .left)))
+    let at-else = at-if .before .before in
+    let a = at-else .before .before .before .before .before .args in
+    let top = framed at-else in
+    let alone = at-if .before .pieces-alone in
+    at-body .see-body .ensures (a .r) top
+    (sym (alone .ensures (contentOf (a .shape) (treeIn (a .s .now) (a .r))) (top .content .held)) ∙ not-false (alone .result) (at-if .if2 .left))
 
 pub see-spec : {M : Type 1} → statement M
-see-spec = tie.close (tie.spec frame-of-requires refused-requires returns see-body-requires same-length returns-2)
+see-spec =
+    tie.close (tie.spec frame-of-requires refused-requires returns pieces-alone-requires refused-requires-2 returns-2 see-body-requires same-length returns-3)

@@ -7,14 +7,14 @@ use Rattle.contents.specs.Search.{amount, firstValue, firstRun}
 use Rattle.contents.specs.Order.{inOrder}
 use Rattle.portions.specs.Portions.{allPortions, values, wellSpelt}
 use Rattle.elements.specs.Shape.{shapeOf}
-use Rattle.elements.specs.Element.{bodyOf, elementOf, asTabled, namesFit}
+use Rattle.elements.specs.Element.{bodyOf, contentOf, elementOf, ordered, asTabled, namesFit}
 use Rattle.elements.specs.Judge.{shapeRefusal}
 use Rattle.judging.specs.Judges.{MayBeBare}
 use Rattle.judging.proofs.may_be_bare.Statement.{statement}
 use Rattle.judging.proofs.may_be_bare.Tie as tie
 
 may : (octet : ℕ) → (octet ≡ 0xA0) ⊎ ((octet ≡ 0xA2) ⊎ (octet ≡ 0xA6)) → MayBeBare octet
-unfolding shapeOf shapeRefusal asTabled elementOf bodyOf namesFit amount firstValue firstRun inOrder allPortions values wellSpelt
+unfolding shapeOf shapeRefusal asTabled ordered elementOf contentOf bodyOf namesFit amount firstValue firstRun inOrder allPortions values wellSpelt
 may octet (inl e) = rw e (record { known = refl; fits = refl })
 may octet (inr (inl e)) = rw e (record { known = refl; fits = refl })
 may octet (inr (inr e)) = rw e (record { known = refl; fits = refl })

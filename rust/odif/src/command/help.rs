@@ -52,7 +52,7 @@ odif text [--logical] [--escape] [--lines] [--hex] FILE
 
 Writes the content of the text units in reading order: in the order of the layout
 objects and their portions. It writes exactly the octets of the file, with nothing
-between the units.
+between the units. Content that was saved in pieces is joined.
 
   --logical  in the order of the logical objects
   --lines    each unit ends a line, for letters whose units don't
@@ -113,7 +113,8 @@ its content and how it begins.
 
   --logical  the logical side
   --hex      the file is hexadecimal digits
-  --json     one JSON object, with the places of the contents
+  --json     one JSON object, with the places of the contents; of a content in pieces it
+             is the place of the value that holds them
 
 Text units that no object of that side names are not listed; a note on standard error
 tells how many.

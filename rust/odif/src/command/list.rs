@@ -1,5 +1,6 @@
 //! `odif list`
 
+use std::borrow::Cow;
 use std::io::{self, BufWriter, Write};
 
 use odif::{Letter, Match, Side};
@@ -62,7 +63,7 @@ fn write_lines(out: &mut impl Write, letter: &Letter<'_>, side: Side, list: &[Ma
             found.portion,
             found.unit,
             content.len(),
-            show::beginning(content, SHOWN)
+            show::beginning(&content, SHOWN)
         );
         writeln!(out, "{}", line.trim_end())?;
     }
@@ -70,13 +71,16 @@ fn write_lines(out: &mut impl Write, letter: &Letter<'_>, side: Side, list: &[Ma
 }
 
 fn match_json(letter: &Letter<'_>, side: Side, found: &Match) -> String {
-    let content = letter.elements()[found.unit].content.clone().unwrap_or_default();
+    let place = letter.elements()[found.unit].content.clone().unwrap_or_default();
+    let content = letter.content(found.unit).unwrap_or_default();
     Object::new()
         .number("element", found.element)
         .number("portion", found.portion)
         .number("unit", found.unit)
         .text("identifier", &show::escaped(unit_identifier(letter, side, found)))
-        .number("first", content.start)
-        .number("past", content.end)
+        .number("octets", content.len())
+        .value("in_pieces", if matches!(content, Cow::Owned(_)) { "true" } else { "false" })
+        .number("first", place.start)
+        .number("past", place.end)
         .finish()
 }

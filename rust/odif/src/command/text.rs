@@ -23,9 +23,9 @@ pub fn run(args: &Args) -> Outcome {
     for found in &list {
         let text = letter.content(found.unit).unwrap_or_default();
         if args.has("--escape") {
-            out.write_all(show::escaped_lines(text).as_bytes())?;
+            out.write_all(show::escaped_lines(&text).as_bytes())?;
         } else {
-            out.write_all(text)?;
+            out.write_all(&text)?;
         }
         if args.has("--lines") && text.last().is_some_and(|&last| last != b'\n') {
             out.write_all(b"\n")?;

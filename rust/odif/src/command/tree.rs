@@ -76,6 +76,9 @@ fn name_of(path: &[u8]) -> Option<&'static str> {
         [0xA3, 0x31, 0x40] => "layout identifier",
         [0xA3, 0x31, 0x84] => "logical identifier",
         [0xA3, 0x04] => "content",
+        [0xA3, 0x24] => "content in pieces",
+        [0xA3, 0x24, around @ .., 0x04] if around.iter().all(|octet| *octet == 0x24) => "piece",
+        [0xA3, 0x24, around @ ..] if around.iter().all(|octet| *octet == 0x24) => "pieces",
         [0xA7 | 0xA8, 0x45] => "identifier",
         _ => return None,
     })

@@ -8,8 +8,8 @@ use Rattle.elements.proofs.frames.frame_in_order.Tie as tie
 opening-of-requires : tie.Need-opening-of-requires
 opening-of-requires c κs = search needs
 
-fills-requires : tie.Need-fills-requires
-fills-requires c κs = search needs
+stands-requires : tie.Need-stands-requires
+stands-requires c κs = search needs
 
 run-with-requires : tie.Need-run-with-requires
 run-with-requires c κs = search needs
@@ -17,22 +17,25 @@ run-with-requires c κs = search needs
 span-with-requires : tie.Need-span-with-requires
 span-with-requires c κs = search needs
 
-span-with-requires-2 : tie.Need-span-with-requires-2
-span-with-requires-2 c κs = search needs
+holder-with-requires : tie.Need-holder-with-requires
+holder-with-requires c κs = search needs
 
 returns : tie.Need-returns
 returns c =
-    let start = c .before .before .before .before .before .before .before .before in
+    let at-object = c .before in
+    let at-body = at-object .before in
+    let at-stands = at-body .before in
+    let at-opening = at-stands .before in
+    let start = at-opening .before .before in
     let s = start .args .s .now in
     let r = start .args .r in
-    let opening = c .before .before .before .before .before .before .opening-of in
-    let opens = opening .ensures in
-    ordered-frame s (start .args .shape) r (start .pre .0) (start .pre .1) (start .pre .2) (opening .result) opens
-    (c .before .before .before .fills .result) (c .before .before .before .fills .ensures s r opens)
-    (c .before .before .run-with .result) (c .before .before .run-with .ensures s r opens)
-    (c .before .span-with .result) (c .before .span-with .ensures s r opens)
-    (c .span-with2 .result) (c .span-with2 .ensures s r opens)
+    let opens = at-opening .opening-of .ensures in
+    ordered-frame s (start .args .shape) r (start .pre .0) (start .pre .1) (start .pre .2) (at-opening .opening-of .result) opens
+    (at-stands .stands .result) (at-stands .stands .ensures s r opens)
+    (at-body .run-with .result) (at-body .run-with .ensures s r opens)
+    (at-object .span-with .result) (at-object .span-with .ensures s r opens)
+    (c .holder-with .result) (c .holder-with .ensures s r opens)
 
 pub frame-in-order-spec : {M : Type 1} → statement M
 frame-in-order-spec =
-    tie.close (tie.spec opening-of-requires fills-requires run-with-requires span-with-requires span-with-requires-2 returns)
+    tie.close (tie.spec opening-of-requires stands-requires run-with-requires span-with-requires holder-with-requires returns)

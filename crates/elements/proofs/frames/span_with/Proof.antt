@@ -19,13 +19,13 @@ returns : tie.Need-returns
 returns c =
     let octet = c .before .before .before .before .args .octet in
     let found = c .before .before .before .part-with .ensures in
-    λ s r opens few p. held-bounding (subst (FoundIn s r octet) (c .before .p .given .1) (found s r opens few)) p
+    λ s r opens few. held-bounding (subst (FoundIn s r octet) (c .before .p .given .1) (found s r opens few))
 
 returns-2 : tie.Need-returns-2
 returns-2 c =
     let octet = c .before .before .before .args .octet in
     let found = c .before .before .part-with .ensures in
-    λ s r opens few p. lacked-bounding (subst (FoundIn s r octet) (c .enum-told .given .1) (found s r opens few))
+    λ s r opens few. lacked-bounding (subst (FoundIn s r octet) (c .enum-told .given .1) (found s r opens few))
 
 pub span-with-spec : {M : Type 1} → statement M
 span-with-spec = tie.close (tie.spec part-with-requires enum-known-p enum-told returns returns-2)

@@ -1,0 +1,164 @@
+-- Demand 2, the content: what the two questions of the content answer of a letter, by what its elements say; and joined, pieces are no
+-- longer than octets that code them. Assumes nothing.
+use mathlib.Core.Path.{_≡_, refl, ap, sym, _∙_}
+use mathlib.Core.Logic.{_↔_}
+use mathlib.Core.Bool.{true, false}
+use mathlib.Core.List.{List, _∷_, _++_}
+use mathlib.Core.Option.{Option, none, some}
+use Prim.Native.Nat.{ℕ, _<_, _≤_}
+use native.Mathlib.Omega.{arith}
+use lib.Dec.{eqb, ltb}
+use lib.ListN.{length, getElem?, length-append}
+use borrow.Author.Tests.{ltb-true, ltb-false, eq-eqb, eqb-true}
+use borrow.Table.Steps.{cases}
+use Rattle.tree.specs.Tree.{Tree}
+use Rattle.tree.specs.Codes.{Codes, nothing, primitive, definite, indefinite}
+use Rattle.contents.specs.Search.{Value}
+use Rattle.pieces.specs.Pieces.{joined}
+use Rattle.elements.specs.Element.{Content, single, inPieces, joinedContent, Element}
+use Rattle.letters.specs.Letter.{letter}
+use Rattle.reading.specs.Match.{unitKind}
+use Rattle.answers.specs.Answers.{letterIn, onto, Fetched, handed, bytesOf, fetchedOf, partOf, fetched, allOf, joinedIn, copiedFrom, copied, copiedOutput}
+use Rattle.answers.proofs.Fetching.{one-piece, of-unit}
+use Rattle.answers.proofs.Copying.{copies-all, joins-unit}
+use Rattle.demands.specs.Demands.{TellsContent, SameContent, UnitAt, PiecesAt}
+
+-- joined, pieces are no longer than octets that code them
+codes-joined : {room : ℕ} {t : Tree} {xs : List ℕ} → Codes room t xs → length (joined t) ≤ length xs
+unfolding joined
+codes-joined nothing = omega arith
+codes-joined (primitive {room} {type} {len} {value} {rest} {after} f m l c) =
+    let k = codes-joined c in
+    rw (length-append value (joined after), length-append type (len ++ (value ++ rest)), length-append len (value ++ rest), length-append value rest) (omega arith)
+codes-joined (definite {room} {type} {len} {value} {rest} {inside} {after} f l v c) =
+    let k = codes-joined v in
+    let m = codes-joined c in
+    rw (length-append (joined inside) (joined after), length-append type (len ++ (value ++ rest)), length-append len (value ++ rest), length-append value rest) (omega arith)
+codes-joined (indefinite {room} {type} {value} {rest} {inside} {after} f v c) =
+    let k = codes-joined v in
+    let m = codes-joined c in
+    rw (length-append (joined inside) (joined after), length-append type (0x80 ∷ (value ++ (0 ∷ 0 ∷ rest))), length-append value (0 ∷ 0 ∷ rest)) (omega arith)
+
+pub told-within : (content : Content) (bytes : List ℕ) → TellsContent bytes content → length (joinedContent content) ≤ length bytes
+told-within (single value) bytes e = let p = ap length (one-piece value ∙ sym e) in omega arith
+told-within (inPieces run) bytes c = codes-joined c
+
+pub same-content : (content : Content) (bytes other : List ℕ) → TellsContent bytes content → TellsContent other content → SameContent content bytes other
+same-content (single value) bytes other e f = e ∙ sym f
+same-content (inPieces run) bytes other c d = (c, d)
+
+-- what may be told of a content: the value of one item, or pieces
+pub tells-content : (content : Content) {bytes : List ℕ} → ((value : Value) → content ≡ single value → bytes ≡ bytesOf value)
+    → ((run : Tree) → content ≡ inPieces run → TellsContent bytes (inPieces run)) → TellsContent bytes content
+tells-content (single value) whole coded = whole value refl
+tells-content (inPieces run) whole coded = coded run refl
+
+-- 20 is given for what is no text unit, whatever is wanted of a content
+no-unit : (wanted : Content → Fetched) → ((c : Content) → wanted c .number ≡ 20 → ⊥) → (found-at : Option Element)
+    → (fetchedOf wanted found-at .number ≡ 20) ↔ ((unit : Element) → found-at ≡ some unit → unit .kind ≡ unitKind → ⊥)
+no-unit wanted other none = (λ _ unit p k. let z : _≡_ {A = ℕ} 0 1 = cc in omega arith, λ _. refl)
+no-unit wanted other (some own) =
+    cases (eqb (own .kind) unitKind)
+    (λ t. rw t (λ p. absurd (other (own .content) p), λ n. absurd (n own refl (eqb-true (own .kind) unitKind t))))
+    (λ t. rw t (
+      λ _ unit p k.
+          let q : own ≡ unit = cc in
+          let y : eqb (own .kind) unitKind ≡ true = eq-eqb (own .kind) unitKind (ap (λ (x : Element). x .kind) q ∙ k) in
+          let z : true ≡ false = sym y ∙ t in
+          let o : _≡_ {A = ℕ} 0 1 = cc in
+          omega arith,
+      λ _. refl,
+    ))
+
+part-not-20 : (c : Content) → partOf c .number ≡ 20 → ⊥
+part-not-20 (single value) e = omega arith
+part-not-20 (inPieces run) e = omega arith
+
+copied-20 : (f : Fetched) (out : List ℕ) → (copiedFrom f out .number ≡ 20) ↔ (f .number ≡ 20)
+copied-20 f out =
+    cases (eqb (f .number) 0)
+    (λ t.
+    let z = eqb-true (f .number) 0 t in
+    cases (ltb (length out) (length (f .part)))
+    (λ u. rw (t, u) (λ p. absurd (omega arith), λ p. absurd (omega arith)))
+    (λ u. rw (t, u) (λ p. absurd (omega arith), λ p. absurd (omega arith))))
+    (λ t. rw t (λ p. p, λ p. p))
+
+module _ (elements : List Element) (j : ℕ) where
+  pieces-of : (own : Element) → UnitAt elements j own → (c : Content) → own .content ≡ c → partOf c .number ≡ 21 → PiecesAt elements j
+  pieces-of own at (single value) e p = absurd (omega arith)
+  pieces-of own at (inPieces run) e p = record { unit = own; is-unit = at; run = run; content = e }
+
+  pieces-at : (found-at : Option Element) → getElem? elements j ≡ found-at → fetchedOf partOf found-at .number ≡ 21 → PiecesAt elements j
+  pieces-at none e p = absurd (omega arith)
+  pieces-at (some own) e p =
+      cases (eqb (own .kind) unitKind)
+      (λ t. pieces-of own (record { there = e; kind = eqb-true (own .kind) unitKind t }) (own .content) refl (rw t at p))
+      (λ t. let q : _≡_ {A = ℕ} 20 21 = rw t at p in absurd (omega arith))
+
+part-is-all : (c : Content) → partOf c .number ≡ 0 → allOf c ≡ partOf c
+part-is-all (single value) e = ap handed (one-piece value)
+part-is-all (inPieces run) e = absurd (omega arith)
+
+all-fetched : (found-at : Option Element) → fetchedOf partOf found-at .number ≡ 0 → fetchedOf allOf found-at ≡ fetchedOf partOf found-at
+all-fetched none e = absurd (omega arith)
+all-fetched (some own) e =
+    cases (eqb (own .kind) unitKind)
+    (λ t. let p : partOf (own .content) .number ≡ 0 = rw t at e in rw t (part-is-all (own .content) p))
+    (λ t. let p : _≡_ {A = ℕ} 20 0 = rw t at e in absurd (omega arith))
+
+module _ (s : List ℕ) (headers : ℕ) (elements : List Element) (e : letterIn s ≡ letter headers elements) (j : ℕ) where
+  pub content : (unit : Element) → UnitAt elements j unit → (value : Value) → unit .content ≡ single value → fetched s j ≡ handed (bytesOf value)
+  unfolding fetched
+  content unit at value is = of-unit s j e (at .there) (at .kind) partOf ∙ ap partOf is
+
+  pub content-20 : (fetched s j .number ≡ 20) ↔ ((unit : Element) → UnitAt elements j unit → ⊥)
+  unfolding fetched
+  content-20 =
+      let (there, back) = no-unit partOf part-not-20 (getElem? elements j) in
+      rw e (λ p unit at. there p unit (at .there) (at .kind), λ n. back (λ unit p k. n unit (record { there = p; kind = k })))
+
+  pub content-21 : (fetched s j .number ≡ 21) ↔ PiecesAt elements j
+  unfolding fetched
+  content-21 = (
+    λ p. pieces-at elements j (getElem? elements j) refl (rw e at p),
+    λ at. ap (λ (f : Fetched). f .number) (of-unit s j e (at .is-unit .there) (at .is-unit .kind) partOf ∙ ap partOf (at .content)),
+  )
+
+  -- what is to be copied
+  joined-unit : (unit : Element) → UnitAt elements j unit → joinedIn s j ≡ handed (joinedContent (unit .content))
+  unfolding joinedIn
+  joined-unit unit at = of-unit s j e (at .there) (at .kind) allOf
+
+  pub joins : (unit : Element) → UnitAt elements j unit → (out : List ℕ) → length (joinedContent (unit .content)) ≤ length out
+      → (copied s j out ≡ record { number = 0; place = 0; length = length (joinedContent (unit .content)) })
+      × (copiedOutput s j out ≡ onto (joinedContent (unit .content)) out)
+  joins unit at out room =
+      let r = joins-unit s j out (joined-unit unit at) (copies-all (joinedContent (unit .content)) out room refl refl) in
+      (sym (r .answered), sym (r .put))
+
+  pub joins-20 : (out : List ℕ) → (copied s j out .number ≡ 20) ↔ ((unit : Element) → UnitAt elements j unit → ⊥)
+  unfolding copied joinedIn
+  joins-20 out =
+      let (there, back) = no-unit allOf (λ c p. omega arith) (getElem? elements j) in
+      let (to, from) = copied-20 (fetchedOf allOf (getElem? elements j)) out in
+      rw e (λ p unit at. there (to p) unit (at .there) (at .kind), λ n. from (back (λ unit p k. n unit (record { there = p; kind = k }))))
+
+  pub joins-22 : (unit : Element) → UnitAt elements j unit → (out : List ℕ) → (copied s j out .number ≡ 22) ↔ (length out < length (joinedContent (unit .content)))
+  unfolding copied
+  joins-22 unit at out =
+      let all = joinedContent (unit .content) in
+      let is = joined-unit unit at in
+      cases (ltb (length out) (length all))
+      (λ t. rw (is, t) (λ _. ltb-true (length out) (length all) t, λ _. refl))
+      (λ t. rw (is, t) (λ p. absurd (omega arith), λ l. absurd (omega (arith, ltb-false (length out) (length all) t))))
+
+  pub part-joined : fetched s j .number ≡ 0 → joinedIn s j ≡ fetched s j
+  unfolding fetched joinedIn
+  part-joined p = rw e (all-fetched (getElem? elements j) (rw e at p))
+
+-- two streams with the same elements have the same joined contents
+pub same-joined : (s t : List ℕ) {headers : ℕ} {elements : List Element} → letterIn s ≡ letter headers elements → letterIn t ≡ letter headers elements
+    → (j : ℕ) → joinedIn t j ≡ joinedIn s j
+unfolding joinedIn
+same-joined s t e f j = rw (e, f)

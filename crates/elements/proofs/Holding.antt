@@ -1,0 +1,70 @@
+-- What holds the content of an element: an item with pieces, if there is one, or else the item with the content. Assumes nothing.
+use mathlib.Core.Path.{_≡_, refl, sym, ap, _∙_}
+use mathlib.Core.Bool.{Bool, true, false, true≢false}
+use mathlib.Core.List.{List}
+use mathlib.Core.Logic.{_⊎_, inl, inr}
+use Prim.Native.Nat.{ℕ}
+use borrow.Author.Tests.{eq-eqb, ne-eqb}
+use Rattle.headers.specs.First.{constructed}
+use Rattle.runs.specs.declared.Run.{Run}
+use Rattle.runs.specs.Runs.{treeIn, definiteRun}
+use Rattle.contents.specs.declared.Part.{Part}
+use Rattle.contents.specs.declared.Span.{Span}
+use Rattle.contents.specs.Search.{amount}
+use Rattle.contents.specs.First.{spanOf, Holds, Lacks}
+use Rattle.pieces.specs.Pieces.{onlyPieces}
+use Rattle.elements.specs.declared.Holder.{Holder}
+use Rattle.elements.specs.declared.Shape.{Shape}
+use Rattle.elements.specs.Element.{Content, single, inPieces, contentOf, piecesAlone}
+use Rattle.elements.specs.Rows.{contentOctet}
+use Rattle.elements.specs.Says.{Placed, Contains}
+use Rattle.elements.specs.Frames.{Bounding, HoldsContent, Holding}
+use Rattle.elements.specs.WellMade.{WellMade}
+use Rattle.elements.proofs.Bounding.{held-placed, held-there, empty-fine}
+
+module _ {s : List ℕ} {shape : Shape} {r : Run} (made : WellMade shape) where
+  constructed-by : {p : Part} → Holds s r (shape .pieces) p → (shape .pieces ≡ 0) ⊎ (constructed (shape .pieces) ≡ true) → constructed (shape .pieces) ≡ true
+  constructed-by h (inl z) = absurd (h .octet-not-zero z)
+  constructed-by h (inr c) = c
+
+  -- an item with pieces is there
+  pub pieced-holding : {p : Part} → Holds s r (shape .pieces) p
+      → Holding s shape r (record { value = spanOf p; pieced = true; pieces = p .inner })
+  unfolding contentOctet contentOf
+  pieced-holding {p} h =
+      let some = ne-eqb (amount (shape .pieces) (treeIn s r)) 0 (h .there) in
+      record {
+        pair = rw some (sym (h .bounds));
+        placed = held-placed h;
+        fine = h .inner-fine;
+        held = rw some (record { pieced = refl; there = held-there h; tree = sym (h .tree (constructed-by h (made .pieces))) });
+      }
+
+  -- none is there
+  pub lacked-holding : {v : Span} → Lacks s r (shape .pieces) → Bounding s r (shape .content) v
+      → Holding s shape r (record { value = v; pieced = false; pieces = definiteRun 0 0 0 })
+  unfolding contentOctet contentOf
+  lacked-holding {v} l b =
+      let none = eq-eqb (amount (shape .pieces) (treeIn s r)) 0 (l .amount-is) in
+      record {
+        pair = rw none (b .pair);
+        placed = b .placed;
+        fine = empty-fine s 0;
+        held = rw none (record { pieced = refl; bounds = b .value (made .content) });
+      }
+
+module _ (s : List ℕ) (holder : Holder) where
+  -- the pair of a holder bounds the content
+  pub held-contains : Placed s (holder .value) → (content : Content) → HoldsContent s holder content → Contains s (holder .value) content
+  held-contains placed (single value) held = held .bounds
+  held-contains placed (inPieces run) held = (placed, held .there)
+
+  -- what is not in pieces has nothing else among them
+  pub whole-alone : holder .pieced ≡ false → (content : Content) → HoldsContent s holder content → true ≡ piecesAlone content
+  whole-alone e (single value) held = refl
+  whole-alone e (inPieces run) held = absurd (true≢false (sym (held .pieced) ∙ e))
+
+  pub pieced-alone : holder .pieced ≡ true → (b : Bool) → b ≡ onlyPieces (treeIn s (holder .pieces))
+      → (content : Content) → HoldsContent s holder content → b ≡ piecesAlone content
+  pieced-alone e b only (single value) held = absurd (true≢false (sym e ∙ held .pieced))
+  pieced-alone e b only (inPieces run) held = only ∙ ap onlyPieces (held .tree)

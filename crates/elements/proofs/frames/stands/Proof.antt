@@ -1,0 +1,37 @@
+-- `elements::frames::stands` meets its contract: the second slots are tried in order. Assumes nothing.
+use mathlib.Core.Path.{_≡_, sym, _∙_}
+use mathlib.Core.Bool.{true, false}
+use borrow.Author.Needs.{needs}
+use Rattle.runs.specs.Runs.{treeIn}
+use Rattle.contents.specs.Order.{inOrder}
+use Rattle.elements.specs.Element.{ordered}
+use Rattle.elements.proofs.frames.stands.Statement.{statement}
+use Rattle.elements.proofs.frames.stands.Tie as tie
+
+fills-requires : tie.Need-fills-requires
+fills-requires c κs = search needs
+
+returns : tie.Need-returns
+unfolding ordered
+returns c =
+    let start = c .before .before .before .before in
+    let shape = start .args .shape in
+    λ s r opens.
+    let first : inOrder (shape .one) (shape .two) (treeIn s r) ≡ true = sym (c .before .fills .ensures s r opens) ∙ c .if1 .taken in
+    rw (start .pre, first)
+
+fills-requires-2 : tie.Need-fills-requires-2
+fills-requires-2 c κs = search needs
+
+returns-2 : tie.Need-returns-2
+unfolding ordered
+returns-2 c =
+    let at-if = c .before .before in
+    let start = at-if .before .before .before .before in
+    let shape = start .args .shape in
+    λ s r opens.
+    let first : inOrder (shape .one) (shape .two) (treeIn s r) ≡ false = sym (at-if .before .fills .ensures s r opens) ∙ at-if .if1 .left in
+    rw (start .pre, first) (c .fills2 .ensures s r opens)
+
+pub stands-spec : {M : Type 1} → statement M
+stands-spec = tie.close (tie.spec fills-requires returns fills-requires-2 returns-2)

@@ -1,0 +1,74 @@
+-- The content of element j of a letter stands where the top of its element says, and the content fields of its row bound it.
+-- Assumes nothing.
+use mathlib.Core.Path.{_≡_, refl, ap, sym, _∙_, subst}
+use mathlib.Core.List.{List}
+use mathlib.Core.Option.{some}
+use Prim.Native.Nat.{ℕ, _<_}
+use native.Mathlib.Omega.{arith}
+use lib.ListN.{getElem?}
+use lib.Seq.{slice, slice-empty}
+use Rattle.runs.specs.declared.Run.{Run}
+use Rattle.runs.specs.Runs.{itemsOf, treeIn, wholeStream, Fine, Meeting}
+use Rattle.contents.specs.declared.Span.{Span}
+use Rattle.contents.specs.Search.{Value, absent, octets}
+use Rattle.elements.specs.declared.Frame.{Frame}
+use Rattle.elements.specs.declared.Holder.{Holder}
+use Rattle.elements.specs.declared.Row.{Row}
+use Rattle.elements.specs.Shape.{edition1988}
+use Rattle.elements.specs.Element.{Content, single, inPieces, contentOf, joinedContent, Element, elementOf}
+use Rattle.elements.specs.Rows.{rowOf}
+use Rattle.elements.specs.Says.{Bounds}
+use Rattle.elements.specs.Frames.{HoldsContent, Frames}
+use Rattle.elements.proofs.Refusals.{tabled-ordered}
+use Rattle.judging.specs.Judges.{shape1988}
+use Rattle.letters.specs.Letter.{rowsOfStream}
+use Rattle.letters.specs.Scratch.{Filled}
+use Rattle.letters.specs.Content.{wholeColumn, RowIn, heldBy, HeldWhole, Holds, HoldsElement}
+use Rattle.judging.proofs.Lists.{at-below}
+use Rattle.judging.proofs.Rows.{first-at, saying-length}
+use Rattle.letters.proofs.Standing.{restFrom, element-says}
+
+-- a holder as where the content stands, if the fields are its pair
+held-by : (s : List ℕ) (holder : Holder) (fields : Span) → fields ≡ holder .value → Fine s (holder .pieces)
+    → (content : Content) → HoldsContent s holder content → Holds s fields content (heldBy holder)
+held-by s holder fields e fine (single value) h =
+    rw (h .pieced) (record { fields-are = e; value = value; content-is = refl; bounds = subst (λ (v : Span). Bounds s v value) (sym e) (h .bounds) })
+held-by s holder fields e fine (inPieces run) h = rw (h .pieced) (record { fine = fine; content-is = ap inPieces (sym (h .tree)) })
+
+module _ {s : List ℕ} (fine : Fine s (wholeStream s)) (j : ℕ) (row : Row) (stands : getElem? (rowsOfStream edition1988 s) j ≡ some row)
+    {octet first past : ℕ} {inner rest : Run} (m : Meeting s (restFrom fine j row stands) octet first past inner rest)
+    {frame : Frame} (frames : Frames s (shape1988 octet) inner frame) where
+  -- what is met where a row begins holds the content of its element
+  pub holds-element : HoldsElement s j (heldBy (frame .content))
+  unfolding elementOf rowOf
+  holds-element elements other element judged other-stands there =
+      let same : row ≡ other = cc in
+      let says = element-says fine j row stands octet first past (itemsOf s inner) (itemsOf s rest) (m .tree) elements judged element there in
+      let fits = frames .fits ∙ tabled-ordered (shape1988 octet) (treeIn s inner) (says .tabled) in
+      let holding = frames .framed fits .content in
+      let fields : other .content ≡ frame .content .value = ap (λ (r : Row). r .content) (sym same ∙ says .row-is) ∙ sym (holding .pair) in
+      subst (λ (e : Element). Holds s (other .content) (e .content) (heldBy (frame .content))) (sym (says .element-is))
+      (held-by s (frame .content) (other .content) fields (holding .fine) (contentOf (shape1988 octet) (treeIn s inner)) (holding .held))
+
+-- the rows that the judge of a letter left have each of its elements
+pub filled-row-in : {s scratch head next head2 next2 : List ℕ} {count : ℕ} → Filled s scratch head next head2 next2 count
+    → (j : ℕ) → j < count → RowIn s scratch j
+filled-row-in {s} filled j l =
+    let holds = filled .holds in
+    let (row, stands) = at-below (rowsOfStream edition1988 s) j (omega (arith, saying-length (holds .saying), holds .counted)) in
+    record {
+      within = omega (arith, holds .identifiers .in-table);
+      row = row;
+      stands = stands;
+      first = first-at holds j row stands wholeColumn (omega arith);
+    }
+
+-- the part of a content that is the value of one item is all of it, joined
+pub part-joined : {s : List ℕ} {first past : ℕ} {fields : Span} {content : Content} → HeldWhole s first past fields content
+    → slice first past s ≡ joinedContent content
+part-joined {s} {first} {past} {fields} h =
+    ap (λ (v : Span). slice (v .first) (v .past) s) (sym (h .fields-are)) ∙ bounded (h .value) (h .bounds) ∙ ap joinedContent (sym (h .content-is))
+  where
+    bounded : (value : Value) → Bounds s fields value → slice (fields .first) (fields .past) s ≡ joinedContent (single value)
+    bounded absent b = ap (λ (v : Span). slice (v .first) (v .past) s) b ∙ slice-empty 0 s
+    bounded (octets bytes) b = b .value

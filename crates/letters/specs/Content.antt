@@ -1,0 +1,60 @@
+-- Where the content of one element of a letter stands, W-201: "The content is the pieces joined in order .. a 04 being one piece". Either
+-- is a part of the stream: the value of one item, or the run of the pieces. Definitions only: assumes nothing.
+use mathlib.Core.Path.{_≡_}
+use mathlib.Core.Bool.{cond}
+use mathlib.Core.List.{List}
+use mathlib.Core.Option.{some}
+use Prim.Native.Nat.{ℕ, _+_, _*_, _≤_}
+use lib.ListN.{length, getElem?}
+use Rattle.tree.specs.Tree.{treeOf}
+use Rattle.runs.specs.declared.Run.{Run}
+use Rattle.runs.specs.Runs.{treeIn, Fine}
+use Rattle.contents.specs.declared.Span.{Span}
+use Rattle.contents.specs.Search.{Value}
+use Rattle.index.specs.Rows.{rowWidth, firstAt}
+use Rattle.elements.specs.declared.Holder.{Holder}
+use Rattle.elements.specs.declared.Row.{Row}
+use Rattle.elements.specs.Shape.{edition1988}
+use Rattle.elements.specs.Element.{Content, single, inPieces, Element}
+use Rattle.elements.specs.Judge.{accepted, judge}
+use Rattle.elements.specs.Says.{Bounds}
+use Rattle.letters.specs.declared.Held.{Held}
+use Rattle.letters.specs.declared.Held.the-variants.{Part, Pieces}
+use Rattle.letters.specs.Letter.{rowsOfStream}
+
+-- where a row has "first and past for the element"
+abbrev pub wholeColumn : ℕ
+wholeColumn = 2
+
+-- the rows of a stream have a row j, and tell where its element begins
+pub record RowIn (s rows : List ℕ) (j : ℕ) : Type 0 where
+  pub within : j * rowWidth + rowWidth ≤ length rows
+  pub row : Row
+  pub stands : getElem? (rowsOfStream edition1988 s) j ≡ some row
+  pub first : firstAt rows wholeColumn j ≡ row .whole .first
+
+-- a holder as either
+abbrev pub heldBy : Holder → Held
+heldBy holder = cond (holder .pieced) (Pieces (holder .pieces)) (Part (holder .value .first) (holder .value .past))
+
+-- a content that is the value of one item, from first to past: those are the content fields of its row
+pub record HeldWhole (s : List ℕ) (first past : ℕ) (fields : Span) (content : Content) : Type 0 where
+  pub fields-are : fields ≡ record { first = first; past = past }
+  pub value : Value
+  pub content-is : content ≡ single value
+  pub bounds : Bounds s fields value
+
+-- a content in pieces, which are the items of a run
+pub record HeldInPieces (s : List ℕ) (run : Run) (content : Content) : Type 0 where
+  pub fine : Fine s run
+  pub content-is : content ≡ inPieces (treeIn s run)
+
+abbrev pub Holds : (s : List ℕ) (fields : Span) (content : Content) → Held → Type 0
+Holds s fields content (Part first past) = HeldWhole s first past fields content
+Holds s fields content (Pieces run) = HeldInPieces s run content
+
+-- what holds the content of element j, if the stream is a letter
+abbrev pub HoldsElement : (s : List ℕ) (j : ℕ) → Held → Type 0
+HoldsElement s j held =
+    (elements : List Element) (row : Row) (element : Element) → judge edition1988 (treeOf s) ≡ accepted elements
+    → getElem? (rowsOfStream edition1988 s) j ≡ some row → getElem? elements j ≡ some element → Holds s (row .content) (element .content) held
