@@ -1,11 +1,9 @@
 -- Small: the numbers and places of refusals. Letters: what a stream is, by its walk and its judge. Judging: what a verdict tells of it.
--- Scratch: arrays that are long enough for it. Checks, Fetching, Copying, Listing: what the check, the fetch, the copy and the list say, case
--- by case.
+-- Checks, Fetching, Copying, Listing: what the check, the fetch, the copy and the list say, case by case.
 pub mod Small
 pub mod Letters
 pub mod Judging
 pub mod Checks
-pub mod Scratch
 pub mod Fetching
 pub mod Copying
 pub mod Listing

@@ -1,4 +1,4 @@
-// The work behind the questions: scratch sized to the stream that is judged in it, and what each question does with a judged stream.
+// The work behind the questions: what each does with a stream that was judged.
 // Nothing that was lent to a question is written before all that can refuse it is known.
 use letters::Held;
 use letters::Verdict;
@@ -6,7 +6,6 @@ use octets::Outcome;
 use reading::Side;
 use runs::Run;
 ghost use mathlib.Core.Path.{_≡_};
-ghost use mathlib.Core.Bool.{true, cond};
 ghost use mathlib.Core.List.{List};
 ghost use Prim.Native.Nat.{_*_, _/_, _<_, _≤_};
 ghost use lib.ListN.{length};
@@ -20,7 +19,7 @@ ghost use Rattle.letters.specs.Lent.{rowsNeeded};
 ghost use Rattle.letters.specs.Scratch.{Gives};
 ghost use Rattle.letters.specs.Content.{RowIn};
 ghost use Rattle.answers.specs.Answers.{refusedCheck, CheckOutcome};
-ghost use Rattle.answers.specs.Asking.{Judged, Decides, ContentAt, Finds, Copies, Sized, ListsFlat};
+ghost use Rattle.answers.specs.Asking.{Judged, ContentAt, Finds, Copies, ListsFlat};
 
 const ROW_WIDTH: usize = 12;
 
@@ -31,12 +30,6 @@ const TOO_FEW_ROWS: u32 = 16;
 const LIST_TOO_SHORT: u32 = 19;
 
 const COPY_TOO_SHORT: u32 = 22;
-
-// Scratch for so many elements is soon cleared, and most letters have no more.
-const FEW: usize = 512;
-
-// From so many headers on, walking the elements again to count them costs more than clearing the scratch for all of them.
-const MANY_HEADERS: usize = 8192;
 
 // What the check answers. Number 0 is accepted.
 #[repr(C)]
@@ -96,42 +89,6 @@ pub enum Found {
     Pieces { run: Run },
 }
 
-fn wide(x: u32) -> usize
-    ensures { λ r. ⌜ r ≡ x ⌝ }
-{
-    x as usize
-}
-
-// Whether scratch for few elements is enough for a stream that the walk has passed with so many headers. Its elements are counted only
-// where the headers do not tell.
-fn is_few(stream: &[u8], headers: usize) -> bool
-    requires { ⌜ walkOf (now stream) ≡ Outcome.Ended (length (now stream)) headers ⌝ }
-    ensures { λ r. ⌜ (r ≡ true → rowsNeeded (now (stream .entry)) ≤ 512) ⌝ }
-{
-    if headers <= FEW {
-        return true;
-    }
-    if headers > MANY_HEADERS {
-        return false;
-    }
-    letters::count_elements(stream) <= FEW
-}
-
-// The same for a stream that was walked: what the walk refused needs none.
-pub fn needs_few(stream: &[u8], walked: Outcome) -> bool
-    requires { ⌜ walkOf (now stream) ≡ walked ⌝ }
-    ensures { λ r. ⌜ Sized (now (stream .entry)) walked (cond r 512 4096) ⌝ }
-{
-    match walked {
-        Outcome::Ended { at: _, count } => is_few(stream, count),
-        Outcome::Refused {
-            number: _,
-            place: _,
-            count: _,
-        } => true,
-    }
-}
-
 // What the check answers to a stream that is refused.
 pub fn refused_check(number: u32, place: u32, headers: u32) -> Checked
     ensures { λ r. ⌜ r ≡ refusedCheck number place headers ⌝ }
@@ -145,7 +102,7 @@ pub fn refused_check(number: u32, place: u32, headers: u32) -> Checked
 }
 
 // The check of a stream that was judged: 16, or the table.
-fn check_judged(
+pub fn check_judged(
     stream: &[u8],
     headers: u32,
     rows: &[u32],
@@ -173,124 +130,6 @@ fn check_judged(
     }
 }
 
-fn check_few(stream: &[u8], headers: u32, table: &mut [u32]) -> Checked
-    requires { ⌜ walkOf (now stream) ≡ Outcome.Ended (length (now stream)) headers ⌝ }
-    requires { ⌜ rowsNeeded (now stream) ≤ 512 ⌝ }
-    ensures { λ r. ⌜ CheckOutcome (now (stream .entry)) (now (table .entry)) r (now (table .exit)) ⌝ }
-{
-    let mut rows = [0u32; 6144];
-    let mut head = [0u16; 1024];
-    let mut next = [0u16; 512];
-    let mut head2 = [0u16; 1024];
-    let mut next2 = [0u16; 512];
-    let mut bounds = [0u32; 128];
-    let verdict = letters::judge_stream(
-        stream,
-        &mut rows,
-        &mut head,
-        &mut next,
-        &mut head2,
-        &mut next2,
-        &mut bounds,
-    );
-    check_judged(stream, headers, &rows, verdict, table)
-}
-
-fn check_many(stream: &[u8], headers: u32, table: &mut [u32]) -> Checked
-    requires { ⌜ walkOf (now stream) ≡ Outcome.Ended (length (now stream)) headers ⌝ }
-    ensures { λ r. ⌜ CheckOutcome (now (stream .entry)) (now (table .entry)) r (now (table .exit)) ⌝ }
-{
-    let mut rows = [0u32; 49152];
-    let mut head = [0u16; 8192];
-    let mut next = [0u16; 4096];
-    let mut head2 = [0u16; 8192];
-    let mut next2 = [0u16; 4096];
-    let mut bounds = [0u32; 128];
-    let verdict = letters::judge_stream(
-        stream,
-        &mut rows,
-        &mut head,
-        &mut next,
-        &mut head2,
-        &mut next2,
-        &mut bounds,
-    );
-    check_judged(stream, headers, &rows, verdict, table)
-}
-
-// The check of a stream that the walk has passed.
-pub fn check_walked(stream: &[u8], headers: u32, table: &mut [u32]) -> Checked
-    requires { ⌜ walkOf (now stream) ≡ Outcome.Ended (length (now stream)) headers ⌝ }
-    ensures { λ r. ⌜ CheckOutcome (now (stream .entry)) (now (table .entry)) r (now (table .exit)) ⌝ }
-{
-    if is_few(stream, wide(headers)) {
-        return check_few(stream, headers, table);
-    }
-    check_many(stream, headers, table)
-}
-
-fn judge_few(stream: &[u8]) -> Verdict
-    requires { ⌜ Accepts (now stream) (treeOf (now stream)) ⌝ }
-    requires { ⌜ rowsNeeded (now stream) ≤ 512 ⌝ }
-    ensures { λ r. ⌜ Decides (now (stream .entry)) r ⌝ }
-{
-    let mut rows = [0u32; 6144];
-    let mut head = [0u16; 1024];
-    let mut next = [0u16; 512];
-    let mut head2 = [0u16; 1024];
-    let mut next2 = [0u16; 512];
-    let mut bounds = [0u32; 128];
-    letters::judge_stream(
-        stream,
-        &mut rows,
-        &mut head,
-        &mut next,
-        &mut head2,
-        &mut next2,
-        &mut bounds,
-    )
-}
-
-fn judge_many(stream: &[u8]) -> Verdict
-    requires { ⌜ Accepts (now stream) (treeOf (now stream)) ⌝ }
-    ensures { λ r. ⌜ Decides (now (stream .entry)) r ⌝ }
-{
-    let mut rows = [0u32; 49152];
-    let mut head = [0u16; 8192];
-    let mut next = [0u16; 4096];
-    let mut head2 = [0u16; 8192];
-    let mut next2 = [0u16; 4096];
-    let mut bounds = [0u32; 128];
-    letters::judge_stream(
-        stream,
-        &mut rows,
-        &mut head,
-        &mut next,
-        &mut head2,
-        &mut next2,
-        &mut bounds,
-    )
-}
-
-// Rules 1 to 15 for a stream.
-pub fn judge(stream: &[u8]) -> Verdict
-    ensures { λ r. ⌜ Decides (now (stream .entry)) r ⌝ }
-{
-    match octets::walk(stream) {
-        Outcome::Ended { at: _, count } => {
-            if is_few(stream, count) {
-                return judge_few(stream);
-            }
-            judge_many(stream)
-        }
-        Outcome::Refused {
-            number,
-            place,
-            count: _,
-        } => Verdict::Refused { number, place },
-    }
-}
-
 // The content of the element whose row is given, if it is a text unit.
 fn content_at(stream: &[u8], rows: &[u32], element: usize) -> Found
     requires { ⌜ Fine (now stream) (wholeStream (now stream)) ⌝ }
@@ -307,7 +146,7 @@ fn content_at(stream: &[u8], rows: &[u32], element: usize) -> Found
 }
 
 // The content of an element of a stream that was judged: 20, or where it stands.
-fn fetch_judged(stream: &[u8], element: usize, rows: &[u32], verdict: Verdict) -> Found
+pub fn fetch_judged(stream: &[u8], element: usize, rows: &[u32], verdict: Verdict) -> Found
     requires { ⌜ Accepts (now stream) (treeOf (now stream)) ⌝ }
     requires { ⌜ Judged (now stream) (now rows) verdict ⌝ }
     ensures { λ r. ⌜ Finds (now (stream .entry)) element r ⌝ }
@@ -320,70 +159,6 @@ fn fetch_judged(stream: &[u8], element: usize, rows: &[u32], verdict: Verdict) -
             }
             Found::NoUnit
         }
-    }
-}
-
-fn fetch_few(stream: &[u8], element: usize) -> Found
-    requires { ⌜ Accepts (now stream) (treeOf (now stream)) ⌝ }
-    requires { ⌜ rowsNeeded (now stream) ≤ 512 ⌝ }
-    ensures { λ r. ⌜ Finds (now (stream .entry)) element r ⌝ }
-{
-    let mut rows = [0u32; 6144];
-    let mut head = [0u16; 1024];
-    let mut next = [0u16; 512];
-    let mut head2 = [0u16; 1024];
-    let mut next2 = [0u16; 512];
-    let mut bounds = [0u32; 128];
-    let verdict = letters::judge_stream(
-        stream,
-        &mut rows,
-        &mut head,
-        &mut next,
-        &mut head2,
-        &mut next2,
-        &mut bounds,
-    );
-    fetch_judged(stream, element, &rows, verdict)
-}
-
-fn fetch_many(stream: &[u8], element: usize) -> Found
-    requires { ⌜ Accepts (now stream) (treeOf (now stream)) ⌝ }
-    ensures { λ r. ⌜ Finds (now (stream .entry)) element r ⌝ }
-{
-    let mut rows = [0u32; 49152];
-    let mut head = [0u16; 8192];
-    let mut next = [0u16; 4096];
-    let mut head2 = [0u16; 8192];
-    let mut next2 = [0u16; 4096];
-    let mut bounds = [0u32; 128];
-    let verdict = letters::judge_stream(
-        stream,
-        &mut rows,
-        &mut head,
-        &mut next,
-        &mut head2,
-        &mut next2,
-        &mut bounds,
-    );
-    fetch_judged(stream, element, &rows, verdict)
-}
-
-// The content of an element of a stream, by rules 1 to 15 and then 20.
-pub fn fetch(stream: &[u8], element: usize) -> Found
-    ensures { λ r. ⌜ Finds (now (stream .entry)) element r ⌝ }
-{
-    match octets::walk(stream) {
-        Outcome::Ended { at: _, count } => {
-            if is_few(stream, count) {
-                return fetch_few(stream, element);
-            }
-            fetch_many(stream, element)
-        }
-        Outcome::Refused {
-            number,
-            place,
-            count: _,
-        } => Found::Refused { number, place },
     }
 }
 
@@ -428,7 +203,7 @@ pub fn copy_pieces(stream: &[u8], run: Run, out: &mut [u8]) -> Copied
 }
 
 // The reading list of a stream that was judged, as numbers: 16, then the table, then 19.
-fn list_judged(
+pub fn list_judged(
     stream: &[u8],
     side: Side,
     room: usize,
@@ -489,109 +264,5 @@ fn list_judged(
                 matches: matches as u32,
             }
         }
-    }
-}
-
-fn list_few(stream: &[u8], side: Side, room: usize, table: &mut [u32], flat: &mut [u32]) -> Listed
-    requires { ⌜ Accepts (now stream) (treeOf (now stream)) ⌝ }
-    requires { ⌜ rowsNeeded (now stream) ≤ 512 ⌝ }
-    requires { ⌜ 3 * rowsNeeded (now stream) ≤ length (now flat) ⌝ }
-    ensures { λ r. ⌜ ListsFlat side (now (stream .entry)) (now (table .entry)) room r (now (table .exit)) (now (flat .exit)) ⌝ }
-{
-    let mut rows = [0u32; 6144];
-    let mut head = [0u16; 1024];
-    let mut next = [0u16; 512];
-    let mut head2 = [0u16; 1024];
-    let mut next2 = [0u16; 512];
-    let mut bounds = [0u32; 128];
-    let verdict = letters::judge_stream(
-        stream,
-        &mut rows,
-        &mut head,
-        &mut next,
-        &mut head2,
-        &mut next2,
-        &mut bounds,
-    );
-    list_judged(
-        stream,
-        side,
-        room,
-        &rows,
-        &head,
-        &next,
-        &head2,
-        &next2,
-        verdict,
-        table,
-        flat,
-    )
-}
-
-fn list_many(stream: &[u8], side: Side, room: usize, table: &mut [u32], flat: &mut [u32]) -> Listed
-    requires { ⌜ Accepts (now stream) (treeOf (now stream)) ⌝ }
-    requires { ⌜ 3 * rowsNeeded (now stream) ≤ length (now flat) ⌝ }
-    ensures { λ r. ⌜ ListsFlat side (now (stream .entry)) (now (table .entry)) room r (now (table .exit)) (now (flat .exit)) ⌝ }
-{
-    let mut rows = [0u32; 49152];
-    let mut head = [0u16; 8192];
-    let mut next = [0u16; 4096];
-    let mut head2 = [0u16; 8192];
-    let mut next2 = [0u16; 4096];
-    let mut bounds = [0u32; 128];
-    let verdict = letters::judge_stream(
-        stream,
-        &mut rows,
-        &mut head,
-        &mut next,
-        &mut head2,
-        &mut next2,
-        &mut bounds,
-    );
-    list_judged(
-        stream,
-        side,
-        room,
-        &rows,
-        &head,
-        &next,
-        &head2,
-        &next2,
-        verdict,
-        table,
-        flat,
-    )
-}
-
-// The reading list of a side of a stream that was walked, as numbers, for a list with room for so many records. The numbers have room for a
-// record of each element, and so tell how much scratch is enough.
-pub fn list_flat(
-    stream: &[u8],
-    walked: Outcome,
-    side: Side,
-    room: usize,
-    table: &mut [u32],
-    flat: &mut [u32],
-) -> Listed
-    requires { ⌜ Sized (now stream) walked (length (now flat) / 3) ⌝ }
-    ensures { λ r. ⌜ ListsFlat side (now (stream .entry)) (now (table .entry)) room r (now (table .exit)) (now (flat .exit)) ⌝ }
-{
-    match walked {
-        Outcome::Ended { at: _, count: _ } => {
-            if flat.len() / 3 <= FEW {
-                return list_few(stream, side, room, table, flat);
-            }
-            list_many(stream, side, room, table, flat)
-        }
-        Outcome::Refused {
-            number,
-            place,
-            count: _,
-        } => Listed {
-            number: number as u32,
-            place: place as u32,
-            elements: 0,
-            matches: 0,
-        },
     }
 }

@@ -41,7 +41,7 @@ use Rattle.answers.specs.declared.Listed.{Listed}
 use Rattle.answers.specs.Answers.{ListOutcome}
 use Rattle.answers.proofs.Listed as L
 use Rattle.answers.proofs.Listed.Laws as L′
-use Rattle.odif.proofs.Filling.{R, record-ty, mach}
+use Rattle.scratch.proofs.Filling.{R, record-ty, mach}
 use Rattle.odif.proofs.list as list
 use Rattle.odif.proofs.list.Symbol.{name as #odif·list}
 

@@ -14,7 +14,6 @@ pub use reading::Side;
 ghost use mathlib.Core.Path.{_≡_};
 ghost use mathlib.Core.List.{List};
 ghost use Rattle.answers.specs.Answers.{CheckOutcome, NormalOutcome, ListOutcome, fetched, whyNot, Fetches, JoinedOutcome};
-ghost use Rattle.answers.specs.Asking.{Sized};
 
 const NO_UNIT: u32 = 20;
 
@@ -25,7 +24,7 @@ pub fn check(stream: &[u8], table: &mut [u32]) -> Checked
     ensures { λ r. ⌜ CheckOutcome (now (stream .entry)) (now (table .entry)) r (now (table .exit)) ⌝ }
 {
     match octets::walk(stream) {
-        Outcome::Ended { at: _, count } => answers::check_walked(stream, count as u32, table),
+        Outcome::Ended { at: _, count } => scratch::check_walked(stream, count as u32, table),
         Outcome::Refused {
             number,
             place,
@@ -38,7 +37,7 @@ pub fn check(stream: &[u8], table: &mut [u32]) -> Checked
 pub fn normal(stream: &[u8], out: &mut [u8]) -> Written
     ensures { λ r. ⌜ NormalOutcome (now (stream .entry)) (now (out .entry)) r (now (out .exit)) ⌝ }
 {
-    match answers::judge(stream) {
+    match scratch::judge(stream) {
         Verdict::Refused { number, place } => Written {
             number: number as u32,
             place: place as u32,
@@ -64,47 +63,10 @@ pub fn list(stream: &[u8], side: Side, table: &mut [u32], list: &mut [Match]) ->
     ensures { λ r. ⌜ ListOutcome side (now (stream .entry)) (now (table .entry)) (now (list .entry)) r (now (table .exit)) (now (list .exit)) ⌝ }
 {
     let walked = octets::walk(stream);
-    if answers::needs_few(stream, walked) {
-        return list_few(stream, walked, side, table, list);
+    if scratch::needs_few(stream, walked) {
+        return scratch::list_few(stream, walked, side, table, list);
     }
-    list_many(stream, walked, side, table, list)
-}
-
-// The list of a stream that was walked and has few elements. There are never more matches than elements, so numbers for as many records are
-// enough, and these are soon cleared.
-fn list_few(
-    stream: &[u8],
-    walked: Outcome,
-    side: Side,
-    table: &mut [u32],
-    list: &mut [Match],
-) -> Listed
-    requires { ⌜ Sized (now stream) walked 512 ⌝ }
-    ensures { λ r. ⌜ ListOutcome side (now (stream .entry)) (now (table .entry)) (now (list .entry)) r (now (table .exit)) (now (list .exit)) ⌝ }
-{
-    let mut flat = [0u32; 1536];
-    let answer = answers::list_flat(stream, walked, side, list.len(), table, &mut flat);
-    let count = answer.matches as usize;
-    reading::fill(&flat, count, list);
-    answer
-}
-
-// The list of one that has many.
-fn list_many(
-    stream: &[u8],
-    walked: Outcome,
-    side: Side,
-    table: &mut [u32],
-    list: &mut [Match],
-) -> Listed
-    requires { ⌜ Sized (now stream) walked 4096 ⌝ }
-    ensures { λ r. ⌜ ListOutcome side (now (stream .entry)) (now (table .entry)) (now (list .entry)) r (now (table .exit)) (now (list .exit)) ⌝ }
-{
-    let mut flat = [0u32; 12288];
-    let answer = answers::list_flat(stream, walked, side, list.len(), table, &mut flat);
-    let count = answer.matches as usize;
-    reading::fill(&flat, count, list);
-    answer
+    scratch::list_many(stream, walked, side, table, list)
 }
 
 // The content of a text unit: a part of the caller's own stream, and an empty part if the stream or the element is refused, or the content
@@ -112,7 +74,7 @@ fn list_many(
 pub fn content<'a>(stream: &'a [u8], element: usize) -> &'a [u8]
     ensures { λ r. ⌜ now r ≡ fetched (now (stream .entry)) element .part ⌝ }
 {
-    match answers::fetch(stream, element) {
+    match scratch::fetch(stream, element) {
         Found::Content { first, past } => &stream[first..past],
         Found::Refused {
             number: _,
@@ -138,7 +100,7 @@ pub fn why(stream: &[u8], element: usize) -> Reason
 fn locate(stream: &[u8], element: usize) -> Located
     ensures { λ r. ⌜ Fetches (now (stream .entry)) element r ⌝ }
 {
-    match answers::fetch(stream, element) {
+    match scratch::fetch(stream, element) {
         Found::Content { first, past } => Located {
             number: 0,
             place: 0,
@@ -171,7 +133,7 @@ fn locate(stream: &[u8], element: usize) -> Located
 pub fn joined(stream: &[u8], element: usize, out: &mut [u8]) -> Copied
     ensures { λ r. ⌜ JoinedOutcome (now (stream .entry)) element (now (out .entry)) r (now (out .exit)) ⌝ }
 {
-    match answers::fetch(stream, element) {
+    match scratch::fetch(stream, element) {
         Found::Content { first, past } => answers::copy_part(stream, first, past, out),
         Found::Pieces { run } => answers::copy_pieces(stream, run, out),
         Found::Refused { number, place } => Copied {

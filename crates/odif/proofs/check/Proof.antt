@@ -7,7 +7,7 @@ use Rattle.elements.specs.Shape.{edition1988}
 use Rattle.answers.proofs.Small.{walk-small, headers-small}
 use Rattle.answers.proofs.Letters.{refused-walk}
 use Rattle.answers.proofs.Checks.{checks-refused}
-use Rattle.answers.proofs.Scratch.{walked-whole}
+use Rattle.scratch.proofs.Arrays.{walked-whole}
 use Rattle.odif.proofs.check.Statement.{statement}
 use Rattle.odif.proofs.check.Tie as tie
 

@@ -57,18 +57,18 @@ use Rattle.answers.specs.Answers.{ListOutcome}
 use Rattle.answers.specs.Asking.{Sized}
 use Rattle.answers.proofs.Listed as L
 use Rattle.answers.proofs.Listed.Laws as L′
-use Rattle.answers.proofs.needs_few as needs-few
-use Rattle.answers.proofs.needs_few.Symbol as needs-few-def
-use Rattle.answers.proofs.needs_few.Symbol.{name as #answers·needs-few}
-use Rattle.answers.proofs.needs_few.Met as needs-few-thm
-use Rattle.odif.proofs.Filling.{R, record-ty, mach, clauses, Lister}
-use Rattle.odif.proofs.list_few as few
-use Rattle.odif.proofs.list_few.Symbol as few-def
-use Rattle.odif.proofs.list_few.Symbol.{name as #odif·list-few}
-use Rattle.odif.proofs.list_few.Met as few-thm
-use Rattle.odif.proofs.list_many.Symbol as many-def
-use Rattle.odif.proofs.list_many.Symbol.{name as #odif·list-many}
-use Rattle.odif.proofs.list_many.Met as many-thm
+use Rattle.scratch.proofs.needs_few as needs-few
+use Rattle.scratch.proofs.needs_few.Symbol as needs-few-def
+use Rattle.scratch.proofs.needs_few.Symbol.{name as #scratch·needs-few}
+use Rattle.scratch.proofs.needs_few.Met as needs-few-thm
+use Rattle.scratch.proofs.Filling.{R, record-ty, mach, clauses, Lister}
+use Rattle.scratch.proofs.list_few as few
+use Rattle.scratch.proofs.list_few.Symbol as few-def
+use Rattle.scratch.proofs.list_few.Symbol.{name as #scratch·list-few}
+use Rattle.scratch.proofs.list_few.Met as few-thm
+use Rattle.scratch.proofs.list_many.Symbol as many-def
+use Rattle.scratch.proofs.list_many.Symbol.{name as #scratch·list-many}
+use Rattle.scratch.proofs.list_many.Met as many-thm
 use Rattle.odif.proofs.list.Key.{name as #odif·list}
 use Rattle.odif.proofs.list as list
 use Rattle.odif.proofs.list.Statement as stated
@@ -211,8 +211,8 @@ module _ {M : Type 1} (𝓤 : URA M) (H : Heap 𝓤) (A : Atoms 𝓤) (W : Given
       nothing ! $ move ! (2 ∷ 0 ∷ []) $ fjoin ! $ move ! (1 ∷ 0 ∷ []) $ fjoin ! $ owned ! S.the-row (Is S.the-row) (EL.makes S.the-type S′.the-plain 𝓤 H A) side _ isS $ fjoin ! $ move ! (1 ∷ 0 ∷ []) $ fjoin ! $ frame ! $
       owned ! L.the-row (Is L.the-row) ((LL.makes L.the-type L′.the-plain) 𝓤 H A) r _ is $ done !
 
-  module _ (C : Calls 𝓤 H) (Λ : Loops 𝓤 H) (fm : FmC 𝓤 H (W .laws) C) (known-walk : Triple 𝓤 (C #octets·walk) (Walking 𝓤 H A mem run)) (known-size : Triple 𝓤 (C #answers·needs-few) (Sizing 𝓤 H A mem run))
-      (known-few : Triple 𝓤 (C #odif·list-few) (Lister 𝓤 H A mem run 512)) (known-many : Triple 𝓤 (C #odif·list-many) (Lister 𝓤 H A mem run 4096)) where
+  module _ (C : Calls 𝓤 H) (Λ : Loops 𝓤 H) (fm : FmC 𝓤 H (W .laws) C) (known-walk : Triple 𝓤 (C #octets·walk) (Walking 𝓤 H A mem run)) (known-size : Triple 𝓤 (C #scratch·needs-few) (Sizing 𝓤 H A mem run))
+      (known-few : Triple 𝓤 (C #scratch·list-few) (Lister 𝓤 H A mem run 512)) (known-many : Triple 𝓤 (C #scratch·list-many) (Lister 𝓤 H A mem run 4096)) where
     module _ (l₀ l₁ l₂ l₃ l₄ l₅ l₆ l₇ l₈ l₉ l₁₀ l₁₁ l₁₂ l₁₃ l₁₄ : ℕ) (o : Outcome) (isO : Is O.the-row o (u o ∷ [])) (t : Bool) (sized : Sized ss o (cond t 512 4096)) where
       abbrev En : Env 𝓤 H
       En =
@@ -293,8 +293,8 @@ module _ {M : Type 1} (𝓤 : URA M) (H : Heap 𝓤) (A : Atoms 𝓤) (W : Given
         -- [κ₀; the stream; κ₁; κ₂; the list; true; the table; _14; …]
         lists l₀ l₁ l₂ l₃ l₄ l₅ l₆ l₇ l₈ l₉ l₁₀ l₁₁ l₁₂ l₁₃ l₁₄ o isO t sized)))))))))))))))))))))))
 
-module _ {M : Type 1} (𝓤 : URA M) (H : Heap 𝓤) (A : Atoms 𝓤) (W : Given 𝓤 H A) (mem : Memory → SProp 𝓤) (run : Routine → Fun 𝓤) (𝓣 : Tables 𝓤 H) (known-walk : Triple 𝓤 (𝓣 .C #octets·walk) (Walking 𝓤 H A mem run)) (known-size : Triple 𝓤 (𝓣 .C #answers·needs-few) (Sizing 𝓤 H A mem run))
-    (known-few : Triple 𝓤 (𝓣 .C #odif·list-few) (Lister 𝓤 H A mem run 512)) (known-many : Triple 𝓤 (𝓣 .C #odif·list-many) (Lister 𝓤 H A mem run 4096)) where
+module _ {M : Type 1} (𝓤 : URA M) (H : Heap 𝓤) (A : Atoms 𝓤) (W : Given 𝓤 H A) (mem : Memory → SProp 𝓤) (run : Routine → Fun 𝓤) (𝓣 : Tables 𝓤 H) (known-walk : Triple 𝓤 (𝓣 .C #octets·walk) (Walking 𝓤 H A mem run)) (known-size : Triple 𝓤 (𝓣 .C #scratch·needs-few) (Sizing 𝓤 H A mem run))
+    (known-few : Triple 𝓤 (𝓣 .C #scratch·list-few) (Lister 𝓤 H A mem run 512)) (known-many : Triple 𝓤 (𝓣 .C #scratch·list-many) (Lister 𝓤 H A mem run 4096)) where
   walks : Walks 𝓤 H A list.ended stayed (WpFn 𝓤 H (𝓣 .C) (𝓣 .Λ) code.function) (list.clauses 𝓤 H A mem run)
   walks = walked 𝓤 H A list.ended stayed (list.clauses 𝓤 H A mem run) (WpFn 𝓤 H (𝓣 .C) (𝓣 .Λ) code.function)
       (λ κs. (slice-vals, (EL.vals S.the-type S′.the-laws, (slice-vals, (slice-vals, tt)))))
@@ -318,6 +318,6 @@ list-spec 𝓤 H 𝓜 𝓖 𝓡 =
     (tables 𝓤 H 𝓜 𝓡 code.env .C) (tables 𝓤 H 𝓜 𝓡 code.env .Λ) #odif·list code.function (code.unfolded 𝓤 H 𝓜 𝓡)
     (meets 𝓤 H (𝓖 .A) (givenOf 𝓤 H 𝓜 𝓖) (𝓜 .mem) (𝓡 .run) (tablesOf 𝓤 H 𝓜 (tables 𝓤 H 𝓜 𝓡 code.env))
     (cited 𝓤 H (Walking 𝓤 H (𝓖 .A) (𝓜 .mem) (𝓡 .run)) 𝓜 𝓡 code.env #octets·walk walk-def.routine code.calls-octets·walk (walk-thm.met 𝓤 H 𝓜 𝓖 𝓡))
-    (cited 𝓤 H (Sizing 𝓤 H (𝓖 .A) (𝓜 .mem) (𝓡 .run)) 𝓜 𝓡 code.env #answers·needs-few needs-few-def.routine code.calls-answers·needs-few (needs-few-thm.met 𝓤 H 𝓜 𝓖 𝓡))
-    (cited 𝓤 H (Lister 𝓤 H (𝓖 .A) (𝓜 .mem) (𝓡 .run) 512) 𝓜 𝓡 code.env #odif·list-few few-def.routine code.calls-odif·list-few (few-thm.met 𝓤 H 𝓜 𝓖 𝓡))
-    (cited 𝓤 H (Lister 𝓤 H (𝓖 .A) (𝓜 .mem) (𝓡 .run) 4096) 𝓜 𝓡 code.env #odif·list-many many-def.routine code.calls-odif·list-many (many-thm.met 𝓤 H 𝓜 𝓖 𝓡)))
+    (cited 𝓤 H (Sizing 𝓤 H (𝓖 .A) (𝓜 .mem) (𝓡 .run)) 𝓜 𝓡 code.env #scratch·needs-few needs-few-def.routine code.calls-scratch·needs-few (needs-few-thm.met 𝓤 H 𝓜 𝓖 𝓡))
+    (cited 𝓤 H (Lister 𝓤 H (𝓖 .A) (𝓜 .mem) (𝓡 .run) 512) 𝓜 𝓡 code.env #scratch·list-few few-def.routine code.calls-scratch·list-few (few-thm.met 𝓤 H 𝓜 𝓖 𝓡))
+    (cited 𝓤 H (Lister 𝓤 H (𝓖 .A) (𝓜 .mem) (𝓡 .run) 4096) 𝓜 𝓡 code.env #scratch·list-many many-def.routine code.calls-scratch·list-many (many-thm.met 𝓤 H 𝓜 𝓖 𝓡)))

@@ -38,7 +38,7 @@ use Rattle.answers.specs.declared.Listed.{Listed}
 use Rattle.answers.specs.Answers.{ListOutcome}
 use Rattle.answers.proofs.Listed as L
 use Rattle.answers.proofs.Listed.Laws as L′
-use Rattle.odif.proofs.Filling.{R, mach}
+use Rattle.scratch.proofs.Filling.{R, mach}
 use Rattle.odif.proofs.Exporting.{Listing, walk}
 use Rattle.odif.proofs.list.Symbol as list-def
 use Rattle.odif.proofs.list.Symbol.{name as #odif·list}

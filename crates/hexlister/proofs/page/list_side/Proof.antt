@@ -57,8 +57,8 @@ use Rattle.answers.specs.declared.Listed.{Listed}
 use Rattle.answers.specs.Answers.{ListOutcome}
 use Rattle.answers.proofs.Listed as L
 use Rattle.answers.proofs.Listed.Laws as L′
-use Rattle.odif.proofs.Lending.{arrayTy, to-cells, to-parts, from-parts, big}
-use Rattle.odif.proofs.Filling.{mach}
+use Rattle.scratch.proofs.Lending.{arrayTy, to-cells, to-parts, from-parts, big}
+use Rattle.scratch.proofs.Filling.{mach}
 use Rattle.odif.proofs.list as list
 use Rattle.odif.proofs.list.Symbol as list-def
 use Rattle.odif.proofs.list.Symbol.{name as #odif·list}
