@@ -9,7 +9,7 @@ ghost use lib.Dec.{eqb};
 ghost use Rattle.runs.specs.Runs.{treeIn, Fine};
 ghost use Rattle.contents.specs.Order.{inOrder};
 ghost use Rattle.contents.specs.First.{spanOf};
-ghost use Rattle.contents.specs.Opening.{noPart, Begins, Opens, CountsOn, Finds};
+ghost use Rattle.contents.specs.Opening.{noPart, Begins, Opens, CountsOn, FoundIn, Finds};
 ghost use Rattle.contents.specs.Gather.{Gathers, unseen, firstOf, seenWith, gatheredFrom};
 
 // The bounds of a value; absent is 0 and 0.
@@ -255,6 +255,31 @@ pub fn part_with(o: Opening, octet: usize) -> Found
     Found::Missing
 }
 
+// The first item of a run with the octet. A content that is asked for alone is found by this.
+pub fn first_with(s: &[u8], r: Run, sought: usize) -> Found
+    requires { ⌜ Fine (now s) r ⌝ }
+    ensures { λ found. ⌜ FoundIn (now (s .entry)) r sought found ⌝ }
+{
+    let mut cur = r;
+    loop {
+        match runs::meet(s, cur) {
+            Met::End => return Found::Missing,
+            Met::Item {
+                octet,
+                first,
+                past,
+                inner,
+                rest,
+            } => {
+                if octet == sought {
+                    return Found::At(part_of(octet, first, past, inner));
+                }
+                cur = rest;
+            }
+        }
+    }
+}
+
 // Nothing was seen.
 fn unseen_yet() -> Seen
     ensures { λ x. ⌜ x ≡ unseen ⌝ }
@@ -306,7 +331,7 @@ fn counted_with(n: usize, counted: usize, octet: usize) -> usize
 }
 
 // The bounds of a part's value.
-fn span_of(p: Part) -> Span
+pub fn span_of(p: Part) -> Span
     ensures { λ v. ⌜ v ≡ spanOf p ⌝ }
 {
     Span {

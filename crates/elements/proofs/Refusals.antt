@@ -1,27 +1,16 @@
--- Rules 9 to 15 of one element, taken apart: 9, 10 and 11 by their own tests, then the shape's, of which order is the first, then 15.
--- Assumes nothing.
+-- Rules 9 to 15 of one element, taken apart: 9, 10 and 11 by their own tests, then the shape's, then 15. Assumes nothing.
 use mathlib.Core.Path.{_≡_, refl}
-use mathlib.Core.Bool.{Bool, true, false, cond, not, xor, _&&_, false≢true}
+use mathlib.Core.Bool.{Bool, true, false, cond, not, xor}
 use mathlib.Core.List.{List, [], _∷_}
 use Prim.Native.Nat.{ℕ}
 use lib.Dec.{eqb, leb}
 use lib.ListN.{length}
 use Rattle.tree.specs.Tree.{Tree}
 use Rattle.contents.specs.Search.{is, firstValue}
-use Rattle.elements.specs.declared.Shape.{Shape}
 use Rattle.elements.specs.Shape.{Edition, shapeOf}
-use Rattle.elements.specs.Element.{Element, elementOf, ordered, asTabled, typeFits, namesFit}
+use Rattle.elements.specs.Element.{Element, elementOf, asTabled, typeFits, namesFit}
 use Rattle.elements.specs.Judge.{mostElements, profile, twice, firstOf, _when_, shapeRefusal, refusalOf}
 use Rattle.elements.specs.Sees.{numberOf}
-
-first-true : (a b : Bool) → a && b ≡ true → a ≡ true
-first-true true b e = refl
-first-true false b e = absurd (false≢true e)
-
--- contents as tabled stand in order
-pub tabled-ordered : (shape : Shape) (run : Tree) → asTabled shape run ≡ true → ordered shape run ≡ true
-unfolding asTabled
-tabled-ordered shape run e = first-true (ordered shape run) _ e
 
 -- the last test counts where none before it refuses
 then-last : (a b c d : Bool) → firstOf ((12 when not a) ∷ (13 when not b) ∷ (14 when not c) ∷ (15 when d) ∷ [])

@@ -4,6 +4,7 @@ use super::Holder;
 use super::Shape;
 use contents::Found;
 use contents::Opening;
+use contents::Part;
 use contents::Span;
 use runs::Run;
 ghost use mathlib.Core.Path.{_≡_};
@@ -12,7 +13,8 @@ ghost use mathlib.Core.List.{List};
 ghost use Prim.Native.Nat.{ℕ, _≤_};
 ghost use Rattle.headers.specs.First.{constructed};
 ghost use Rattle.runs.specs.Runs.{treeIn, definiteRun, Fine};
-ghost use Rattle.contents.specs.Opening.{Opens};
+ghost use Rattle.contents.specs.First.{Holds, Lacks};
+ghost use Rattle.contents.specs.Opening.{Opens, FoundIn};
 ghost use Rattle.elements.specs.Element.{Content, ordered, piecesAlone};
 ghost use Rattle.elements.specs.WellMade.{WellMade};
 ghost use Rattle.elements.specs.Frames.{Bounding, Inner, HoldsContent, Holding, noHolder, Frames};
@@ -28,15 +30,12 @@ fn no_run() -> Run
     }
 }
 
-// The value of an opening's item with the octet.
-fn span_with(o: Opening, octet: usize) -> Span
-    ensures { λ v. ⌜ ((s : List ℕ) (r : Run) → Opens s r o → o .count ≤ 2 → Bounding s r octet v) ⌝ }
+// The bounds of the value of an item that was looked for.
+fn bounds_of(found: Found) -> Span
+    ensures { λ v. ⌜ ((s : List ℕ) (r : Run) (octet : ℕ) → FoundIn s r octet found → Bounding s r octet v) ⌝ }
 {
-    match contents::part_with(o, octet) {
-        Found::At(p) => Span {
-            first: p.first,
-            past: p.past,
-        },
+    match found {
+        Found::At(p) => contents::span_of(p),
         Found::Missing => Span { first: 0, past: 0 },
     }
 }
@@ -62,28 +61,37 @@ fn no_holder() -> Holder
     }
 }
 
+// A content in pieces is held by their item.
+fn held_in_pieces(p: Part) -> Holder
+    ensures { λ holder. ⌜ ((s : List ℕ) (shape : Shape) (r : Run) → WellMade shape → Holds s r (shape .pieces) p → Holding s shape r holder) ⌝ }
+{
+    let run = p.inner;
+    Holder {
+        value: contents::span_of(p),
+        pieced: true,
+        pieces: run,
+    }
+}
+
+// Where there are no pieces, it is held by the item with the content, if that is there.
+fn held_whole(found: Found) -> Holder
+    ensures { λ holder. ⌜ ((s : List ℕ) (shape : Shape) (r : Run) → WellMade shape → Lacks s r (shape .pieces) → FoundIn s r (shape .content) found → Holding s shape r holder) ⌝ }
+{
+    Holder {
+        value: bounds_of(found),
+        pieced: false,
+        pieces: no_run(),
+    }
+}
+
 // What of an opening's items holds the content of an element.
 fn holder_with(o: Opening, shape: Shape) -> Holder
     requires { ⌜ WellMade shape ⌝ }
     ensures { λ holder. ⌜ ((s : List ℕ) (r : Run) → Opens s r o → o .count ≤ 2 → Holding s shape r holder) ⌝ }
 {
     match contents::part_with(o, shape.pieces) {
-        Found::At(p) => {
-            let run = p.inner;
-            Holder {
-                value: Span {
-                    first: p.first,
-                    past: p.past,
-                },
-                pieced: true,
-                pieces: run,
-            }
-        }
-        Found::Missing => Holder {
-            value: span_with(o, shape.content),
-            pieced: false,
-            pieces: no_run(),
-        },
+        Found::At(p) => held_in_pieces(p),
+        Found::Missing => held_whole(contents::part_with(o, shape.content)),
     }
 }
 
@@ -109,7 +117,7 @@ fn frame_in_order(s: &[u8], shape: Shape, r: Run) -> Frame
     let o = contents::opening_of(s, r);
     let fits = stands(o, shape);
     let body = run_with(o, shape.within);
-    let object = span_with(o, shape.object);
+    let object = bounds_of(contents::part_with(o, shape.object));
     let content = holder_with(o, shape);
     Frame {
         fits,
@@ -140,6 +148,17 @@ pub fn frame_of(s: &[u8], shape: Shape, r: Run) -> Frame
         body: no_run(),
         object: Span { first: 0, past: 0 },
         content: no_holder(),
+    }
+}
+
+// What holds the content of an element of a stream that was judged. It looks for one item, where `frame_of` tells all of the top.
+pub fn holder_in(s: &[u8], shape: Shape, r: Run) -> Holder
+    requires { ⌜ Fine (now s) r × WellMade shape ⌝ }
+    ensures { λ holder. ⌜ Holding (now (s .entry)) shape r holder ⌝ }
+{
+    match contents::first_with(s, r, shape.pieces) {
+        Found::At(p) => held_in_pieces(p),
+        Found::Missing => held_whole(contents::first_with(s, r, shape.content)),
     }
 }
 

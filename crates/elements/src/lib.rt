@@ -22,7 +22,7 @@ mod frames; // frames.rt: the top of an element
 mod rules; // rules.rt: rules 12 to 14, by what was found
 mod shapes; // shapes.rt: the shapes of the edition of 1988
 
-pub use frames::frame_of;
+pub use frames::holder_in;
 pub use shapes::shape_1988;
 
 // The shape of an element: which items it has, and what they are for. An octet 0 stands for none.

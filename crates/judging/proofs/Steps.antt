@@ -1,11 +1,11 @@
 -- The rules of an element in three steps, 9 to 11, 12 to 14 and 15, of which the first that refuses counts; and what an element does to
 -- the judge of a run. Assumes nothing.
 use mathlib.Core.Path.{_≡_, refl, _∙_}
-use mathlib.Core.Bool.{Bool, true, false, cond, not, xor}
+use mathlib.Core.Bool.{Bool, true, false, cond, xor}
 use mathlib.Core.List.{List, [], _∷_, _++_}
 use Prim.Native.Nat.{ℕ, _+_, _<_}
 use native.Mathlib.Omega.{arith}
-use borrow.Author.Tests.{ne-eqb, leb-false, not-false}
+use borrow.Author.Tests.{ne-eqb, leb-false}
 use borrow.Table.Steps.{cases}
 use lib.Dec.{eqb, leb}
 use lib.ListN.{length}
@@ -14,7 +14,7 @@ use Rattle.octets.specs.Items.{Items, none, item}
 use Rattle.tree.specs.Tree.{Tree, plain}
 use Rattle.runs.specs.Runs.{tops}
 use Rattle.elements.specs.Shape.{edition1988}
-use Rattle.elements.specs.Element.{Element, asTabled}
+use Rattle.elements.specs.Element.{Element}
 use Rattle.elements.specs.Judge.{mostElements, profile, twice, shapeRefusal, refusalOf, refused, judgeOne, judgeFrom, judge}
 use Rattle.elements.proofs.Refusals.{refusal-9, refusal-10, refusal-11, refusal-by-shape}
 use Rattle.judging.specs.Judges.{earlyRefusal, shape1988, element1988}
@@ -61,15 +61,6 @@ module _ (done : List Element) (octet : ℕ) (run : Tree) where
   pub unrefused-few : number ≡ 0 → length done < mostElements
   unfolding refusalOf
   unrefused-few e = leb-false mostElements (length done) (passed 9 (leb mostElements (length done)) _ (λ q. absurd (omega arith)) e .0)
-
-  -- and its contents as tabled
-  pub unrefused-tabled : number ≡ 0 → asTabled (shape1988 octet) run ≡ true
-  unfolding refusalOf
-  unrefused-tabled e =
-      let p9 = passed 9 (leb mostElements (length done)) _ (λ q. absurd (omega arith)) e in
-      let p10 = passed 10 (not (eqb octet (shape1988 octet .octet))) _ (λ q. absurd (omega arith)) (p9 .1) in
-      let p11 = passed 11 (xor (eqb (length done) 0) (eqb octet profile)) _ (λ q. absurd (omega arith)) (p10 .1) in
-      not-false (asTabled (shape1988 octet) run) (passed 12 (not (asTabled (shape1988 octet) run)) _ (λ q. absurd (omega arith)) (p11 .1) .0)
 
 -- an item of a run, and then those after it
 module _ (s : List ℕ) (done : List Element) (at octet first past : ℕ) (inside after : Items) (nothing-inside : constructed octet ≡ false → inside ≡ none) where

@@ -256,8 +256,7 @@ pub fn judge_element(
     requires { ⌜ Fine (now s) (item .inner) × (length (now s) ≤ streamLimit) × (item .first ≤ item .past) × (item .past ≤ length (now s)) × (2 * mostPortions ≤ length (now bounds)) ⌝ }
     ensures { λ r. ⌜ JudgesAfter (now (s .entry)) (now (rows .entry)) (now (head .entry)) (now (next .entry)) (now (head2 .entry)) (now (next2 .entry)) n item r ⌝ }
 {
-    let inner = item.inner;
-    if inner.at == inner.limit {
+    if runs::is_over(s, item.inner) {
         if may_be_bare(item.octet) {
             return judge_bare(n, item);
         }

@@ -1,4 +1,4 @@
--- The content of element j of a letter stands where the top of its element says, and the content fields of its row bound it.
+-- The content of element j of a letter stands where its element holds it, and the content fields of its row bound it.
 -- Assumes nothing.
 use mathlib.Core.Path.{_≡_, refl, ap, sym, _∙_, subst}
 use mathlib.Core.List.{List}
@@ -11,15 +11,13 @@ use Rattle.runs.specs.declared.Run.{Run}
 use Rattle.runs.specs.Runs.{itemsOf, treeIn, wholeStream, Fine, Meeting}
 use Rattle.contents.specs.declared.Span.{Span}
 use Rattle.contents.specs.Search.{Value, absent, octets}
-use Rattle.elements.specs.declared.Frame.{Frame}
 use Rattle.elements.specs.declared.Holder.{Holder}
 use Rattle.elements.specs.declared.Row.{Row}
 use Rattle.elements.specs.Shape.{edition1988}
 use Rattle.elements.specs.Element.{Content, single, inPieces, contentOf, joinedContent, Element, elementOf}
 use Rattle.elements.specs.Rows.{rowOf}
 use Rattle.elements.specs.Says.{Bounds}
-use Rattle.elements.specs.Frames.{HoldsContent, Frames}
-use Rattle.elements.proofs.Refusals.{tabled-ordered}
+use Rattle.elements.specs.Frames.{HoldsContent, Holding}
 use Rattle.judging.specs.Judges.{shape1988}
 use Rattle.letters.specs.Letter.{rowsOfStream}
 use Rattle.letters.specs.Scratch.{Filled}
@@ -37,18 +35,16 @@ held-by s holder fields e fine (inPieces run) h = rw (h .pieced) (record { fine 
 
 module _ {s : List ℕ} (fine : Fine s (wholeStream s)) (j : ℕ) (row : Row) (stands : getElem? (rowsOfStream edition1988 s) j ≡ some row)
     {octet first past : ℕ} {inner rest : Run} (m : Meeting s (restFrom fine j row stands) octet first past inner rest)
-    {frame : Frame} (frames : Frames s (shape1988 octet) inner frame) where
+    {holder : Holder} (holding : Holding s (shape1988 octet) inner holder) where
   -- what is met where a row begins holds the content of its element
-  pub holds-element : HoldsElement s j (heldBy (frame .content))
+  pub holds-element : HoldsElement s j (heldBy holder)
   unfolding elementOf rowOf
   holds-element elements other element judged other-stands there =
       let same : row ≡ other = cc in
       let says = element-says fine j row stands octet first past (itemsOf s inner) (itemsOf s rest) (m .tree) elements judged element there in
-      let fits = frames .fits ∙ tabled-ordered (shape1988 octet) (treeIn s inner) (says .tabled) in
-      let holding = frames .framed fits .content in
-      let fields : other .content ≡ frame .content .value = ap (λ (r : Row). r .content) (sym same ∙ says .row-is) ∙ sym (holding .pair) in
-      subst (λ (e : Element). Holds s (other .content) (e .content) (heldBy (frame .content))) (sym (says .element-is))
-      (held-by s (frame .content) (other .content) fields (holding .fine) (contentOf (shape1988 octet) (treeIn s inner)) (holding .held))
+      let fields : other .content ≡ holder .value = ap (λ (r : Row). r .content) (sym same ∙ says .row-is) ∙ sym (holding .pair) in
+      subst (λ (e : Element). Holds s (other .content) (e .content) (heldBy holder)) (sym (says .element-is))
+      (held-by s holder (other .content) fields (holding .fine) (contentOf (shape1988 octet) (treeIn s inner)) (holding .held))
 
 -- the rows that the judge of a letter left have each of its elements
 pub filled-row-in : {s scratch head next head2 next2 : List ℕ} {count : ℕ} → Filled s scratch head next head2 next2 count

@@ -6,7 +6,6 @@ use mathlib.Core.List.{List, [], _∷_, _++_}
 use mathlib.Core.Option.{some}
 use Prim.Native.Nat.{ℕ, zero, suc, _+_, _<_}
 use native.Mathlib.Omega.{arith}
-use borrow.Author.Tests.{eqb-true}
 use borrow.Table.Steps.{cases}
 use lib.Dec.{eqb}
 use lib.ListN.{length, getElem?, length-append}
@@ -21,13 +20,13 @@ use Rattle.runs.specs.declared.Run.{Run}
 use Rattle.runs.specs.Runs.{walkIn, itemsOf, wholeStream, startOf, tops, definiteRun, Fine}
 use Rattle.elements.specs.declared.Row.{Row}
 use Rattle.elements.specs.Shape.{Edition, edition1988, shapeOf}
-use Rattle.elements.specs.Element.{Element, elementOf, asTabled}
+use Rattle.elements.specs.Element.{Element, elementOf}
 use Rattle.elements.specs.Judge.{refusalOf, Judged, accepted, refused, judgeOne, judgeFrom, judge}
 use Rattle.elements.specs.Rows.{rowOf, rowsOf}
 use Rattle.judging.specs.Judges.{shape1988, element1988}
 use Rattle.letters.specs.Letter.{itemsOfStream, rowsOfStream}
 use Rattle.judging.proofs.Lists.{below-length, at-front, at-end}
-use Rattle.judging.proofs.Steps.{unrefused-tabled, judged-one, judge-some}
+use Rattle.judging.proofs.Steps.{judged-one, judge-some}
 
 -- the items of a run from its item j on
 abbrev pub from : ℕ → Items → Items
@@ -97,12 +96,12 @@ hollow (breaks l p q v) = (λ c. absurd (false≢true (sym c ∙ q)), tt)
 -- an element that passes, and what is judged after it
 passes-one : (done : List Element) (type : List ℕ) (run : Tree) (more : List Element → Judged) (elements : List Element)
     → judgeOne edition1988 done type run more ≡ accepted elements
-    → (refusalOf edition1988 done type run ≡ 0) × (more (done ++ elementOf (shapeOf edition1988 type) run ∷ []) ≡ accepted elements)
+    → more (done ++ elementOf (shapeOf edition1988 type) run ∷ []) ≡ accepted elements
 unfolding judgeOne
 passes-one done type run more elements judged =
     let n = refusalOf edition1988 done type run in
     cases (eqb n 0)
-    (λ t. (eqb-true n 0 t, rw t at judged))
+    (λ t. rw t at judged)
     (λ t. let q : refused n (length done) ≡ accepted elements = rw t at judged in let z : _≡_ {A = ℕ} 0 1 = cc in absurd (omega arith))
 
 module _ (s : List ℕ) (elements : List Element) where
@@ -113,11 +112,11 @@ module _ (s : List ℕ) (elements : List Element) where
   done-stays empty done judged k e there = let same : done ≡ elements = cc in subst (λ (es : List Element). getElem? es k ≡ some e) same there
   done-stays (leaf type value after) done judged k e there =
       let p = passes-one done type empty (λ more. judgeFrom edition1988 more after) elements judged in
-      done-stays after (done ++ elementOf (shapeOf edition1988 type) empty ∷ []) (p .1) k e
+      done-stays after (done ++ elementOf (shapeOf edition1988 type) empty ∷ []) p k e
       (at-front done (elementOf (shapeOf edition1988 type) empty ∷ []) k e there)
   done-stays (branch type inside after) done judged k e there =
       let p = passes-one done type inside (λ more. judgeFrom edition1988 more after) elements judged in
-      done-stays after (done ++ elementOf (shapeOf edition1988 type) inside ∷ []) (p .1) k e
+      done-stays after (done ++ elementOf (shapeOf edition1988 type) inside ∷ []) p k e
       (at-front done (elementOf (shapeOf edition1988 type) inside ∷ []) k e there)
 
   -- the rest of a run is judged after the n that are done
@@ -131,24 +130,20 @@ module _ (s : List ℕ) (elements : List Element) where
     abbrev own : Element
     own = element1988 octet (plain s inside)
 
-    passed : (refusalOf edition1988 (w .done) (octet ∷ []) (plain s inside) ≡ 0)
-        × (judgeFrom edition1988 (w .done ++ own ∷ []) (plain s after) ≡ accepted elements)
+    passed : judgeFrom edition1988 (w .done ++ own ∷ []) (plain s after) ≡ accepted elements
     passed =
         passes-one (w .done) (octet ∷ []) (plain s inside) (λ more. judgeFrom edition1988 more (plain s after)) elements
         (sym (judged-one s (w .done) at octet first past inside after (w .hollow-rest .0)) ∙ w .judged)
 
-    -- element n is that of the first item that is left, and its contents are as tabled
+    -- element n is that of the first item that is left
     own-stands : getElem? elements n ≡ some own
-    own-stands = done-stays (plain s after) (w .done ++ own ∷ []) (passed .1) n own (at-end (w .done) own n (sym (w .counted)))
-
-    own-tabled : asTabled (shape1988 octet) (plain s inside) ≡ true
-    own-tabled = unrefused-tabled (w .done) octet (plain s inside) (passed .0)
+    own-stands = done-stays (plain s after) (w .done ++ own ∷ []) passed n own (at-end (w .done) own n (sym (w .counted)))
 
     one-less : Rest after (n + 1)
     one-less = record {
       done = w .done ++ own ∷ [];
       counted = length-append (w .done) (own ∷ []) ∙ ap (λ (k : ℕ). k + 1) (w .counted);
-      judged = passed .1;
+      judged = passed;
       hollow-rest = w .hollow-rest .1;
     }
 
@@ -159,12 +154,11 @@ module _ (s : List ℕ) (elements : List Element) where
   rest-from (item at octet first past inside after) n w (suc j) l =
       let e : n + 1 + j ≡ n + suc j = omega arith in subst (Rest (from j after)) e (rest-from after (n + 1) (one-less w) j (omega arith))
 
--- a row and an element of an accepted letter are those of an item: its contents are as tabled
+-- a row and an element of an accepted letter are those of an item
 pub record Says (s : List ℕ) (row : Row) (element : Element) (octet : ℕ) (inside : Items) : Type 0 where
   pub past : ℕ
   pub row-is : row ≡ rowOf (shape1988 octet) s (row .whole .first) past inside
   pub element-is : element ≡ element1988 octet (plain s inside)
-  pub tabled : asTabled (shape1988 octet) (plain s inside) ≡ true
 
 module _ {s : List ℕ} (fine : Fine s (wholeStream s)) (j : ℕ) (row : Row) (stands : getElem? (rowsOfStream edition1988 s) j ≡ some row) where
   below : j < tops (itemsOfStream s)
@@ -223,4 +217,4 @@ module _ {s : List ℕ} (fine : Fine s (wholeStream s)) (j : ℕ) (row : Row) (s
         let row-is : row ≡ rowOf (shape1988 octet) s (row .whole .first) (startOf (length s) after) inside = cc in
         let own = own-stands s elements w in
         let element-is : element ≡ element1988 octet (plain s inside) = cc in
-        record { past = startOf (length s) after; row-is = row-is; element-is = element-is; tabled = own-tabled s elements w }
+        record { past = startOf (length s) after; row-is = row-is; element-is = element-is }

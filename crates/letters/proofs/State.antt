@@ -13,7 +13,7 @@ use Rattle.octets.specs.Items.{Items, none, item}
 use Rattle.tree.specs.Tree.{plain, treeOf}
 use Rattle.runs.specs.declared.Run.{Run}
 use Rattle.runs.specs.Runs.{itemsOf, treeIn, wholeStream, startOf, tops, Fine, Meeting}
-use Rattle.runs.proofs.Laws.{start-at}
+use Rattle.runs.proofs.Laws.{start-at, no-tops}
 use Rattle.names.specs.Hash.{hashes}
 use Rattle.index.specs.Rows.{identifierColumn, logicalColumn}
 use Rattle.index.proofs.Rows.{bounded-none, indexed-none}
@@ -79,10 +79,6 @@ judging-none s scratch head next head2 next2 bounds lent fine = record {
   counted = omega arith;
   placed = λ k. let e : 0 + k ≡ k = omega arith in ap (λ (i : ℕ). placeOf i (itemsOfStream s)) e;
 }
-
-no-tops : (items : Items) → tops items ≡ 0 → items ≡ none
-no-tops none e = refl
-no-tops (item at octet first past inside after) e = absurd (omega arith)
 
 module _ {s scratch head next head2 next2 : List ℕ} {n : ℕ} {cur : Run} (j : Judging s scratch head next head2 next2 n cur) where
   -- no element is left

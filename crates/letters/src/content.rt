@@ -52,9 +52,6 @@ pub fn content_of(s: &[u8], rows: &[u32], j: usize) -> Held
             past: _,
             inner,
             rest: _,
-        } => {
-            let frame = elements::frame_of(s, elements::shape_1988(octet), inner);
-            held_by(frame.content)
-        }
+        } => { held_by(elements::holder_in(s, elements::shape_1988(octet), inner)) }
     }
 }

@@ -6,6 +6,7 @@ use runs::Run;
 ghost use mathlib.Core.Path.{_≡_};
 ghost use mathlib.Core.List.{_++_};
 ghost use Prim.Native.Nat.{_*_, _≤_};
+ghost use lib.Dec.{ltb};
 ghost use lib.ListN.{length, take, drop};
 ghost use Rattle.octets.specs.Walk.{streamLimit};
 ghost use Rattle.runs.specs.Runs.{itemsOf, wholeStream, tops, Fine};
@@ -30,16 +31,17 @@ pub enum Held {
     Pieces { run: Run },
 }
 
-// How many elements a stream has that the walk has passed. Whoever judges it sizes the scratch by that.
-pub fn count_elements(s: &[u8]) -> usize
+// Whether a stream that the walk has passed has more elements than so many. Whoever judges it sizes the scratch by that; no more of
+// them are passed than it takes to tell.
+pub fn has_more(s: &[u8], most: usize) -> bool
     requires { ⌜ Fine (now s) (wholeStream (now s)) ⌝ }
-    ensures { λ r. ⌜ r ≡ tops (itemsOf (now (s .entry)) (wholeStream (now (s .entry)))) ⌝ }
+    ensures { λ b. ⌜ b ≡ ltb most (tops (itemsOf (now (s .entry)) (wholeStream (now (s .entry))))) ⌝ }
 {
     let mut cur = runs::whole_stream(s);
-    let mut n: usize = 0;
+    let mut left = most;
     loop {
         match runs::meet(s, cur) {
-            Met::End => return n,
+            Met::End => return false,
             Met::Item {
                 octet: _,
                 first: _,
@@ -47,7 +49,10 @@ pub fn count_elements(s: &[u8]) -> usize
                 inner: _,
                 rest,
             } => {
-                n += 1;
+                if left == 0 {
+                    return true;
+                }
+                left -= 1;
                 cur = rest;
             }
         }

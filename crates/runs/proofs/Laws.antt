@@ -88,6 +88,11 @@ tree-meets {s} m = ap (plain s) (m .tree)
 pub tree-none : (s : List ℕ) (r : Run) → itemsOf s r ≡ none → treeIn s r ≡ empty
 tree-none s r e = ap (plain s) e
 
+-- a run with no item at its top has none
+pub no-tops : (i : Items) → tops i ≡ 0 → i ≡ none
+no-tops none e = refl
+no-tops (item at octet start past inside after) e = absurd (omega arith)
+
 -- a run has at most as many items as there are at any level
 pub count-top : (i : Items) → tops i ≤ count i
 count-top none = omega arith

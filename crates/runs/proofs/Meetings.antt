@@ -5,7 +5,9 @@ use mathlib.Core.List.{List}
 use Prim.Native.Nat.{ℕ, _-_, _<_, _≤_}
 use native.Mathlib.Omega.{arith}
 use lib.ListN.{length}
-use borrow.Author.Tests.{le-leb}
+use borrow.Author.Tests.{le-leb, leb-false}
+use borrow.Table.Steps.{cases}
+use lib.Dec.{leb}
 use Rattle.headers.specs.declared.Header.{Header}
 use Rattle.headers.specs.declared.Head.{Head}
 use Rattle.headers.specs.declared.Head.the-variants.{Item, ClosingMark, Refusal}
@@ -18,7 +20,7 @@ use Rattle.octets.proofs.Walks.{run-step}
 use Rattle.octets.proofs.Turns.{header-ok, passed-ok, at-head, tree-ends}
 use Rattle.runs.specs.Whole.{Whole}
 use Rattle.runs.specs.declared.Run.{Run}
-use Rattle.runs.specs.Runs.{walkIn, itemsOf, insideOf, Fine, Spans, Meeting}
+use Rattle.runs.specs.Runs.{walkIn, itemsOf, insideOf, tops, Fine, Spans, Meeting}
 use Rattle.runs.proofs.Heads.{item-octet}
 use Rattle.runs.proofs.Ends.{EndsRight, ends-right, ends-at-limit, past-next}
 
@@ -27,6 +29,11 @@ follow-whole : (at : ℕ) (h : Header) (inside : Items) (e : End) (more : ℕ �
 follow-whole at h inside (ends next) more w = tt
 follow-whole at h inside (stops number place) more w = w
 
+-- an item is there, however the walk of its value ended
+follow-some : (at : ℕ) (h : Header) (inside : Items) (e : End) (more : ℕ → Walked) → tops (follow at h inside e more .items) ≡ 0 → ⊥
+follow-some at h inside (ends next) more z = omega arith
+follow-some at h inside (stops number place) more z = omega arith
+
 -- an item's value ends as a run does
 value-right : (room : ℕ) (s : List ℕ) (h : Header) (b m : Bool) → constructed (h .octet) ≡ b → h .marked ≡ m → (h .marked ≡ true → constructed (h .octet) ≡ true)
     → h .start ≤ h .bound → EndsRight m (h .start) (h .bound) (valueOf room s h .how)
@@ -34,6 +41,16 @@ unfolding valueOf
 value-right room s h true m c k mark l = rw (c, k) (ends-right (room - 1) s (h .start) (h .bound) m l)
 value-right room s h false true c k mark l = absurd (false≢true (sym c ∙ mark k))
 value-right room s h false false c k mark l = rw c refl
+
+-- the value of an item: a definite one that is whole ends at its bound, and an indefinite one is walked as a run
+module _ (room : ℕ) (s : List ℕ) (h : Header) (mark : h .marked ≡ true → constructed (h .octet) ≡ true) where
+  pub definite-value : h .marked ≡ false → h .start ≤ h .bound → Whole (valueOf room s h .how) → valueOf room s h .how ≡ ends (h .bound)
+  definite-value m l =
+      ends-at-limit (h .start) (h .bound) (valueOf room s h .how) (value-right room s h (constructed (h .octet)) false refl m mark l)
+
+  pub marked-run : h .marked ≡ true → valueOf room s h .how ≡ run (room - 1) s (h .start) (h .bound) true .how
+  unfolding valueOf
+  marked-run m = rw (mark m, m)
 
 past-order : (m : Bool) (start bound next : ℕ) → start ≤ bound → EndsRight m start bound (ends next) → start ≤ pastOf m next
 past-order true start bound next l r = omega arith
@@ -63,6 +80,14 @@ inside-room : (h : Header) (room : ℕ) (b : Bool) → constructed (h .octet) �
 inside-room h room true c = rw c
 inside-room h room false c = rw c
 
+-- a marked run that ended has its closing mark before the limit
+pub marked-before : (s : List ℕ) (r : Run) → Fine s r → r .marked ≡ true → r .at < r .limit
+marked-before s r fine m =
+    let stepped = subst (λ (w : Walked). Whole (w .how)) (run-step (r .room) s (r .at) (r .limit) (r .marked) (fine .order)) (fine .whole) in
+    cases (leb (r .limit) (r .at))
+    (λ t. absurd (rw (t, m) at stepped))
+    (λ t. leb-false (r .limit) (r .at) t)
+
 -- where the walk of a run ended, what stands at its place was not refused
 passed-by : (s : List ℕ) (r : Run) → Fine s r → r .at < r .limit → (head : Head) → headAt s (r .at) (r .limit) (r .marked) (r .room) ≡ head → Passed head
 passed-by s r fine l (Item h) e = tt
@@ -83,10 +108,15 @@ module _ (s : List ℕ) (r : Run) (fine : Fine s r) (l : r .at < r .limit) (h : 
   unfolding valueOf
   followed = at-head (r .room) s (r .at) (r .limit) (r .marked) l (Item h) e
 
+  pub some-item : tops (itemsOf s r) ≡ 0 → ⊥
+  some-item z =
+      follow-some (r .at) h (valueOf (r .room) s h .items) (valueOf (r .room) s h .how) (λ next. run (r .room) s next (r .limit) (r .marked))
+      (ap (λ (w : Walked). tops (w .items)) (sym followed) ∙ z)
+
   follow-ended : Whole (follow (r .at) h (valueOf (r .room) s h .items) (valueOf (r .room) s h .how) (λ next. run (r .room) s next (r .limit) (r .marked)) .how)
   follow-ended = subst (λ (w : Walked). Whole (w .how)) followed (fine .whole)
 
-  value-whole : Whole (valueOf (r .room) s h .how)
+  pub value-whole : Whole (valueOf (r .room) s h .how)
   value-whole =
       follow-whole (r .at) h (valueOf (r .room) s h .items) (valueOf (r .room) s h .how) (λ next. run (r .room) s next (r .limit) (r .marked)) follow-ended
 
@@ -95,12 +125,11 @@ module _ (s : List ℕ) (r : Run) (fine : Fine s r) (l : r .at < r .limit) (h : 
 
   -- a definite item ends at its bound
   pub definite-ends : h .marked ≡ false → valueOf (r .room) s h .how ≡ ends (h .bound)
-  definite-ends m = ends-at-limit (h .start) (h .bound) (valueOf (r .room) s h .how) (value-ends-right false m) value-whole
+  definite-ends m = definite-value (r .room) s h (lies .mark) m (lies .order) value-whole
 
   -- an indefinite item is walked as a run
   pub marked-value : h .marked ≡ true → valueOf (r .room) s h .how ≡ run (r .room - 1) s (h .start) (h .bound) true .how
-  unfolding valueOf
-  marked-value m = rw (lies .mark m, m)
+  marked-value = marked-run (r .room) s h (lies .mark)
 
   pub marked-whole : h .marked ≡ true → Whole (run (r .room - 1) s (h .start) (h .bound) true .how)
   marked-whole m = subst Whole (marked-value m) value-whole
@@ -109,7 +138,7 @@ module _ (s : List ℕ) (r : Run) (fine : Fine s r) (l : r .at < r .limit) (h : 
     right-end : (m : Bool) → h .marked ≡ m → EndsRight m (h .start) (h .bound) (ends next)
     right-end m k = subst (EndsRight m (h .start) (h .bound)) v (value-ends-right m k)
 
-    next-within : (r .at < next) × (next ≤ r .limit)
+    pub next-within : (r .at < next) × (next ≤ r .limit)
     next-within =
         let n = passed-ok (r .room) s (r .at) (r .limit) (r .marked) h e next (count (valueOf (r .room) s h .items)) (ap (answerOf (count (valueOf (r .room) s h .items))) v) in
         (omega arith, omega arith)
@@ -118,8 +147,15 @@ module _ (s : List ℕ) (r : Run) (fine : Fine s r) (l : r .at < r .limit) (h : 
     pub marked-end : h .marked ≡ true → 2 ≤ next
     marked-end m = let k = right-end true m in omega arith
 
+    -- after the item the run goes on, and ends as it does from there
     after-ended : Whole (run (r .room) s next (r .limit) (r .marked) .how)
     after-ended = rw v at follow-ended
+
+    pub rest-fine-after : Fine s (record { at = next; limit = r .limit; marked = r .marked; room = r .room })
+    rest-fine-after = record { order = next-within .1; inside = fine .inside; whole = after-ended }
+
+    pub ends-after : walkIn s r .how ≡ run (r .room) s next (r .limit) (r .marked) .how
+    ends-after = ap (λ (w : Walked). w .how) followed ∙ rw v
 
     items-met : itemsOf s r ≡ item (r .at) (h .octet) (h .start) (pastOf (h .marked) next) (valueOf (r .room) s h .items) (run (r .room) s next (r .limit) (r .marked) .items)
     items-met = ap (λ (w : Walked). w .items) followed ∙ rw v
@@ -150,7 +186,7 @@ module _ (s : List ℕ) (r : Run) (fine : Fine s r) (l : r .at < r .limit) (h : 
           inner-fine = rw i (inside-fine s h (r .room) (constructed (h .octet)) refl (lies .order) deep value-whole);
           inner-room = rw i (inside-room h (r .room) (constructed (h .octet)) refl);
           inner-spans = λ c. rw (i, p) (spans c);
-          rest-fine = record { order = n .1; inside = fine .inside; whole = after-ended };
+          rest-fine = rest-fine-after;
           rest-limit = refl;
           rest-marked = refl;
           rest-room = refl;

@@ -1,15 +1,15 @@
 // A run of items as a value: what is met at its start. Every pass after the walk goes through `meet`.
 use headers::Head;
 use headers::Header;
-use octets::Outcome;
 ghost use mathlib.Core.Path.{_≡_};
 ghost use mathlib.Core.Bool.{true};
 ghost use Prim.Native.Nat.{_<_, _≤_};
+ghost use lib.Dec.{eqb};
 ghost use lib.ListN.{length};
 ghost use Rattle.headers.specs.First.{constructed};
-ghost use Rattle.octets.specs.Walk.{ends, run};
+ghost use Rattle.octets.specs.Walk.{ends, run, valueOf};
 ghost use Rattle.runs.specs.Whole.{Whole};
-ghost use Rattle.runs.specs.Runs.{insideOf, wholeStream, Fine, Meets};
+ghost use Rattle.runs.specs.Runs.{itemsOf, insideOf, wholeStream, tops, Fine, Meets};
 
 const DEEPEST: usize = 16;
 
@@ -58,18 +58,34 @@ fn inside_of(h: Header, room: usize) -> Run
     }
 }
 
-// Where an indefinite value that is known to be whole ends, past its closing mark.
+// Where an item with the header h ends that is known to be whole: at its bound, or past its closing mark.
+fn end_of_item(s: &[u8], h: Header, room: usize) -> usize
+    requires { ⌜ (0 < room) × (h .start ≤ h .bound) × (h .bound ≤ length (now s)) ⌝ }
+    requires { ⌜ (h .marked ≡ true → constructed (h .octet) ≡ true) × Whole (valueOf room (now s) h .how) ⌝ }
+    ensures { λ r. ⌜ valueOf room (now (s .entry)) h .how ≡ ends r ⌝ }
+{
+    let bound = h.bound;
+    if h.marked {
+        return end_of_marked(s, h.start, bound, room - 1);
+    }
+    bound
+}
+
+// Where an indefinite value that is known to be whole ends, past its closing mark. What is definite in it is passed in one step.
 fn end_of_marked(s: &[u8], from: usize, limit: usize, room: usize) -> usize
     requires { ⌜ (from ≤ limit) × (limit ≤ length (now s)) × Whole (run room (now s) from limit true .how) ⌝ }
     ensures { λ r. ⌜ run room (now (s .entry)) from limit true .how ≡ ends r ⌝ }
 {
-    match octets::walk_run(s, from, limit, true, room) {
-        Outcome::Ended { at, count: _ } => at,
-        Outcome::Refused {
-            number: _,
-            place: _,
-            count: _,
-        } => limit,
+    let mut at = from;
+    loop {
+        match headers::passed_head(s, at, limit, true, room) {
+            Head::ClosingMark => return at + 2,
+            Head::Refusal {
+                number: _,
+                place: _,
+            } => return limit,
+            Head::Item(h) => at = end_of_item(s, h, room),
+        }
     }
 }
 
@@ -123,6 +139,26 @@ pub fn meet(s: &[u8], r: Run) -> Met
                 },
             }
         }
+    }
+}
+
+// Whether a run that is known to be whole has no item. It is told by what stands at its start, and no item's end is looked for.
+pub fn is_over(s: &[u8], r: Run) -> bool
+    requires { ⌜ Fine (now s) r ⌝ }
+    ensures { λ b. ⌜ b ≡ eqb (tops (itemsOf (now (s .entry)) r)) 0 ⌝ }
+{
+    let at = r.at;
+    let limit = r.limit;
+    if at == limit {
+        return true;
+    }
+    match headers::passed_head(s, at, limit, r.marked, r.room) {
+        Head::Item(_) => false,
+        Head::ClosingMark => true,
+        Head::Refusal {
+            number: _,
+            place: _,
+        } => true,
     }
 }
 

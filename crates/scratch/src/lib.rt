@@ -23,10 +23,11 @@ pub use rules::judge;
 // Scratch for so many elements is soon cleared, and most letters have no more.
 const FEW: usize = 512;
 
-// From so many headers on, walking the elements again to count them costs more than clearing the scratch for all of them.
+// With more headers than that, a few elements may hold most of them, and to pass over those again may cost more than to clear the scratch
+// for all.
 const MANY_HEADERS: usize = 8192;
 
-// Whether scratch for few elements is enough for a stream that the walk has passed with so many headers. Its elements are counted only
+// Whether scratch for few elements is enough for a stream that the walk has passed with so many headers. Its elements are passed over only
 // where the headers do not tell.
 fn is_few(stream: &[u8], headers: usize) -> bool
     requires { ⌜ walkOf (now stream) ≡ Outcome.Ended (length (now stream)) headers ⌝ }
@@ -38,7 +39,7 @@ fn is_few(stream: &[u8], headers: usize) -> bool
     if headers > MANY_HEADERS {
         return false;
     }
-    letters::count_elements(stream) <= FEW
+    !letters::has_more(stream, FEW)
 }
 
 // The same for a stream that was walked: what the walk refused needs none.

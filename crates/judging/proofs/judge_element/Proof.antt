@@ -1,10 +1,15 @@
--- `judging::judge_element` meets its contract: a run at its limit has no items. Assumes nothing.
-use mathlib.Core.Path.{_≡_}
+-- `judging::judge_element` meets its contract: a run that is over has no items. Assumes nothing.
+use mathlib.Core.Path.{sym, _∙_}
 use native.Mathlib.Omega.{arith}
 use borrow.Author.Needs.{needs}
-use Rattle.octets.proofs.Turns.{tree-ends}
+use borrow.Author.Tests.{eqb-true}
+use Rattle.runs.specs.Runs.{itemsOf, tops}
+use Rattle.runs.proofs.Laws.{no-tops}
 use Rattle.judging.proofs.judge_element.Statement.{statement}
 use Rattle.judging.proofs.judge_element.Tie as tie
+
+is-over-requires : tie.Need-is-over-requires
+is-over-requires c κs = c .before .before .before .before .before .before .before .pre .1 .0
 
 may-be-bare-requires : tie.Need-may-be-bare-requires
 may-be-bare-requires c κs = search needs
@@ -14,10 +19,11 @@ judge-bare-requires c κs = (c .before .may-be-bare .ensures (c .if2 .taken), om
 
 returns : tie.Need-returns
 returns c =
-    let start = c .before .before .before .before .before .before .before .before .before .before .before .before .before in
-    let r = start .args .item .inner in
-    let e : r .at ≡ r .limit = c .before .before .before .if1 .taken in
-    c .judge-bare .ensures _ _ _ _ _ _ (rw e (tree-ends (r .room) (start .args .s .now) (r .limit) (r .marked))) (start .pre .1 .3)
+    let at-test = c .before .before .before in
+    let start = at-test .before .before .before .before .before .before .before .before .before in
+    let items = itemsOf (start .args .s .now) (start .args .item .inner) in
+    let none-there = no-tops items (eqb-true (tops items) 0 (sym (at-test .before .is-over .ensures) ∙ at-test .if1 .taken)) in
+    c .judge-bare .ensures _ _ _ _ _ _ none-there (start .pre .1 .3)
 
 judge-any-requires : tie.Need-judge-any-requires
 judge-any-requires c κs = search needs
@@ -32,6 +38,7 @@ pub judge-element-spec : {M : Type 1} → statement M
 judge-element-spec =
     tie.close
     (tie.spec
+    is-over-requires
     may-be-bare-requires
     judge-bare-requires
     returns

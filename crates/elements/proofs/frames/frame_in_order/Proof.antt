@@ -14,8 +14,11 @@ stands-requires c κs = search needs
 run-with-requires : tie.Need-run-with-requires
 run-with-requires c κs = search needs
 
-span-with-requires : tie.Need-span-with-requires
-span-with-requires c κs = search needs
+part-with-requires : tie.Need-part-with-requires
+part-with-requires c κs = search needs
+
+bounds-of-requires : tie.Need-bounds-of-requires
+bounds-of-requires c κs = search needs
 
 holder-with-requires : tie.Need-holder-with-requires
 holder-with-requires c κs = search needs
@@ -23,19 +26,29 @@ holder-with-requires c κs = search needs
 returns : tie.Need-returns
 returns c =
     let at-object = c .before in
-    let at-body = at-object .before in
+    let at-found = at-object .before in
+    let at-body = at-found .before in
     let at-stands = at-body .before in
     let at-opening = at-stands .before in
     let start = at-opening .before .before in
     let s = start .args .s .now in
+    let shape = start .args .shape in
     let r = start .args .r in
     let opens = at-opening .opening-of .ensures in
-    ordered-frame s (start .args .shape) r (start .pre .0) (start .pre .1) (start .pre .2) (at-opening .opening-of .result) opens
+    ordered-frame s shape r (start .pre .0) (start .pre .1) (start .pre .2) (at-opening .opening-of .result) opens
     (at-stands .stands .result) (at-stands .stands .ensures s r opens)
     (at-body .run-with .result) (at-body .run-with .ensures s r opens)
-    (at-object .span-with .result) (at-object .span-with .ensures s r opens)
+    (at-object .bounds-of .result) (λ few. at-object .bounds-of .ensures s r (shape .object) (at-found .part-with .ensures s r opens few))
     (c .holder-with .result) (c .holder-with .ensures s r opens)
 
 pub frame-in-order-spec : {M : Type 1} → statement M
 frame-in-order-spec =
-    tie.close (tie.spec opening-of-requires stands-requires run-with-requires span-with-requires holder-with-requires returns)
+    tie.close
+    (tie.spec
+    opening-of-requires
+    stands-requires
+    run-with-requires
+    part-with-requires
+    bounds-of-requires
+    holder-with-requires
+    returns)

@@ -2,7 +2,6 @@
 use mathlib.Core.Path.{subst}
 use borrow.Author.Needs.{needs}
 use Rattle.contents.specs.Opening.{FoundIn}
-use Rattle.elements.proofs.Holding.{pieced-holding, lacked-holding}
 use Rattle.elements.proofs.frames.holder_with.Statement.{statement}
 use Rattle.elements.proofs.frames.holder_with.Tie as tie
 
@@ -12,30 +11,46 @@ part-with-requires c κs = search needs
 enum-known-p : tie.Need-enum-known-p
 enum-known-p c = search needs
 
+held-in-pieces-requires : tie.Need-held-in-pieces-requires
+held-in-pieces-requires c κs = search needs
+
 enum-told : tie.Need-enum-told
 enum-told c = search needs
 
-span-with-requires : tie.Need-span-with-requires
-span-with-requires c κs = search needs
+part-with-requires-2 : tie.Need-part-with-requires-2
+part-with-requires-2 c κs = search needs
 
-no-run-requires : tie.Need-no-run-requires
-no-run-requires c κs = search needs
+held-whole-requires : tie.Need-held-whole-requires
+held-whole-requires c κs = search needs
 
 returns : tie.Need-returns
 returns c =
-    let found = c .before .before .before .before .part-with .ensures in
-    let start = c .before .before .before .before .before in
+    let at-found = c .before .before .before .before in
+    let start = at-found .before in
+    let shape = start .args .shape in
     λ s r opens few.
-    pieced-holding (start .pre) (subst (FoundIn s r (start .args .shape .pieces)) (c .before .before .p .given .1) (found s r opens few))
+    c .held-in-pieces .ensures s shape r (start .pre)
+    (subst (FoundIn s r (shape .pieces)) (c .before .before .p .given .1) (at-found .part-with .ensures s r opens few))
 
 returns-2 : tie.Need-returns-2
 returns-2 c =
-    let found = c .before .before .before .before .part-with .ensures in
-    let start = c .before .before .before .before .before in
+    let at-found = c .before .before .before .before in
+    let start = at-found .before in
+    let shape = start .args .shape in
     λ s r opens few.
-    rw (c .no-run .ensures)
-    (lacked-holding (start .pre) (subst (FoundIn s r (start .args .shape .pieces)) (c .before .before .enum-told .given .1) (found s r opens few))
-    (c .before .span-with .ensures s r opens few))
+    c .held-whole .ensures s shape r (start .pre)
+    (subst (FoundIn s r (shape .pieces)) (c .before .before .enum-told .given .1) (at-found .part-with .ensures s r opens few))
+    (c .before .part-with2 .ensures s r opens few)
 
 pub holder-with-spec : {M : Type 1} → statement M
-holder-with-spec = tie.close (tie.spec part-with-requires enum-known-p enum-told span-with-requires no-run-requires returns returns-2)
+holder-with-spec =
+    tie.close
+    (tie.spec
+    part-with-requires
+    enum-known-p
+    held-in-pieces-requires
+    enum-told
+    part-with-requires-2
+    held-whole-requires
+    returns
+    returns-2)

@@ -5,7 +5,7 @@ use Rattle.runs.specs.declared.Run.{Run}
 use Rattle.runs.specs.Runs.{itemsOf, Fine, Meeting}
 use Rattle.elements.specs.declared.Shape.{Shape}
 use Rattle.elements.specs.WellMade.{WellMade}
-use Rattle.elements.specs.Frames.{Frames}
+use Rattle.elements.specs.Frames.{Holding}
 use Rattle.elements.proofs.Made.{made-1988}
 use Rattle.letters.specs.Content.{HoldsElement}
 use Rattle.letters.proofs.Meetings.{met}
@@ -68,8 +68,8 @@ enum-known-octet c = search needs
 shape-1988-requires : tie.Need-shape-1988-requires
 shape-1988-requires c κs = search needs
 
-frame-of-requires : tie.Need-frame-of-requires
-frame-of-requires c κs =
+holder-in-requires : tie.Need-holder-in-requires
+holder-in-requires c κs =
     (meeting (c .before) .inner-fine, subst WellMade (sym (c .shape-1988 .ensures)) (made-1988 (c .before .before .octet .given .0 .0)))
 
 held-by-requires : tie.Need-held-by-requires
@@ -91,9 +91,9 @@ returns-2 c =
     let start = at-told .before .before .before .before .before .before .before .before .before in
     let s = start .args .s .now in
     let inner = at-told .before .octet .given .0 .1 .1 .1 .0 in
-    let frames = subst (λ (shape : Shape). Frames s shape inner (c .before .frame-of .result)) (at-shape .shape-1988 .ensures) (c .before .frame-of .ensures) in
+    let holding = subst (λ (shape : Shape). Holding s shape inner (c .before .holder-in .result)) (at-shape .shape-1988 .ensures) (c .before .holder-in .ensures) in
     subst (HoldsElement s (start .args .j)) (sym (c .held-by .ensures))
-    (holds-element (start .pre .0) (start .args .j) (start .pre .1 .row) (start .pre .1 .stands) (meeting at-told) frames)
+    (holds-element (start .pre .0) (start .args .j) (start .pre .1 .row) (start .pre .1 .stands) (meeting at-told) holding)
 
 pub content-of-spec : {M : Type 1} → statement M
 content-of-spec =
@@ -109,7 +109,7 @@ content-of-spec =
     enum-told
     enum-known-octet
     shape-1988-requires
-    frame-of-requires
+    holder-in-requires
     held-by-requires
     returns
     returns-2)
