@@ -22,7 +22,7 @@ use Rattle.letters.specs.declared.Verdict.{Verdict}
 use Rattle.letters.specs.declared.Verdict.the-variants.{Accepted, Refused}
 use Rattle.letters.specs.Letter.{itemsOfStream, letter, refusal}
 use Rattle.letters.specs.Lent.{rowsNeeded}
-use Rattle.judging.specs.Held.{Saying}
+use Rattle.judging.specs.Done.{Saying}
 use Rattle.letters.specs.Scratch.{Filled, Stopped, Gives}
 use Rattle.letters.specs.Table.{Apart}
 use Rattle.letters.specs.Content.{RowIn}

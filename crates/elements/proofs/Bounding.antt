@@ -13,7 +13,7 @@ use Rattle.octets.specs.Walk.{Walked}
 use Rattle.octets.specs.Rules.{at-limit}
 use Rattle.octets.proofs.RulesHold.{derived}
 use Rattle.tree.specs.Tree.{empty, plain}
-use Rattle.runs.specs.Whole.{Whole}
+use Rattle.tree.specs.Accepts.{Whole}
 use Rattle.runs.specs.declared.Run.{Run}
 use Rattle.runs.specs.Runs.{itemsOf, treeIn, definiteRun, Fine}
 use Rattle.contents.specs.declared.Part.{Part}

@@ -15,7 +15,7 @@ use Rattle.octets.specs.Items.{Items, none}
 use Rattle.octets.specs.Walk.{End, ends, Walked, pastOf}
 use Rattle.octets.specs.Rules.{Runs, at-limit, unclosed, closes, refuses, primitive, passes, breaks}
 use Rattle.octets.proofs.RulesHold.{derived, derives}
-use Rattle.runs.specs.Whole.{Whole}
+use Rattle.tree.specs.Accepts.{Whole}
 use Rattle.runs.specs.declared.Run.{Run}
 use Rattle.runs.specs.Runs.{walkIn, itemsOf, allPrimitive, Fine}
 use Rattle.runs.proofs.Heads.{item-octet}

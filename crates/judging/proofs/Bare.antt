@@ -12,7 +12,7 @@ use Rattle.octets.specs.Walk.{Walked, ends}
 use Rattle.octets.specs.Rules.{at-limit}
 use Rattle.octets.proofs.RulesHold.{derived}
 use Rattle.tree.specs.Tree.{empty, plain}
-use Rattle.runs.specs.Whole.{Whole}
+use Rattle.tree.specs.Accepts.{Whole}
 use Rattle.runs.specs.Runs.{walkIn, itemsOf, Fine}
 use Rattle.names.specs.Hash.{hashFrom}
 use Rattle.contents.specs.Search.{Value, absent, octets, amount, firstValue, firstRun, boundsOf, itemsIn}

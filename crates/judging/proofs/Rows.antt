@@ -11,7 +11,7 @@ use Rattle.elements.specs.declared.Row.{Row}
 use Rattle.elements.specs.Element.{Element}
 use Rattle.elements.specs.Rows.{cells, numbers}
 use Rattle.elements.specs.Says.{Says}
-use Rattle.judging.specs.Held.{Saying, none, more, Holds}
+use Rattle.judging.specs.Done.{Saying, none, more, Holds}
 use Rattle.judging.proofs.Lists.{Last, before, last, below-length, at-front, at-end, at-last}
 
 pub numbers-length : (rows : List Row) → length (numbers rows) ≡ length rows * rowWidth

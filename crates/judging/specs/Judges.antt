@@ -23,7 +23,7 @@ use Rattle.judging.specs.declared.Hashes.{Hashes}
 use Rattle.judging.specs.declared.Item.{Item}
 use Rattle.judging.specs.declared.Judgement.{Judgement}
 use Rattle.judging.specs.declared.Judgement.the-variants.{Fails, Passes}
-use Rattle.judging.specs.Held.{Holds}
+use Rattle.judging.specs.Done.{Holds}
 
 -- rules 9 to 11, which look at an element's number and octet alone; `known` is the octet of its shape
 unfoldable pub earlyRefusal : (n octet known : ℕ) → ℕ

@@ -1,3 +1,3 @@
--- Held: what the scratch holds of the elements that are done. Judges: what the code learns of one element.
-pub mod Held
+-- Done: what the scratch holds of the elements that are done. Judges: what the code learns of one element.
+pub mod Done
 pub mod Judges

@@ -21,7 +21,7 @@ use Rattle.tree.specs.Tree.{Tree, plain, treeOf}
 use Rattle.tree.specs.Codes.{Codes}
 use Rattle.tree.proofs.Here.{sliced}
 use Rattle.tree.proofs.Sound.{Past, sound}
-use Rattle.runs.specs.Whole.{Whole}
+use Rattle.tree.specs.Accepts.{Whole}
 use Rattle.runs.specs.Runs.{wholeStream, Fine}
 use Rattle.contents.specs.Search.{amount, firstValue, firstRun, boundsOf}
 use Rattle.contents.proofs.Firsts.{amount-formed, run-here, run-after}

@@ -14,7 +14,7 @@ use Rattle.elements.specs.Element.{Element}
 use Rattle.elements.specs.Rows.{cells}
 use Rattle.elements.specs.Says.{Says, RowPlaced}
 use Rattle.letters.specs.Numbers.{Narrow}
-use Rattle.judging.specs.Held.{more, Holds}
+use Rattle.judging.specs.Done.{more, Holds}
 use Rattle.judging.specs.Judges.{Indexes}
 use Rattle.judging.proofs.Rows.{written-more, saying-length}
 

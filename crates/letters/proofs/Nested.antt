@@ -11,7 +11,7 @@ use Rattle.octets.specs.Items.{Items, none, item}
 use Rattle.octets.specs.Walk.{End, ends, pastOf}
 use Rattle.octets.specs.Rules.{Runs, at-limit, unclosed, closes, refuses, primitive, passes, breaks}
 use Rattle.octets.proofs.Turns.{header-ok}
-use Rattle.runs.specs.Whole.{Whole}
+use Rattle.tree.specs.Accepts.{Whole}
 use Rattle.runs.specs.Runs.{startOf}
 use Rattle.runs.proofs.Laws.{starts-at}
 use Rattle.contents.specs.Search.{boundsOf, itemsIn}

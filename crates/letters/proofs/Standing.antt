@@ -15,7 +15,7 @@ use Rattle.octets.specs.Walk.{End, Walked, deepest, run}
 use Rattle.octets.specs.Rules.{Runs, at-limit, unclosed, closes, refuses, primitive, passes, breaks}
 use Rattle.octets.proofs.RulesHold.{derived, derives}
 use Rattle.tree.specs.Tree.{Tree, empty, leaf, branch, plain, treeOf}
-use Rattle.runs.specs.Whole.{Whole}
+use Rattle.tree.specs.Accepts.{Whole}
 use Rattle.runs.specs.declared.Run.{Run}
 use Rattle.runs.specs.Runs.{walkIn, itemsOf, wholeStream, startOf, tops, definiteRun, Fine}
 use Rattle.elements.specs.declared.Row.{Row}

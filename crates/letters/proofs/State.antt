@@ -26,7 +26,7 @@ use Rattle.judging.specs.declared.Hashes.{Hashes}
 use Rattle.judging.specs.declared.Item.{Item}
 use Rattle.judging.specs.declared.Judgement.the-variants.{Fails}
 use Rattle.letters.specs.Letter.{itemsOfStream, rowsOfStream}
-use Rattle.judging.specs.Held.{none, Holds}
+use Rattle.judging.specs.Done.{none, Holds}
 use Rattle.letters.specs.Scratch.{Filled, Stopped, Gives}
 use Rattle.letters.specs.Lent.{rowsNeeded, Lent, endVerdict}
 use Rattle.judging.specs.Judges.{Indexes, element1988, Passing, Judges}

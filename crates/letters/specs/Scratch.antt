@@ -7,7 +7,7 @@ use Rattle.elements.specs.Element.{Element}
 use Rattle.elements.specs.Judge.{accepted, refused, judge}
 use Rattle.elements.specs.Rows.{placeOf}
 use Rattle.tree.specs.Tree.{treeOf}
-use Rattle.judging.specs.Held.{Holds}
+use Rattle.judging.specs.Done.{Holds}
 use Rattle.letters.specs.declared.Verdict.{Verdict}
 use Rattle.letters.specs.declared.Verdict.the-variants.{Accepted, Refused}
 use Rattle.letters.specs.Letter.{itemsOfStream, rowsOfStream}

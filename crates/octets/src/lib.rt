@@ -24,7 +24,7 @@ const STREAM_LIMIT: usize = 1048576;
 const DEEPEST: usize = 16;
 
 // Walks the value of the item with the header h: a constructed value is a run of items. An empty one is told without a call.
-pub fn walk_item(s: &[u8], h: Header, room: usize) -> Outcome
+fn walk_item(s: &[u8], h: Header, room: usize) -> Outcome
     requires { ⌜ (0 < room) × (h .start ≤ h .bound) × (h .bound ≤ length (now s)) ⌝ }
     ensures { λ r. ⌜ r ≡ answer (valueOf room (now (s .entry)) h) ⌝ }
 {
@@ -51,7 +51,7 @@ pub fn walk_item(s: &[u8], h: Header, room: usize) -> Outcome
 }
 
 // Walks a run of items, each with a value of its own, to `limit`, or to the closing mark if it is marked.
-pub fn walk_run(s: &[u8], from: usize, limit: usize, marked: bool, room: usize) -> Outcome
+fn walk_run(s: &[u8], from: usize, limit: usize, marked: bool, room: usize) -> Outcome
     requires { ⌜ (from ≤ limit) × (limit ≤ length (now s)) ⌝ }
     ensures { λ r. ⌜ r ≡ answer (run room (now (s .entry)) from limit marked) ⌝ }
 {

@@ -15,7 +15,7 @@ use Rattle.octets.proofs.Walks.{EndOk, run-ok}
 use Rattle.octets.proofs.Turns.{header-ok}
 use Rattle.octets.proofs.RulesHold.{derives}
 use Rattle.tree.specs.Tree.{empty, leaf, plain}
-use Rattle.runs.specs.Whole.{Whole}
+use Rattle.tree.specs.Accepts.{Whole}
 use Rattle.runs.specs.declared.Run.{Run}
 use Rattle.runs.specs.Runs.{walkIn, itemsOf, treeIn, Fine, Meeting}
 use Rattle.runs.proofs.Laws.{tree-meets, tree-none}

@@ -21,7 +21,7 @@ use Rattle.headers.proofs.Lies.{cond-holds}
 use Rattle.octets.proofs.Turns.{header-ok}
 use Rattle.octets.proofs.RulesHold.{derived, derives}
 use Rattle.tree.specs.Tree.{plain}
-use Rattle.runs.specs.Whole.{Whole}
+use Rattle.tree.specs.Accepts.{Whole}
 use Rattle.runs.specs.declared.Run.{Run}
 use Rattle.runs.specs.Runs.{walkIn, itemsOf, treeIn, definiteRun, allPrimitive, Fine, Meeting}
 use Rattle.runs.proofs.Heads.{mark-marked}

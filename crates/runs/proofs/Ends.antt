@@ -9,7 +9,7 @@ use Rattle.octets.specs.Walk.{End, ends, stops, pastOf, run}
 use Rattle.octets.specs.Rules.{Runs, at-limit, unclosed, closes, refuses, primitive, passes, breaks}
 use Rattle.octets.proofs.Turns.{header-ok}
 use Rattle.octets.proofs.RulesHold.{derives}
-use Rattle.runs.specs.Whole.{Whole}
+use Rattle.tree.specs.Accepts.{Whole}
 use Rattle.runs.proofs.Heads.{mark-marked}
 
 -- a run from `at` that ended is at its limit, or past a closing mark
@@ -63,7 +63,3 @@ ends-right room s at limit marked l = right (derives room s at limit marked l)
 pub ends-at-limit : (at limit : ℕ) (e : End) → EndsRight false at limit e → Whole e → e ≡ ends limit
 ends-at-limit at limit (ends next) r w = ap ends r
 ends-at-limit at limit (stops number place) r w = absurd w
-
--- a walk that ended did not stop
-pub never : (e : End) {number place : ℕ} → Whole e → e ≡ stops number place → ⊥
-never e w p = rw p at w

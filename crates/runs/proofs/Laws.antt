@@ -19,7 +19,7 @@ use Rattle.octets.proofs.Walks.{EndOk, run-ok}
 use Rattle.octets.proofs.Turns.{answer-ends}
 use Rattle.octets.proofs.RulesHold.{derives}
 use Rattle.tree.specs.Tree.{empty, formed, plain}
-use Rattle.runs.specs.Whole.{Whole}
+use Rattle.tree.specs.Accepts.{Whole}
 use Rattle.runs.specs.declared.Run.{Run}
 use Rattle.runs.specs.Runs.{walkIn, itemsOf, treeIn, wholeStream, startOf, tops, Fine, Meeting}
 use Rattle.runs.proofs.Heads.{mark-marked}

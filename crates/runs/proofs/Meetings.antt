@@ -18,7 +18,7 @@ use Rattle.octets.specs.Walk.{End, ends, stops, Walked, ended, pastOf, follow, 
 use Rattle.headers.proofs.Lies.{Lies}
 use Rattle.octets.proofs.Walks.{run-step}
 use Rattle.octets.proofs.Turns.{header-ok, passed-ok, at-head, tree-ends}
-use Rattle.runs.specs.Whole.{Whole}
+use Rattle.tree.specs.Accepts.{Whole}
 use Rattle.runs.specs.declared.Run.{Run}
 use Rattle.runs.specs.Runs.{walkIn, itemsOf, insideOf, tops, Fine, Spans, Meeting}
 use Rattle.runs.proofs.Heads.{item-octet}

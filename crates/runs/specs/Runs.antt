@@ -12,7 +12,7 @@ use Rattle.headers.specs.First.{constructed}
 use Rattle.octets.specs.Items.{Items, none, item}
 use Rattle.octets.specs.Walk.{Walked, ends, deepest, run}
 use Rattle.tree.specs.Tree.{Tree, plain}
-use Rattle.runs.specs.Whole.{Whole}
+use Rattle.tree.specs.Accepts.{Whole}
 use Rattle.runs.specs.declared.Run.{Run}
 use Rattle.runs.specs.declared.Met.{Met}
 use Rattle.runs.specs.declared.Met.the-variants.{Item, End}

@@ -8,7 +8,7 @@ ghost use lib.Dec.{eqb};
 ghost use lib.ListN.{length};
 ghost use Rattle.headers.specs.First.{constructed};
 ghost use Rattle.octets.specs.Walk.{ends, run, valueOf};
-ghost use Rattle.runs.specs.Whole.{Whole};
+ghost use Rattle.tree.specs.Accepts.{Whole};
 ghost use Rattle.runs.specs.Runs.{itemsOf, insideOf, wholeStream, tops, Fine, Meets};
 
 const DEEPEST: usize = 16;

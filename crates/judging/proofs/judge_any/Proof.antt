@@ -13,7 +13,7 @@ use Rattle.elements.specs.Judge.{twice, shapeRefusal}
 use Rattle.elements.specs.WellMade.{WellMade}
 use Rattle.elements.specs.Sees.{Sees}
 use Rattle.elements.proofs.Made.{made-1988}
-use Rattle.judging.specs.Held.{Holds}
+use Rattle.judging.specs.Done.{Holds}
 use Rattle.judging.specs.Judges.{earlyRefusal, shape1988, element1988}
 use Rattle.judging.proofs.Steps.{refused-early, refused-later, refused-last}
 use Rattle.judging.proofs.judge_any.Statement.{statement}

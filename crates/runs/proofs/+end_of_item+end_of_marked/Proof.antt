@@ -13,7 +13,7 @@ use Rattle.headers.specs.declared.Head.the-variants.{Item, ClosingMark, Refusal
 use Rattle.headers.specs.Head.{headAt, Passed}
 use Rattle.octets.specs.Walk.{Walked, run}
 use Rattle.octets.proofs.Turns.{at-head, mark-ok}
-use Rattle.runs.specs.Whole.{Whole}
+use Rattle.tree.specs.Accepts.{Whole}
 use Rattle.runs.specs.declared.Run.{Run}
 use Rattle.runs.specs.Runs.{Fine}
 use Rattle.runs.proofs.Meetings.{definite-value, marked-run, marked-before, passed, lies, value-whole, next-within, rest-fine-after, ends-after}
