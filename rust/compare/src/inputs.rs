@@ -17,7 +17,8 @@ pub struct Input {
 pub fn all() -> Vec<Input> {
     let annex_d: Vec<Vec<u8>> = examples::listed().skip(1).map(|(_, stream, _)| stream).collect();
     vec![
-        Input { name: "small letter", stream: letter(), asked: 2 },
+        Input { name: "small letter", stream: letter(item), asked: 2 },
+        Input { name: "small letter, indefinite", stream: letter(indefinite), asked: 2 },
         Input { name: "Annex D, layout", stream: annex_d[0].clone(), asked: 4 },
         Input { name: "Annex D, logical", stream: annex_d[1].clone(), asked: 25 },
         Input { name: "2,000 objects, 32 portions, 2,000 units", stream: many(), asked: 2_001 },
@@ -30,27 +31,31 @@ fn name(number: usize) -> String {
     format!("{} 0 {number}", number % 7)
 }
 
-fn object(number: usize, portions: usize) -> Vec<u8> {
+/// How constructed items are written: `item` or `indefinite`.
+type Constructed = fn(u8, &[u8]) -> Vec<u8>;
+
+fn object(constructed: Constructed, number: usize, portions: usize) -> Vec<u8> {
     let portions: Vec<u8> = (0..portions).flat_map(|portion| item(0x12, portion.to_string().as_bytes())).collect();
-    let descriptor = [item(0x41, name(number).as_bytes()), item(0xA1, &portions)].concat();
-    item(0xA2, &[item(0x02, &[4]), item(0x31, &descriptor)].concat())
+    let descriptor = [item(0x41, name(number).as_bytes()), constructed(0xA1, &portions)].concat();
+    constructed(0xA2, &[item(0x02, &[4]), constructed(0x31, &descriptor)].concat())
 }
 
-fn unit(number: usize, portion: usize, text: &str) -> Vec<u8> {
+fn unit(constructed: Constructed, number: usize, portion: usize, text: &str) -> Vec<u8> {
     let name = format!("{} {portion}", name(number));
-    item(0xA3, &[item(0x31, &item(0x40, name.as_bytes())), item(0x04, text.as_bytes())].concat())
+    constructed(0xA3, &[constructed(0x31, &item(0x40, name.as_bytes())), item(0x04, text.as_bytes())].concat())
 }
 
 /// Twenty blocks of one portion, each followed by its unit.
-fn letter() -> Vec<u8> {
+fn letter(constructed: Constructed) -> Vec<u8> {
     let text = "Your claim of the 4th. ".repeat(4);
-    let blocks = (0..20).flat_map(|number| [object(number, 1), unit(number, 0, &text)].concat());
-    [0xA0, 0x00].into_iter().chain(blocks).collect()
+    let blocks =
+        (0..20).flat_map(|number| [object(constructed, number, 1), unit(constructed, number, 0, &text)].concat());
+    constructed(0xA0, &[]).into_iter().chain(blocks).collect()
 }
 
 fn many() -> Vec<u8> {
-    let objects = (0..2_000).flat_map(|number| object(number, 32));
-    let units = (0..2_000).flat_map(|number| unit(number, 31, "Dear Sir"));
+    let objects = (0..2_000).flat_map(|number| object(item, number, 32));
+    let units = (0..2_000).flat_map(|number| unit(item, number, 31, "Dear Sir"));
     [0xA0, 0x00].into_iter().chain(objects).chain(units).collect()
 }
 
