@@ -3,10 +3,10 @@ use contents::Span;
 use runs::Met;
 use runs::Run;
 ghost use mathlib.Core.Path.{_≡_};
-ghost use mathlib.Core.Bool.{not, _||_};
+ghost use mathlib.Core.Bool.{false, not, _||_};
 ghost use mathlib.Core.List.{[], _∷_, _++_};
 ghost use Prim.Native.Nat.{_+_, _*_, _<_, _≤_};
-ghost use lib.ListN.{length, getD, take};
+ghost use lib.ListN.{length, take};
 ghost use lib.Seq.{slice};
 ghost use Rattle.octets.specs.Walk.{streamLimit};
 ghost use Rattle.names.specs.Names.{isPortion};
@@ -14,10 +14,15 @@ ghost use Rattle.runs.specs.Runs.{Fine};
 ghost use Rattle.portions.specs.Portions.{mostPortions, among, repeats};
 ghost use Rattle.portions.specs.Bounds.{spanOf, valueOf, bounded, Inside};
 ghost use Rattle.portions.specs.Lists.{Lists};
+ghost use Rattle.portions.specs.Tags.{tags, tag};
 
 const PORTION: usize = 0x12;
 
 const MOST_PORTIONS: usize = 64;
+
+const TAGS: usize = 64;
+
+const NO_DIGITS: usize = 16;
 
 // What one reading of the portions tells: how many they are, whether other items than portions are among them (then nothing else is
 // told), and whether one is misspelt.
@@ -121,17 +126,54 @@ fn is_among(s: &[u8], bounds: &[u32], k: usize, count: usize) -> bool
     false
 }
 
-// Whether two of the values that the first numbers bound, two numbers a value, are the same.
+// The same, by the mark of its tag: where that is 0, no value after it has the tag.
+fn is_again(s: &[u8], bounds: &[u32], k: usize, count: usize, mark: u8) -> bool
+    requires { ⌜ (k < count) × (2 * count ≤ length (now bounds)) × Inside (now s) (slice (2 * k) (2 * count) (now bounds)) ⌝ }
+    requires { ⌜ (mark ≡ 0 → among (valueOf (now s) (now bounds) k) (bounded (now s) (slice (2 * (k + 1)) (2 * count) (now bounds))) ≡ false) ⌝ }
+    ensures { λ r. ⌜ r ≡ among (valueOf (now (s .entry)) (now (bounds .entry)) k) (bounded (now (s .entry)) (slice (2 * (k + 1)) (2 * count) (now (bounds .entry)))) ⌝ }
+{
+    if mark == 0 {
+        return false;
+    }
+    is_among(s, bounds, k, count)
+}
+
+fn digit(byte: u8) -> usize
+    ensures { λ r. ⌜ (r ≡ byte) × (r < 256) ⌝ }
+{
+    byte as usize
+}
+
+// The tag of a value: values with different tags are different.
+fn tag_of(s: &[u8], v: Span) -> usize
+    requires { ⌜ (v .first ≤ v .past) × (v .past ≤ length (now s)) ⌝ }
+    ensures { λ r. ⌜ (r ≡ tag (slice (v .first) (v .past) (now (s .entry)))) × (r < tags) ⌝ }
+{
+    let past = v.past;
+    let mut i = v.first;
+    let mut r = NO_DIGITS;
+    while i < past {
+        r = (10 * r + digit(s[i])) % TAGS;
+        i += 1;
+    }
+    r
+}
+
+// Whether two of the values that the first numbers bound, two numbers a value, are the same. From the last to the first, the tags of those
+// that are done are marked, and only a value whose tag is marked is compared with them.
 pub fn has_repeats(s: &[u8], bounds: &[u32], count: usize) -> bool
     requires { ⌜ (2 * count ≤ length (now bounds)) × Inside (now s) (take (2 * count) (now bounds)) ⌝ }
     ensures { λ r. ⌜ r ≡ repeats (bounded (now (s .entry)) (take (2 * count) (now (bounds .entry)))) ⌝ }
 {
-    let mut k: usize = 0;
-    while k < count {
-        if is_among(s, bounds, k, count) {
+    let mut marks = [0u8; TAGS];
+    let mut k = count;
+    while 0 < k {
+        k -= 1;
+        let tag = tag_of(s, bounds_of(bounds, k));
+        if is_again(s, bounds, k, count, marks[tag]) {
             return true;
         }
-        k += 1;
+        marks[tag] = 1;
     }
     false
 }

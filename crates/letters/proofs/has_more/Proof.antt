@@ -1,6 +1,6 @@
 -- `letters::has_more` meets its contract: the elements of the stream and those that may still be passed are as many as those asked for and
 -- those of the rest. Assumes nothing.
-use mathlib.Core.Path.{_≡_, sym, ap, subst, _∙_}
+use mathlib.Core.Path.{_≡_, sym, ap, subst}
 use mathlib.Core.List.{List}
 use Prim.Native.Nat.{ℕ, _+_, _-_}
 use native.Mathlib.Omega.{arith}
