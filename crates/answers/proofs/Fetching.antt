@@ -16,7 +16,7 @@ use Rattle.contents.specs.declared.Span.{Span}
 use Rattle.contents.specs.Search.{Value, absent, octets}
 use Rattle.pieces.proofs.Joined.{joined-fits}
 use Rattle.elements.specs.Shape.{edition1988}
-use Rattle.elements.specs.Element.{Content, single, joinedContent, Element}
+use Rattle.elements.specs.Element.{bytesOf, Content, single, joinedContent, Element}
 use Rattle.elements.specs.Says.{Bounds}
 use Rattle.letters.specs.Letter.{letter, refusal}
 use Rattle.letters.specs.Content.{HeldWhole, HeldInPieces}
@@ -26,7 +26,7 @@ use Rattle.letters.proofs.Fetching.{part-joined}
 use Rattle.reading.specs.Match.{unitKind}
 use Rattle.answers.specs.declared.Found.{Found}
 use Rattle.answers.specs.declared.Found.the-variants.{Refused as Not, NoUnit, Content as Part, Pieces}
-use Rattle.answers.specs.Answers.{letterIn, rowsIn, Fetched, handed, withheld, fetchedBy, bytesOf, partOf, fetched, located, allOf, joinedIn}
+use Rattle.answers.specs.Answers.{letterIn, rowsIn, Fetched, handed, withheld, fetchedBy, partOf, fetched, located, allOf, joinedIn}
 use Rattle.answers.proofs.Small.{refusal-small}
 use Rattle.answers.proofs.Judging.{Accepting}
 use Rattle.answers.specs.Asking.{ContentAt, otherKind, heldWhole, heldInPieces, Finds}

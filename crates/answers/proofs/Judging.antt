@@ -84,7 +84,7 @@ module _ {s rows : List ℕ} {verdict : Verdict} {at headers : ℕ} (walked : wa
         few = few;
         needed = omega (arith, few, rows-tops s (itemsOfStream s), saying-length (holds .saying), holds .counted);
         within-limit = stream-within s at headers walked;
-        within = holds .identifiers .in-table;
+        within = holds .indexes .identifiers .in-table;
         written = holds .written;
         saying = holds .saying;
         row-in = filled-row-in filled;

@@ -1,6 +1,6 @@
 -- The six public questions: what each answers, and what it leaves in what it was lent. Document 01, "Numbers given back" and "Table, list,
--- part, normal form"; of the content, W-201. A contract of crate odif says that the result and every lent buffer at exit are these definitions of the values at
--- entry. Definitions only: assumes nothing.
+-- part, normal form"; of the content, W-201. A contract of crate odif says that the result and every lent buffer at exit are these
+-- definitions of the values at entry. Definitions only: assumes nothing.
 use mathlib.Core.Path.{_≡_}
 use Prim.Native.Nat.{ℕ, _/_, _≤_}
 use mathlib.Core.Bool.{Bool, cond}
@@ -14,10 +14,9 @@ use Rattle.octets.specs.Walk.{streamLimit}
 use Rattle.normal.specs.Normal.{normalForm}
 use Rattle.index.specs.Rows.{rowWidth}
 use Rattle.contents.specs.declared.Span.{Span}
-use Rattle.contents.specs.Search.{Value, absent, octets}
 use Rattle.elements.specs.declared.Row.{Row}
 use Rattle.elements.specs.Shape.{edition1988}
-use Rattle.elements.specs.Element.{Content, single, inPieces, joinedContent, Element}
+use Rattle.elements.specs.Element.{Content, single, inPieces, bytesOf, joinedContent, Element}
 use Rattle.elements.specs.Rows.{numbers}
 use Rattle.elements.specs.Says.{noSpan}
 use Rattle.letters.specs.Letter.{Letter, letter, refusal, letterOf, rowsOfStream}
@@ -149,11 +148,6 @@ fetchedOf wanted (some e) = cond (eqb (e .kind) unitKind) (wanted (e .content)) 
 abbrev pub fetchedBy : (wanted : Content → Fetched) → Letter → (asked : ℕ) → Fetched
 fetchedBy wanted (refusal number place headers) asked = withheld number place
 fetchedBy wanted (letter headers elements) asked = fetchedOf wanted (getElem? elements asked)
-
--- the octets of a value that is there
-abbrev pub bytesOf : Value → List ℕ
-bytesOf absent = []
-bytesOf (octets bytes) = bytes
 
 -- The part: "The part question still serves 04"; 21 "part asked of content in pieces, after 20".
 abbrev pub partOf : Content → Fetched

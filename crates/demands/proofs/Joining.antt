@@ -15,10 +15,10 @@ use Rattle.tree.specs.Tree.{Tree}
 use Rattle.tree.specs.Codes.{Codes, nothing, primitive, definite, indefinite}
 use Rattle.contents.specs.Search.{Value}
 use Rattle.pieces.specs.Pieces.{joined}
-use Rattle.elements.specs.Element.{Content, single, inPieces, joinedContent, Element}
+use Rattle.elements.specs.Element.{bytesOf, Content, single, inPieces, joinedContent, Element}
 use Rattle.letters.specs.Letter.{letter}
 use Rattle.reading.specs.Match.{unitKind}
-use Rattle.answers.specs.Answers.{letterIn, onto, Fetched, handed, bytesOf, fetchedOf, partOf, fetched, allOf, joinedIn, copiedFrom, copied, copiedOutput}
+use Rattle.answers.specs.Answers.{letterIn, onto, Fetched, handed, fetchedOf, partOf, fetched, allOf, joinedIn, copiedFrom, copied, copiedOutput}
 use Rattle.answers.proofs.Fetching.{one-piece, of-unit}
 use Rattle.answers.proofs.Copying.{copies-all, joins-unit}
 use Rattle.demands.specs.Demands.{TellsContent, SameContent, UnitAt, PiecesAt}

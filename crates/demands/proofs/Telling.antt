@@ -18,16 +18,16 @@ use Rattle.octets.specs.Rules.{Runs, at-limit, unclosed, closes, refuses, primi
 use Rattle.tree.specs.Tree.{Tree, empty, leaf, branch, formed, plain}
 use Rattle.runs.specs.Runs.{startOf}
 use Rattle.contents.specs.Search.{Value, firstValue, firstRun, boundsOf, itemsIn as insideOf}
+use Rattle.elements.specs.Says.{bytesIn}
 use Rattle.elements.specs.declared.Row.{Row}
 use Rattle.elements.specs.declared.Shape.{Shape}
 use Rattle.elements.specs.Shape.{Edition, edition1988, shapeOf}
-use Rattle.elements.specs.Element.{noneOf, single, inPieces, contentOf, Element, bodyOf, elementOf}
+use Rattle.elements.specs.Element.{bytesOf, noneOf, single, inPieces, contentOf, Element, bodyOf, elementOf}
 use Rattle.elements.specs.Judge.{Judged, accepted, refused, refusalOf, judgeOne, judgeFrom, judge}
 use Rattle.elements.specs.Rows.{bodyIn, contentOctet, rowOf, rowsOf}
 use Rattle.elements.specs.WellMade.{WellMade}
 use Rattle.elements.proofs.Made.{made-1988}
-use Rattle.answers.specs.Answers.{bytesOf}
-use Rattle.demands.specs.Demands.{itemsIn, octetsIn}
+use Rattle.demands.specs.Demands.{itemsIn}
 
 -- a primitive item has no items inside
 pub data Proper : Items → Type 0 where
@@ -58,13 +58,13 @@ count-tree (breaks l h c v) = rw c (let e = count-tree v in omega arith)
 pub record Tells (s : List ℕ) (row : Row) (element : Element) : Type 0 where
   pub kind : row .kind ≡ element .kind
   pub object : row .object ≡ element .object
-  pub identifier : octetsIn s (row .identifier) ≡ bytesOf (element .identifier)
-  pub logical : octetsIn s (row .logical) ≡ bytesOf (element .logical)
-  pub whole : (value : Value) → element .content ≡ single value → octetsIn s (row .content) ≡ bytesOf value
+  pub identifier : bytesIn s (row .identifier) ≡ bytesOf (element .identifier)
+  pub logical : bytesIn s (row .logical) ≡ bytesOf (element .logical)
+  pub whole : (value : Value) → element .content ≡ single value → bytesIn s (row .content) ≡ bytesOf value
 
 module _ (s : List ℕ) where
   -- the bounds of the first primitive item with an octet bound its value
-  value-at : (octet : ℕ) → constructed octet ≡ false → (i : Items) → octetsIn s (boundsOf octet i) ≡ bytesOf (firstValue octet (plain s i))
+  value-at : (octet : ℕ) → constructed octet ≡ false → (i : Items) → bytesIn s (boundsOf octet i) ≡ bytesOf (firstValue octet (plain s i))
   unfolding boundsOf firstValue
   value-at octet c none = refl
   value-at octet c (item at type start past inside after) =
@@ -108,7 +108,7 @@ module _ (s : List ℕ) where
 
   -- the content fields of an element whose content is one value bound that
   whole-at : (shape : Shape) → WellMade shape → (i : Items) (value : Value) → contentOf shape (plain s i) ≡ single value
-      → octetsIn s (boundsOf (contentOctet shape (plain s i)) i) ≡ bytesOf value
+      → bytesIn s (boundsOf (contentOctet shape (plain s i)) i) ≡ bytesOf value
   unfolding contentOf contentOctet
   whole-at shape made i value e =
       cases (noneOf (shape .pieces) (plain s i))

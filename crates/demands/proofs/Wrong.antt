@@ -35,7 +35,7 @@ use Rattle.answers.specs.declared.Written.{Written}
 use Rattle.answers.specs.declared.Listed.{Listed}
 use Rattle.answers.specs.declared.Copied.{Copied}
 use Rattle.answers.specs.Answers.{letterIn, rowsIn, onto, checked, CheckOutcome, written, writtenOutput, NormalOutcome, listed, listedList, ListOutcome, fetched, joinedIn, copied, copiedOutput, JoinedOutcome}
-use Rattle.demands.specs.Demands.{octetsIn}
+use Rattle.elements.specs.Says.{bytesIn}
 
 -- programs: what they answer, and what they leave in what they were lent
 abbrev Checker : Type 0
@@ -230,7 +230,7 @@ joins-first f meets wrong =
 -- and none copies what the row bounds, the pieces with their headers.
 pub joins-headers : (f : Joiner) → Joins f
     → ((s : List ℕ) (asked : ℕ) (out : List ℕ) (row : Row) → getElem? (rowsIn s) asked ≡ some row → f s asked out .0 .number ≡ 0
-    → f s asked out .1 ≡ onto (octetsIn s (row .content)) out) → ⊥
+    → f s asked out .1 ≡ onto (bytesIn s (row .content)) out) → ⊥
 joins-headers f meets wrong =
     let m = meets pieced 1 nines in
     let w : f pieced 1 nines .0 .number ≡ 0 = ap (λ (a : Copied). a .number) (m .answered) ∙ joined-pieces .0 in

@@ -7,7 +7,6 @@ use mathlib.Core.List.{List, [], _∷_}
 use mathlib.Core.Option.{some}
 use Prim.Native.Nat.{ℕ, suc, _+_, _/_, _<_, _≤_}
 use lib.ListN.{length, getElem?}
-use lib.Seq.{slice}
 use Rattle.headers.specs.First.{isIn}
 use Rattle.octets.specs.Items.{count}
 use Rattle.octets.specs.Walk.{streamLimit, deepest}
@@ -15,11 +14,11 @@ use Rattle.tree.specs.Tree.{Tree, empty, leaf, branch, treeOf}
 use Rattle.tree.specs.Codes.{Codes}
 use Rattle.normal.specs.Normal.{normalForm}
 use Rattle.index.specs.Rows.{rowWidth}
-use Rattle.contents.specs.declared.Span.{Span}
 use Rattle.contents.specs.Search.{Value}
+use Rattle.elements.specs.Says.{bytesIn}
 use Rattle.elements.specs.declared.Row.{Row}
 use Rattle.elements.specs.Shape.{edition1988}
-use Rattle.elements.specs.Element.{Content, single, inPieces, joinedContent, Element}
+use Rattle.elements.specs.Element.{bytesOf, Content, single, inPieces, joinedContent, Element}
 use Rattle.elements.specs.Judge.{accepted, judge}
 use Rattle.letters.specs.Letter.{letter, itemsOfStream}
 use Rattle.letters.specs.Table.{EndToEnd, PairsWithin}
@@ -27,7 +26,7 @@ use Rattle.reading.specs.declared.Match.{Match}
 use Rattle.reading.specs.declared.Side.{Side}
 use Rattle.reading.specs.Match.{unitKind, matches}
 use Rattle.reading.specs.Promises.{IsMatch, Before}
-use Rattle.answers.specs.Answers.{letterIn, rowsIn, onto, tableOf, checked, checkedTable, written, writtenOutput, listed, listedTable, matchesIn, listedList, handed, bytesOf, fetched, joinedIn, copied, copiedOutput}
+use Rattle.answers.specs.Answers.{letterIn, rowsIn, onto, tableOf, checked, checkedTable, written, writtenOutput, listed, listedTable, matchesIn, listedList, handed, fetched, joinedIn, copied, copiedOutput}
 
 -- A number that a question may give, and its place: 0, one of 1 to 15, or one of the question's own, "where the question can give it". The
 -- place lies in the stream; it is 0 with 0 and from 16 on.
@@ -82,10 +81,6 @@ pub record IsLetterOf (s : List ℕ) (headers : ℕ) (elements : List Element) :
   pub shaped : judge edition1988 tree ≡ accepted elements
   pub counted : headers ≡ itemsIn tree
 
--- the octets that a pair bounds
-abbrev pub octetsIn : List ℕ → Span → List ℕ
-octetsIn s pair = slice (pair .first) (pair .past) s
-
 -- the levels that are left for pieces: an element stands at level 1, the 24 at level 2, and "level 16 is the deepest"
 abbrev pub pieceLevels : ℕ
 pieceLevels = 14
@@ -99,9 +94,9 @@ TellsContent bytes (inPieces run) = Codes pieceLevels run bytes
 pub record RowTells (s : List ℕ) (row : Row) (element : Element) : Type 0 where
   pub kind : row .kind ≡ element .kind
   pub object : row .object ≡ element .object
-  pub identifier : octetsIn s (row .identifier) ≡ bytesOf (element .identifier)
-  pub logical : octetsIn s (row .logical) ≡ bytesOf (element .logical)
-  pub content : TellsContent (octetsIn s (row .content)) (element .content)
+  pub identifier : bytesIn s (row .identifier) ≡ bytesOf (element .identifier)
+  pub logical : bytesIn s (row .logical) ≡ bytesOf (element .logical)
+  pub content : TellsContent (bytesIn s (row .content)) (element .content)
 
 -- two contents of one element, in two streams: the same octets; or, if it is in pieces, octets that code the same pieces
 abbrev pub SameContent : Content → (bytes other : List ℕ) → Type 0
@@ -112,9 +107,9 @@ SameContent (inPieces run) bytes other = Codes pieceLevels run bytes × Codes pi
 pub record SameRow (element : Element) (s : List ℕ) (row : Row) (t : List ℕ) (other : Row) : Type 0 where
   pub kind : row .kind ≡ other .kind
   pub object : row .object ≡ other .object
-  pub identifier : octetsIn s (row .identifier) ≡ octetsIn t (other .identifier)
-  pub logical : octetsIn s (row .logical) ≡ octetsIn t (other .logical)
-  pub content : SameContent (element .content) (octetsIn s (row .content)) (octetsIn t (other .content))
+  pub identifier : bytesIn s (row .identifier) ≡ bytesIn t (other .identifier)
+  pub logical : bytesIn s (row .logical) ≡ bytesIn t (other .logical)
+  pub content : SameContent (element .content) (bytesIn s (row .content)) (bytesIn t (other .content))
 
 -- element j is a text unit
 pub record UnitAt (elements : List Element) (j : ℕ) (unit : Element) : Type 0 where
@@ -151,7 +146,7 @@ pub record OfLetter (s : List ℕ) (headers : ℕ) (elements : List Element) : T
   pub joins-22 : (j : ℕ) (unit : Element) → UnitAt elements j unit → (out : List ℕ)
       → (copied s j out .number ≡ 22) ↔ (length out < length (joinedContent (unit .content)))
   pub joins-within : (j : ℕ) (unit : Element) → UnitAt elements j unit → (row : Row) → getElem? (rowsIn s) j ≡ some row
-      → length (joinedContent (unit .content)) ≤ length (octetsIn s (row .content))
+      → length (joinedContent (unit .content)) ≤ length (bytesIn s (row .content))
   -- "a 04 being one piece": where there is a part, it is the joined content
   pub part-joined : (j : ℕ) → fetched s j .number ≡ 0 → joinedIn s j ≡ fetched s j
   -- the normal form is written, unless it passes the limit, 17, or else the output, 18

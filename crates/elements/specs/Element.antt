@@ -40,10 +40,14 @@ pub data Content : Type 0 where
 unfoldable pub contentOf : Shape → Tree → Content
 contentOf shape run = cond (noneOf (shape .pieces) run) (single (firstValue (shape .content) run)) (inPieces (firstRun (shape .pieces) run))
 
+-- the octets of a value, none if it is absent
+abbrev pub bytesOf : Value → List ℕ
+bytesOf absent = []
+bytesOf (octets bytes) = bytes
+
 -- "The content is the pieces joined in order", "a 04 being one piece" (W-201)
 abbrev pub joinedContent : Content → List ℕ
-joinedContent (single absent) = []
-joinedContent (single (octets bytes)) = bytes
+joinedContent (single value) = bytesOf value
 joinedContent (inPieces run) = joined run
 
 -- "12 for any other item among the pieces" (W-201)

@@ -23,6 +23,10 @@ pub record Placed (s : List ℕ) (v : Span) : Type 0 where
 abbrev pub noSpan : Span
 noSpan = record { first = 0; past = 0 }
 
+-- the octets that a pair bounds
+abbrev pub bytesIn : List ℕ → Span → List ℕ
+bytesIn s v = slice (v .first) (v .past) s
+
 -- the pair of a value that is there: it may be empty, and never stands at 0
 pub record Covers (s : List ℕ) (v : Span) (bytes : List ℕ) : Type 0 where
   pub placed : Placed s v

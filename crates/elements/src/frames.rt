@@ -66,8 +66,9 @@ fn held_in_pieces(p: Part) -> Holder
     ensures { λ holder. ⌜ ((s : List ℕ) (shape : Shape) (r : Run) → WellMade shape → Holds s r (shape .pieces) p → Holding s shape r holder) ⌝ }
 {
     let run = p.inner;
+    let value = contents::span_of(p);
     Holder {
-        value: contents::span_of(p),
+        value,
         pieced: true,
         pieces: run,
     }

@@ -12,7 +12,7 @@ use lib.Seq.{take-append-seam}
 use borrow.Author.Tests.{ltb-false, eq-eqb, ne-eqb}
 use borrow.Table.Steps.{cases}
 use Rattle.text.specs.Lines.{element, refused}
-use Rattle.index.specs.Rows.{rowWidth, kindAt, firstAt, pastAt}
+use Rattle.index.specs.Rows.{rowWidth, wholeColumn, kindAt, firstAt, pastAt}
 use Rattle.elements.specs.declared.Row.{Row}
 use Rattle.elements.specs.Shape.{edition1988}
 use Rattle.elements.specs.Element.{Element}
@@ -33,7 +33,7 @@ use Rattle.answers.proofs.Letters.{letter-found}
 use Rattle.demands.proofs.Demand2.{demand2}
 use Rattle.demands.proofs.Demand3.{demand3}
 use Rattle.hexlister.specs.Output.{rowsLent, recordsLent, tableRoom, lentTable, noRecord, lentList, elementLines, acceptedLines, streamLines}
-use Rattle.hexlister.specs.Pages.{wholeColumn, rowLine, rowLines}
+use Rattle.hexlister.specs.Pages.{rowLine, rowLines}
 
 -- a stream that is accepted on the lent table
 pub record Accepted (s : List ℕ) : Type 0 where

@@ -5,7 +5,7 @@ use mathlib.Core.List.{List, [], _++_}
 use lib.ListN.{length}
 use lib.Seq.{sets}
 use Rattle.text.specs.Lines.{element}
-use Rattle.index.specs.Rows.{kindAt, firstAt, pastAt}
+use Rattle.index.specs.Rows.{wholeColumn, kindAt, firstAt, pastAt}
 use Rattle.hexlister.specs.Output.{rowsLent, recordsLent}
 
 -- room for any line
@@ -29,10 +29,6 @@ pub record Puts (bytes page : List ℕ) (at told : ℕ) (pageAfter : List ℕ) (
   pub past : told ≡ at + length bytes
   pub stored : pageAfter ≡ sets page at bytes
   pub within : length bytes ≤ room
-
--- where a row has the bounds of its element
-abbrev pub wholeColumn : ℕ
-wholeColumn = 2
 
 -- the line of an element, by its row in the table
 abbrev pub rowLine : (table : List ℕ) (number : ℕ) → List ℕ

@@ -22,9 +22,9 @@ use Rattle.elements.specs.declared.Row.{Row}
 use Rattle.elements.specs.Element.{Element}
 use Rattle.elements.specs.Judge.{shares, clash, twice}
 use Rattle.elements.specs.Rows.{cells}
-use Rattle.elements.specs.Says.{Names, Says}
+use Rattle.elements.specs.Says.{bytesIn, Names, Says}
 use Rattle.judging.specs.Done.{Holds}
-use Rattle.judging.specs.Judges.{bytesIn, Taken}
+use Rattle.judging.specs.Judges.{Taken}
 use Rattle.judging.proofs.Lists.{below-length, at-below, any-true, any-false, any-or}
 use Rattle.judging.proofs.Rows.{RowOf, row-of, kind-at, first-at, past-at}
 

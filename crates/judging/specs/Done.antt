@@ -17,12 +17,16 @@ pub data Saying (s : List ℕ) : List Row → List Element → Type 0 where
   more : {row : Row} {element : Element} {rows : List Row} {elements : List Element}
       → Saying s rows elements → Says s row element → Saying s (rows ++ (row ∷ [])) (elements ++ (element ∷ []))
 
--- n elements are done: their rows are the scratch's first, and are indexed by identifier and by logical identifier
-pub record Holds (s scratch head next head2 next2 : List ℕ) (n : ℕ) (rows : List Row) (elements : List Element) : Type 0 where
-  pub counted : length elements ≡ n
-  pub written : take (n * rowWidth) scratch ≡ numbers rows
-  pub saying : Saying s rows elements
+-- the first n rows are indexed by identifier and by logical identifier
+pub record Indexes (s scratch head next head2 next2 : List ℕ) (n : ℕ) : Type 0 where
   pub identifiers : Bounded s scratch identifierColumn n
   pub logicals : Bounded s scratch logicalColumn n
   pub by-identifier : Indexed s scratch identifierColumn head next n
   pub by-logical : Indexed s scratch logicalColumn head2 next2 n
+
+-- n elements are done: their rows are the scratch's first, and are indexed
+pub record Holds (s scratch head next head2 next2 : List ℕ) (n : ℕ) (rows : List Row) (elements : List Element) : Type 0 where
+  pub counted : length elements ≡ n
+  pub written : take (n * rowWidth) scratch ≡ numbers rows
+  pub saying : Saying s rows elements
+  pub indexes : Indexes s scratch head next head2 next2 n

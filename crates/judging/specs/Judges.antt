@@ -5,20 +5,17 @@ use mathlib.Core.Bool.{Bool, true, false, not, xor}
 use mathlib.Core.List.{List, [], _∷_, _++_}
 use Prim.Native.Nat.{ℕ, _+_}
 use lib.Dec.{eqb, leb}
-use lib.Seq.{slice}
 use Rattle.tree.specs.Tree.{Tree, empty}
 use Rattle.runs.specs.Runs.{itemsOf, treeIn}
 use Rattle.names.specs.Hash.{hash}
-use Rattle.contents.specs.declared.Span.{Span}
-use Rattle.index.specs.Rows.{identifierColumn, logicalColumn, Bounded}
-use Rattle.index.specs.Index.{Indexed, Has}
+use Rattle.index.specs.Index.{Has}
 use Rattle.elements.specs.declared.Row.{Row}
 use Rattle.elements.specs.declared.Shape.{Shape}
 use Rattle.elements.specs.Shape.{edition1988, shapeOf}
 use Rattle.elements.specs.Element.{Element, elementOf}
 use Rattle.elements.specs.Judge.{mostElements, profile, twice, firstOf, _when_, shapeRefusal, refusalOf}
 use Rattle.elements.specs.Rows.{rowOf}
-use Rattle.elements.specs.Says.{Says, RowPlaced}
+use Rattle.elements.specs.Says.{bytesIn, Says, RowPlaced}
 use Rattle.judging.specs.declared.Hashes.{Hashes}
 use Rattle.judging.specs.declared.Item.{Item}
 use Rattle.judging.specs.declared.Judgement.{Judgement}
@@ -33,21 +30,10 @@ earlyRefusal n octet known =
     ∷ (11 when xor (eqb n 0) (eqb octet profile))
     ∷ [])
 
--- the bytes that a pair bounds
-abbrev pub bytesIn : List ℕ → Span → List ℕ
-bytesIn s pair = slice (pair .first) (pair .past) s
-
 -- whether one of the first n rows has these bytes at the column and is of the name space
 abbrev pub Taken : (s scratch : List ℕ) (column n nameSpace : ℕ) (bytes : List ℕ) → Bool → Type 0
 Taken s scratch column n nameSpace bytes true = (j : ℕ) × Has s scratch column n nameSpace bytes j
 Taken s scratch column n nameSpace bytes false = (j : ℕ) → Has s scratch column n nameSpace bytes j → ⊥
-
--- the first n rows are indexed by identifier and by logical identifier
-pub record Indexes (s scratch head next head2 next2 : List ℕ) (n : ℕ) : Type 0 where
-  pub identifiers : Bounded s scratch identifierColumn n
-  pub logicals : Bounded s scratch logicalColumn n
-  pub by-identifier : Indexed s scratch identifierColumn head next n
-  pub by-logical : Indexed s scratch logicalColumn head2 next2 n
 
 -- the hashes of a row's identifier and logical identifier
 abbrev pub hashesOf : List ℕ → Row → Hashes

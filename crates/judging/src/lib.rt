@@ -18,8 +18,9 @@ ghost use Rattle.portions.specs.Portions.{mostPortions};
 ghost use Rattle.portions.specs.Bounds.{bounded, Inside};
 ghost use Rattle.index.specs.Rows.{Bounded};
 ghost use Rattle.index.specs.Index.{Indexed};
-ghost use Rattle.elements.specs.Says.{Placed, RowPlaced};
-ghost use Rattle.judging.specs.Judges.{earlyRefusal, bytesIn, Taken, Indexes, hashesOf, TellsTwice, MayBeBare, JudgesAfter};
+ghost use Rattle.elements.specs.Says.{bytesIn, Placed, RowPlaced};
+ghost use Rattle.judging.specs.Done.{Indexes};
+ghost use Rattle.judging.specs.Judges.{earlyRefusal, Taken, hashesOf, TellsTwice, MayBeBare, JudgesAfter};
 
 // An item of the stream that is to be judged: its octet, where it stands, and the run inside it.
 pub struct Item {

@@ -33,7 +33,8 @@ use Rattle.elements.specs.Judge.{accepted, judge}
 use Rattle.elements.specs.Rows.{contentOctet, rowOf}
 use Rattle.elements.proofs.Made.{made-1988}
 use Rattle.elements.proofs.Zero.{none-zero}
-use Rattle.judging.specs.Judges.{bytesIn, shape1988}
+use Rattle.elements.specs.Says.{bytesIn}
+use Rattle.judging.specs.Judges.{shape1988}
 use Rattle.letters.specs.Letter.{rowsOfStream}
 use Rattle.letters.proofs.Standing.{rest-fine, rest-some, element-says}
 

@@ -11,6 +11,7 @@ use Rattle.runs.specs.declared.Run.{Run}
 use Rattle.runs.specs.Runs.{itemsOf, treeIn, wholeStream, Fine, Meeting}
 use Rattle.contents.specs.declared.Span.{Span}
 use Rattle.contents.specs.Search.{Value, absent, octets}
+use Rattle.index.specs.Rows.{wholeColumn}
 use Rattle.elements.specs.declared.Holder.{Holder}
 use Rattle.elements.specs.declared.Row.{Row}
 use Rattle.elements.specs.Shape.{edition1988}
@@ -21,7 +22,7 @@ use Rattle.elements.specs.Frames.{HoldsContent, Holding}
 use Rattle.judging.specs.Judges.{shape1988}
 use Rattle.letters.specs.Letter.{rowsOfStream}
 use Rattle.letters.specs.Scratch.{Filled}
-use Rattle.letters.specs.Content.{wholeColumn, RowIn, heldBy, HeldWhole, Holds, HoldsElement}
+use Rattle.letters.specs.Content.{RowIn, heldBy, HeldWhole, Holds, HoldsElement}
 use Rattle.judging.proofs.Lists.{at-below}
 use Rattle.judging.proofs.Rows.{first-at, saying-length}
 use Rattle.letters.proofs.Standing.{restFrom, element-says}
@@ -53,7 +54,7 @@ filled-row-in {s} filled j l =
     let holds = filled .holds in
     let (row, stands) = at-below (rowsOfStream edition1988 s) j (omega (arith, saying-length (holds .saying), holds .counted)) in
     record {
-      within = omega (arith, holds .identifiers .in-table);
+      within = omega (arith, holds .indexes .identifiers .in-table);
       row = row;
       stands = stands;
       first = first-at holds j row stands wholeColumn (omega arith);

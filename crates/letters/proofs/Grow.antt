@@ -14,8 +14,7 @@ use Rattle.elements.specs.Element.{Element}
 use Rattle.elements.specs.Rows.{cells}
 use Rattle.elements.specs.Says.{Says, RowPlaced}
 use Rattle.letters.specs.Numbers.{Narrow}
-use Rattle.judging.specs.Done.{more, Holds}
-use Rattle.judging.specs.Judges.{Indexes}
+use Rattle.judging.specs.Done.{more, Indexes, Holds}
 use Rattle.judging.proofs.Rows.{written-more, saying-length}
 
 -- the numbers of a row of a stream are small
@@ -62,8 +61,10 @@ module _ {s scratch head next head2 next2 scratch' : List ℕ} {n : ℕ} {row : 
         counted = length-append done (e ∷ []) ∙ ap (λ (k : ℕ). k + 1) (holds .counted);
         written = rw stored (written-more scratch n table row (holds .written) size long);
         saying = more (holds .saying) says;
-        identifiers = identifier-written .bounded;
-        logicals = logical-written .bounded;
-        by-identifier = by-identifier;
-        by-logical = by-logical;
+        indexes = record {
+          identifiers = identifier-written .bounded;
+          logicals = logical-written .bounded;
+          by-identifier = by-identifier;
+          by-logical = by-logical;
+        };
       }

@@ -1,4 +1,4 @@
--- Grow: one row more in the scratch. State: the state of the judge. Meetings: what is met in a run. Nested, Apart, Table: the table.
+-- Grow: one row more in the scratch. State: the state of the judge. Meetings: what is inside a primitive item. Nested, Apart, Table: the table.
 -- Standing: where element j stands. Fetching: where its content does. Coding: what the content fields of content in pieces bound.
 pub mod Grow
 pub mod State

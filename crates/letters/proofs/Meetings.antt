@@ -1,5 +1,5 @@
--- What is met in a run, told by what the code has of it; and a primitive item has nothing inside. Assumes nothing.
-use mathlib.Core.Path.{_≡_, sym, subst}
+-- A primitive item that is met has nothing inside. Assumes nothing.
+use mathlib.Core.Path.{_≡_, sym}
 use mathlib.Core.Bool.{Bool, true, false, false≢true}
 use mathlib.Core.List.{List}
 use Prim.Native.Nat.{ℕ}
@@ -10,11 +10,7 @@ use Rattle.octets.specs.Walk.{End}
 use Rattle.octets.specs.Rules.{Runs, at-limit, unclosed, closes, refuses, primitive, passes, breaks}
 use Rattle.octets.proofs.RulesHold.{derives}
 use Rattle.runs.specs.declared.Run.{Run}
-use Rattle.runs.specs.declared.Met.{Met}
-use Rattle.runs.specs.Runs.{itemsOf, Fine, Meeting, Meets}
-
-pub met : (s : List ℕ) (r : Run) (x y : Met) → Meets s r x → x ≡ y → Meets s r y
-met s r x y m e = subst (Meets s r) e m
+use Rattle.runs.specs.Runs.{itemsOf, Fine, Meeting}
 
 inside-none : {s : List ℕ} {room at limit : ℕ} {marked : Bool} {i : Items} {e : End} → Runs s room at limit marked i e
     → (place octet first past : ℕ) (inside after : Items) → i ≡ item place octet first past inside after → constructed octet ≡ false → inside ≡ none
@@ -26,7 +22,6 @@ inside-none (primitive l h p r) place octet first past inside after e c = cc
 inside-none (passes l h p v r) place octet first past inside after e c = let z : true ≡ false = cc in absurd (false≢true (sym z))
 inside-none (breaks l h p v) place octet first past inside after e c = let z : true ≡ false = cc in absurd (false≢true (sym z))
 
--- a primitive item that is met has nothing inside
 pub nothing-inside : {s : List ℕ} {r : Run} {octet first past : ℕ} {inner rest : Run} → Fine s r → Meeting s r octet first past inner rest
     → constructed octet ≡ false → itemsOf s inner ≡ none
 nothing-inside {s} {r} {octet} {first} {past} {inner} {rest} fine m c =

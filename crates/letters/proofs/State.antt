@@ -29,7 +29,7 @@ use Rattle.letters.specs.Letter.{itemsOfStream, rowsOfStream}
 use Rattle.judging.specs.Done.{none, Holds}
 use Rattle.letters.specs.Scratch.{Filled, Stopped, Gives}
 use Rattle.letters.specs.Lent.{rowsNeeded, Lent, endVerdict}
-use Rattle.judging.specs.Judges.{Indexes, element1988, Passing, Judges}
+use Rattle.judging.specs.Judges.{element1988, Passing, Judges}
 use Rattle.letters.proofs.Meetings.{nothing-inside}
 use Rattle.judging.proofs.Steps.{unrefused-few, judged-refused, judged-passed, judge-some}
 
@@ -45,16 +45,6 @@ pub record Judging (s scratch head next head2 next2 : List ℕ) (n : ℕ) (cur :
   pub counted : tops (itemsOfStream s) ≡ n + tops (itemsOf s cur)
   pub placed : (k : ℕ) → placeOf (n + k) (itemsOfStream s) ≡ placeOf k (itemsOf s cur)
 
--- its indexes
-pub indexes-of : {s scratch head next head2 next2 : List ℕ} {n : ℕ} {table : List Row} {done : List Element}
-    → Holds s scratch head next head2 next2 n table done → Indexes s scratch head next head2 next2 n
-indexes-of h = record {
-  identifiers = h .identifiers;
-  logicals = h .logicals;
-  by-identifier = h .by-identifier;
-  by-logical = h .by-logical;
-}
-
 -- nothing is done
 pub judging-none : (s scratch head next head2 next2 bounds : List ℕ) → Lent s scratch head next head2 next2 bounds → Fine s (wholeStream s)
     → Judging s scratch head next head2 next2 0 (wholeStream s)
@@ -69,10 +59,12 @@ judging-none s scratch head next head2 next2 bounds lent fine = record {
     counted = refl;
     written = refl;
     saying = none;
-    identifiers = bounded-none s scratch identifierColumn (omega arith);
-    logicals = bounded-none s scratch logicalColumn (omega arith);
-    by-identifier = indexed-none s scratch identifierColumn head next (lent .some-heads) (lent .few-heads) (lent .empty-heads);
-    by-logical = indexed-none s scratch logicalColumn head2 next2 (lent .some-heads2) (lent .few-heads2) (lent .empty-heads2);
+    indexes = record {
+      identifiers = bounded-none s scratch identifierColumn (omega arith);
+      logicals = bounded-none s scratch logicalColumn (omega arith);
+      by-identifier = indexed-none s scratch identifierColumn head next (lent .some-heads) (lent .few-heads) (lent .empty-heads);
+      by-logical = indexed-none s scratch logicalColumn head2 next2 (lent .some-heads2) (lent .few-heads2) (lent .empty-heads2);
+    };
   };
   judged = refl;
   tabled = refl;

@@ -17,10 +17,9 @@ use Rattle.elements.specs.declared.Shape.{Shape}
 use Rattle.elements.specs.Shape.{Edition, edition1988, shapeOf}
 use Rattle.elements.specs.Element.{single, Element}
 use Rattle.elements.specs.Rows.{bodyIn, contentOctet, rowOf, rowsOf}
-use Rattle.elements.specs.Says.{Contains, Says}
+use Rattle.elements.specs.Says.{bytesIn, Contains, Says}
 use Rattle.letters.specs.Letter.{itemsOfStream, rowsOfStream}
 use Rattle.letters.specs.Scratch.{Filled}
-use Rattle.judging.specs.Judges.{bytesIn}
 use Rattle.letters.specs.Table.{EndToEnd, PairsWithin, Apart}
 use Rattle.judging.proofs.Rows.{RowOf, row-of}
 use Rattle.letters.proofs.Nested.{Nested, Separate, separate, bounds-within, body-within}

@@ -11,7 +11,7 @@ use Rattle.runs.specs.declared.Run.{Run}
 use Rattle.runs.specs.Runs.{treeIn, Fine}
 use Rattle.contents.specs.declared.Span.{Span}
 use Rattle.contents.specs.Search.{Value}
-use Rattle.index.specs.Rows.{rowWidth, firstAt}
+use Rattle.index.specs.Rows.{rowWidth, wholeColumn, firstAt}
 use Rattle.elements.specs.declared.Holder.{Holder}
 use Rattle.elements.specs.declared.Row.{Row}
 use Rattle.elements.specs.Shape.{edition1988}
@@ -21,10 +21,6 @@ use Rattle.elements.specs.Says.{Bounds}
 use Rattle.letters.specs.declared.Held.{Held}
 use Rattle.letters.specs.declared.Held.the-variants.{Part, Pieces}
 use Rattle.letters.specs.Letter.{rowsOfStream}
-
--- where a row has "first and past for the element"
-abbrev pub wholeColumn : ℕ
-wholeColumn = 2
 
 -- the rows of a stream have a row j, and tell where its element begins
 pub record RowIn (s rows : List ℕ) (j : ℕ) : Type 0 where

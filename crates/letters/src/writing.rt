@@ -11,7 +11,8 @@ ghost use Rattle.elements.specs.Judge.{mostElements};
 ghost use Rattle.elements.specs.Rows.{cells};
 ghost use Rattle.elements.specs.Says.{RowPlaced};
 ghost use Rattle.letters.specs.Numbers.{Narrow};
-ghost use Rattle.judging.specs.Judges.{Indexes, hashesOf, Grows};
+ghost use Rattle.judging.specs.Done.{Indexes};
+ghost use Rattle.judging.specs.Judges.{hashesOf, Grows};
 
 // Copies the first numbers of one slice to a place of another.
 pub fn copy_numbers(from: &[u32], count: usize, to: &mut [u32], at: usize)

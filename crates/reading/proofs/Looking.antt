@@ -18,7 +18,7 @@ use Rattle.index.specs.declared.Found.the-variants.{At, Nothing}
 use Rattle.index.specs.Rows.{kindAt, firstAt, pastAt, space}
 use Rattle.index.specs.Index.{Has, Finds}
 use Rattle.elements.specs.Element.{Element}
-use Rattle.judging.specs.Judges.{bytesIn}
+use Rattle.elements.specs.Says.{bytesIn}
 use Rattle.judging.proofs.Lists.{below-length}
 use Rattle.reading.specs.declared.Match.{Match}
 use Rattle.reading.specs.declared.Side.{Side}

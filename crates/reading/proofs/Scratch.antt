@@ -69,18 +69,18 @@ module _ {s rows head next head2 next2 : List ℕ} {n : ℕ} (filled : Filled s 
   layout-set = record {
     elements = filled .elements;
     ready = filled-ready;
-    bounded = filled .holds .identifiers;
-    bounded-on = filled .holds .identifiers;
-    indexed = filled .holds .by-identifier;
+    bounded = filled .holds .indexes .identifiers;
+    bounded-on = filled .holds .indexes .identifiers;
+    indexed = filled .holds .indexes .by-identifier;
   }
 
   pub logical-set : Searchable Logical s rows head2 next2 n
   logical-set = record {
     elements = filled .elements;
     ready = filled-ready;
-    bounded = filled .holds .identifiers;
-    bounded-on = filled .holds .logicals;
-    indexed = filled .holds .by-logical;
+    bounded = filled .holds .indexes .identifiers;
+    bounded-on = filled .holds .indexes .logicals;
+    indexed = filled .holds .indexes .by-logical;
   }
 
   -- all matches of a side are put: that is its list

@@ -18,8 +18,7 @@ use Rattle.index.specs.declared.Found.the-variants.{At, Nothing}
 use Rattle.index.specs.Rows.{identifierColumn, logicalColumn, kindAt, firstAt, pastAt, Bounded}
 use Rattle.index.specs.Index.{Indexed}
 use Rattle.elements.specs.Element.{single, Element}
-use Rattle.elements.specs.Says.{portionsRun}
-use Rattle.judging.specs.Judges.{bytesIn}
+use Rattle.elements.specs.Says.{bytesIn, portionsRun}
 use Rattle.letters.specs.Table.{Apart}
 use Rattle.reading.specs.declared.Match.{Match}
 use Rattle.reading.specs.declared.Side.{Side}

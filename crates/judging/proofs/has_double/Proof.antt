@@ -4,8 +4,9 @@ use mathlib.Core.Bool.{Bool, true, false}
 use Prim.Native.Nat.{ℕ}
 use Rattle.index.specs.Rows.{identifierColumn, logicalColumn, space}
 use Rattle.portions.specs.Portions.{repeats}
+use Rattle.elements.specs.Says.{bytesIn}
 use Rattle.judging.specs.declared.Hashes.{Hashes}
-use Rattle.judging.specs.Judges.{bytesIn, Taken}
+use Rattle.judging.specs.Judges.{Taken}
 use Rattle.judging.proofs.Clash.{identifier-twice, logical-twice, portions-twice}
 use borrow.Author.Needs.{needs}
 use Rattle.judging.proofs.has_double.Statement.{statement}

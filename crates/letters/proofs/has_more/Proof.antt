@@ -8,7 +8,7 @@ use borrow.Author.Needs.{needs}
 use borrow.Author.Tests.{lt-ltb, le-ltb}
 use Rattle.runs.specs.Runs.{itemsOf, wholeStream, tops, Fine, Meeting}
 use Rattle.runs.specs.declared.Run.{Run}
-use Rattle.letters.proofs.Meetings.{met}
+use Rattle.contents.proofs.Firsts.{met}
 use Rattle.letters.proofs.has_more.Statement.{statement}
 use Rattle.letters.proofs.has_more.Tie as tie
 
@@ -26,7 +26,7 @@ meeting : (c : tie.After-known-told Inv-loop μ-loop) →
     Meeting (c .before .before .before .before .before .before .before .args .s .now) (c .before .before .before .before .loop .cur)
     (g .0) (g .1 .0) (g .1 .1 .0) (g .1 .1 .1 .0) (g .1 .1 .1 .1 .0)
 meeting c =
-    met (c .before .before .before .before .before .before .before .args .s .now) (c .before .before .before .before .loop .cur) _ _
+    met (c .before .before .before .before .before .before .before .args .s .now) (c .before .before .before .before .loop .cur)
     (c .before .before .before .meet .ensures) (c .before .rest .given .1)
 
 -- the run that the count began with is that of the stream
@@ -52,7 +52,7 @@ returns c =
     let l = c .before .before .before .loop in
     let a = c .before .before .before .before .before .before .args in
     let s = a .s .now in
-    let none-left = met s (l .cur) (c .before .before .meet .result) _ (c .before .before .meet .ensures) (c .enum-told .given .1) in
+    let none-left = met s (l .cur) (c .before .before .meet .ensures) (c .enum-told .given .1) in
     sym (le-ltb (a .most) (topsIn s (wholeStream s)) (omega (arith, l .inv .1, ap tops none-left, same-tops (c .before .before .before .before))))
 
 enum-known-rest : tie.Need-enum-known-rest Inv-loop μ-loop

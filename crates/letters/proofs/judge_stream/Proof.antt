@@ -9,8 +9,8 @@ use Rattle.runs.specs.Runs.{Meeting}
 use Rattle.judging.specs.declared.Item.{Item}
 use Rattle.judging.specs.declared.Judgement.{Judgement}
 use Rattle.judging.specs.Judges.{Judges, Passing}
-use Rattle.letters.proofs.Meetings.{met}
-use Rattle.letters.proofs.State.{Judging, judging-none, end-gives, refused-at, few, needed, judging-more, indexes-of}
+use Rattle.contents.proofs.Firsts.{met}
+use Rattle.letters.proofs.State.{Judging, judging-none, end-gives, refused-at, few, needed, judging-more}
 use Rattle.letters.proofs.judge_stream.Statement.{statement}
 use Rattle.letters.proofs.judge_stream.Tie as tie
 
@@ -26,7 +26,7 @@ abbrev μ-loop : tie.MeasureT-loop
 meeting : (c : tie.After-known-told Inv-loop μ-loop) →
     let g = c .before .octet .given .0 in
     Meeting (c .before .before .before .before .before .before .before .before .before .before .before .before .before .args .s .now) (c .before .before .before .before .loop .cur) (g .0) (g .1 .0) (g .1 .1 .0) (g .1 .1 .1 .0) (g .1 .1 .1 .1 .0)
-meeting c = met (c .before .before .before .before .before .before .before .before .before .before .before .before .before .args .s .now) (c .before .before .before .before .loop .cur) _ _ (c .before .before .before .meet .ensures) (c .before .octet .given .1)
+meeting c = met (c .before .before .before .before .before .before .before .before .before .before .before .before .before .args .s .now) (c .before .before .before .before .loop .cur) (c .before .before .before .meet .ensures) (c .before .octet .given .1)
 
 abbrev item : tie.After-known-told Inv-loop μ-loop → Item
 item c =
@@ -94,7 +94,7 @@ returns : tie.Need-returns Inv-loop μ-loop
 returns c =
     let s = c .before .before .before .before .before .before .before .before .before .before .before .before .before .args .s .now in
     let l = c .before .before .before .before .loop in
-    let end = met s (l .cur) _ _ (c .before .before .before .meet .ensures) (c .before .enum-told .given .1) in
+    let end = met s (l .cur) (c .before .before .before .meet .ensures) (c .before .enum-told .given .1) in
     rw (c .at-end .ensures) (end-gives (l .inv .0) end)
 
 enum-known-octet : tie.Need-enum-known-octet Inv-loop μ-loop
@@ -105,7 +105,7 @@ judge-element-requires c κs =
     let start = c .before .before .before .before .before .before .before .before .before .before .before .before .before .before .before .before .before .before .before in
     let l = c .before .before .before .before .before .before .before .before .before .before .loop in
     let m = meeting (c .before .before .before .before .before .before) in (
-      indexes-of (l .inv .0 .holds),
+      l .inv .0 .holds .indexes,
       (
         m .inner-fine,
         start .pre .0 .1,
@@ -151,7 +151,7 @@ add-row-requires c κs =
     let w = passing (c .before .before .before .before .before) in
     let some = needed (l .inv .0) (meeting (c .before .before .before .before .before .before .before .before .before .before .before .before .before .before .before .before .before)) w in
     let lent = start .pre .1 in (
-      indexes-of (l .inv .0 .holds),
+      l .inv .0 .holds .indexes,
       (
         (w .placed, w .hashed, start .pre .0 .1),
         (

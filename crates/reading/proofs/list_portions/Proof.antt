@@ -11,8 +11,7 @@ use Rattle.runs.specs.Runs.{Meets, Meeting}
 use Rattle.names.specs.Names.{spaceByte}
 use Rattle.index.specs.Rows.{identifierColumn}
 use Rattle.index.specs.Index.{Finds}
-use Rattle.elements.specs.Says.{Placed}
-use Rattle.judging.specs.Judges.{bytesIn}
+use Rattle.elements.specs.Says.{bytesIn, Placed}
 use Rattle.reading.specs.Ready.{columnOf, unitSpace, spanAt}
 use Rattle.reading.proofs.list_portions.Statement.{statement}
 use Rattle.reading.proofs.list_portions.Tie as tie

@@ -8,7 +8,7 @@ use Rattle.elements.specs.WellMade.{WellMade}
 use Rattle.elements.specs.Frames.{Holding}
 use Rattle.elements.proofs.Made.{made-1988}
 use Rattle.letters.specs.Content.{HoldsElement}
-use Rattle.letters.proofs.Meetings.{met}
+use Rattle.contents.proofs.Firsts.{met}
 use Rattle.letters.proofs.Standing.{restFrom, rest-fine, rest-some}
 use Rattle.letters.proofs.Fetching.{holds-element}
 use Rattle.letters.proofs.content.content_of.Statement.{statement}
@@ -34,7 +34,7 @@ meeting c =
     let at-meet = c .before .before .before in
     let g = c .before .octet .given .0 in
     subst (λ (r : Run). Meeting s r (g .0) (g .1 .0) (g .1 .1 .0) (g .1 .1 .1 .0) (g .1 .1 .1 .1 .0)) (from-row (at-meet .before))
-    (met s _ _ _ (at-meet .meet .ensures) (c .before .octet .given .1))
+    (met s _ (at-meet .meet .ensures) (c .before .octet .given .1))
 
 mul-wide : tie.Need-mul-wide
 mul-wide c = search needs
@@ -80,7 +80,7 @@ returns c =
     let at-meet = c .before .before in
     let start = at-meet .before .before .before .before .before .before in
     let s = start .args .s .now in
-    let none-met = met s _ _ _ (at-meet .meet .ensures) (c .enum-told .given .1) in
+    let none-met = met s _ (at-meet .meet .ensures) (c .enum-told .given .1) in
     absurd (rest-some (start .pre .0) (start .args .j) (start .pre .1 .row) (start .pre .1 .stands)
     (ap (itemsOf s) (sym (from-row (at-meet .before))) ∙ none-met))
 
