@@ -10,7 +10,7 @@ use lib.Seq.{length-take-le}
 use borrow.Author.Tests.{ne-eqb, lt-ltb, le-ltb}
 use Rattle.index.specs.Rows.{rowWidth}
 use Rattle.elements.specs.Shape.{edition1988}
-use Rattle.elements.specs.Element.{Element}
+use Rattle.elements.specs.Judge.{Element}
 use Rattle.elements.specs.Rows.{numbers}
 use Rattle.letters.specs.Letter.{letter, refusal}
 use Rattle.answers.specs.Answers.{letterIn, rowsIn, tableOf, refusedCheck, checked, checkedTable, CheckOutcome}

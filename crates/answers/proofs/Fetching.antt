@@ -11,12 +11,13 @@ use lib.ListN.{length, getD, getElem?}
 use lib.Seq.{length-slice}
 use borrow.Author.Tests.{eq-eqb, ne-eqb}
 use Rattle.runs.specs.declared.Run.{Run}
-use Rattle.index.specs.Rows.{rowWidth, kindAt}
+use Rattle.index.specs.Rows.{rowWidth}
+use Rattle.index.specs.Columns.{kindAt}
 use Rattle.contents.specs.declared.Span.{Span}
 use Rattle.contents.specs.Search.{Value, absent, octets}
 use Rattle.pieces.proofs.Joined.{joined-fits}
 use Rattle.elements.specs.Shape.{edition1988}
-use Rattle.elements.specs.Element.{bytesOf, Content, single, joinedContent, Element}
+use Rattle.elements.specs.Judge.{bytesOf, Content, single, joinedContent, Element}
 use Rattle.elements.specs.Says.{Bounds}
 use Rattle.letters.specs.Letter.{letter, refusal}
 use Rattle.letters.specs.Content.{HeldWhole, HeldInPieces}
@@ -24,12 +25,12 @@ use Rattle.judging.proofs.Lists.{at-below}
 use Rattle.judging.proofs.Rows.{RowOf, row-of}
 use Rattle.letters.proofs.Fetching.{part-joined}
 use Rattle.reading.specs.Match.{unitKind}
-use Rattle.answers.specs.declared.Found.{Found}
-use Rattle.answers.specs.declared.Found.the-variants.{Refused as Not, NoUnit, Content as Part, Pieces}
+use Rattle.answers.specs.declared.ContentFound.{ContentFound}
+use Rattle.answers.specs.declared.ContentFound.the-variants.{Refused as Not, NoUnit, Content as Part, Pieces}
 use Rattle.answers.specs.Answers.{letterIn, rowsIn, Fetched, handed, withheld, fetchedBy, partOf, fetched, located, allOf, joinedIn}
 use Rattle.answers.proofs.Small.{refusal-small}
 use Rattle.answers.proofs.Judging.{Accepting}
-use Rattle.answers.specs.Asking.{ContentAt, otherKind, heldWhole, heldInPieces, Finds}
+use Rattle.answers.specs.Asking.{ContentAt, otherKind, heldWhole, heldInPieces, FindsContent}
 
 -- past the end of a list there is nothing
 nothing-past : {A : Type 0} (xs : List A) (k : ℕ) → length xs ≤ k → getElem? xs k ≡ none
@@ -49,7 +50,7 @@ one-piece (octets bytes) = refl
 
 module _ (s : List ℕ) (asked : ℕ) where
   -- 1 to 15
-  pub finds-refused : (number place headers : ℕ) → letterIn s ≡ refusal number place headers → Finds s asked (Not number place)
+  pub finds-refused : (number place headers : ℕ) → letterIn s ≡ refusal number place headers → FindsContent s asked (Not number place)
   unfolding fetched located joinedIn
   finds-refused number place headers e =
       let small = refusal-small edition1988 s number place headers e in
@@ -70,7 +71,7 @@ module _ (s : List ℕ) (asked : ℕ) where
   of-unit {unit = unit} e there kind wanted = rw (e, there, eq-eqb (unit .kind) unitKind kind)
 
   -- 20, whatever is wanted of the content
-  no-unit : ((wanted : Content → Fetched) → fetchedBy wanted (letterIn s) asked ≡ withheld 20 0) → Finds s asked NoUnit
+  no-unit : ((wanted : Content → Fetched) → fetchedBy wanted (letterIn s) asked ≡ withheld 20 0) → FindsContent s asked NoUnit
   unfolding fetched located joinedIn
   no-unit e =
       let f : fetched s asked ≡ withheld 20 0 = e partOf in
@@ -86,7 +87,7 @@ module _ (s : List ℕ) (asked : ℕ) where
 
   module _ {rows : List ℕ} {count headers : ℕ} (l : Accepting s rows count headers) where
     -- 20 ".. or doesn't exist"
-    pub finds-missing : count ≤ asked → Finds s asked NoUnit
+    pub finds-missing : count ≤ asked → FindsContent s asked NoUnit
     finds-missing past =
         let e = l .judged in
         let no-element = nothing-past (l .elements) asked (omega (arith, l .counted)) in
@@ -94,11 +95,11 @@ module _ (s : List ℕ) (asked : ℕ) where
 
     module _ (element : Element) (there : getElem? (l .elements) asked ≡ some element) where
       -- 20 "asked element is no text unit"
-      finds-other : (element .kind ≡ unitKind → ⊥) → Finds s asked NoUnit
+      finds-other : (element .kind ≡ unitKind → ⊥) → FindsContent s asked NoUnit
       finds-other other = let e = l .judged in no-unit (λ wanted. rw (e, there, ne-eqb (element .kind) unitKind other))
 
       finds-part : (row : RowOf s (rowsIn s) asked element) (first past : ℕ) → element .kind ≡ unitKind
-          → HeldWhole s first past (row .row .content) (element .content) → Finds s asked (Part first past)
+          → HeldWhole s first past (row .row .content) (element .content) → FindsContent s asked (Part first past)
       unfolding fetched located joinedIn
       finds-part row first past kind h =
           let within = l .within-limit in
@@ -119,7 +120,7 @@ module _ (s : List ℕ) (asked : ℕ) where
             short = omega arith;
           }
 
-      finds-pieces : (run : Run) → element .kind ≡ unitKind → HeldInPieces s run (element .content) → Finds s asked (Pieces run)
+      finds-pieces : (run : Run) → element .kind ≡ unitKind → HeldInPieces s run (element .content) → FindsContent s asked (Pieces run)
       unfolding fetched located joinedIn
       finds-pieces run kind h =
           let within = l .within-limit in
@@ -136,7 +137,7 @@ module _ (s : List ℕ) (asked : ℕ) where
           }
 
     finds-by : (element : Element) → getElem? (l .elements) asked ≡ some element → (row : RowOf s (rowsIn s) asked element)
-        → kindAt rows asked ≡ element .kind → {found : Found} → ContentAt s rows asked found → Finds s asked found
+        → kindAt rows asked ≡ element .kind → {found : ContentFound} → ContentAt s rows asked found → FindsContent s asked found
     finds-by element there row kind (otherKind other) = finds-other element there (λ k. other (kind ∙ k))
     finds-by element there row kind (heldWhole {first} {past} is holds) =
         finds-part element there row first past (sym kind ∙ is) (holds (l .elements) (row .row) element (l .judge-accepted) (row .stands) there)
@@ -144,7 +145,7 @@ module _ (s : List ℕ) (asked : ℕ) where
         finds-pieces element there run (sym kind ∙ is) (holds (l .elements) (row .row) element (l .judge-accepted) (row .stands) there)
 
     -- what was found of it
-    pub finds-at : {found : Found} → asked < count → ContentAt s rows asked found → Finds s asked found
+    pub finds-at : {found : ContentFound} → asked < count → ContentAt s rows asked found → FindsContent s asked found
     finds-at below found =
         let (element, there) = at-below (l .elements) asked (omega (arith, l .counted)) in
         let row = row-of (l .saying) asked element there in

@@ -6,16 +6,14 @@ use Prim.Native.Nat.{ℕ, suc, _+_, _*_, _<_, _≤_}
 use native.Mathlib.Omega.{arith}
 use lib.ListN.{length, take, getD, getElem?}
 use Rattle.octets.specs.declared.Outcome.the-variants.{Ended}
-use Rattle.octets.specs.Items.{Items, none, item}
-use Rattle.octets.specs.Walk.{streamLimit, walkOf}
+use Rattle.octets.specs.Walk.{Items, none, item, streamLimit, walkOf}
 use Rattle.tree.specs.Tree.{treeOf}
 use Rattle.tree.specs.Accepts.{Accepts}
 use Rattle.runs.specs.Runs.{tops}
 use Rattle.runs.proofs.Laws.{stream-within}
 use Rattle.index.specs.Rows.{rowWidth}
 use Rattle.elements.specs.Shape.{edition1988}
-use Rattle.elements.specs.Element.{Element}
-use Rattle.elements.specs.Judge.{mostElements, accepted, judge}
+use Rattle.elements.specs.Judge.{Element, mostElements, accepted, judge}
 use Rattle.elements.specs.declared.Row.{Row}
 use Rattle.elements.specs.Rows.{cells, rowsOf, numbers}
 use Rattle.letters.specs.declared.Verdict.{Verdict}
@@ -23,14 +21,14 @@ use Rattle.letters.specs.declared.Verdict.the-variants.{Accepted, Refused}
 use Rattle.letters.specs.Letter.{itemsOfStream, letter, refusal}
 use Rattle.letters.specs.Lent.{rowsNeeded}
 use Rattle.judging.specs.Done.{Saying}
-use Rattle.letters.specs.Scratch.{Filled, Stopped, Gives}
-use Rattle.letters.specs.Table.{Apart}
+use Rattle.letters.specs.Scratch.{Filled, Stopped, GivesVerdict}
+use Rattle.letters.specs.Apart.{Apart}
 use Rattle.letters.specs.Content.{RowIn}
 use Rattle.judging.proofs.Rows.{saying-length, cell-at}
 use Rattle.letters.proofs.Apart.{accepted-apart}
 use Rattle.letters.proofs.Fetching.{filled-row-in}
 use Rattle.answers.specs.Answers.{letterIn, rowsIn}
-use Rattle.answers.specs.Asking.{Judged, Decides}
+use Rattle.answers.specs.Asking.{JudgedIn, Decides}
 use Rattle.answers.proofs.Letters.{refused-element, accepted-letter}
 use Rattle.answers.proofs.Small.{Small, refusal-small}
 
@@ -61,17 +59,17 @@ pub record Accepting (s rows : List ℕ) (count headers : ℕ) : Type 0 where
   pub row-in : (j : ℕ) → j < count → RowIn s rows j
   pub cells-at : (j : ℕ) (row : Row) → getElem? (rowsIn s) j ≡ some row → (c : ℕ) → c < rowWidth → getD rows (j * rowWidth + c) 0 ≡ getD (cells row) c 0
 
-module _ {s rows : List ℕ} {verdict : Verdict} {at headers : ℕ} (walked : walkOf s ≡ Ended at headers) (j : Judged s rows verdict) where
+module _ {s rows : List ℕ} {verdict : Verdict} {at headers : ℕ} (walked : walkOf s ≡ Ended at headers) (j : JudgedIn s rows verdict) where
   pub refused-judged : {number place : ℕ} → verdict ≡ Refused number place → Refusing s number place headers
   refused-judged {number} {place} e =
-      let stopped : Stopped s number place = subst (Judged s rows) e j .gives in
+      let stopped : Stopped s number place = subst (JudgedIn s rows) e j .gives in
       let told : letterIn s ≡ refusal number place headers =
       refused-element edition1988 s at headers number (stopped .element) walked (stopped .judged) ∙ rw (sym (stopped .placed)) in
       record { judged = told; small = refusal-small edition1988 s number place headers told }
 
   pub accepted-judged : {count : ℕ} → verdict ≡ Accepted count → Accepting s rows count headers
   accepted-judged {count} e =
-      let k = subst (Judged s rows) e j in
+      let k = subst (JudgedIn s rows) e j in
       let filled : Filled s rows (k .head) (k .next) (k .head2) (k .next2) count = k .gives in
       let holds = filled .holds in
       let few : count ≤ mostElements = subst (λ (n : ℕ). n ≤ mostElements) (holds .counted) (accepted-apart edition1988 (treeOf s) (filled .elements) (filled .judged) .few) in
@@ -92,11 +90,11 @@ module _ {s rows : List ℕ} {verdict : Verdict} {at headers : ℕ} (walked : wa
       }
 
 -- what was judged, whatever the indexes hold
-pub judged-in : (s rows head next head2 next2 : List ℕ) (verdict : Verdict) → Gives s rows head next head2 next2 verdict → Judged s rows verdict
+pub judged-in : (s rows head next head2 next2 : List ℕ) (verdict : Verdict) → GivesVerdict s rows head next head2 next2 verdict → JudgedIn s rows verdict
 judged-in s rows head next head2 next2 verdict gives = record { head = head; next = next; head2 = head2; next2 = next2; gives = gives }
 
 -- the verdict is that of rules 1 to 15
-pub decides : {s rows : List ℕ} {at headers : ℕ} → walkOf s ≡ Ended at headers → (verdict : Verdict) → Judged s rows verdict → Decides s verdict
+pub decides : {s rows : List ℕ} {at headers : ℕ} → walkOf s ≡ Ended at headers → (verdict : Verdict) → JudgedIn s rows verdict → Decides s verdict
 decides {headers = headers} w (Accepted count) j =
     let l = accepted-judged w j refl in record { headers = headers; elements = l .elements; judged = l .judged }
 decides {headers = headers} w (Refused number place) j = let r = refused-judged w j refl in record { headers = headers; judged = r .judged }

@@ -11,12 +11,12 @@ use borrow.Author.Tests.{ne-eqb, lt-ltb, le-ltb}
 use borrow.Table.Steps.{cases}
 use Rattle.index.specs.Rows.{rowWidth}
 use Rattle.elements.specs.Shape.{edition1988}
-use Rattle.elements.specs.Element.{Element}
+use Rattle.elements.specs.Judge.{Element}
 use Rattle.letters.specs.Letter.{letter, refusal}
 use Rattle.reading.specs.declared.Match.{Match}
 use Rattle.reading.specs.declared.Side.{Side}
 use Rattle.reading.specs.Match.{matches}
-use Rattle.reading.specs.Records.{records, Lists}
+use Rattle.reading.specs.Records.{records, ListsMatches}
 use Rattle.reading.proofs.Made.{length-records}
 use Rattle.reading.proofs.Scratch.{lists-records}
 use Rattle.answers.specs.declared.Listed.{Listed}
@@ -47,7 +47,7 @@ module _ (side : Side) (s table flat : List ℕ) (room : ℕ) where
         let t : ltb (length table / rowWidth) (length elements) ≡ true = lt-ltb _ _ few in
         record { answered = rw (e, t); tabled = rw (e, t); stored = no-records flat; fits = omega arith; enough = omega arith }
 
-    module _ (count : ℕ) (counted : length elements ≡ count) (enough-rows : count ≤ length table / rowWidth) (before : List ℕ) (m : ℕ) (lists : Lists side elements before flat m) where
+    module _ (count : ℕ) (counted : length elements ≡ count) (enough-rows : count ≤ length table / rowWidth) (before : List ℕ) (m : ℕ) (lists : ListsMatches side elements before flat m) where
       rows-enough : ltb (length table / rowWidth) (length elements) ≡ false
       rows-enough = le-ltb (length table / rowWidth) (length elements) (omega arith)
 

@@ -12,8 +12,7 @@ use borrow.Author.Tests.{leb-true, eqb-false}
 use borrow.Table.Steps.{cases}
 use Rattle.octets.specs.declared.Outcome.{Outcome}
 use Rattle.octets.specs.declared.Outcome.the-variants.{Ended, Refused}
-use Rattle.octets.specs.Items.{Items, count}
-use Rattle.octets.specs.Walk.{streamLimit, deepest, End, ends, stops, run, answerOf, walkOf}
+use Rattle.octets.specs.Walk.{Items, count, streamLimit, deepest, End, ends, stops, run, outcomeOf, walkOf}
 use Rattle.headers.proofs.Lies.{cond-holds}
 use Rattle.octets.proofs.Walks.{EndOk, run-ok}
 use Rattle.octets.proofs.Numbers.{Stops, run-stops, Before, nothing, stands, run-before}
@@ -21,8 +20,7 @@ use Rattle.tree.specs.Tree.{Tree, empty, leaf, branch, treeOf}
 use Rattle.runs.proofs.Laws.{stream-within, stream-fine, stream-count, count-within}
 use Rattle.contents.specs.Search.{is, firstValue}
 use Rattle.elements.specs.Shape.{Edition, shapeOf}
-use Rattle.elements.specs.Element.{Element, elementOf, asTabled, typeFits, namesFit}
-use Rattle.elements.specs.Judge.{Judged, accepted, refused, mostElements, profile, twice, refusalOf, judgeOne, judgeFrom, judge}
+use Rattle.elements.specs.Judge.{Element, elementOf, asTabled, typeFits, namesFit, Judged, accepted, refused, mostElements, profile, twice, refusalOf, judgeOne, judgeFrom, judge}
 use Rattle.elements.specs.Rows.{placeOf}
 use Rattle.letters.specs.Letter.{refusal, itemsOfStream, afterWalk, byWalk, letterOf}
 
@@ -37,7 +35,7 @@ pub record Small (s : List ℕ) (number place headers : ℕ) : Type 0 where
 
 -- the walk's refusals
 refused-small : (s : List ℕ) (b : Bool) (k : ℕ) (e : End) → (b ≡ true → length s ≤ streamLimit) → Stops (length s) e → EndOk 0 (length s) k e
-    → (number place headers : ℕ) → cond b (answerOf k e) (Refused 1 0 0) ≡ Refused number place headers → Small s number place headers
+    → (number place headers : ℕ) → cond b (outcomeOf k e) (Refused 1 0 0) ≡ Refused number place headers → Small s number place headers
 refused-small s true k (ends at) within stop ok number place headers p = let z : _≡_ {A = ℕ} 0 1 = cc in absurd (omega arith)
 refused-small s true k (stops m q) within stop ok number place headers p =
     let a : number ≡ m = cc in

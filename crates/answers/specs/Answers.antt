@@ -9,16 +9,15 @@ use mathlib.Core.Option.{Option, none, some}
 use lib.Dec.{eqb, ltb}
 use lib.ListN.{length, drop, getElem?}
 use lib.Seq.{slice}
-use Rattle.headers.specs.First.{isIn}
+use Rattle.headers.specs.Head.{isIn}
 use Rattle.octets.specs.Walk.{streamLimit}
 use Rattle.normal.specs.Normal.{normalForm}
 use Rattle.index.specs.Rows.{rowWidth}
 use Rattle.contents.specs.declared.Span.{Span}
 use Rattle.elements.specs.declared.Row.{Row}
 use Rattle.elements.specs.Shape.{edition1988}
-use Rattle.elements.specs.Element.{Content, single, inPieces, bytesOf, joinedContent, Element}
-use Rattle.elements.specs.Rows.{numbers}
-use Rattle.elements.specs.Says.{noSpan}
+use Rattle.elements.specs.Judge.{Content, single, inPieces, bytesOf, joinedContent, Element}
+use Rattle.elements.specs.Rows.{numbers, noSpan}
 use Rattle.letters.specs.Letter.{Letter, letter, refusal, letterOf, rowsOfStream}
 use Rattle.reading.specs.declared.Match.{Match}
 use Rattle.reading.specs.declared.Side.{Side}
@@ -27,7 +26,7 @@ use Rattle.answers.specs.declared.Checked.{Checked}
 use Rattle.answers.specs.declared.Written.{Written}
 use Rattle.answers.specs.declared.Listed.{Listed}
 use Rattle.answers.specs.declared.Reason.{Reason}
-use Rattle.answers.specs.declared.Located.{Located}
+use Rattle.answers.specs.declared.Found.{Found}
 use Rattle.answers.specs.declared.Copied.{Copied}
 
 -- what a stream is by rules 1 to 15, in the edition of 1988
@@ -166,14 +165,14 @@ abbrev pub contentIn : Option Row → Span
 contentIn none = noSpan
 contentIn (some row) = row .content
 
-abbrev pub locatedAt : Fetched → Span → Located
+abbrev pub locatedAt : Fetched → Span → Found
 locatedAt told pair = record { number = told .number; place = told .place; first = pair .first; past = pair .past }
 
-unfoldable pub located : (s : List ℕ) → (asked : ℕ) → Located
+unfoldable pub located : (s : List ℕ) → (asked : ℕ) → Found
 located s asked = locatedAt (fetched s asked) (cond (eqb (fetched s asked .number) 0) (contentIn (getElem? (rowsIn s) asked)) noSpan)
 
 -- They are where the content stands that the question in its other form hands back: in the stream, and nothing is left open.
-pub record Fetches (s : List ℕ) (asked : ℕ) (told : Located) : Type 0 where
+pub record Fetches (s : List ℕ) (asked : ℕ) (told : Found) : Type 0 where
   pub answered : told ≡ located s asked
   pub number : told .number ≡ fetched s asked .number
   pub place : told .place ≡ fetched s asked .place

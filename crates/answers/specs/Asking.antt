@@ -12,33 +12,33 @@ use Rattle.octets.specs.declared.Outcome.the-variants.{Ended, Refused as Faulty
 use Rattle.octets.specs.Walk.{streamLimit, walkOf}
 use Rattle.runs.specs.declared.Run.{Run}
 use Rattle.runs.specs.Runs.{treeIn, Fine}
-use Rattle.index.specs.Rows.{kindAt}
+use Rattle.index.specs.Columns.{kindAt}
 use Rattle.pieces.specs.Pieces.{joined}
-use Rattle.elements.specs.Element.{Element}
+use Rattle.elements.specs.Judge.{Element}
 use Rattle.letters.specs.declared.Held.the-variants.{Part, Pieces as PiecesIn}
 use Rattle.letters.specs.declared.Verdict.{Verdict}
 use Rattle.letters.specs.declared.Verdict.the-variants.{Accepted, Refused}
 use Rattle.letters.specs.Letter.{letter, refusal}
 use Rattle.letters.specs.Lent.{rowsNeeded}
-use Rattle.letters.specs.Scratch.{Gives}
+use Rattle.letters.specs.Scratch.{GivesVerdict}
 use Rattle.letters.specs.Content.{HoldsElement}
 use Rattle.reading.specs.declared.Side.{Side}
 use Rattle.reading.specs.Match.{unitKind}
 use Rattle.reading.specs.Records.{records}
 use Rattle.answers.specs.declared.Copied.{Copied}
 use Rattle.answers.specs.declared.Listed.{Listed}
-use Rattle.answers.specs.declared.Located.{Located}
 use Rattle.answers.specs.declared.Found.{Found}
-use Rattle.answers.specs.declared.Found.the-variants.{Refused as Not, NoUnit, Content, Pieces}
+use Rattle.answers.specs.declared.ContentFound.{ContentFound}
+use Rattle.answers.specs.declared.ContentFound.the-variants.{Refused as Not, NoUnit, Content, Pieces}
 use Rattle.answers.specs.Answers.{letterIn, listed, listedTable, matchesIn, onto, Fetched, handed, withheld, Fetches, joinedIn, copiedFrom}
 
 -- a stream was judged with this verdict, and these are its rows in scratch, whatever the indexes hold
-pub record Judged (s rows : List ℕ) (verdict : Verdict) : Type 0 where
+pub record JudgedIn (s rows : List ℕ) (verdict : Verdict) : Type 0 where
   pub head : List ℕ
   pub next : List ℕ
   pub head2 : List ℕ
   pub next2 : List ℕ
-  pub gives : Gives s rows head next head2 next2 verdict
+  pub gives : GivesVerdict s rows head next head2 next2 verdict
 
 -- a stream is accepted by rules 1 to 15
 pub record IsLetter (s : List ℕ) : Type 0 where
@@ -57,38 +57,38 @@ Decides s (Accepted count) = IsLetter s
 Decides s (Refused number place) = IsRefused s number place
 
 -- what is found of the element in row j: no text unit, or where its content stands
-pub data ContentAt (s rows : List ℕ) (j : ℕ) : Found → Type 0 where
+pub data ContentAt (s rows : List ℕ) (j : ℕ) : ContentFound → Type 0 where
   otherKind : (kindAt rows j ≡ unitKind → ⊥) → ContentAt s rows j NoUnit
   heldWhole : {first past : ℕ} → kindAt rows j ≡ unitKind → HoldsElement s j (Part first past) → ContentAt s rows j (Content first past)
   heldInPieces : {run : Run} → kindAt rows j ≡ unitKind → HoldsElement s j (PiecesIn run) → ContentAt s rows j (Pieces run)
 
 -- the bounds of a refused fetch
-abbrev pub nowhere : (number place : ℕ) → Located
+abbrev pub nowhere : (number place : ℕ) → Found
 nowhere number place = record { number = number; place = place; first = 0; past = 0 }
 
 -- the number, place and bounds that document 01 gives each case of a fetch
-abbrev pub toldOf : Found → Located
+abbrev pub toldOf : ContentFound → Found
 toldOf (Not number place) = nowhere number place
 toldOf NoUnit = nowhere 20 0
 toldOf (Content first past) = record { number = 0; place = 0; first = first; past = past }
 toldOf (Pieces run) = nowhere 21 0
 
 -- the joined content in each case, before it is known whether there is room for it
-abbrev pub joinedOf : (s : List ℕ) → Found → Fetched
+abbrev pub joinedOf : (s : List ℕ) → ContentFound → Fetched
 joinedOf s (Not number place) = withheld number place
 joinedOf s NoUnit = withheld 20 0
 joinedOf s (Content first past) = handed (slice first past s)
 joinedOf s (Pieces run) = handed (joined (treeIn s run))
 
 -- what else is known in each case: a refusal has a number, and pieces can be met one after another
-abbrev pub Known : (s : List ℕ) → Found → Type 0
+abbrev pub Known : (s : List ℕ) → ContentFound → Type 0
 Known s (Not number place) = 1 ≤ number
 Known s NoUnit = Unit {0}
 Known s (Content first past) = Unit {0}
 Known s (Pieces run) = Fine s run
 
 -- what is fetched, in numbers that fit 32 bits
-pub record Finds (s : List ℕ) (asked : ℕ) (found : Found) : Type 0 where
+pub record FindsContent (s : List ℕ) (asked : ℕ) (found : ContentFound) : Type 0 where
   pub fetches : Fetches s asked (toldOf found)
   pub joins : joinedIn s asked ≡ joinedOf s found
   pub known : Known s found

@@ -15,10 +15,10 @@ ghost use Rattle.tree.specs.Accepts.{Accepts};
 ghost use Rattle.runs.specs.Runs.{wholeStream, treeIn, Fine};
 ghost use Rattle.pieces.specs.Pieces.{joined};
 ghost use Rattle.letters.specs.Lent.{rowsNeeded};
-ghost use Rattle.letters.specs.Scratch.{Gives};
+ghost use Rattle.letters.specs.Scratch.{GivesVerdict};
 ghost use Rattle.letters.specs.Content.{RowIn};
 ghost use Rattle.answers.specs.Answers.{refusedCheck, CheckOutcome};
-ghost use Rattle.answers.specs.Asking.{Judged, ContentAt, Finds, Copies, ListsFlat};
+ghost use Rattle.answers.specs.Asking.{JudgedIn, ContentAt, FindsContent, Copies, ListsFlat};
 
 const ROW_WIDTH: usize = 12;
 
@@ -65,7 +65,7 @@ pub struct Reason {
 
 // The bounds of a text unit's content, for callers to whom no part can be handed back.
 #[repr(C)]
-pub struct Located {
+pub struct Found {
     pub number: u32,
     pub place: u32,
     pub first: u32,
@@ -81,7 +81,7 @@ pub struct Copied {
 }
 
 // What a fetch of content finds: a part of the stream, or pieces.
-pub enum Found {
+pub enum ContentFound {
     Refused { number: usize, place: usize },
     NoUnit,
     Content { first: usize, past: usize },
@@ -109,7 +109,7 @@ pub fn check_judged(
     table: &mut [u32],
 ) -> Checked
     requires { ⌜ walkOf (now stream) ≡ Outcome.Ended (length (now stream)) headers ⌝ }
-    requires { ⌜ Judged (now stream) (now rows) verdict ⌝ }
+    requires { ⌜ JudgedIn (now stream) (now rows) verdict ⌝ }
     ensures { λ r. ⌜ CheckOutcome (now (stream .entry)) (now (table .entry)) r (now (table .exit)) ⌝ }
 {
     match verdict {
@@ -130,33 +130,33 @@ pub fn check_judged(
 }
 
 // The content of the element whose row is given, if it is a text unit.
-fn content_at(stream: &[u8], rows: &[u32], element: usize) -> Found
+fn content_at(stream: &[u8], rows: &[u32], element: usize) -> ContentFound
     requires { ⌜ Fine (now stream) (wholeStream (now stream)) ⌝ }
     requires { ⌜ (element < 4096) × RowIn (now stream) (now rows) element ⌝ }
     ensures { λ r. ⌜ ContentAt (now (stream .entry)) (now (rows .entry)) element r ⌝ }
 {
     if rows[element * ROW_WIDTH] != TEXT_UNIT {
-        return Found::NoUnit;
+        return ContentFound::NoUnit;
     }
     match letters::content_of(stream, rows, element) {
-        Held::Part { first, past } => Found::Content { first, past },
-        Held::Pieces { run } => Found::Pieces { run },
+        Held::Part { first, past } => ContentFound::Content { first, past },
+        Held::Pieces { run } => ContentFound::Pieces { run },
     }
 }
 
 // The content of an element of a stream that was judged: 20, or where it stands.
-pub fn fetch_judged(stream: &[u8], element: usize, rows: &[u32], verdict: Verdict) -> Found
+pub fn fetch_judged(stream: &[u8], element: usize, rows: &[u32], verdict: Verdict) -> ContentFound
     requires { ⌜ Accepts (now stream) (treeOf (now stream)) ⌝ }
-    requires { ⌜ Judged (now stream) (now rows) verdict ⌝ }
-    ensures { λ r. ⌜ Finds (now (stream .entry)) element r ⌝ }
+    requires { ⌜ JudgedIn (now stream) (now rows) verdict ⌝ }
+    ensures { λ r. ⌜ FindsContent (now (stream .entry)) element r ⌝ }
 {
     match verdict {
-        Verdict::Refused { number, place } => Found::Refused { number, place },
+        Verdict::Refused { number, place } => ContentFound::Refused { number, place },
         Verdict::Accepted { count } => {
             if element < count {
                 return content_at(stream, rows, element);
             }
-            Found::NoUnit
+            ContentFound::NoUnit
         }
     }
 }
@@ -216,7 +216,7 @@ pub fn list_judged(
     flat: &mut [u32],
 ) -> Listed
     requires { ⌜ Accepts (now stream) (treeOf (now stream)) ⌝ }
-    requires { ⌜ Gives (now stream) (now rows) (now head) (now next) (now head2) (now next2) verdict ⌝ }
+    requires { ⌜ GivesVerdict (now stream) (now rows) (now head) (now next) (now head2) (now next2) verdict ⌝ }
     requires { ⌜ 3 * rowsNeeded (now stream) ≤ length (now flat) ⌝ }
     ensures { λ r. ⌜ ListsFlat side (now (stream .entry)) (now (table .entry)) room r (now (table .exit)) (now (flat .exit)) ⌝ }
 {

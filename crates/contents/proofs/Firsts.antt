@@ -7,8 +7,8 @@ use Prim.Native.Nat.{ℕ, _+_}
 use native.Mathlib.Omega.{arith}
 use lib.Dec.{eqb}
 use borrow.Author.Tests.{eq-eqb, ne-eqb}
-use Rattle.headers.specs.First.{constructed}
-use Rattle.octets.specs.Items.{none}
+use Rattle.headers.specs.Head.{constructed}
+use Rattle.octets.specs.Walk.{none}
 use Rattle.tree.specs.Tree.{Tree, formed}
 use Rattle.runs.specs.declared.Run.{Run}
 use Rattle.runs.specs.declared.Met.{Met}
@@ -16,7 +16,7 @@ use Rattle.runs.specs.Runs.{itemsOf, treeIn, Meets}
 use Rattle.runs.proofs.Laws.{tree-meets, tree-none}
 use Rattle.contents.specs.declared.Part.{Part}
 use Rattle.contents.specs.Search.{amount, octets, firstValue, firstRun, boundsOf, itemsIn}
-use Rattle.contents.specs.First.{Holds, Lacks}
+use Rattle.contents.specs.First.{IsFirst, Lacks}
 use Rattle.contents.specs.Opening.{Begins}
 
 -- what `meet` gave, once its case is known
@@ -74,7 +74,7 @@ module _ {s : List ℕ} {octet : ℕ} {from to : Run} (a : Alike s octet from to
         tree = a .tree ∙ b .tree;
       }
 
-  pub holds-before : {p : Part} → Holds s to octet p → Holds s from octet p
+  pub holds-before : {p : Part} → IsFirst s to octet p → IsFirst s from octet p
   holds-before h =
       record {
         octet-is = h .octet-is;
@@ -138,7 +138,7 @@ module _ (s : List ℕ) (r : Run) (p : Part) (rest : Run) (m : Begins s r p rest
             ∙ run-after octet (p .octet) _ (treeIn s (p .inner)) (treeIn s rest) (constructed (p .octet)) n;
       }
 
-  pub holds-here : p .octet ≡ octet → Holds s r octet p
+  pub holds-here : p .octet ≡ octet → IsFirst s r octet p
   unfolding boundsOf itemsIn
   holds-here e =
       record {

@@ -6,11 +6,11 @@ use Prim.Native.Nat.{ℕ, _+_, _-_, _≤_}
 use native.Mathlib.Omega.{arith}
 use lib.Dec.{eqb}
 use lib.ListN.{length}
-use Rattle.octets.specs.Items.{none}
+use Rattle.octets.specs.Walk.{none}
 use Rattle.runs.specs.declared.Run.{Run}
 use Rattle.runs.specs.Runs.{itemsOf, treeIn, Fine}
 use Rattle.contents.specs.declared.Part.{Part}
-use Rattle.contents.specs.declared.Seen.{Seen}
+use Rattle.contents.specs.declared.Tally.{Tally}
 use Rattle.contents.specs.declared.Sought.{Sought}
 use Rattle.contents.specs.Search.{amount}
 use Rattle.contents.specs.Opening.{Begins}
@@ -19,7 +19,7 @@ use Rattle.contents.proofs.Firsts.{amount-of-item, amount-at-end}
 use Rattle.contents.proofs.Seeing.{Sees, sees-nothing, sees-more, kept, counted}
 
 -- what was seen from the run `from` up to the run `to`, which is what is left of it
-pub record Gathering (s : List ℕ) (sought : Sought) (from to : Run) (identifier logical portions : Seen) (barred : ℕ) : Type 0 where
+pub record Gathering (s : List ℕ) (sought : Sought) (from to : Run) (identifier logical portions : Tally) (barred : ℕ) : Type 0 where
   pub fine : Fine s to
   pub identifier-seen : Sees s (sought .identifier) from to identifier
   pub logical-seen : Sees s (sought .logical) from to logical
@@ -43,7 +43,7 @@ gathering-nothing s sought r f =
       total = omega arith;
     }
 
-module _ (s : List ℕ) (sought : Sought) (from to : Run) (identifier logical portions : Seen) (barred : ℕ)
+module _ (s : List ℕ) (sought : Sought) (from to : Run) (identifier logical portions : Tally) (barred : ℕ)
     (g : Gathering s sought from to identifier logical portions barred) where
   pub gathering-more : (p : Part) (rest : Run) → Begins s to p rest
       → Gathering s sought from rest (seenWith (sought .identifier) identifier p) (seenWith (sought .logical) logical p)

@@ -5,8 +5,8 @@ use mathlib.Core.List.{List, [], _∷_}
 use Prim.Native.Nat.{ℕ, zero, suc, _≤_}
 use native.Mathlib.Omega.{arith}
 use lib.Dec.{eqb}
-use Rattle.headers.specs.First.{constructed}
-use Rattle.octets.specs.Items.{none}
+use Rattle.headers.specs.Head.{constructed}
+use Rattle.octets.specs.Walk.{none}
 use Rattle.tree.specs.Tree.{Tree, formed}
 use Rattle.runs.specs.declared.Run.{Run}
 use Rattle.runs.specs.Runs.{itemsOf, treeIn}
@@ -14,7 +14,7 @@ use Rattle.runs.proofs.Laws.{tree-meets, tree-none}
 use Rattle.contents.specs.declared.Opening.{Opening}
 use Rattle.contents.specs.declared.Part.{Part}
 use Rattle.contents.specs.declared.Slot.{Slot}
-use Rattle.contents.specs.Order.{ends, starts, slot, inOrder}
+use Rattle.contents.specs.Search.{ends, starts, slot, inOrder}
 use Rattle.contents.specs.Opening.{Begins, Opens, nothing, single, several, ends-here, goes-on}
 
 module _ (type : ℕ) (value : List ℕ) (inside after : Tree) where

@@ -8,26 +8,25 @@ use native.Mathlib.Omega.{arith}
 use lib.Dec.{eqb}
 use lib.ListN.{length}
 use borrow.Author.Tests.{eqb-true, eqb-false}
-use Rattle.headers.specs.First.{constructed}
-use Rattle.octets.specs.Items.{none}
-use Rattle.octets.specs.Walk.{run, runFor}
+use Rattle.headers.specs.Head.{constructed}
+use Rattle.octets.specs.Walk.{none, run, runFor}
 use Rattle.headers.proofs.Lies.{cond-holds}
 use Rattle.runs.specs.declared.Run.{Run}
 use Rattle.runs.specs.Runs.{itemsOf, treeIn, Fine}
 use Rattle.contents.specs.declared.Part.{Part}
-use Rattle.contents.specs.declared.Seen.{Seen}
+use Rattle.contents.specs.declared.Tally.{Tally}
 use Rattle.contents.specs.Search.{amount, firstRun, boundsOf, itemsIn}
-use Rattle.contents.specs.First.{spanOf, Holds, Lacks}
+use Rattle.contents.specs.First.{spanOf, IsFirst, Lacks}
 use Rattle.contents.specs.Opening.{noPart, Begins}
-use Rattle.contents.specs.Gather.{Counted, unseen, firstOf, seenWith}
+use Rattle.contents.specs.Gather.{Counted, unseen, earlier, seenWith}
 use Rattle.contents.proofs.Firsts.{Alike, same-search, alike-on, holds-before, lacks-before, lacks-at-end, amount-at-end, amount-of-item, alike-after, holds-here}
 
 -- x is what was seen of the octet from the run `from` up to the run `to`, which is what is left of it
-pub record Sees (s : List ℕ) (octet : ℕ) (from to : Run) (x : Seen) : Type 0 where
+pub record Sees (s : List ℕ) (octet : ℕ) (from to : Run) (x : Tally) : Type 0 where
   pub bound : x .amount + (to .limit - to .at) ≤ length s
   pub total : x .amount + amount octet (treeIn s to) ≡ amount octet (treeIn s from)
   pub not-yet : x .amount ≡ 0 → (x .part ≡ noPart) × Alike s octet from to
-  pub seen : (x .amount ≡ 0 → ⊥) → Holds s from octet (x .part)
+  pub seen : (x .amount ≡ 0 → ⊥) → IsFirst s from octet (x .part)
 
 pub sees-nothing : (s : List ℕ) (octet : ℕ) (r : Run) → Fine s r → Sees s octet r r unseen
 sees-nothing s octet r f =
@@ -38,16 +37,16 @@ sees-nothing s octet r f =
       seen = λ n. absurd (n refl);
     }
 
-module _ (s : List ℕ) (octet : ℕ) (from to : Run) (x : Seen) (p : Part) (rest : Run) (m : Begins s to p rest) (k : Sees s octet from to x) where
+module _ (s : List ℕ) (octet : ℕ) (from to : Run) (x : Tally) (p : Part) (rest : Run) (m : Begins s to p rest) (k : Sees s octet from to x) where
   sees-one : eqb (p .octet) octet ≡ true
-      → Sees s octet from rest (record { amount = x .amount + 1; part = firstOf x p })
+      → Sees s octet from rest (record { amount = x .amount + 1; part = earlier x p })
   sees-one e =
       let a : amount octet (treeIn s to) ≡ 1 + amount octet (treeIn s rest) = amount-of-item s to p rest m octet ∙ rw e in
       record {
         bound = omega (arith, m .less, k .bound);
         total = omega (arith, a, k .total);
         not-yet = λ z. absurd (omega arith);
-        seen = λ n. cond-holds (Holds s from octet) (eqb (x .amount) 0)
+        seen = λ n. cond-holds (IsFirst s from octet) (eqb (x .amount) 0)
             (λ z. holds-before (k .not-yet (eqb-true _ _ z) .1) (holds-here s to p rest m octet (eqb-true _ _ e)))
             (λ z. k .seen (eqb-false _ _ z));
       }
@@ -76,12 +75,12 @@ pub record Kept (s : List ℕ) (octet : ℕ) (r : Run) (p : Part) : Type 0 where
   pub tree : (octet ≡ 0) ⊎ (constructed octet ≡ true) → treeIn s (p .inner) ≡ firstRun octet (treeIn s r)
 
 module _ (s : List ℕ) (octet : ℕ) (r : Run) where
-  found-tree : (p : Part) → Holds s r octet p → (octet ≡ 0) ⊎ (constructed octet ≡ true)
+  found-tree : (p : Part) → IsFirst s r octet p → (octet ≡ 0) ⊎ (constructed octet ≡ true)
       → treeIn s (p .inner) ≡ firstRun octet (treeIn s r)
   found-tree p h (inl z) = absurd (h .octet-not-zero z)
   found-tree p h (inr c) = sym (h .tree c)
 
-  kept-found : (p : Part) → Holds s r octet p → Kept s octet r p
+  kept-found : (p : Part) → IsFirst s r octet p → Kept s octet r p
   kept-found p h =
       record {
         bounds = sym (h .bounds);
@@ -109,7 +108,7 @@ module _ (s : List ℕ) (octet : ℕ) (r : Run) where
   zero-or-not (suc n) = inr (λ e. omega arith)
 
   -- at the end of the run
-  module _ (to : Run) (x : Seen) (e : itemsOf s to ≡ none) (k : Sees s octet r to x) where
+  module _ (to : Run) (x : Tally) (e : itemsOf s to ≡ none) (k : Sees s octet r to x) where
     lacks : x .amount ≡ 0 → Lacks s r octet
     lacks z = lacks-before (k .not-yet z .1) (lacks-at-end s octet to e)
 

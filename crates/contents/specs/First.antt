@@ -5,8 +5,8 @@ use mathlib.Core.List.{List}
 use Prim.Native.Nat.{ℕ, _<_, _≤_}
 use lib.ListN.{length}
 use lib.Seq.{slice}
-use Rattle.headers.specs.First.{constructed}
-use Rattle.octets.specs.Items.{none}
+use Rattle.headers.specs.Head.{constructed}
+use Rattle.octets.specs.Walk.{none}
 use Rattle.tree.specs.Tree.{empty}
 use Rattle.runs.specs.declared.Run.{Run}
 use Rattle.runs.specs.Runs.{itemsOf, treeIn, Fine}
@@ -19,7 +19,7 @@ abbrev pub spanOf : Part → Span
 spanOf p = record { first = p .first; past = p .past }
 
 -- p is the first item of the run r with the octet: it has the value that is looked for, if the octet is primitive, or the run
-pub record Holds (s : List ℕ) (r : Run) (octet : ℕ) (p : Part) : Type 0 where
+pub record IsFirst (s : List ℕ) (r : Run) (octet : ℕ) (p : Part) : Type 0 where
   pub octet-is : p .octet ≡ octet
   pub octet-not-zero : octet ≡ 0 → ⊥
   pub octet-small : octet < 256

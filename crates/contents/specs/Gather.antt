@@ -10,12 +10,12 @@ use Prim.Native.Nat.{ℕ, _+_, _<_, _≤_}
 use lib.Dec.{eqb}
 use lib.ListN.{length}
 use lib.Seq.{slice}
-use Rattle.headers.specs.First.{constructed}
+use Rattle.headers.specs.Head.{constructed}
 use Rattle.runs.specs.declared.Run.{Run}
 use Rattle.runs.specs.Runs.{itemsOf, treeIn, Fine}
 use Rattle.contents.specs.declared.Part.{Part}
 use Rattle.contents.specs.declared.Span.{Span}
-use Rattle.contents.specs.declared.Seen.{Seen}
+use Rattle.contents.specs.declared.Tally.{Tally}
 use Rattle.contents.specs.declared.Sought.{Sought}
 use Rattle.contents.specs.declared.Gathered.{Gathered}
 use Rattle.contents.specs.Search.{amount, absent, octets, firstValue, firstRun, boundsOf, itemsIn}
@@ -43,19 +43,19 @@ pub record Gathers (s : List ℕ) (r : Run) (sought : Sought) (g : Gathered) : T
   pub barred : g .barred ≡ amount (sought .never) (treeIn s r) + amount (sought .neither) (treeIn s r)
 
 -- no item with the octet was seen
-abbrev pub unseen : Seen
+abbrev pub unseen : Tally
 unseen = record { amount = 0; part = noPart }
 
 -- the first item that was seen, if p comes after x
-abbrev pub firstOf : Seen → Part → Part
-firstOf x p = cond (eqb (x .amount) 0) p (x .part)
+abbrev pub earlier : Tally → Part → Part
+earlier x p = cond (eqb (x .amount) 0) p (x .part)
 
 -- the item p is seen after the others: it counts if it has the octet
-unfoldable pub seenWith : (octet : ℕ) → Seen → Part → Seen
-seenWith octet x p = cond (eqb (p .octet) octet) (record { amount = x .amount + 1; part = firstOf x p }) x
+unfoldable pub seenWith : (octet : ℕ) → Tally → Part → Tally
+seenWith octet x p = cond (eqb (p .octet) octet) (record { amount = x .amount + 1; part = earlier x p }) x
 
 -- what was seen of three octets, as the answer
-abbrev pub gatheredFrom : (identifier logical portions : Seen) → (barred : ℕ) → Gathered
+abbrev pub gatheredFrom : (identifier logical portions : Tally) → (barred : ℕ) → Gathered
 gatheredFrom identifier logical portions barred = record {
   identifiers = identifier .amount;
   identifier = spanOf (identifier .part);

@@ -1,5 +1,4 @@
 pub mod Search
-pub mod Order
 pub mod First
 pub mod Opening
 pub mod Gather

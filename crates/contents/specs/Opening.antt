@@ -3,14 +3,14 @@
 use mathlib.Core.Path.{_≡_}
 use mathlib.Core.List.{List}
 use Prim.Native.Nat.{ℕ, _≤_}
-use Rattle.octets.specs.Items.{none}
+use Rattle.octets.specs.Walk.{none}
 use Rattle.runs.specs.declared.Run.{Run}
 use Rattle.runs.specs.Runs.{itemsOf, definiteRun, Meeting}
 use Rattle.contents.specs.declared.Part.{Part}
 use Rattle.contents.specs.declared.Opening.{Opening}
-use Rattle.contents.specs.declared.Found.{Found}
-use Rattle.contents.specs.declared.Found.the-variants.{At, Missing}
-use Rattle.contents.specs.First.{Holds, Lacks}
+use Rattle.contents.specs.declared.PartFound.{PartFound}
+use Rattle.contents.specs.declared.PartFound.the-variants.{At, Missing}
+use Rattle.contents.specs.First.{IsFirst, Lacks}
 
 -- a part that is not there: nothing, in a run with no item
 abbrev pub noPart : Part
@@ -32,10 +32,10 @@ pub data Opens (s : List ℕ) (r : Run) (o : Opening) : Type 0 where
   several : (rest last : Run) → Begins s r (o .one) rest → Begins s rest (o .two) last → CountsOn s last (o .count) → Opens s r o
 
 -- the first item of a run with the octet, if it has one
-abbrev pub FoundIn : List ℕ → Run → (octet : ℕ) → Found → Type 0
-FoundIn s r octet (At p) = Holds s r octet p
+abbrev pub FoundIn : List ℕ → Run → (octet : ℕ) → PartFound → Type 0
+FoundIn s r octet (At p) = IsFirst s r octet p
 FoundIn s r octet Missing = Lacks s r octet
 
 -- what was found in an opening is what its run has, if that has no more than two items
-abbrev pub Finds : Opening → (octet : ℕ) → Found → Type 0
-Finds o octet found = (s : List ℕ) (r : Run) → Opens s r o → o .count ≤ 2 → FoundIn s r octet found
+abbrev pub FindsPart : Opening → (octet : ℕ) → PartFound → Type 0
+FindsPart o octet found = (s : List ℕ) (r : Run) → Opens s r o → o .count ≤ 2 → FoundIn s r octet found

@@ -1,12 +1,14 @@
--- What is asked of a run of items, not looking inside them: how many have an octet, and the first that has it. "In the 31", "in it" and
--- "in a style" of document 01 mean the direct items. An octet 0 stands for none: no item has it. Definitions only: assumes nothing.
+-- What is asked of a run of items, not looking inside them: how many have an octet, and the first that has it; then which items an
+-- element may have, and in which order. "In the 31", "in it" and "in a style" of document 01 mean the direct items. An octet 0 stands for
+-- none: no item has it. Definitions only: assumes nothing.
 use Prim.Native.Nat.{ℕ, _+_}
-use mathlib.Core.Bool.{Bool, true, false, cond}
+use mathlib.Core.Bool.{Bool, cond, false, true, _&&_, _||_, not}
 use mathlib.Core.List.{List, [], _∷_}
 use lib.Dec.{eqb}
-use Rattle.octets.specs.Items.{Items, none, item}
-use Rattle.tree.specs.Tree.{Tree, empty, leaf, branch}
+use Rattle.octets.specs.Walk.{Items, none, item}
+use Rattle.tree.specs.Tree.{empty, Tree, leaf, branch}
 use Rattle.contents.specs.declared.Span.{Span}
+use Rattle.contents.specs.declared.Slot.{Slot}
 
 -- whether a type field is this one octet
 abbrev pub is : (octet : ℕ) → (type : List ℕ) → Bool
@@ -47,3 +49,23 @@ boundsOf octet (item at type first past inside after) = cond (eqb type octet) (r
 unfoldable pub itemsIn : (octet : ℕ) → Items → Items
 itemsIn octet none = none
 itemsIn octet (item at type first past inside after) = cond (eqb type octet) inside (itemsIn octet after)
+
+-- nothing more
+abbrev pub ends : Tree → Bool
+ends empty = true
+ends (leaf type value after) = false
+ends (branch type inside after) = false
+
+-- an item with the octet, and then what rest asks
+abbrev pub starts : (octet : ℕ) → (rest : Tree → Bool) → Tree → Bool
+starts octet rest empty = false
+starts octet rest (leaf type value after) = is octet type && rest after
+starts octet rest (branch type inside after) = is octet type && rest after
+
+-- "31, then .." where the item is needed, "31 or nothing, then .." where it is not
+abbrev pub slot : Slot → (rest : Tree → Bool) → Tree → Bool
+slot x rest t = starts (x .octet) rest t || not (x .needed) && rest t
+
+-- two items in order, each needed or not, and no others
+unfoldable pub inOrder : (one two : Slot) → Tree → Bool
+inOrder one two = slot one (slot two ends)

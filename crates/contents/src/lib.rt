@@ -7,10 +7,10 @@ ghost use mathlib.Core.List.{List};
 ghost use Prim.Native.Nat.{ℕ, _+_, _<_, _^_};
 ghost use lib.Dec.{eqb};
 ghost use Rattle.runs.specs.Runs.{treeIn, Fine};
-ghost use Rattle.contents.specs.Order.{inOrder};
+ghost use Rattle.contents.specs.Search.{inOrder};
 ghost use Rattle.contents.specs.First.{spanOf};
-ghost use Rattle.contents.specs.Opening.{noPart, Begins, Opens, CountsOn, FoundIn, Finds};
-ghost use Rattle.contents.specs.Gather.{Gathers, unseen, firstOf, seenWith, gatheredFrom};
+ghost use Rattle.contents.specs.Opening.{noPart, Begins, Opens, CountsOn, FoundIn, FindsPart};
+ghost use Rattle.contents.specs.Gather.{Gathers, unseen, earlier, seenWith, gatheredFrom};
 
 // The bounds of a value; absent is 0 and 0.
 pub struct Span {
@@ -40,7 +40,7 @@ pub struct Slot {
 }
 
 // The first item with an octet, or none.
-pub enum Found {
+pub enum PartFound {
     At(Part),
     Missing,
 }
@@ -68,7 +68,7 @@ pub struct Gathered {
 }
 
 // How many items with one octet were seen, and the first of them.
-struct Seen {
+struct Tally {
     amount: usize,
     part: Part,
 }
@@ -234,36 +234,36 @@ pub fn fills(o: Opening, one: Slot, two: Slot) -> bool
 }
 
 // The first of an opening's items with the octet: the object type, the run that names an element, the content.
-pub fn part_with(o: Opening, octet: usize) -> Found
-    ensures { λ found. ⌜ Finds o octet found ⌝ }
+pub fn part_with(o: Opening, octet: usize) -> PartFound
+    ensures { λ found. ⌜ FindsPart o octet found ⌝ }
 {
     let one = o.one;
     let two = o.two;
     let count = o.count;
     if count == 0 {
-        return Found::Missing;
+        return PartFound::Missing;
     }
     if one.octet == octet {
-        return Found::At(one);
+        return PartFound::At(one);
     }
     if count == 1 {
-        return Found::Missing;
+        return PartFound::Missing;
     }
     if two.octet == octet {
-        return Found::At(two);
+        return PartFound::At(two);
     }
-    Found::Missing
+    PartFound::Missing
 }
 
 // The first item of a run with the octet. A content that is asked for alone is found by this.
-pub fn first_with(s: &[u8], r: Run, sought: usize) -> Found
+pub fn first_with(s: &[u8], r: Run, sought: usize) -> PartFound
     requires { ⌜ Fine (now s) r ⌝ }
     ensures { λ found. ⌜ FoundIn (now (s .entry)) r sought found ⌝ }
 {
     let mut cur = r;
     loop {
         match runs::meet(s, cur) {
-            Met::End => return Found::Missing,
+            Met::End => return PartFound::Missing,
             Met::Item {
                 octet,
                 first,
@@ -272,7 +272,7 @@ pub fn first_with(s: &[u8], r: Run, sought: usize) -> Found
                 rest,
             } => {
                 if octet == sought {
-                    return Found::At(part_of(octet, first, past, inner));
+                    return PartFound::At(part_of(octet, first, past, inner));
                 }
                 cur = rest;
             }
@@ -281,18 +281,18 @@ pub fn first_with(s: &[u8], r: Run, sought: usize) -> Found
 }
 
 // Nothing was seen.
-fn unseen_yet() -> Seen
+fn unseen_yet() -> Tally
     ensures { λ x. ⌜ x ≡ unseen ⌝ }
 {
-    Seen {
+    Tally {
         amount: 0,
         part: no_part(),
     }
 }
 
 // The first of the items with an octet, after one more.
-fn first_of(x: Seen, p: Part) -> Part
-    ensures { λ q. ⌜ q ≡ firstOf x p ⌝ }
+fn first_of(x: Tally, p: Part) -> Part
+    ensures { λ q. ⌜ q ≡ earlier x p ⌝ }
 {
     if x.amount == 0 {
         return copied(p);
@@ -302,18 +302,18 @@ fn first_of(x: Seen, p: Part) -> Part
 }
 
 // One item more: it counts if it has the octet.
-fn seen_with(x: Seen, octet: usize, p: Part) -> Seen
+fn seen_with(x: Tally, octet: usize, p: Part) -> Tally
     requires { ⌜ x .amount + 1 < 2 ^ 64 ⌝ }
     ensures { λ y. ⌜ y ≡ seenWith octet x p ⌝ }
 {
     if p.octet == octet {
-        return Seen {
+        return Tally {
             amount: x.amount + 1,
             part: first_of(x, p),
         };
     }
     let part = x.part;
-    Seen {
+    Tally {
         amount: x.amount,
         part: copied(part),
     }
@@ -341,7 +341,7 @@ pub fn span_of(p: Part) -> Span
 }
 
 // What was seen, as the answer.
-fn gathered_from(identifier: Seen, logical: Seen, portions: Seen, barred: usize) -> Gathered
+fn gathered_from(identifier: Tally, logical: Tally, portions: Tally, barred: usize) -> Gathered
     ensures { λ g. ⌜ g ≡ gatheredFrom identifier logical portions barred ⌝ }
 {
     let list = portions.part;

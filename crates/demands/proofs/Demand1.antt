@@ -11,15 +11,14 @@ use lib.ListN.{length, getElem?}
 use borrow.Author.Tests.{ne-eqb, le-leb, lt-leb}
 use Rattle.octets.specs.declared.Outcome.{Outcome}
 use Rattle.octets.specs.declared.Outcome.the-variants.{Ended, Refused}
-use Rattle.headers.specs.First.{isIn}
-use Rattle.octets.specs.Items.{count}
-use Rattle.octets.specs.Walk.{streamLimit, deepest, End, ends, stops, run, answerOf, told, walkOf}
+use Rattle.headers.specs.Head.{isIn}
+use Rattle.octets.specs.Walk.{count, streamLimit, deepest, End, ends, stops, run, outcomeOf, walkOf}
+use Rattle.octets.specs.Further.{told}
 use Rattle.headers.proofs.Lies.{cond-holds}
 use Rattle.octets.proofs.Half.{half}
 use Rattle.tree.specs.Tree.{treeOf}
 use Rattle.elements.specs.Shape.{edition1988}
-use Rattle.elements.specs.Element.{Content, single, inPieces, Element}
-use Rattle.elements.specs.Judge.{Judged, accepted, refused, judge}
+use Rattle.elements.specs.Judge.{Content, single, inPieces, Element, Judged, accepted, refused, judge}
 use Rattle.letters.specs.Letter.{Letter, letter, refusal, itemsOfStream, afterWalk, byWalk, letterOf}
 use Rattle.reading.specs.declared.Side.{Side}
 use Rattle.reading.specs.Match.{unitKind, matches}
@@ -29,7 +28,7 @@ use Rattle.answers.specs.declared.Written.{Written}
 use Rattle.answers.specs.declared.Listed.{Listed}
 use Rattle.answers.specs.declared.Copied.{Copied}
 use Rattle.answers.specs.Answers.{letterIn, tooFewRows, checkedBy, checked, checkedTable, writtenBy, written, writtenOutput, listedBy, listed, listedTable, listedList, Fetched, fetchedOf, fetchedBy, partOf, fetched, allOf, joinedIn, copiedFrom, copied, copiedOutput}
-use Rattle.demands.specs.Demands.{Told, Demand1}
+use Rattle.demands.specs.Demands.{Answered, Demand1}
 use Rattle.answers.proofs.Small.{Small, refusal-small}
 
 never : {s : List ℕ} {number place headers : ℕ} → Small s number place headers → (number ≡ 0) ⊎ (15 < number) → ⊥
@@ -37,58 +36,58 @@ never small (inl e) = omega arith
 never small (inr l) = omega arith
 
 -- a refusal by 1 to 15
-told-small : {s : List ℕ} {number place headers : ℕ} (own : List ℕ) → Small s number place headers → Told s own number place
+told-small : {s : List ℕ} {number place headers : ℕ} (own : List ℕ) → Small s number place headers → Answered s own number place
 told-small own small = record { one-of = inl (small .high); inside = small .inside; at-start = λ o. absurd (never small o) }
 
 -- accepted, or a refusal of the question's own
-told-own : (s own : List ℕ) (number : ℕ) → isIn number own ≡ true → Told s own number 0
+told-own : (s own : List ℕ) (number : ℕ) → isIn number own ≡ true → Answered s own number 0
 told-own s own number i = record { one-of = inr i; inside = omega arith; at-start = λ o. refl }
 
-told-zero : (s own : List ℕ) → Told s own 0 0
+told-zero : (s own : List ℕ) → Answered s own 0 0
 told-zero s own = record { one-of = inl (omega arith); inside = omega arith; at-start = λ o. refl }
 
 small-in : (s : List ℕ) (number place headers : ℕ) → letterIn s ≡ refusal number place headers → Small s number place headers
 small-in s number place headers e = refusal-small edition1988 s number place headers e
 
 module _ (s : List ℕ) where
-  check-told-by : (table : List ℕ) (l : Letter) → letterIn s ≡ l → Told s (16 ∷ []) (checkedBy l table .number) (checkedBy l table .place)
+  check-told-by : (table : List ℕ) (l : Letter) → letterIn s ≡ l → Answered s (16 ∷ []) (checkedBy l table .number) (checkedBy l table .place)
   check-told-by table (refusal number place headers) e = told-small (16 ∷ []) (small-in s number place headers e)
   check-told-by table (letter headers elements) e =
-      cond-holds (λ (a : Checked). Told s (16 ∷ []) (a .number) (a .place)) (tooFewRows table elements) (λ _. told-own s (16 ∷ []) 16 refl) (λ _. told-zero s (16 ∷ []))
+      cond-holds (λ (a : Checked). Answered s (16 ∷ []) (a .number) (a .place)) (tooFewRows table elements) (λ _. told-own s (16 ∷ []) 16 refl) (λ _. told-zero s (16 ∷ []))
 
-  normal-told-by : (form out : List ℕ) (l : Letter) → letterIn s ≡ l → Told s (17 ∷ 18 ∷ []) (writtenBy l form out .number) (writtenBy l form out .place)
+  normal-told-by : (form out : List ℕ) (l : Letter) → letterIn s ≡ l → Answered s (17 ∷ 18 ∷ []) (writtenBy l form out .number) (writtenBy l form out .place)
   normal-told-by form out (refusal number place headers) e = told-small (17 ∷ 18 ∷ []) (small-in s number place headers e)
   normal-told-by form out (letter headers elements) e =
-      cond-holds (λ (a : Written). Told s (17 ∷ 18 ∷ []) (a .number) (a .place)) (ltb streamLimit (length form)) (λ _. told-own s (17 ∷ 18 ∷ []) 17 refl)
-      (λ _. cond-holds (λ (a : Written). Told s (17 ∷ 18 ∷ []) (a .number) (a .place)) (ltb (length out) (length form)) (λ _. told-own s (17 ∷ 18 ∷ []) 18 refl) (λ _. told-zero s (17 ∷ 18 ∷ [])))
+      cond-holds (λ (a : Written). Answered s (17 ∷ 18 ∷ []) (a .number) (a .place)) (ltb streamLimit (length form)) (λ _. told-own s (17 ∷ 18 ∷ []) 17 refl)
+      (λ _. cond-holds (λ (a : Written). Answered s (17 ∷ 18 ∷ []) (a .number) (a .place)) (ltb (length out) (length form)) (λ _. told-own s (17 ∷ 18 ∷ []) 18 refl) (λ _. told-zero s (17 ∷ 18 ∷ [])))
 
   list-told-by : (side : Side) (table : List ℕ) (room : ℕ) (l : Letter) → letterIn s ≡ l
-      → Told s (16 ∷ 19 ∷ []) (listedBy l side table room .number) (listedBy l side table room .place)
+      → Answered s (16 ∷ 19 ∷ []) (listedBy l side table room .number) (listedBy l side table room .place)
   list-told-by side table room (refusal number place headers) e = told-small (16 ∷ 19 ∷ []) (small-in s number place headers e)
   list-told-by side table room (letter headers elements) e =
-      cond-holds (λ (a : Listed). Told s (16 ∷ 19 ∷ []) (a .number) (a .place)) (tooFewRows table elements) (λ _. told-own s (16 ∷ 19 ∷ []) 16 refl)
-      (λ _. cond-holds (λ (a : Listed). Told s (16 ∷ 19 ∷ []) (a .number) (a .place)) (ltb room (length (matches side elements))) (λ _. told-own s (16 ∷ 19 ∷ []) 19 refl) (λ _. told-zero s (16 ∷ 19 ∷ [])))
+      cond-holds (λ (a : Listed). Answered s (16 ∷ 19 ∷ []) (a .number) (a .place)) (tooFewRows table elements) (λ _. told-own s (16 ∷ 19 ∷ []) 16 refl)
+      (λ _. cond-holds (λ (a : Listed). Answered s (16 ∷ 19 ∷ []) (a .number) (a .place)) (ltb room (length (matches side elements))) (λ _. told-own s (16 ∷ 19 ∷ []) 19 refl) (λ _. told-zero s (16 ∷ 19 ∷ [])))
 
   -- whatever is wanted of the content of a text unit
-  module _ (own : List ℕ) (no-unit : isIn 20 own ≡ true) (wanted : Content → Fetched) (told : (c : Content) → Told s own (wanted c .number) (wanted c .place)) where
-    fetched-told-of : (e : Option Element) → Told s own (fetchedOf wanted e .number) (fetchedOf wanted e .place)
+  module _ (own : List ℕ) (no-unit : isIn 20 own ≡ true) (wanted : Content → Fetched) (told : (c : Content) → Answered s own (wanted c .number) (wanted c .place)) where
+    fetched-told-of : (e : Option Element) → Answered s own (fetchedOf wanted e .number) (fetchedOf wanted e .place)
     fetched-told-of none = told-own s own 20 no-unit
     fetched-told-of (some e) =
-        cond-holds (λ (a : Fetched). Told s own (a .number) (a .place)) (eqb (e .kind) unitKind) (λ _. told (e .content)) (λ _. told-own s own 20 no-unit)
+        cond-holds (λ (a : Fetched). Answered s own (a .number) (a .place)) (eqb (e .kind) unitKind) (λ _. told (e .content)) (λ _. told-own s own 20 no-unit)
 
-    fetched-told-by : (asked : ℕ) (l : Letter) → letterIn s ≡ l → Told s own (fetchedBy wanted l asked .number) (fetchedBy wanted l asked .place)
+    fetched-told-by : (asked : ℕ) (l : Letter) → letterIn s ≡ l → Answered s own (fetchedBy wanted l asked .number) (fetchedBy wanted l asked .place)
     fetched-told-by asked (refusal number place headers) e = told-small own (small-in s number place headers e)
     fetched-told-by asked (letter headers elements) e = fetched-told-of (getElem? elements asked)
 
-  part-told : (c : Content) → Told s (20 ∷ 21 ∷ []) (partOf c .number) (partOf c .place)
+  part-told : (c : Content) → Answered s (20 ∷ 21 ∷ []) (partOf c .number) (partOf c .place)
   part-told (single value) = told-zero s (20 ∷ 21 ∷ [])
   part-told (inPieces run) = told-own s (20 ∷ 21 ∷ []) 21 refl
 
-  copied-told : (f : Fetched) (out : List ℕ) → Told s (20 ∷ 22 ∷ []) (f .number) (f .place)
-      → Told s (20 ∷ 22 ∷ []) (copiedFrom f out .number) (copiedFrom f out .place)
+  copied-told : (f : Fetched) (out : List ℕ) → Answered s (20 ∷ 22 ∷ []) (f .number) (f .place)
+      → Answered s (20 ∷ 22 ∷ []) (copiedFrom f out .number) (copiedFrom f out .place)
   copied-told f out told =
-      cond-holds (λ (a : Copied). Told s (20 ∷ 22 ∷ []) (a .number) (a .place)) (eqb (f .number) 0)
-      (λ _. cond-holds (λ (a : Copied). Told s (20 ∷ 22 ∷ []) (a .number) (a .place)) (ltb (length out) (length (f .part))) (λ _. told-own s (20 ∷ 22 ∷ []) 22 refl) (λ _. told-zero s (20 ∷ 22 ∷ [])))
+      cond-holds (λ (a : Copied). Answered s (20 ∷ 22 ∷ []) (a .number) (a .place)) (eqb (f .number) 0)
+      (λ _. cond-holds (λ (a : Copied). Answered s (20 ∷ 22 ∷ []) (a .number) (a .place)) (ltb (length out) (length (f .part))) (λ _. told-own s (20 ∷ 22 ∷ []) 22 refl) (λ _. told-zero s (20 ∷ 22 ∷ [])))
       (λ _. told)
 
 -- the header count of either
@@ -113,7 +112,7 @@ headers-told : (s table : List ℕ) → checked s table .headers ≡ told (walkO
 unfolding checked letterOf
 headers-told s table = check-headers table (letterIn s) ∙ walked-headers s (walkOf s)
 
-answer-headers : (n : ℕ) (e : End) → told (answerOf n e) .headers ≡ n
+answer-headers : (n : ℕ) (e : End) → told (outcomeOf n e) .headers ≡ n
 answer-headers n (ends at) = refl
 answer-headers n (stops number place) = refl
 

@@ -23,14 +23,13 @@ use Rattle.normal.proofs.RoundTrip.{round-trip, again}
 use Rattle.index.specs.Rows.{rowWidth}
 use Rattle.elements.specs.declared.Row.{Row}
 use Rattle.elements.specs.Shape.{edition1988}
-use Rattle.elements.specs.Element.{Element}
-use Rattle.elements.specs.Judge.{accepted, judge}
+use Rattle.elements.specs.Judge.{Element, accepted, judge}
 use Rattle.letters.specs.Letter.{letter, itemsOfStream}
 use Rattle.letters.proofs.Table.{end-to-end, pairs-within}
 use Rattle.letters.proofs.Coding.{content-codes}
 use Rattle.judging.proofs.Lists.{below-length, at-below}
 use Rattle.answers.specs.Answers.{letterIn, rowsIn, onto, tableOf, checked, checkedTable, written, writtenOutput}
-use Rattle.demands.specs.Demands.{IsLetterOf, RowTells, SameRow, OfLetter, Demand2, itemsIn}
+use Rattle.demands.specs.Demands.{IsLetterOf, RowTells, SameRow, OfLetter, Demand2, itemCount}
 use Rattle.answers.proofs.Letters.{Found, letter-found, accepted-letter}
 use Rattle.answers.proofs.Judging.{accepts-walked}
 use Rattle.demands.proofs.Telling.{Proper, proper, count-tree, rows-counted, rows-tell}
@@ -38,7 +37,7 @@ use Rattle.demands.proofs.Joining.{told-within, same-content, tells-con
 use Rattle.answers.proofs.Checks.{checks-letter}
 
 -- the header count of a walk that ended is the tree's item count
-headers-tree : (s : List ℕ) (at headers : ℕ) → walkOf s ≡ Ended at headers → headers ≡ itemsIn (treeOf s)
+headers-tree : (s : List ℕ) (at headers : ℕ) → walkOf s ≡ Ended at headers → headers ≡ itemCount (treeOf s)
 headers-tree s at headers w = stream-count s at headers w .1 ∙ count-tree (derives deepest s 0 (length s) false (omega arith))
 
 module _ (s : List ℕ) (headers : ℕ) (elements : List Element) where
@@ -52,7 +51,7 @@ module _ (s : List ℕ) (headers : ℕ) (elements : List Element) where
   is-letter i =
       let a = accepts s (i .tree) (i .coded) (i .within) in
       let j : judge edition1988 (treeOf s) ≡ accepted elements = ap (judge edition1988) (a .tree) ∙ i .shaped in
-      let h : a .headers ≡ headers = headers-tree s (a .at) (a .headers) (a .ended) ∙ ap itemsIn (a .tree) ∙ sym (i .counted) in
+      let h : a .headers ≡ headers = headers-tree s (a .at) (a .headers) (a .ended) ∙ ap itemCount (a .tree) ∙ sym (i .counted) in
       accepted-letter edition1988 s (a .at) (a .headers) elements (a .ended) j ∙ ap (λ (n : ℕ). letter n elements) h
 
 -- the items of a stream

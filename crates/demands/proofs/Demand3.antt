@@ -14,12 +14,11 @@ use borrow.Table.Steps.{cases}
 use Rattle.octets.specs.Walk.{streamLimit}
 use Rattle.normal.specs.Normal.{normalForm}
 use Rattle.index.specs.Rows.{rowWidth}
-use Rattle.elements.specs.Element.{Element}
+use Rattle.elements.specs.Judge.{Element}
 use Rattle.letters.specs.Letter.{letter}
 use Rattle.reading.specs.declared.Match.{Match}
 use Rattle.reading.specs.declared.Side.{Side}
-use Rattle.reading.specs.Match.{matches}
-use Rattle.reading.specs.Promises.{IsMatch, Before}
+use Rattle.reading.specs.Match.{matches, IsMatch, Before}
 use Rattle.reading.proofs.Lists.{Sorted}
 use Rattle.reading.proofs.Matches.{matches-are, matches-all, matches-sorted}
 use Rattle.answers.specs.Answers.{letterIn, onto, tableOf, listed, listedTable, matchesIn, listedList}

@@ -8,7 +8,7 @@ use Rattle.answers.specs.declared.Checked.{Checked}
 use Rattle.answers.specs.declared.Written.{Written}
 use Rattle.answers.specs.declared.Listed.{Listed}
 use Rattle.answers.specs.declared.Reason.{Reason}
-use Rattle.answers.specs.declared.Located.{Located}
+use Rattle.answers.specs.declared.Found.{Found}
 use Rattle.answers.specs.declared.Copied.{Copied}
 use Rattle.answers.specs.Answers.{CheckOutcome, NormalOutcome, ListOutcome, fetched, whyNot, Fetches, JoinedOutcome}
 
@@ -29,7 +29,7 @@ content-determined s asked p q x y = x ∙ sym y
 pub why-determined : (s : List ℕ) (asked : ℕ) (a b : Reason) → a ≡ whyNot s asked → b ≡ whyNot s asked → a ≡ b
 why-determined s asked a b x y = x ∙ sym y
 
-pub located-determined : {s : List ℕ} {asked : ℕ} {a b : Located} → Fetches s asked a → Fetches s asked b → a ≡ b
+pub located-determined : {s : List ℕ} {asked : ℕ} {a b : Found} → Fetches s asked a → Fetches s asked b → a ≡ b
 located-determined x y = x .answered ∙ sym (y .answered)
 
 pub joined-determined : {s : List ℕ} {asked : ℕ} {out : List ℕ} {a b : Copied} {t u : List ℕ}

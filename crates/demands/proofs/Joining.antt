@@ -11,11 +11,10 @@ use lib.Dec.{eqb, ltb}
 use lib.ListN.{length, getElem?, length-append}
 use borrow.Author.Tests.{ltb-true, ltb-false, eq-eqb, eqb-true}
 use borrow.Table.Steps.{cases}
-use Rattle.tree.specs.Tree.{Tree}
-use Rattle.tree.specs.Codes.{Codes, nothing, primitive, definite, indefinite}
+use Rattle.tree.specs.Tree.{Tree, Codes, nothing, primitive, definite, indefinite}
 use Rattle.contents.specs.Search.{Value}
 use Rattle.pieces.specs.Pieces.{joined}
-use Rattle.elements.specs.Element.{bytesOf, Content, single, inPieces, joinedContent, Element}
+use Rattle.elements.specs.Judge.{bytesOf, Content, single, inPieces, joinedContent, Element}
 use Rattle.letters.specs.Letter.{letter}
 use Rattle.reading.specs.Match.{unitKind}
 use Rattle.answers.specs.Answers.{letterIn, onto, Fetched, handed, fetchedOf, partOf, fetched, allOf, joinedIn, copiedFrom, copied, copiedOutput}

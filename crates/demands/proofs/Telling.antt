@@ -11,23 +11,19 @@ use lib.ListN.{length, getElem?}
 use lib.Seq.{slice}
 use borrow.Author.Tests.{eqb-true, eqb-false}
 use borrow.Table.Steps.{cases}
-use Rattle.headers.specs.First.{constructed}
-use Rattle.octets.specs.Items.{Items, none, item, count}
-use Rattle.octets.specs.Walk.{End}
+use Rattle.headers.specs.Head.{constructed}
+use Rattle.octets.specs.Walk.{Items, none, item, count, End, startOf}
 use Rattle.octets.specs.Rules.{Runs, at-limit, unclosed, closes, refuses, primitive, passes, breaks}
 use Rattle.tree.specs.Tree.{Tree, empty, leaf, branch, formed, plain}
-use Rattle.runs.specs.Runs.{startOf}
 use Rattle.contents.specs.Search.{Value, firstValue, firstRun, boundsOf, itemsIn as insideOf}
-use Rattle.elements.specs.Says.{bytesIn}
+use Rattle.elements.specs.Rows.{bytesIn, bodyIn, contentOctet, rowOf, rowsOf}
 use Rattle.elements.specs.declared.Row.{Row}
 use Rattle.elements.specs.declared.Shape.{Shape}
 use Rattle.elements.specs.Shape.{Edition, edition1988, shapeOf}
-use Rattle.elements.specs.Element.{bytesOf, noneOf, single, inPieces, contentOf, Element, bodyOf, elementOf}
-use Rattle.elements.specs.Judge.{Judged, accepted, refused, refusalOf, judgeOne, judgeFrom, judge}
-use Rattle.elements.specs.Rows.{bodyIn, contentOctet, rowOf, rowsOf}
+use Rattle.elements.specs.Judge.{bytesOf, noneOf, single, inPieces, contentOf, Element, bodyOf, elementOf, Judged, accepted, refused, refusalOf, judgeOne, judgeFrom, judge}
 use Rattle.elements.specs.WellMade.{WellMade}
 use Rattle.elements.proofs.Made.{made-1988}
-use Rattle.demands.specs.Demands.{itemsIn}
+use Rattle.demands.specs.Demands.{itemCount}
 
 -- a primitive item has no items inside
 pub data Proper : Items → Type 0 where
@@ -45,7 +41,7 @@ proper (passes l h c v r) = more (λ p. absurd (true≢false (sym c ∙ p))) (pr
 proper (breaks l h c v) = more (λ p. absurd (true≢false (sym c ∙ p))) nothing
 
 -- the count of the items is that of the tree
-pub count-tree : {s : List ℕ} {room at limit : ℕ} {marked : Bool} {i : Items} {e : End} → Runs s room at limit marked i e → count i ≡ itemsIn (plain s i)
+pub count-tree : {s : List ℕ} {room at limit : ℕ} {marked : Bool} {i : Items} {e : End} → Runs s room at limit marked i e → count i ≡ itemCount (plain s i)
 count-tree (at-limit p) = refl
 count-tree (unclosed p) = refl
 count-tree (closes l h) = refl

@@ -7,24 +7,19 @@ use mathlib.Core.Option.{some}
 use Prim.Native.Nat.{ℕ}
 use native.Mathlib.Omega.{arith}
 use lib.ListN.{length, getD, getElem?, replicate}
-use Rattle.headers.specs.First.{permits, formAllowed}
-use Rattle.headers.specs.Lengths.{bigEndianFrom, misfits}
-use Rattle.headers.specs.Head.{definiteAt, indefiniteAt, longAt, byFirst, lengthAt, itemAt, closingAt, headAt}
+use Rattle.headers.specs.Head.{permits, formAllowed, bigEndianFrom, misfits, definiteAt, indefiniteAt, longAt, byFirst, lengthAt, itemAt, closingAt, headAt}
 use Rattle.octets.specs.Walk.{runFor, run, walkOf}
 use Rattle.tree.specs.Tree.{Tree, empty, leaf, branch}
-use Rattle.names.specs.Names.{digit, grouped, isIdentifier, digits as allDigits, isPortion, same}
-use Rattle.normal.specs.Length.{digits}
-use Rattle.normal.specs.Normal.{normalOf}
-use Rattle.index.specs.Rows.{space}
-use Rattle.contents.specs.Search.{absent, amount, firstValue, firstRun, boundsOf, itemsIn}
-use Rattle.contents.specs.Order.{inOrder}
+use Rattle.names.specs.Names.{isDigit, grouped, isIdentifier, allDigits, isPortion, same}
+use Rattle.normal.specs.Normal.{numberOctets, normalOf}
+use Rattle.index.specs.Rows.{nameSpaceOf}
+use Rattle.contents.specs.Search.{absent, amount, firstValue, firstRun, boundsOf, itemsIn, inOrder}
 use Rattle.pieces.specs.Pieces.{onlyPieces, joined}
 use Rattle.portions.specs.Portions.{allPortions, values, wellSpelt, among, repeats}
 use Rattle.elements.specs.Shape.{shapeOf}
-use Rattle.elements.specs.Element.{Content, single, inPieces, contentOf, joinedContent, Element, bodyOf, elementOf, ordered, asTabled, namesFit}
-use Rattle.elements.specs.Judge.{clash, twice, refusalOf, judgeOne, judgeFrom, judge}
+use Rattle.elements.specs.Judge.{Content, single, inPieces, contentOf, joinedContent, Element, bodyOf, elementOf, ordered, asTabled, namesFit, clash, twice, refusalOf, judgeOne, judgeFrom, judge}
 use Rattle.elements.specs.declared.Row.{Row}
-use Rattle.elements.specs.Rows.{bodyIn, contentOctet, rowOf, rowsOf, placeOf}
+use Rattle.elements.specs.Rows.{bodyIn, contentOctet, rowOf, rowsOf, placeOf, bytesIn}
 use Rattle.letters.specs.Letter.{letter, letterOf}
 use Rattle.reading.specs.declared.Match.{Match}
 use Rattle.reading.specs.declared.Side.{Side}
@@ -35,7 +30,6 @@ use Rattle.answers.specs.declared.Written.{Written}
 use Rattle.answers.specs.declared.Listed.{Listed}
 use Rattle.answers.specs.declared.Copied.{Copied}
 use Rattle.answers.specs.Answers.{letterIn, rowsIn, onto, checked, CheckOutcome, written, writtenOutput, NormalOutcome, listed, listedList, ListOutcome, fetched, joinedIn, copied, copiedOutput, JoinedOutcome}
-use Rattle.elements.specs.Says.{bytesIn}
 
 -- programs: what they answer, and what they leave in what they were lent
 abbrev Checker : Type 0
@@ -141,23 +135,23 @@ unfolding permits formAllowed bigEndianFrom misfits definiteAt indefiniteAt long
 one-header = refl
 
 shorter-form : (written marked nines .number ≡ 0) × (writtenOutput marked nines ≡ 0xA0 ∷ 0x00 ∷ 9 ∷ 9 ∷ [])
-unfolding permits formAllowed bigEndianFrom misfits definiteAt indefiniteAt longAt byFirst lengthAt itemAt closingAt headAt runFor run walkOf amount firstValue firstRun allPortions values wellSpelt repeats shapeOf bodyOf contentOf elementOf ordered asTabled namesFit clash twice refusalOf judgeOne judgeFrom judge placeOf letterOf digits normalOf written writtenOutput xor
+unfolding permits formAllowed bigEndianFrom misfits definiteAt indefiniteAt longAt byFirst lengthAt itemAt closingAt headAt runFor run walkOf amount firstValue firstRun allPortions values wellSpelt repeats shapeOf bodyOf contentOf elementOf ordered asTabled namesFit clash twice refusalOf judgeOne judgeFrom judge placeOf letterOf numberOctets normalOf written writtenOutput xor
 shorter-form = (refl, refl)
 
 one-match : listedList Layout printed table (noMatch ∷ []) ≡ record { element = 1; portion = 0; unit = 2 } ∷ []
-unfolding permits formAllowed bigEndianFrom misfits definiteAt indefiniteAt longAt byFirst lengthAt itemAt closingAt headAt runFor run walkOf amount firstValue firstRun inOrder allPortions values wellSpelt among repeats digit grouped isIdentifier allDigits isPortion same space shapeOf bodyOf contentOf elementOf ordered asTabled namesFit clash twice refusalOf judgeOne judgeFrom judge placeOf letterOf joins forEach portionMatches elementMatches matches listed listedList xor
+unfolding permits formAllowed bigEndianFrom misfits definiteAt indefiniteAt longAt byFirst lengthAt itemAt closingAt headAt runFor run walkOf amount firstValue firstRun inOrder allPortions values wellSpelt among repeats isDigit grouped isIdentifier allDigits isPortion same nameSpaceOf shapeOf bodyOf contentOf elementOf ordered asTabled namesFit clash twice refusalOf judgeOne judgeFrom judge placeOf letterOf joins forEach portionMatches elementMatches matches listed listedList xor
 one-match = refl
 
 some-content : fetched printed 2 .part ≡ 0x48 ∷ 0x69 ∷ []
-unfolding permits formAllowed bigEndianFrom misfits definiteAt indefiniteAt longAt byFirst lengthAt itemAt closingAt headAt runFor run walkOf amount firstValue firstRun inOrder allPortions values wellSpelt among repeats digit grouped isIdentifier allDigits isPortion same space shapeOf bodyOf contentOf elementOf ordered asTabled namesFit clash twice refusalOf judgeOne judgeFrom judge placeOf letterOf fetched xor
+unfolding permits formAllowed bigEndianFrom misfits definiteAt indefiniteAt longAt byFirst lengthAt itemAt closingAt headAt runFor run walkOf amount firstValue firstRun inOrder allPortions values wellSpelt among repeats isDigit grouped isIdentifier allDigits isPortion same nameSpaceOf shapeOf bodyOf contentOf elementOf ordered asTabled namesFit clash twice refusalOf judgeOne judgeFrom judge placeOf letterOf fetched xor
 some-content = refl
 
 pieced-letter : letterIn pieced ≡ letter 5 piecedElements
-unfolding permits formAllowed bigEndianFrom misfits definiteAt indefiniteAt longAt byFirst lengthAt itemAt closingAt headAt runFor run walkOf amount firstValue firstRun inOrder allPortions values wellSpelt among repeats digit grouped isIdentifier allDigits isPortion same space onlyPieces shapeOf bodyOf contentOf elementOf ordered asTabled namesFit clash twice refusalOf judgeOne judgeFrom judge placeOf letterOf xor
+unfolding permits formAllowed bigEndianFrom misfits definiteAt indefiniteAt longAt byFirst lengthAt itemAt closingAt headAt runFor run walkOf amount firstValue firstRun inOrder allPortions values wellSpelt among repeats isDigit grouped isIdentifier allDigits isPortion same nameSpaceOf onlyPieces shapeOf bodyOf contentOf elementOf ordered asTabled namesFit clash twice refusalOf judgeOne judgeFrom judge placeOf letterOf xor
 pieced-letter = refl
 
 joined-pieces : (copied pieced 1 nines .number ≡ 0) × (copiedOutput pieced 1 nines ≡ 0x48 ∷ 0x69 ∷ 9 ∷ 9 ∷ [])
-unfolding permits formAllowed bigEndianFrom misfits definiteAt indefiniteAt longAt byFirst lengthAt itemAt closingAt headAt runFor run walkOf amount firstValue firstRun inOrder allPortions values wellSpelt among repeats digit grouped isIdentifier allDigits isPortion same space shapeOf bodyOf contentOf elementOf ordered asTabled namesFit clash twice refusalOf judgeOne judgeFrom judge placeOf letterOf onlyPieces joined joinedIn copied copiedOutput xor
+unfolding permits formAllowed bigEndianFrom misfits definiteAt indefiniteAt longAt byFirst lengthAt itemAt closingAt headAt runFor run walkOf amount firstValue firstRun inOrder allPortions values wellSpelt among repeats isDigit grouped isIdentifier allDigits isPortion same nameSpaceOf shapeOf bodyOf contentOf elementOf ordered asTabled namesFit clash twice refusalOf judgeOne judgeFrom judge placeOf letterOf onlyPieces joined joinedIn copied copiedOutput xor
 joined-pieces = (refl, refl)
 
 -- the row of its text unit, whose content fields give the value of the 24
@@ -173,7 +167,7 @@ piecedRow = record {
 }
 
 row-of-pieces : getElem? (rowsIn pieced) 1 ≡ some piecedRow
-unfolding permits formAllowed bigEndianFrom misfits definiteAt indefiniteAt longAt byFirst lengthAt itemAt closingAt headAt runFor run walkOf amount firstValue firstRun inOrder allPortions values wellSpelt among repeats digit grouped isIdentifier allDigits isPortion same space shapeOf bodyOf contentOf elementOf ordered asTabled namesFit clash twice refusalOf judgeOne judgeFrom judge placeOf letterOf onlyPieces bodyIn contentOctet boundsOf itemsIn rowOf rowsOf xor
+unfolding permits formAllowed bigEndianFrom misfits definiteAt indefiniteAt longAt byFirst lengthAt itemAt closingAt headAt runFor run walkOf amount firstValue firstRun inOrder allPortions values wellSpelt among repeats isDigit grouped isIdentifier allDigits isPortion same nameSpaceOf shapeOf bodyOf contentOf elementOf ordered asTabled namesFit clash twice refusalOf judgeOne judgeFrom judge placeOf letterOf onlyPieces bodyIn contentOctet boundsOf itemsIn rowOf rowsOf xor
 row-of-pieces = refl
 
 -- no checker refuses every stream,

@@ -7,30 +7,26 @@ use mathlib.Core.List.{List, [], _∷_}
 use mathlib.Core.Option.{some}
 use Prim.Native.Nat.{ℕ, suc, _+_, _/_, _<_, _≤_}
 use lib.ListN.{length, getElem?}
-use Rattle.headers.specs.First.{isIn}
-use Rattle.octets.specs.Items.{count}
-use Rattle.octets.specs.Walk.{streamLimit, deepest}
-use Rattle.tree.specs.Tree.{Tree, empty, leaf, branch, treeOf}
-use Rattle.tree.specs.Codes.{Codes}
+use Rattle.headers.specs.Head.{isIn}
+use Rattle.octets.specs.Walk.{count, streamLimit, deepest}
+use Rattle.tree.specs.Tree.{Tree, empty, leaf, branch, treeOf, Codes}
 use Rattle.normal.specs.Normal.{normalForm}
 use Rattle.index.specs.Rows.{rowWidth}
 use Rattle.contents.specs.Search.{Value}
-use Rattle.elements.specs.Says.{bytesIn}
+use Rattle.elements.specs.Rows.{bytesIn}
 use Rattle.elements.specs.declared.Row.{Row}
 use Rattle.elements.specs.Shape.{edition1988}
-use Rattle.elements.specs.Element.{bytesOf, Content, single, inPieces, joinedContent, Element}
-use Rattle.elements.specs.Judge.{accepted, judge}
-use Rattle.letters.specs.Letter.{letter, itemsOfStream}
-use Rattle.letters.specs.Table.{EndToEnd, PairsWithin}
+use Rattle.elements.specs.Judge.{bytesOf, Content, single, inPieces, joinedContent, Element, accepted, judge}
+use Rattle.letters.specs.Letter.{letter, itemsOfStream, EndToEnd, PairsWithin}
 use Rattle.reading.specs.declared.Match.{Match}
 use Rattle.reading.specs.declared.Side.{Side}
-use Rattle.reading.specs.Match.{unitKind, matches}
-use Rattle.reading.specs.Promises.{IsMatch, Before}
-use Rattle.answers.specs.Answers.{letterIn, rowsIn, onto, tableOf, checked, checkedTable, written, writtenOutput, listed, listedTable, matchesIn, listedList, handed, fetched, joinedIn, copied, copiedOutput}
+use Rattle.reading.specs.Match.{unitKind, matches, IsMatch, Before}
+use Rattle.answers.specs.Answers.{letterIn, rowsIn, onto, tableOf, checked, checkedTable, written, writtenOutput, listed, listedTable, matchesIn, listedList}
+use Rattle.answers.specs.Answers.{handed, fetched, joinedIn, copied, copiedOutput}
 
 -- A number that a question may give, and its place: 0, one of 1 to 15, or one of the question's own, "where the question can give it". The
 -- place lies in the stream; it is 0 with 0 and from 16 on.
-pub record Told (s : List ℕ) (own : List ℕ) (number place : ℕ) : Type 0 where
+pub record Answered (s : List ℕ) (own : List ℕ) (number place : ℕ) : Type 0 where
   pub one-of : (number ≤ 15) ⊎ (isIn number own ≡ true)
   pub inside : place ≤ length s
   pub at-start : (number ≡ 0) ⊎ (15 < number) → place ≡ 0
@@ -38,11 +34,11 @@ pub record Told (s : List ℕ) (own : List ℕ) (number place : ℕ) : Type 0 wh
 -- Demand 1: every stream gets an answer, and a refusal leaves what was lent as it was.
 pub record Demand1 : Type 0 where
   -- "Only the check and the list use the table and can give 16."
-  pub check-told : (s table : List ℕ) → Told s (16 ∷ []) (checked s table .number) (checked s table .place)
-  pub normal-told : (s out : List ℕ) → Told s (17 ∷ 18 ∷ []) (written s out .number) (written s out .place)
-  pub list-told : (side : Side) (s table : List ℕ) (room : ℕ) → Told s (16 ∷ 19 ∷ []) (listed side s table room .number) (listed side s table room .place)
-  pub content-told : (s : List ℕ) (asked : ℕ) → Told s (20 ∷ 21 ∷ []) (fetched s asked .number) (fetched s asked .place)
-  pub joined-told : (s : List ℕ) (asked : ℕ) (out : List ℕ) → Told s (20 ∷ 22 ∷ []) (copied s asked out .number) (copied s asked out .place)
+  pub check-told : (s table : List ℕ) → Answered s (16 ∷ []) (checked s table .number) (checked s table .place)
+  pub normal-told : (s out : List ℕ) → Answered s (17 ∷ 18 ∷ []) (written s out .number) (written s out .place)
+  pub list-told : (side : Side) (s table : List ℕ) (room : ℕ) → Answered s (16 ∷ 19 ∷ []) (listed side s table room .number) (listed side s table room .place)
+  pub content-told : (s : List ℕ) (asked : ℕ) → Answered s (20 ∷ 21 ∷ []) (fetched s asked .number) (fetched s asked .place)
+  pub joined-told : (s : List ℕ) (asked : ℕ) (out : List ℕ) → Answered s (20 ∷ 22 ∷ []) (copied s asked out .number) (copied s asked out .place)
   -- "the header count is the number of items that passed 2 to 8, at most half the stream's bytes .. After 1 it is 0"
   pub headers : (s table : List ℕ) → length s ≤ streamLimit → checked s table .headers ≡ count (itemsOfStream s)
   pub headers-half : (s table : List ℕ) → checked s table .headers + checked s table .headers ≤ length s
@@ -68,10 +64,10 @@ pub record Demand1 : Type 0 where
   pub content-empty : (s : List ℕ) (asked : ℕ) → (fetched s asked .number ≡ 0 → ⊥) → fetched s asked .part ≡ []
 
 -- how many items a tree has, at any level
-abbrev pub itemsIn : Tree → ℕ
-itemsIn empty = 0
-itemsIn (leaf type value after) = suc (itemsIn after)
-itemsIn (branch type inside after) = suc (itemsIn inside + itemsIn after)
+abbrev pub itemCount : Tree → ℕ
+itemCount empty = 0
+itemCount (leaf type value after) = suc (itemCount after)
+itemCount (branch type inside after) = suc (itemCount inside + itemCount after)
 
 -- what it is to be a letter: X.209 says that its octets code a tree of items, and the element shapes that its elements are these
 pub record IsLetterOf (s : List ℕ) (headers : ℕ) (elements : List Element) : Type 0 where
@@ -79,7 +75,7 @@ pub record IsLetterOf (s : List ℕ) (headers : ℕ) (elements : List Element) :
   pub coded : Codes deepest tree s
   pub within : length s ≤ streamLimit
   pub shaped : judge edition1988 tree ≡ accepted elements
-  pub counted : headers ≡ itemsIn tree
+  pub counted : headers ≡ itemCount tree
 
 -- the levels that are left for pieces: an element stands at level 1, the 24 at level 2, and "level 16 is the deepest"
 abbrev pub pieceLevels : ℕ

@@ -7,9 +7,8 @@ use native.Mathlib.Omega.{arith}
 use lib.Dec.{eqb}
 use lib.Seq.{slice}
 use borrow.Author.Tests.{eqb-false}
-use Rattle.headers.specs.First.{constructed}
-use Rattle.octets.specs.Items.{Items, none, item}
-use Rattle.octets.specs.Walk.{Walked}
+use Rattle.headers.specs.Head.{constructed}
+use Rattle.octets.specs.Walk.{Items, none, item, Walked}
 use Rattle.octets.specs.Rules.{at-limit}
 use Rattle.octets.proofs.RulesHold.{derived}
 use Rattle.tree.specs.Tree.{empty, plain}
@@ -19,16 +18,17 @@ use Rattle.runs.specs.Runs.{itemsOf, treeIn, definiteRun, Fine}
 use Rattle.contents.specs.declared.Part.{Part}
 use Rattle.contents.specs.declared.Span.{Span}
 use Rattle.contents.specs.Search.{absent, amount, firstValue, firstRun, boundsOf, itemsIn}
-use Rattle.contents.specs.First.{spanOf, Holds, Lacks}
+use Rattle.contents.specs.First.{spanOf, IsFirst, Lacks}
 use Rattle.contents.specs.Gather.{Counted}
 use Rattle.contents.proofs.Firsts.{amount-formed, value-after, run-after}
-use Rattle.elements.specs.Says.{Placed, noSpan, Bounds}
+use Rattle.elements.specs.Says.{Placed, Bounds}
+use Rattle.elements.specs.Rows.{noSpan}
 use Rattle.elements.specs.Frames.{Bounding, Inner}
 
 pub no-span-placed : (s : List ℕ) → Placed s noSpan
 no-span-placed s = record { order = omega arith; inside = omega arith }
 
-module _ {s : List ℕ} {r : Run} {octet : ℕ} {p : Part} (h : Holds s r octet p) where
+module _ {s : List ℕ} {r : Run} {octet : ℕ} {p : Part} (h : IsFirst s r octet p) where
   pub held-placed : Placed s (spanOf p)
   held-placed = record { order = h .order; inside = h .inside }
 

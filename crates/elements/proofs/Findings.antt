@@ -13,15 +13,14 @@ use Rattle.runs.specs.Runs.{treeIn}
 use Rattle.contents.specs.declared.Gathered.{Gathered}
 use Rattle.contents.specs.Search.{firstValue, firstRun}
 use Rattle.contents.specs.Gather.{Gathers}
-use Rattle.portions.specs.declared.Listed.{Listed}
-use Rattle.portions.specs.Lists.{Lists}
+use Rattle.portions.specs.declared.PortionList.{PortionList}
+use Rattle.portions.specs.Lists.{ListsPortions}
 use Rattle.portions.specs.Portions.{values}
 use Rattle.portions.proofs.Judging.{well-spelt}
 use Rattle.elements.specs.declared.Frame.{Frame}
 use Rattle.elements.specs.declared.Shape.{Shape}
 use Rattle.elements.specs.declared.Typed.{Typed}
-use Rattle.elements.specs.Element.{contentOf, piecesAlone, Element, elementOf, asTabled, namesFit}
-use Rattle.elements.specs.Judge.{shapeRefusal}
+use Rattle.elements.specs.Judge.{contentOf, piecesAlone, Element, elementOf, asTabled, namesFit, shapeRefusal}
 use Rattle.elements.specs.Says.{Bounds}
 use Rattle.elements.specs.Frames.{Framed, Types}
 use Rattle.elements.specs.Sees.{once, tabledBy, speltBy, numberOf, soughtOf}
@@ -29,13 +28,13 @@ use Rattle.elements.specs.WellMade.{WellMade}
 use Rattle.elements.proofs.Bounding.{counted-bounds}
 
 -- what was found: the top of the element, what names it, its portions and its object type
-pub record Findings (s : List ℕ) (shape : Shape) (r : Run) (frame : Frame) (g : Gathered) (listed : Listed) (numbers : List ℕ)
+pub record Findings (s : List ℕ) (shape : Shape) (r : Run) (frame : Frame) (g : Gathered) (listed : PortionList) (numbers : List ℕ)
     (typed : Typed) : Type 0 where
   pub made : WellMade shape
   pub framed : Framed s shape r frame
   pub alone : piecesAlone (contentOf shape (treeIn s r)) ≡ true
   pub gathers : Gathers s (frame .body) (soughtOf shape) g
-  pub lists : Lists s (g .list) listed numbers
+  pub lists : ListsPortions s (g .list) listed numbers
   pub types : Types (shape .types) (firstValue (shape .object) (treeIn s r)) typed
 
 -- what the element says
@@ -57,7 +56,7 @@ numbers-agree : (tabled fits a b : Bool) → (tabled ≡ true → a ≡ b) → n
 numbers-agree true fits a b h = rw (h refl)
 numbers-agree false fits a b h = refl
 
-module _ {s : List ℕ} {shape : Shape} {r : Run} {frame : Frame} {g : Gathered} {listed : Listed} {numbers : List ℕ} {typed : Typed}
+module _ {s : List ℕ} {shape : Shape} {r : Run} {frame : Frame} {g : Gathered} {listed : PortionList} {numbers : List ℕ} {typed : Typed}
     (f : Findings s shape r frame g listed numbers typed) where
   -- 12
   pub tabled-by : tabledBy (shape .identifier .needed) g (listed .others) ≡ asTabled shape (treeIn s r)

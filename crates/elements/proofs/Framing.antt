@@ -6,20 +6,19 @@ use mathlib.Core.List.{List}
 use mathlib.Core.Logic.{_⊎_, inl, inr}
 use Prim.Native.Nat.{ℕ, _≤_}
 use borrow.Author.Tests.{ne-eqb}
-use Rattle.headers.specs.First.{constructed}
+use Rattle.headers.specs.Head.{constructed}
 use Rattle.tree.specs.Tree.{plain}
 use Rattle.runs.specs.declared.Run.{Run}
 use Rattle.runs.specs.Runs.{treeIn, definiteRun, Fine}
 use Rattle.contents.specs.declared.Opening.{Opening}
 use Rattle.contents.specs.declared.Span.{Span}
-use Rattle.contents.specs.Order.{inOrder}
+use Rattle.contents.specs.Search.{inOrder}
 use Rattle.contents.specs.Opening.{Opens}
 use Rattle.contents.proofs.Orders.{in-order-few}
 use Rattle.elements.specs.declared.Holder.{Holder}
 use Rattle.elements.specs.declared.Shape.{Shape}
-use Rattle.elements.specs.Element.{bodyOf, ordered}
-use Rattle.elements.specs.Rows.{bodyIn}
-use Rattle.elements.specs.Says.{noSpan}
+use Rattle.elements.specs.Judge.{bodyOf, ordered}
+use Rattle.elements.specs.Rows.{bodyIn, noSpan}
 use Rattle.elements.specs.Frames.{Bounding, Inner, Holding, noHolder, Frames}
 use Rattle.elements.specs.WellMade.{WellMade}
 use Rattle.elements.proofs.Bounding.{empty-fine, empty-items, lacked-bounding}

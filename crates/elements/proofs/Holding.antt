@@ -5,17 +5,17 @@ use mathlib.Core.List.{List}
 use mathlib.Core.Logic.{_⊎_, inl, inr}
 use Prim.Native.Nat.{ℕ}
 use borrow.Author.Tests.{eq-eqb, ne-eqb}
-use Rattle.headers.specs.First.{constructed}
+use Rattle.headers.specs.Head.{constructed}
 use Rattle.runs.specs.declared.Run.{Run}
 use Rattle.runs.specs.Runs.{treeIn, definiteRun}
 use Rattle.contents.specs.declared.Part.{Part}
 use Rattle.contents.specs.declared.Span.{Span}
 use Rattle.contents.specs.Search.{amount}
-use Rattle.contents.specs.First.{spanOf, Holds, Lacks}
+use Rattle.contents.specs.First.{spanOf, IsFirst, Lacks}
 use Rattle.pieces.specs.Pieces.{onlyPieces}
 use Rattle.elements.specs.declared.Holder.{Holder}
 use Rattle.elements.specs.declared.Shape.{Shape}
-use Rattle.elements.specs.Element.{Content, single, inPieces, contentOf, piecesAlone}
+use Rattle.elements.specs.Judge.{Content, single, inPieces, contentOf, piecesAlone}
 use Rattle.elements.specs.Rows.{contentOctet}
 use Rattle.elements.specs.Says.{Placed, Contains}
 use Rattle.elements.specs.Frames.{Bounding, HoldsContent, Holding}
@@ -23,12 +23,12 @@ use Rattle.elements.specs.WellMade.{WellMade}
 use Rattle.elements.proofs.Bounding.{held-placed, held-there, empty-fine}
 
 module _ {s : List ℕ} {shape : Shape} {r : Run} (made : WellMade shape) where
-  constructed-by : {p : Part} → Holds s r (shape .pieces) p → (shape .pieces ≡ 0) ⊎ (constructed (shape .pieces) ≡ true) → constructed (shape .pieces) ≡ true
+  constructed-by : {p : Part} → IsFirst s r (shape .pieces) p → (shape .pieces ≡ 0) ⊎ (constructed (shape .pieces) ≡ true) → constructed (shape .pieces) ≡ true
   constructed-by h (inl z) = absurd (h .octet-not-zero z)
   constructed-by h (inr c) = c
 
   -- an item with pieces is there
-  pub pieced-holding : {p : Part} → Holds s r (shape .pieces) p
+  pub pieced-holding : {p : Part} → IsFirst s r (shape .pieces) p
       → Holding s shape r (record { value = spanOf p; pieced = true; pieces = p .inner })
   unfolding contentOctet contentOf
   pieced-holding {p} h =

@@ -6,21 +6,21 @@ use Prim.Native.Nat.{ℕ, _≤_}
 use lib.Dec.{leb}
 use lib.ListN.{length}
 use borrow.Author.Tests.{leb-true}
-use Rattle.octets.specs.Items.{Items}
+use Rattle.octets.specs.Walk.{Items}
 use Rattle.tree.specs.Tree.{plain}
 use Rattle.runs.specs.declared.Run.{Run}
 use Rattle.runs.specs.Runs.{itemsOf, treeIn, allPrimitive}
 use Rattle.contents.specs.declared.Gathered.{Gathered}
 use Rattle.contents.specs.declared.Span.{Span}
 use Rattle.contents.specs.Search.{itemsIn}
-use Rattle.portions.specs.declared.Listed.{Listed}
+use Rattle.portions.specs.declared.PortionList.{PortionList}
 use Rattle.portions.specs.Portions.{all, allPortions, values, mostPortions}
 use Rattle.portions.proofs.Judging.{only-portions}
 use Rattle.portions.proofs.Meetings.{portions-primitive}
 use Rattle.elements.specs.declared.Frame.{Frame}
 use Rattle.elements.specs.declared.Shape.{Shape}
 use Rattle.elements.specs.declared.Typed.{Typed}
-use Rattle.elements.specs.Element.{contentOf, elementOf, spelt}
+use Rattle.elements.specs.Judge.{contentOf, elementOf, spelt}
 use Rattle.elements.specs.Rows.{rowOf}
 use Rattle.elements.specs.Says.{Says, portionsRun}
 use Rattle.elements.specs.Sees.{listSpelt, speltBy, rowBy, Passes}
@@ -39,7 +39,7 @@ first-true : (a b : Bool) → a && b ≡ true → a ≡ true
 first-true true b e = refl
 first-true false b e = absurd (false≢true e)
 
-module _ {s : List ℕ} {shape : Shape} {r : Run} {frame : Frame} {g : Gathered} {listed : Listed} {numbers : List ℕ} {typed : Typed}
+module _ {s : List ℕ} {shape : Shape} {r : Run} {frame : Frame} {g : Gathered} {listed : PortionList} {numbers : List ℕ} {typed : Typed}
     (f : Findings s shape r frame g listed numbers typed) (whole : Span) where
   row-by : typed .fits ≡ true → rowBy shape frame (typed .value) g whole ≡ rowOf shape s (whole .first) (whole .past) (itemsOf s r)
   unfolding rowOf elementOf

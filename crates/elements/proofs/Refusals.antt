@@ -8,8 +8,7 @@ use lib.ListN.{length}
 use Rattle.tree.specs.Tree.{Tree}
 use Rattle.contents.specs.Search.{is, firstValue}
 use Rattle.elements.specs.Shape.{Edition, shapeOf}
-use Rattle.elements.specs.Element.{Element, elementOf, asTabled, typeFits, namesFit}
-use Rattle.elements.specs.Judge.{mostElements, profile, twice, firstOf, _when_, shapeRefusal, refusalOf}
+use Rattle.elements.specs.Judge.{Element, elementOf, asTabled, typeFits, namesFit, mostElements, profile, twice, firstOf, _when_, shapeRefusal, refusalOf}
 use Rattle.elements.specs.Sees.{numberOf}
 
 -- the last test counts where none before it refuses

@@ -9,10 +9,8 @@ use lib.Dec.{eqb}
 use borrow.Author.Tests.{eqb-true}
 use Rattle.headers.specs.declared.Header.{Header}
 use Rattle.headers.specs.declared.Head.the-variants.{Item}
-use Rattle.headers.specs.First.{constructed}
-use Rattle.headers.specs.Head.{headAt}
-use Rattle.octets.specs.Items.{Items, none}
-use Rattle.octets.specs.Walk.{End, ends, Walked, pastOf}
+use Rattle.headers.specs.Head.{constructed, headAt}
+use Rattle.octets.specs.Walk.{Items, none, End, ends, Walked, pastOf}
 use Rattle.octets.specs.Rules.{Runs, at-limit, unclosed, closes, refuses, primitive, passes, breaks}
 use Rattle.octets.proofs.RulesHold.{derived, derives}
 use Rattle.tree.specs.Accepts.{Whole}

@@ -12,14 +12,13 @@ use Rattle.runs.specs.declared.Run.{Run}
 use Rattle.runs.specs.Runs.{treeIn}
 use Rattle.contents.specs.declared.Gathered.{Gathered}
 use Rattle.contents.specs.declared.Span.{Span}
-use Rattle.portions.specs.declared.Listed.{Listed}
+use Rattle.portions.specs.declared.PortionList.{PortionList}
 use Rattle.elements.specs.declared.Frame.{Frame}
 use Rattle.elements.specs.declared.Row.{Row}
 use Rattle.elements.specs.declared.Seen.{Seen}
 use Rattle.elements.specs.declared.Shape.{Shape}
 use Rattle.elements.specs.declared.Typed.{Typed}
-use Rattle.elements.specs.Element.{contentOf, piecesAlone, ordered, asTabled}
-use Rattle.elements.specs.Judge.{shapeRefusal}
+use Rattle.elements.specs.Judge.{contentOf, piecesAlone, ordered, asTabled, shapeRefusal}
 use Rattle.elements.specs.Says.{Placed, RowPlaced}
 use Rattle.elements.specs.Sees.{tabledBy, speltBy, numberOf, rowBy, noRow, refusedBy, seenBy, Sees}
 use Rattle.elements.proofs.Bounding.{no-span-placed, counted-placed}
@@ -53,7 +52,7 @@ all-well true true false e = absurd (omega arith)
 all-well true false c e = absurd (omega arith)
 all-well false b c e = absurd (omega arith)
 
-module _ {s : List ℕ} {shape : Shape} {r : Run} {frame : Frame} {g : Gathered} {listed : Listed} {numbers : List ℕ} {typed : Typed}
+module _ {s : List ℕ} {shape : Shape} {r : Run} {frame : Frame} {g : Gathered} {listed : PortionList} {numbers : List ℕ} {typed : Typed}
     (f : Findings s shape r frame g listed numbers typed) (whole : Span)
     (small : typed .value < 256) (w : Placed s whole) (content : Placed s (frame .content .value)) where
   row-placed : RowPlaced s (rowBy shape frame (typed .value) g whole)

@@ -10,7 +10,7 @@ use lib.Seq.{slice, slice-cons, slice-empty, length-slice}
 use Rattle.contents.specs.declared.Span.{Span}
 use Rattle.contents.specs.Search.{Value, absent, octets}
 use Rattle.names.specs.Names.{isIdentifier, grouped}
-use Rattle.elements.specs.Element.{noType, typeFits, spelt}
+use Rattle.elements.specs.Judge.{noType, typeFits, spelt}
 use Rattle.elements.specs.Says.{Covers, Bounds, Names}
 use Rattle.elements.specs.Frames.{Types}
 

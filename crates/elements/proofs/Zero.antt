@@ -8,10 +8,8 @@ use borrow.Author.Tests.{ne-eqb}
 use lib.Seq.{slice}
 use Rattle.headers.specs.declared.Header.{Header}
 use Rattle.headers.specs.declared.Head.the-variants.{Item}
-use Rattle.headers.specs.First.{constructed}
-use Rattle.headers.specs.Head.{headAt}
-use Rattle.octets.specs.Items.{Items, none, item}
-use Rattle.octets.specs.Walk.{End}
+use Rattle.headers.specs.Head.{constructed, headAt}
+use Rattle.octets.specs.Walk.{Items, none, item, End}
 use Rattle.octets.specs.Rules.{Runs, at-limit, unclosed, closes, refuses, primitive, passes, breaks}
 use Rattle.octets.proofs.RulesHold.{derives}
 use Rattle.tree.specs.Tree.{plain}

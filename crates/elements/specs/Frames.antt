@@ -4,7 +4,7 @@ use mathlib.Core.Path.{_≡_}
 use mathlib.Core.Bool.{true, false}
 use mathlib.Core.List.{List}
 use Prim.Native.Nat.{ℕ, _<_}
-use Rattle.headers.specs.First.{constructed}
+use Rattle.headers.specs.Head.{constructed}
 use Rattle.runs.specs.declared.Run.{Run}
 use Rattle.tree.specs.Tree.{Tree}
 use Rattle.runs.specs.Runs.{itemsOf, treeIn, definiteRun, Fine}
@@ -14,9 +14,9 @@ use Rattle.elements.specs.declared.Frame.{Frame}
 use Rattle.elements.specs.declared.Holder.{Holder}
 use Rattle.elements.specs.declared.Shape.{Shape}
 use Rattle.elements.specs.declared.Typed.{Typed}
-use Rattle.elements.specs.Element.{bodyOf, Content, single, inPieces, contentOf, ordered, typeOf, typeFits}
-use Rattle.elements.specs.Rows.{bodyIn, contentOctet}
-use Rattle.elements.specs.Says.{Placed, noSpan, Bounds}
+use Rattle.elements.specs.Judge.{bodyOf, Content, single, inPieces, contentOf, ordered, typeOf, typeFits}
+use Rattle.elements.specs.Rows.{bodyIn, contentOctet, noSpan}
+use Rattle.elements.specs.Says.{Placed, Bounds}
 
 -- v is the pair of the first item of the run r with the octet, and bounds its value, if that item is primitive
 pub record Bounding (s : List ℕ) (r : Run) (octet : ℕ) (v : Span) : Type 0 where

@@ -1,19 +1,28 @@
 -- The table. Document 01, "Table, list, part, normal form": "A table row is twelve numbers: kind .., object type .., then first and past for
--- the element, its identifier, the unit's logical identifier, the portions' value, the content. All pairs but the element's bound a value."
--- Definitions only: assumes nothing.
+-- the element, its identifier, the unit's logical identifier, the portions' value, the content. All pairs but the element's bound a value.
+-- .. Absent is 0 and 0." Definitions only: assumes nothing.
 use Prim.Native.Nat.{ℕ, zero, suc}
 use mathlib.Core.Bool.{cond}
 use mathlib.Core.List.{List, [], _∷_, _++_}
 use lib.Dec.{eqb}
 use lib.ListN.{length}
-use Rattle.octets.specs.Items.{Items, none, item}
+use lib.Seq.{slice}
+use Rattle.octets.specs.Walk.{Items, none, item, startOf}
 use Rattle.tree.specs.Tree.{Tree, plain}
-use Rattle.runs.specs.Runs.{startOf}
-use Rattle.contents.specs.Search.{boundsOf, itemsIn}
+use Rattle.contents.specs.Search.{itemsIn, boundsOf}
+use Rattle.contents.specs.declared.Span.{Span}
 use Rattle.elements.specs.declared.Shape.{Shape}
 use Rattle.elements.specs.declared.Row.{Row}
 use Rattle.elements.specs.Shape.{Edition, shapeOf}
-use Rattle.elements.specs.Element.{noneOf, elementOf}
+use Rattle.elements.specs.Judge.{noneOf, elementOf}
+
+-- the pair of what is absent
+abbrev pub noSpan : Span
+noSpan = record { first = 0; past = 0 }
+
+-- the octets that a pair bounds
+abbrev pub bytesIn : List ℕ → Span → List ℕ
+bytesIn s v = slice (v .first) (v .past) s
 
 -- the items that name an element: `bodyOf` of another file, with places
 unfoldable pub bodyIn : Shape → Items → Items

@@ -3,29 +3,22 @@
 use mathlib.Core.Path.{_≡_}
 use mathlib.Core.Bool.{true}
 use mathlib.Core.List.{List}
-use Prim.Native.Nat.{ℕ, _<_, _≤_}
+use Prim.Native.Nat.{ℕ, _≤_, _<_}
 use lib.ListN.{length}
 use lib.Seq.{slice}
 use Rattle.runs.specs.declared.Run.{Run}
-use Rattle.runs.specs.Runs.{treeIn, definiteRun, Fine}
+use Rattle.runs.specs.Runs.{treeIn, Fine, definiteRun}
 use Rattle.contents.specs.declared.Span.{Span}
 use Rattle.contents.specs.Search.{Value, absent, octets}
 use Rattle.portions.specs.Portions.{allPortions, values}
 use Rattle.elements.specs.declared.Row.{Row}
-use Rattle.elements.specs.Element.{Content, single, inPieces, Element, namesFit}
+use Rattle.elements.specs.Judge.{Content, single, inPieces, Element, namesFit}
+use Rattle.elements.specs.Rows.{noSpan}
 
 -- a pair that lies in the stream
 pub record Placed (s : List ℕ) (v : Span) : Type 0 where
   pub order : v .first ≤ v .past
   pub inside : v .past ≤ length s
-
--- the pair of what is absent
-abbrev pub noSpan : Span
-noSpan = record { first = 0; past = 0 }
-
--- the octets that a pair bounds
-abbrev pub bytesIn : List ℕ → Span → List ℕ
-bytesIn s v = slice (v .first) (v .past) s
 
 -- the pair of a value that is there: it may be empty, and never stands at 0
 pub record Covers (s : List ℕ) (v : Span) (bytes : List ℕ) : Type 0 where

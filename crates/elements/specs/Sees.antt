@@ -12,17 +12,16 @@ use Rattle.contents.specs.declared.Gathered.{Gathered}
 use Rattle.contents.specs.declared.Sought.{Sought}
 use Rattle.contents.specs.declared.Span.{Span}
 use Rattle.contents.specs.Search.{Value}
-use Rattle.portions.specs.declared.Listed.{Listed}
+use Rattle.portions.specs.declared.PortionList.{PortionList}
 use Rattle.portions.specs.Bounds.{bounded, Inside}
 use Rattle.portions.specs.Portions.{mostPortions, all}
 use Rattle.elements.specs.declared.Frame.{Frame}
 use Rattle.elements.specs.declared.Row.{Row}
 use Rattle.elements.specs.declared.Seen.{Seen}
 use Rattle.elements.specs.declared.Shape.{Shape}
-use Rattle.elements.specs.Element.{elementOf, spelt}
-use Rattle.elements.specs.Judge.{firstOf, _when_, shapeRefusal}
-use Rattle.elements.specs.Rows.{rowOf}
-use Rattle.elements.specs.Says.{Placed, noSpan, Says, RowPlaced}
+use Rattle.elements.specs.Judge.{elementOf, spelt, firstOf, _when_, shapeRefusal}
+use Rattle.elements.specs.Rows.{rowOf, noSpan}
+use Rattle.elements.specs.Says.{Placed, Says, RowPlaced}
 use Rattle.elements.specs.WellMade.{WellMade}
 
 -- at most one, and one if it is needed
@@ -40,11 +39,11 @@ tabledBy needed g others =
     ∷ [])
 
 -- the portions' part of rule 14, by what was read: "misspelt, or a 65th portion"
-abbrev pub listSpelt : Listed → Bool
+abbrev pub listSpelt : PortionList → Bool
 listSpelt listed = leb (listed .count) mostPortions && not (listed .misspelt)
 
 -- rule 14, by the identifiers and by what was read of the portions
-abbrev pub speltBy : (identifier logical : Value) → Listed → Bool
+abbrev pub speltBy : (identifier logical : Value) → PortionList → Bool
 speltBy identifier logical listed = all (spelt identifier ∷ spelt logical ∷ listSpelt listed ∷ [])
 
 -- rules 12 to 14, by what was found of each
@@ -94,7 +93,7 @@ abbrev pub seenBy : (number : ℕ) → Row → (count : ℕ) → Seen
 seenBy number row count = cond (eqb number 0) (record { refusal = 0; row = row; count = count }) (refusedBy number)
 
 -- what is needed to look into an element
-pub record Ready (s : List ℕ) (shape : Shape) (frame : Frame) (whole : Span) : Type 0 where
+pub record Lookable (s : List ℕ) (shape : Shape) (frame : Frame) (whole : Span) : Type 0 where
   pub made : WellMade shape
   pub small : length s ≤ streamLimit
   pub fine : Fine s (frame .body)

@@ -3,7 +3,7 @@
 use mathlib.Core.Path.{_≡_}
 use mathlib.Core.Bool.{true, false}
 use mathlib.Core.Logic.{_⊎_}
-use Rattle.headers.specs.First.{constructed}
+use Rattle.headers.specs.Head.{constructed}
 use Rattle.elements.specs.declared.Shape.{Shape}
 
 pub record WellMade (shape : Shape) : Type 0 where

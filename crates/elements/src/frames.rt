@@ -2,20 +2,20 @@
 use super::Frame;
 use super::Holder;
 use super::Shape;
-use contents::Found;
 use contents::Opening;
 use contents::Part;
+use contents::PartFound;
 use contents::Span;
 use runs::Run;
 ghost use mathlib.Core.Path.{_≡_};
 ghost use mathlib.Core.Bool.{true, false};
 ghost use mathlib.Core.List.{List};
 ghost use Prim.Native.Nat.{ℕ, _≤_};
-ghost use Rattle.headers.specs.First.{constructed};
+ghost use Rattle.headers.specs.Head.{constructed};
 ghost use Rattle.runs.specs.Runs.{treeIn, definiteRun, Fine};
-ghost use Rattle.contents.specs.First.{Holds, Lacks};
+ghost use Rattle.contents.specs.First.{IsFirst, Lacks};
 ghost use Rattle.contents.specs.Opening.{Opens, FoundIn};
-ghost use Rattle.elements.specs.Element.{Content, ordered, piecesAlone};
+ghost use Rattle.elements.specs.Judge.{Content, ordered, piecesAlone};
 ghost use Rattle.elements.specs.WellMade.{WellMade};
 ghost use Rattle.elements.specs.Frames.{Bounding, Inner, HoldsContent, Holding, noHolder, Frames};
 
@@ -31,12 +31,12 @@ fn no_run() -> Run
 }
 
 // The bounds of the value of an item that was looked for.
-fn bounds_of(found: Found) -> Span
+fn bounds_of(found: PartFound) -> Span
     ensures { λ v. ⌜ ((s : List ℕ) (r : Run) (octet : ℕ) → FoundIn s r octet found → Bounding s r octet v) ⌝ }
 {
     match found {
-        Found::At(p) => contents::span_of(p),
-        Found::Missing => Span { first: 0, past: 0 },
+        PartFound::At(p) => contents::span_of(p),
+        PartFound::Missing => Span { first: 0, past: 0 },
     }
 }
 
@@ -45,8 +45,8 @@ fn run_with(o: Opening, octet: usize) -> Run
     ensures { λ b. ⌜ ((s : List ℕ) (r : Run) → Opens s r o → o .count ≤ 2 → constructed octet ≡ true → Inner s r octet b) ⌝ }
 {
     match contents::part_with(o, octet) {
-        Found::At(p) => p.inner,
-        Found::Missing => no_run(),
+        PartFound::At(p) => p.inner,
+        PartFound::Missing => no_run(),
     }
 }
 
@@ -63,7 +63,7 @@ fn no_holder() -> Holder
 
 // A content in pieces is held by their item.
 fn held_in_pieces(p: Part) -> Holder
-    ensures { λ holder. ⌜ ((s : List ℕ) (shape : Shape) (r : Run) → WellMade shape → Holds s r (shape .pieces) p → Holding s shape r holder) ⌝ }
+    ensures { λ holder. ⌜ ((s : List ℕ) (shape : Shape) (r : Run) → WellMade shape → IsFirst s r (shape .pieces) p → Holding s shape r holder) ⌝ }
 {
     let run = p.inner;
     let value = contents::span_of(p);
@@ -75,7 +75,7 @@ fn held_in_pieces(p: Part) -> Holder
 }
 
 // Where there are no pieces, it is held by the item with the content, if that is there.
-fn held_whole(found: Found) -> Holder
+fn held_whole(found: PartFound) -> Holder
     ensures { λ holder. ⌜ ((s : List ℕ) (shape : Shape) (r : Run) → WellMade shape → Lacks s r (shape .pieces) → FoundIn s r (shape .content) found → Holding s shape r holder) ⌝ }
 {
     Holder {
@@ -91,8 +91,8 @@ fn holder_with(o: Opening, shape: Shape) -> Holder
     ensures { λ holder. ⌜ ((s : List ℕ) (r : Run) → Opens s r o → o .count ≤ 2 → Holding s shape r holder) ⌝ }
 {
     match contents::part_with(o, shape.pieces) {
-        Found::At(p) => held_in_pieces(p),
-        Found::Missing => held_whole(contents::part_with(o, shape.content)),
+        PartFound::At(p) => held_in_pieces(p),
+        PartFound::Missing => held_whole(contents::part_with(o, shape.content)),
     }
 }
 
@@ -158,8 +158,8 @@ pub fn holder_in(s: &[u8], shape: Shape, r: Run) -> Holder
     ensures { λ holder. ⌜ Holding (now (s .entry)) shape r holder ⌝ }
 {
     match contents::first_with(s, r, shape.pieces) {
-        Found::At(p) => held_in_pieces(p),
-        Found::Missing => held_whole(contents::first_with(s, r, shape.content)),
+        PartFound::At(p) => held_in_pieces(p),
+        PartFound::Missing => held_whole(contents::first_with(s, r, shape.content)),
     }
 }
 

@@ -3,20 +3,19 @@ use contents::Gathered;
 use contents::Slot;
 use contents::Sought;
 use contents::Span;
-use portions::Listed;
+use portions::PortionList;
 use runs::Run;
 ghost use mathlib.Core.Path.{_≡_};
 ghost use mathlib.Core.Bool.{true};
 ghost use Prim.Native.Nat.{_≤_};
 ghost use lib.ListN.{length};
-ghost use Rattle.octets.specs.Items.{none};
-ghost use Rattle.octets.specs.Walk.{streamLimit};
+ghost use Rattle.octets.specs.Walk.{none, streamLimit};
 ghost use Rattle.runs.specs.Runs.{itemsOf, treeIn, Fine};
-ghost use Rattle.portions.specs.Lists.{Lists};
-ghost use Rattle.elements.specs.Element.{contentOf, piecesAlone};
+ghost use Rattle.portions.specs.Lists.{ListsPortions};
+ghost use Rattle.elements.specs.Judge.{contentOf, piecesAlone};
 ghost use Rattle.elements.specs.WellMade.{WellMade};
 ghost use Rattle.elements.specs.Frames.{Framed};
-ghost use Rattle.elements.specs.Sees.{soughtOf, rowBy, refusedBy, seenBy, Ready, Sees};
+ghost use Rattle.elements.specs.Sees.{soughtOf, rowBy, refusedBy, seenBy, Lookable, Sees};
 
 mod frames; // frames.rt: the top of an element
 mod rules; // rules.rt: rules 12 to 14, by what was found
@@ -135,12 +134,12 @@ fn sought_of(shape: Shape) -> Sought
 }
 
 // The portions of an element, read if there are any.
-fn listed_of(s: &[u8], g: Gathered, bounds: &mut [u32]) -> Listed
+fn listed_of(s: &[u8], g: Gathered, bounds: &mut [u32]) -> PortionList
     requires { ⌜ Fine (now s) (g .list) × (length (now s) ≤ streamLimit) × (128 ≤ length (now bounds)) ⌝ }
-    ensures { λ listed. ⌜ ((g .lists ≡ 0 → itemsOf (now (s .entry)) (g .list) ≡ none) → Lists (now (s .entry)) (g .list) listed (now (bounds .exit))) ⌝ }
+    ensures { λ listed. ⌜ ((g .lists ≡ 0 → itemsOf (now (s .entry)) (g .list) ≡ none) → ListsPortions (now (s .entry)) (g .list) listed (now (bounds .exit))) ⌝ }
 {
     if g.lists == 0 {
-        return Listed {
+        return PortionList {
             count: 0,
             others: false,
             misspelt: false,
@@ -172,7 +171,7 @@ fn row_of(shape: Shape, frame: Frame, object: usize, g: Gathered, whole: Span) -
 
 // What is seen of an element whose items stand as tabled. What names it is gathered once, and its portions are read once.
 fn see_body(s: &[u8], shape: Shape, frame: Frame, whole: Span, bounds: &mut [u32]) -> Seen
-    requires { ⌜ Ready (now s) shape frame whole × (128 ≤ length (now bounds)) ⌝ }
+    requires { ⌜ Lookable (now s) shape frame whole × (128 ≤ length (now bounds)) ⌝ }
     ensures { λ seen. ⌜ ((r : Run) → Framed (now (s .entry)) shape r frame → piecesAlone (contentOf shape (treeIn (now (s .entry)) r)) ≡ true → Sees (now (s .entry)) shape r (whole .first) (whole .past) (now (bounds .exit)) seen) ⌝ }
 {
     let body = frame.body;

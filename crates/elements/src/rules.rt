@@ -2,11 +2,11 @@
 use super::Typed;
 use contents::Gathered;
 use contents::Span;
-use portions::Listed;
+use portions::PortionList;
 ghost use mathlib.Core.Path.{_≡_};
 ghost use Prim.Native.Nat.{_<_};
 ghost use Rattle.contents.specs.Search.{Value};
-ghost use Rattle.elements.specs.Element.{spelt};
+ghost use Rattle.elements.specs.Judge.{spelt};
 ghost use Rattle.elements.specs.Says.{Placed, Bounds};
 ghost use Rattle.elements.specs.Frames.{Types};
 ghost use Rattle.elements.specs.Sees.{once, tabledBy, speltBy, numberOf};
@@ -90,7 +90,7 @@ fn is_spelt(s: &[u8], v: Span) -> bool
 }
 
 // Rule 14, by what was gathered and read.
-pub fn are_spelt(s: &[u8], identifier: Span, logical: Span, listed: Listed) -> bool
+pub fn are_spelt(s: &[u8], identifier: Span, logical: Span, listed: PortionList) -> bool
     requires { ⌜ Placed (now s) identifier × Placed (now s) logical ⌝ }
     ensures { λ b. ⌜ ((x y : Value) → Bounds (now (s .entry)) identifier x → Bounds (now (s .entry)) logical y → b ≡ speltBy x y listed) ⌝ }
 {

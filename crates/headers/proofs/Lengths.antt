@@ -8,7 +8,7 @@ use native.Mathlib.Nat.{pow-suc, pow-le-pow-right}
 use lib.Dec.{lit<}
 use lib.ListN.{length, getD, take, drop, length-drop}
 use lib.Seq.{take-suc, getD-drop}
-use Rattle.headers.specs.Lengths.{bigEndian, bigEndianFrom}
+use Rattle.headers.specs.Head.{bigEndian, bigEndianFrom}
 
 -- an octet more, at the end
 pub be-snoc : (n : ℕ) (xs : List ℕ) (x : ℕ) → bigEndianFrom n (xs ++ (x ∷ [])) ≡ bigEndianFrom n xs * 256 + x

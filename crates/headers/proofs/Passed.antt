@@ -9,9 +9,7 @@ use lib.ListN.{take, drop}
 use borrow.Author.Tests.{leb-true, ltb-true, eq-eqb, ne-eqb, lt-ltb, le-ltb}
 use Rattle.headers.specs.declared.Head.{Head}
 use Rattle.headers.specs.declared.Head.the-variants.{Item, ClosingMark}
-use Rattle.headers.specs.First.{number, constructed, formAllowed}
-use Rattle.headers.specs.Lengths.{bigEndian, misfits}
-use Rattle.headers.specs.Head.{octetAt, definiteAt, indefiniteAt, longAt, byFirst, lengthAt, closingAt, itemAt, headAt, Passed}
+use Rattle.headers.specs.Head.{number, constructed, formAllowed, bigEndian, misfits, octetAt, definiteAt, indefiniteAt, longAt, byFirst, lengthAt, closingAt, itemAt, headAt, Passed}
 use Rattle.headers.proofs.Lies.{cond-holds}
 
 -- a header with a definite length, from start on

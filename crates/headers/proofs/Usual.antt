@@ -6,8 +6,7 @@ use Prim.Native.Nat.{ℕ, _%_, _<_, _≤_}
 use native.Mathlib.Omega.{arith}
 use lib.Dec.{eqb}
 use borrow.Author.Tests.{le-ltb, ne-eqb, eqb-true, eqb-false, not-true}
-use Rattle.headers.specs.First.{number, permits, formAllowed}
-use Rattle.headers.specs.Lengths.{misfits}
+use Rattle.headers.specs.Head.{number, permits, formAllowed, misfits}
 
 abbrev pub Good : (octet len : ℕ) → Type 0
 Good octet len = (octet ≡ 0 → ⊥) × (number octet ≡ 31 → ⊥) × (formAllowed octet ≡ true) × (misfits octet len ≡ false)

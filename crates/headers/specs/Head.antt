@@ -1,16 +1,69 @@
 -- "Reading at a position yields an item header, a closing mark or a refusal." Document 01, "Octet rules" and numbers 2 to 8,
--- which are tested in their order. `at` is the position, `limit` the end of the nearest enclosing definite item or of the stream,
--- `marked` says whether the innermost open item is indefinite, and `room` is how many levels are left.
--- Definitions only: assumes nothing.
-use Prim.Native.Nat.{ℕ, _+_, _-_}
-use mathlib.Core.Bool.{Bool, true, false, cond}
-use mathlib.Core.List.{List}
-use lib.ListN.{getD, take, drop}
+-- which are tested in their order; X.209, 6.2 and 6.3. First the octet that begins an item, then what length octets say, then the header.
+-- `at` is the position, `limit` the end of the nearest enclosing definite item or of the stream, `marked` says whether the innermost open
+-- item is indefinite, and `room` is how many levels are left. Definitions only: assumes nothing.
+use Prim.Native.Nat.{ℕ, _/_, _%_, _*_, _+_, _-_}
+use mathlib.Core.Bool.{Bool, cond, false, true, _||_, not}
+use mathlib.Core.List.{List, [], _∷_}
+use lib.ListN.{drop, getD, take}
 use lib.Dec.{eqb, ltb, leb}
 use Rattle.headers.specs.declared.Head.{Head}
 use Rattle.headers.specs.declared.Head.the-variants.{Item, ClosingMark, Refusal}
-use Rattle.headers.specs.First.{number, constructed, formAllowed}
-use Rattle.headers.specs.Lengths.{bigEndian, misfits}
+
+-- "class in bits 8 and 7": universal is 00
+abbrev pub universal : ℕ → Bool
+universal octet = ltb octet 64
+
+-- "form in bit 6 (1 is constructed)"
+abbrev pub constructed : ℕ → Bool
+constructed octet = eqb (octet / 32 % 2) 1
+
+-- "number in bits 5 to 1"
+abbrev pub number : ℕ → ℕ
+number octet = octet % 32
+
+-- whether n is one of a list
+abbrev pub isIn : ℕ → List ℕ → Bool
+isIn n [] = false
+isIn n (x ∷ xs) = cond (eqb n x) true (isIn n xs)
+
+-- "1, 2, 5, 6, 9, 10 primitive"
+abbrev pub primitiveOnly : List ℕ
+primitiveOnly = 1 ∷ 2 ∷ 5 ∷ 6 ∷ 9 ∷ 10 ∷ []
+
+-- "8, 16, 17 constructed"
+abbrev pub constructedOnly : List ℕ
+constructedOnly = 8 ∷ 16 ∷ 17 ∷ []
+
+-- "3, 4, 7, 11 and 18 to 27 either"; the other numbers below 31 never
+abbrev pub eitherForm : List ℕ
+eitherForm = 3 ∷ 4 ∷ 7 ∷ 11 ∷ 18 ∷ 19 ∷ 20 ∷ 21 ∷ 22 ∷ 23 ∷ 24 ∷ 25 ∷ 26 ∷ 27 ∷ []
+
+-- whether a universal number may have a form: true is constructed
+unfoldable pub permits : ℕ → Bool → Bool
+permits n true = isIn n constructedOnly || isIn n eitherForm
+permits n false = isIn n primitiveOnly || isIn n eitherForm
+
+-- "Universal numbers have a fixed table .. for their form .. Other classes may have either form."
+unfoldable pub formAllowed : ℕ → Bool
+formAllowed octet = cond (universal octet) (permits (number octet) (constructed octet)) true
+
+-- the number whose octets go on with these, where those before them are n
+unfoldable pub bigEndianFrom : ℕ → List ℕ → ℕ
+bigEndianFrom n [] = n
+bigEndianFrom n (x ∷ xs) = bigEndianFrom (n * 256 + x) xs
+
+-- "length octets follow, most significant first"; leading zero octets are legal
+abbrev pub bigEndian : List ℕ → ℕ
+bigEndian xs = bigEndianFrom 0 xs
+
+-- "universal primitive: 1 not one octet, 5 not empty, 2 or 10 empty". Such an item's octet is its number.
+unfoldable pub misfits : (octet len : ℕ) → Bool
+misfits octet len =
+    cond (eqb octet 1) (not (eqb len 1))
+    (cond (eqb octet 5) (not (eqb len 0))
+    (cond (eqb octet 2) (eqb len 0)
+    (cond (eqb octet 10) (eqb len 0) false)))
 
 -- the octet at a position
 abbrev pub octetAt : List ℕ → ℕ → ℕ

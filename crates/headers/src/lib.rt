@@ -3,9 +3,8 @@ ghost use mathlib.Core.Path.{_≡_};
 ghost use mathlib.Core.Bool.{true, false};
 ghost use Prim.Native.Nat.{_+_, _<_, _≤_};
 ghost use lib.ListN.{length, take, drop};
-ghost use Rattle.headers.specs.First.{number, permits, formAllowed};
-ghost use Rattle.headers.specs.Lengths.{misfits, bigEndian};
-ghost use Rattle.headers.specs.Head.{definiteAt, indefiniteAt, longAt, lengthAt, closingAt, headAt, Passed};
+ghost use Rattle.headers.specs.Head.{number, permits, formAllowed, misfits, bigEndian, definiteAt, indefiniteAt, longAt, lengthAt, closingAt, headAt};
+ghost use Rattle.headers.specs.Head.{Passed};
 ghost use Rattle.headers.specs.declared.Head.the-variants.{Item};
 
 // A header that passed. The value starts at `start`. A definite value ends at `bound`; an indefinite one (`marked`) ends at its

@@ -6,11 +6,11 @@ use mathlib.Core.List.{List, [], _∷_, _++_, flatten}
 use lib.ListN.{length, drop, getD, drop-of-length-le}
 use lib.Seq.{drop-cons}
 use Rattle.hex.specs.declared.State.the-variants.{Stopped}
-use Rattle.hex.specs.Blocks.{Standing, standing, step, fed}
+use Rattle.hex.specs.Blocks.{Standing, standing, onByte, fed}
 use Rattle.hex.specs.Promise.{fedAll}
 
 -- from a byte of a block on
-pub fed-next : (t : Standing) (block : List ℕ) (i : ℕ) → i < length block → fed t (drop i block) ≡ fed (step (t .state) (t .out) (getD block i 0)) (drop (i + 1) block)
+pub fed-next : (t : Standing) (block : List ℕ) (i : ℕ) → i < length block → fed t (drop i block) ≡ fed (onByte (t .state) (t .out) (getD block i 0)) (drop (i + 1) block)
 unfolding fed
 fed-next t block i h = rw (add-one, drop-cons block i 0)
 
@@ -23,7 +23,7 @@ fed-end t block i h = rw (drop-of-length-le block h)
 pub fed-join : (t : Standing) (xs ys : List ℕ) → fed (fed t xs) ys ≡ fed t (xs ++ ys)
 unfolding fed
 fed-join t [] ys = refl
-fed-join t (x ∷ xs) ys = fed-join (step (t .state) (t .out) x) xs ys
+fed-join t (x ∷ xs) ys = fed-join (onByte (t .state) (t .out) x) xs ys
 
 -- and so are any number of blocks
 pub fed-flatten : (blocks : List (List ℕ)) (t : Standing) → fedAll t blocks ≡ fed t (flatten blocks)
@@ -33,6 +33,6 @@ fed-flatten (block ∷ blocks) t = fed-flatten blocks (fed t block) ∙ fed-join
 
 -- nothing is read any more
 pub fed-stopped : (block : List ℕ) (line : ℕ) (out : List ℕ) → fed (standing (Stopped line) out) block ≡ standing (Stopped line) out
-unfolding fed step
+unfolding fed onByte
 fed-stopped [] line out = refl
 fed-stopped (b ∷ bs) line out = fed-stopped bs line out

@@ -2,9 +2,9 @@
 use mathlib.Core.Path.{_≡_, refl}
 use mathlib.Core.List.{map}
 use Rattle.text.specs.Ascii.{ascii}
-use Rattle.hex.specs.Lines.{valueOf, pairs, lines, readsFrom, reads}
+use Rattle.hex.specs.Lines.{digitValue, pairs, lines, readsFrom, reads}
 use Rattle.hex.specs.Examples.{examples}
 
 pub as-said : map (λ e. reads (ascii (e .0))) examples ≡ map (λ e. e .1) examples
-unfolding valueOf pairs lines readsFrom
+unfolding digitValue pairs lines readsFrom
 as-said = refl

@@ -10,8 +10,8 @@ use lib.Seq.{drop-cons, set-append-seam, take-append-seam, drop-append-seam, app
 use borrow.Author.Tests.{ltb-true, ltb-false}
 use Rattle.hex.specs.declared.State.the-variants.{Pairs, Half, Stopped}
 use Rattle.text.specs.Ascii.{newline}
-use Rattle.hex.specs.Lines.{streamLimit, isDigit, octet, lines, Outcome, stream, unreadable, readsFrom}
-use Rattle.hex.specs.Blocks.{Standing, standing, lastLine, step, fed, finished, told}
+use Rattle.hex.specs.Lines.{inputLimit, isHexDigit, octet, lines, TextMeaning, stream, unreadable, readsFrom}
+use Rattle.hex.specs.Blocks.{Standing, standing, lastLine, onByte, fed, finished, readAs}
 use Rattle.hex.specs.Promise.{Answers, AnyCutting}
 use Rattle.hex.proofs.Blocks.{fed-flatten, fed-stopped}
 use Rattle.hex.proofs.Lines.{reads-newline, reads-half, reads-pair, reads-past, reads-broken}
@@ -29,14 +29,14 @@ holding-more lent done o h =
 no-stream : (number : ℕ) (s : List ℕ) → unreadable number ≡ stream s → ⊥
 no-stream number s e = let never : _≡_ {A = ℕ} 0 1 = cc in omega arith
 
-module _ (lent : List ℕ) (full : length lent ≡ streamLimit) where
+module _ (lent : List ℕ) (full : length lent ≡ inputLimit) where
   -- a line that cannot be read, and what is told of it
-  unread : (outcome : Outcome) (number : ℕ) (end : Standing) → outcome ≡ unreadable number → finished (end .state) ≡ told (unreadable number) → Answers outcome lent end
+  unread : (outcome : TextMeaning) (number : ℕ) (end : Standing) → outcome ≡ unreadable number → finished (end .state) ≡ readAs (unreadable number) → Answers outcome lent end
   unread outcome number end u e =
       record { answer = rw u e; part = λ s o. absurd (no-stream number s (sym u ∙ o)); past = λ s o. absurd (no-stream number s (sym u ∙ o)) }
 
   -- wherever in it reading stopped
-  stopped : (outcome : Outcome) (number : ℕ) (out bs : List ℕ) → outcome ≡ unreadable number → Answers outcome lent (fed (standing (Stopped (min number lastLine)) out) bs)
+  stopped : (outcome : TextMeaning) (number : ℕ) (out bs : List ℕ) → outcome ≡ unreadable number → Answers outcome lent (fed (standing (Stopped (min number lastLine)) out) bs)
   stopped outcome number out bs u = rw fed-stopped (unread outcome number _ u refl)
 
   -- in a line, after whole pairs
@@ -45,7 +45,7 @@ module _ (lent : List ℕ) (full : length lent ≡ streamLimit) where
 
   -- what is to be shown of the text to come
   abbrev Answered : List ℕ → Type 0
-  Answered text = (done : List ℕ) (number : ℕ) → length done ≤ streamLimit → Answers (readsFrom done number (lines text)) lent (fed (at done number) text)
+  Answered text = (done : List ℕ) (number : ℕ) → length done ≤ inputLimit → Answers (readsFrom done number (lines text)) lent (fed (at done number) text)
 
   at-end : Answered []
   unfolding fed lines readsFrom
@@ -57,33 +57,33 @@ module _ (lent : List ℕ) (full : length lent ≡ streamLimit) where
       }
 
   at-newline : (b : ℕ) (bs : List ℕ) → eqb b newline ≡ true → Answered bs → Answered (b ∷ bs)
-  unfolding fed step
+  unfolding fed onByte
   at-newline b bs e go done number h =
       let next : min (min number lastLine + 1) lastLine ≡ min (number + 1) lastLine = omega arith in
       rw (reads-newline done number b bs e h, e, next) (go done (number + 1) h)
 
   at-half : (b : ℕ) → eqb b newline ≡ false → Answered (b ∷ [])
-  unfolding fed step
+  unfolding fed onByte
   at-half b e done number h = rw e (unread _ number _ (reads-half done number b e) refl)
 
   -- after the first byte of a pair, by what the second makes of it
   judged :
-      (a b : ℕ) (bs : List ℕ) → eqb a newline ≡ false → Answered bs → (done : List ℕ) (number : ℕ) → length done ≤ streamLimit →
-      (digits room : Bool) → isDigit a && isDigit b ≡ digits → ltb (length done) streamLimit ≡ room →
+      (a b : ℕ) (bs : List ℕ) → eqb a newline ≡ false → Answered bs → (done : List ℕ) (number : ℕ) → length done ≤ inputLimit →
+      (digits room : Bool) → isHexDigit a && isHexDigit b ≡ digits → ltb (length done) inputLimit ≡ room →
       Answers (readsFrom done number (lines (a ∷ b ∷ bs))) lent (fed (standing (Half (length done) (min number lastLine) a) (holding lent done)) (b ∷ bs))
-  unfolding fed step
+  unfolding fed onByte
   judged a b bs e go done number h false room d r = rw d (stopped _ number (holding lent done) bs (reads-broken done number a b bs e d))
   judged a b bs e go done number h true false d r =
       rw (d, r) (stopped _ number (holding lent done) bs (reads-past done number a b bs d (ltb-false _ _ r)))
   judged a b bs e go done number h true true d r =
-      let room : length done < streamLimit = ltb-true (length done) streamLimit r in
+      let room : length done < inputLimit = ltb-true (length done) inputLimit r in
       let within : length done < length lent = omega arith in
       let longer : length (done ++ (octet a b ∷ [])) ≡ length done + 1 = simp length-append in
       let more = go (done ++ (octet a b ∷ [])) number (rw longer (omega arith)) in
       rw (d, r, reads-pair done number a b bs d room, holding-more lent done (octet a b), ← longer) more
 
   at-pair : (a b : ℕ) (bs : List ℕ) → eqb a newline ≡ false → Answered bs → Answered (a ∷ b ∷ bs)
-  unfolding fed step
+  unfolding fed onByte
   at-pair a b bs e go done number h = rw e (judged a b bs e go done number h _ _ refl refl)
 
   -- a first byte that is a newline or is none

@@ -10,7 +10,7 @@ use Rattle.hex.specs.declared.State.the-variants.{Pairs, Half, Stopped}
 use Rattle.hex.specs.declared.Read.{Read}
 use Rattle.hex.specs.declared.Read.the-variants.{Stream, Unreadable}
 use Rattle.text.specs.Ascii.{newline}
-use Rattle.hex.specs.Lines.{streamLimit, isDigit, octet, Outcome, stream, unreadable}
+use Rattle.hex.specs.Lines.{inputLimit, isHexDigit, octet, TextMeaning, stream, unreadable}
 
 -- the largest number that is told of a line: a later line bears it too
 abbrev pub lastLine : ℕ
@@ -36,20 +36,20 @@ first n line b = cond (eqb b newline) (Pairs n (min (line + 1) lastLine)) (Half 
 -- the second byte of a pair: two digits make an octet, if there is room for it, and all else makes the line unreadable
 abbrev pub second : ℕ → ℕ → ℕ → List ℕ → ℕ → Standing
 second n line a out b =
-    cond (isDigit a && isDigit b && ltb n streamLimit)
+    cond (isHexDigit a && isHexDigit b && ltb n inputLimit)
     (standing (Pairs (n + 1) line) (set out n (octet a b)))
     (standing (Stopped line) out)
 
 -- one byte more
-unfoldable pub step : State → List ℕ → ℕ → Standing
-step (Pairs n line) out b = standing (first n line b) out
-step (Half n line a) out b = second n line a out b
-step (Stopped line) out b = standing (Stopped line) out
+unfoldable pub onByte : State → List ℕ → ℕ → Standing
+onByte (Pairs n line) out b = standing (first n line b) out
+onByte (Half n line a) out b = second n line a out b
+onByte (Stopped line) out b = standing (Stopped line) out
 
 -- a block more
 unfoldable pub fed : Standing → List ℕ → Standing
 fed t [] = t
-fed t (b ∷ bs) = fed (step (t .state) (t .out) b) bs
+fed t (b ∷ bs) = fed (onByte (t .state) (t .out) b) bs
 
 -- the answer where the text ends: half a pair makes its line unreadable
 abbrev pub finished : State → Read
@@ -58,6 +58,6 @@ finished (Half n line a) = Unreadable line
 finished (Stopped line) = Unreadable line
 
 -- an outcome as it is told: a stream by its length, a line by its number
-abbrev pub told : Outcome → Read
-told (stream octets) = Stream (length octets)
-told (unreadable line) = Unreadable (min line lastLine)
+abbrev pub readAs : TextMeaning → Read
+readAs (stream octets) = Stream (length octets)
+readAs (unreadable line) = Unreadable (min line lastLine)

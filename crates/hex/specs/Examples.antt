@@ -2,7 +2,7 @@
 use Prim.Native.Nat.{ℕ}
 use Prim.Native.String.{String}
 use mathlib.Core.List.{List, [], _∷_}
-use Rattle.hex.specs.Lines.{Outcome, stream, unreadable}
+use Rattle.hex.specs.Lines.{TextMeaning, stream, unreadable}
 
 -- "Hex lister, whole input"
 abbrev pub input : String
@@ -17,7 +17,7 @@ inputStream =
     ∷ []
 
 -- empty lines, no newline at the end, lower case, half a pair at the end of a line and of the text, a carriage return, a space, another letter
-abbrev pub examples : List (String × Outcome)
+abbrev pub examples : List (String × TextMeaning)
 examples =
     (input, stream inputStream)
     ∷ ("", stream [])

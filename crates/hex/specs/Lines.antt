@@ -9,29 +9,29 @@ use lib.Dec.{ltb, leb, eqb}
 use Rattle.text.specs.Ascii.{newline}
 
 -- "a stream of at most 32,768 bytes"
-abbrev pub streamLimit : ℕ
-streamLimit = 32768
+abbrev pub inputLimit : ℕ
+inputLimit = 32768
 
 -- the value of an upper-case hexadecimal digit, 0 to 9 (48 to 57) or A to F (65 to 70); 16 for any other byte
-unfoldable pub valueOf : ℕ → ℕ
-valueOf b =
+unfoldable pub digitValue : ℕ → ℕ
+digitValue b =
     cond (leb 48 b && leb b 57) (b - 48)
     (cond (leb 65 b && leb b 70) (10 + (b - 65))
     16)
 
 -- whether a byte is such a digit
-abbrev pub isDigit : ℕ → Bool
-isDigit b = ltb (valueOf b) 16
+abbrev pub isHexDigit : ℕ → Bool
+isHexDigit b = ltb (digitValue b) 16
 
 -- the octet of a pair of digits
 abbrev pub octet : ℕ → ℕ → ℕ
-octet a b = valueOf a * 16 + valueOf b
+octet a b = digitValue a * 16 + digitValue b
 
 -- "upper-case hexadecimal pairs": the octets of a line, if it holds nothing else
 unfoldable pub pairs : List ℕ → Option (List ℕ)
 pairs [] = some []
 pairs (a ∷ []) = none
-pairs (a ∷ b ∷ rest) = cond (isDigit a && isDigit b) (Option·map (λ os. octet a b ∷ os) (pairs rest)) none
+pairs (a ∷ b ∷ rest) = cond (isHexDigit a && isHexDigit b) (Option·map (λ os. octet a b ∷ os) (pairs rest)) none
 
 -- a byte more at the front of the first line
 abbrev pub begin : ℕ → List (List ℕ) → List (List ℕ)
@@ -44,20 +44,20 @@ lines [] = []
 lines (b ∷ bs) = cond (eqb b newline) ([] ∷ lines bs) (begin b (lines bs))
 
 -- what a text reads as
-pub data Outcome : Type 0 where
-  stream : (octets : List ℕ) → Outcome
-  unreadable : (line : ℕ) → Outcome
+pub data TextMeaning : Type 0 where
+  stream : (octets : List ℕ) → TextMeaning
+  unreadable : (line : ℕ) → TextMeaning
 
 -- a line that holds anything else, or the pair past the limit, ends the reading; else its octets are joined to the others
-abbrev pub joins : List ℕ → ℕ → Option (List ℕ) → (List ℕ → Outcome) → Outcome
-joins done number none onward = unreadable number
-joins done number (some octets) onward = cond (leb (length (done ++ octets)) streamLimit) (onward (done ++ octets)) (unreadable number)
+abbrev pub withLine : List ℕ → ℕ → Option (List ℕ) → (List ℕ → TextMeaning) → TextMeaning
+withLine done number none onward = unreadable number
+withLine done number (some octets) onward = cond (leb (length (done ++ octets)) inputLimit) (onward (done ++ octets)) (unreadable number)
 
 -- the lines from a number on, where `done` is the stream so far
-unfoldable pub readsFrom : List ℕ → ℕ → List (List ℕ) → Outcome
+unfoldable pub readsFrom : List ℕ → ℕ → List (List ℕ) → TextMeaning
 readsFrom done number [] = stream done
-readsFrom done number (l ∷ ls) = joins done number (pairs l) (λ more. readsFrom more (number + 1) ls)
+readsFrom done number (l ∷ ls) = withLine done number (pairs l) (λ more. readsFrom more (number + 1) ls)
 
 -- "lines of upper-case hexadecimal pairs, joined"; "the first line with anything else, or with the pair past 32,768", by "its number from 1"
-abbrev pub reads : List ℕ → Outcome
+abbrev pub reads : List ℕ → TextMeaning
 reads text = readsFrom [] 1 (lines text)

@@ -3,8 +3,8 @@ use mathlib.Core.Path.{_≡_}
 use mathlib.Core.List.{List, [], _∷_, flatten}
 use Prim.Native.Nat.{ℕ}
 use lib.ListN.{length, take, drop}
-use Rattle.hex.specs.Lines.{streamLimit, Outcome, stream, reads}
-use Rattle.hex.specs.Blocks.{Standing, standing, started, fed, finished, told}
+use Rattle.hex.specs.Lines.{inputLimit, TextMeaning, stream, reads}
+use Rattle.hex.specs.Blocks.{Standing, standing, started, fed, finished, readAs}
 
 -- all blocks, one after another
 unfoldable pub fedAll : Standing → List (List ℕ) → Standing
@@ -12,8 +12,8 @@ fedAll t [] = t
 fedAll t (block ∷ blocks) = fedAll (fed t block) blocks
 
 -- where reading ended, over a lent array, answers an outcome: `finish` tells it, `part` hands a stream back, and the array's other bytes stay
-pub record Answers (outcome : Outcome) (lent : List ℕ) (end : Standing) : Type 0 where
-  pub answer : finished (end .state) ≡ told outcome
+pub record Answers (outcome : TextMeaning) (lent : List ℕ) (end : Standing) : Type 0 where
+  pub answer : finished (end .state) ≡ readAs outcome
   pub part : (s : List ℕ) → outcome ≡ stream s → take (length s) (end .out) ≡ s
   pub past : (s : List ℕ) → outcome ≡ stream s → drop (length s) (end .out) ≡ drop (length s) lent
 
@@ -21,5 +21,5 @@ pub record Answers (outcome : Outcome) (lent : List ℕ) (end : Standing) : Type
 abbrev pub AnyCutting : Type 0
 AnyCutting =
     (blocks : List (List ℕ)) (lent : List ℕ) →
-    length lent ≡ streamLimit →
+    length lent ≡ inputLimit →
     Answers (reads (flatten blocks)) lent (fedAll (standing started lent) blocks)

@@ -5,15 +5,15 @@
 ghost use mathlib.Core.Path.{_≡_};
 ghost use Prim.Native.Nat.{_+_, min};
 ghost use lib.ListN.{take};
-ghost use Rattle.hex.specs.Lines.{valueOf};
+ghost use Rattle.hex.specs.Lines.{digitValue};
 ghost use Rattle.hex.specs.Blocks.{lastLine, standing, started, first, second, fed, finished};
-ghost use Rattle.hex.specs.Blocks.{step as stepped};
+ghost use Rattle.hex.specs.Blocks.{onByte as stepped};
 
 // What ends a line.
 const NEWLINE: u8 = b'\n';
 
 // The most bytes that a stream has.
-pub const STREAM_LIMIT: usize = 32768;
+pub const INPUT_LIMIT: usize = 32768;
 
 // Where reading stands: the stream's length so far, and the number of the line, from 1.
 pub enum State {
@@ -41,7 +41,7 @@ pub fn start() -> State
 }
 
 // Reads a block more. The octets so far stand at the front of `out`, and the bytes past them stay.
-pub fn feed(state: State, block: &[u8], out: &mut [u8; STREAM_LIMIT]) -> State
+pub fn feed(state: State, block: &[u8], out: &mut [u8; INPUT_LIMIT]) -> State
     ensures { λ r. ⌜ standing r (now (out .exit)) ≡ fed (standing state (now (out .entry))) (now (block .entry)) ⌝ }
 {
     let mut here = state;
@@ -69,7 +69,7 @@ pub fn finish(state: State) -> Read
 }
 
 // A stream of a length, as a part of the array that it stands at the front of.
-pub fn part<'a>(out: &'a [u8; STREAM_LIMIT], length: usize) -> &'a [u8]
+pub fn part<'a>(out: &'a [u8; INPUT_LIMIT], length: usize) -> &'a [u8]
     ensures { λ r. ⌜ now r ≡ take length (now (out .entry)) ⌝ }
 {
     front(out, length)
@@ -86,7 +86,7 @@ fn front<'a>(s: &'a [u8], length: usize) -> &'a [u8]
 }
 
 // Reads one byte more.
-fn step(state: State, byte: u8, out: &mut [u8; STREAM_LIMIT]) -> State
+fn step(state: State, byte: u8, out: &mut [u8; INPUT_LIMIT]) -> State
     ensures { λ r. ⌜ standing r (now (out .exit)) ≡ stepped state (now (out .entry)) byte ⌝ }
 {
     match state {
@@ -118,7 +118,7 @@ fn read_first(length: usize, line: u64, byte: u8) -> State
 }
 
 // Reads the second byte of a pair.
-fn read_second(length: usize, line: u64, first: u8, byte: u8, out: &mut [u8; STREAM_LIMIT]) -> State
+fn read_second(length: usize, line: u64, first: u8, byte: u8, out: &mut [u8; INPUT_LIMIT]) -> State
     ensures { λ r. ⌜ standing r (now (out .exit)) ≡ second length line first (now (out .entry)) byte ⌝ }
 {
     let high = value(first);
@@ -129,7 +129,7 @@ fn read_second(length: usize, line: u64, first: u8, byte: u8, out: &mut [u8; STR
     if 16 <= low {
         return State::Stopped { line };
     }
-    if STREAM_LIMIT <= length {
+    if INPUT_LIMIT <= length {
         return State::Stopped { line };
     }
     out[length] = high * 16 + low;
@@ -141,7 +141,7 @@ fn read_second(length: usize, line: u64, first: u8, byte: u8, out: &mut [u8; STR
 
 // The value of a digit, and 16 of any other byte.
 fn value(byte: u8) -> u8
-    ensures { λ r. ⌜ r ≡ valueOf byte ⌝ }
+    ensures { λ r. ⌜ r ≡ digitValue byte ⌝ }
 {
     match byte {
         b'0'..=b'9' => byte - b'0',

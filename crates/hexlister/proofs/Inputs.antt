@@ -6,7 +6,7 @@ use Prim.Native.Nat.{ℕ}
 use lib.ListN.{length}
 use Rattle.hex.specs.declared.State.{State}
 use Rattle.hex.specs.declared.State.the-variants.{Stopped}
-use Rattle.hex.specs.Lines.{streamLimit, Outcome, reads}
+use Rattle.hex.specs.Lines.{inputLimit, TextMeaning, reads}
 use Rattle.hex.specs.Lines as hex
 use Rattle.hex.specs.Blocks.{Standing, standing, started, fed, finished}
 use Rattle.hex.specs.Promise.{Answers}
@@ -29,14 +29,14 @@ pub heard-more :
 heard-more block {lent} h e = record { text = h .text ++ block; leads = e ∙ ap (λ (t : Standing). fed t block) (h .leads) ∙ fed-join (standing started lent) (h .text) block }
 
 -- one block is a cutting
-one-block : (text lent : List ℕ) → length lent ≡ streamLimit → Answers (reads text) lent (fed (standing started lent) text)
+one-block : (text lent : List ℕ) → length lent ≡ inputLimit → Answers (reads text) lent (fed (standing started lent) text)
 unfolding flatten
 one-block text lent full =
     let all : flatten (text ∷ []) ≡ text = append-nil text in
     subst (λ (t : List ℕ). Answers (reads t) lent (fed (standing started lent) t)) all
     (subst (Answers (reads (flatten (text ∷ []))) lent) (fed-flatten (text ∷ []) (standing started lent)) (any-cutting (text ∷ []) lent full))
 
-by-outcome : (outcome : Outcome) (lent : List ℕ) (end : Standing) → Answers outcome lent end → readLines (finished (end .state)) (end .out) ≡ outcomeLines outcome
+by-outcome : (outcome : TextMeaning) (lent : List ℕ) (end : Standing) → Answers outcome lent end → readLines (finished (end .state)) (end .out) ≡ outcomeLines outcome
 by-outcome (hex.stream s) lent end a = rw (a .answer) (ap streamLines (a .part s refl))
 by-outcome (hex.unreadable line) lent end a = rw (a .answer)
 

@@ -12,10 +12,11 @@ use lib.Seq.{take-append-seam}
 use borrow.Author.Tests.{ltb-false, eq-eqb, ne-eqb}
 use borrow.Table.Steps.{cases}
 use Rattle.text.specs.Lines.{element, refused}
-use Rattle.index.specs.Rows.{rowWidth, wholeColumn, kindAt, firstAt, pastAt}
+use Rattle.index.specs.Rows.{rowWidth}
+use Rattle.index.specs.Columns.{wholeColumn, kindAt, firstAt, pastAt}
 use Rattle.elements.specs.declared.Row.{Row}
 use Rattle.elements.specs.Shape.{edition1988}
-use Rattle.elements.specs.Element.{Element}
+use Rattle.elements.specs.Judge.{Element}
 use Rattle.elements.specs.Rows.{cells, numbers}
 use Rattle.letters.specs.Letter.{Letter, letter, refusal}
 use Rattle.judging.proofs.Lists.{below-length}

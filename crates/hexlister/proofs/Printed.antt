@@ -6,20 +6,16 @@ use Rattle.text.specs.Ascii.{ascii}
 use Rattle.text.specs.Decimal.{decimalIn, decimal}
 use Rattle.text.specs.Lines.{spaced}
 use Rattle.text.specs.Printed.{printed}
-use Rattle.hex.specs.Lines.{valueOf, pairs, lines, readsFrom}
+use Rattle.hex.specs.Lines.{digitValue, pairs, lines, readsFrom}
 use Rattle.hex.specs.Examples.{input}
-use Rattle.headers.specs.First.{permits, formAllowed}
-use Rattle.headers.specs.Lengths.{bigEndianFrom, misfits}
-use Rattle.headers.specs.Head.{definiteAt, indefiniteAt, longAt, byFirst, lengthAt, itemAt, closingAt, headAt}
+use Rattle.headers.specs.Head.{permits, formAllowed, bigEndianFrom, misfits, definiteAt, indefiniteAt, longAt, byFirst, lengthAt, itemAt, closingAt, headAt}
 use Rattle.octets.specs.Walk.{runFor, run, walkOf}
-use Rattle.names.specs.Names.{digit, grouped, isIdentifier, digits, isPortion, same}
-use Rattle.index.specs.Rows.{space}
-use Rattle.contents.specs.Search.{amount, firstValue, firstRun, itemsIn, boundsOf}
-use Rattle.contents.specs.Order.{inOrder}
+use Rattle.names.specs.Names.{isDigit, grouped, isIdentifier, allDigits, isPortion, same}
+use Rattle.index.specs.Rows.{nameSpaceOf}
+use Rattle.contents.specs.Search.{amount, firstValue, firstRun, itemsIn, boundsOf, inOrder}
 use Rattle.portions.specs.Portions.{allPortions, values, wellSpelt, among, repeats}
 use Rattle.elements.specs.Shape.{shapeOf}
-use Rattle.elements.specs.Element.{bodyOf, contentOf, elementOf, ordered, asTabled, namesFit}
-use Rattle.elements.specs.Judge.{clash, twice, shapeRefusal, refusalOf, judgeOne, judgeFrom, judge}
+use Rattle.elements.specs.Judge.{bodyOf, contentOf, elementOf, ordered, asTabled, namesFit, clash, twice, shapeRefusal, refusalOf, judgeOne, judgeFrom, judge}
 use Rattle.elements.specs.Rows.{bodyIn, contentOctet, rowOf, rowsOf, placeOf}
 use Rattle.letters.specs.Letter.{letterOf}
 use Rattle.reading.specs.Match.{joins, forEach, portionMatches, elementMatches, matches}
@@ -27,5 +23,5 @@ use Rattle.answers.specs.Answers.{checked}
 use Rattle.hexlister.specs.Output.{elementLines, matchLines, acceptedLines, streamLines, output}
 
 pub as-printed : output (ascii input) ≡ printed
-unfolding decimal decimalIn spaced flatten valueOf pairs lines readsFrom permits formAllowed bigEndianFrom misfits definiteAt indefiniteAt longAt byFirst lengthAt itemAt closingAt headAt runFor run walkOf digit grouped isIdentifier digits isPortion same amount firstValue firstRun itemsIn boundsOf inOrder space allPortions values wellSpelt among repeats shapeOf bodyOf contentOf elementOf ordered asTabled namesFit clash twice shapeRefusal refusalOf judgeOne judgeFrom judge placeOf bodyIn contentOctet rowOf rowsOf letterOf joins forEach portionMatches elementMatches matches checked elementLines matchLines acceptedLines streamLines xor
+unfolding decimal decimalIn spaced flatten digitValue pairs lines readsFrom permits formAllowed bigEndianFrom misfits definiteAt indefiniteAt longAt byFirst lengthAt itemAt closingAt headAt runFor run walkOf isDigit grouped isIdentifier allDigits isPortion same amount firstValue firstRun itemsIn boundsOf inOrder nameSpaceOf allPortions values wellSpelt among repeats shapeOf bodyOf contentOf elementOf ordered asTabled namesFit clash twice shapeRefusal refusalOf judgeOne judgeFrom judge placeOf bodyIn contentOctet rowOf rowsOf letterOf joins forEach portionMatches elementMatches matches checked elementLines matchLines acceptedLines streamLines xor
 as-printed = refl

@@ -10,7 +10,7 @@ use Rattle.hex.specs.declared.State.{State}
 use Rattle.hex.specs.declared.State.the-variants.{Pairs, Half, Stopped}
 use Rattle.hex.specs.declared.Read.{Read}
 use Rattle.hex.specs.declared.Read.the-variants.{Stream, Unreadable}
-use Rattle.hex.specs.Lines.{streamLimit}
+use Rattle.hex.specs.Lines.{inputLimit}
 use Rattle.hex.specs.Blocks.{standing, started, fed, finished}
 use Rattle.hexlister.specs.declared.Input.{Input}
 use Rattle.hexlister.specs.declared.Input.the-variants.{Ended, Failed}
@@ -21,10 +21,10 @@ abbrev pub Leads : (text lent : List ℕ) → State → (octets : List ℕ) → 
 Leads text lent state octets = standing state octets ≡ fed (standing started lent) text
 
 -- whether a line could not be read
-abbrev pub stopped : State → Bool
-stopped (Pairs count line) = false
-stopped (Half count line first) = false
-stopped (Stopped line) = true
+abbrev pub isStopped : State → Bool
+isStopped (Pairs count line) = false
+isStopped (Half count line first) = false
+isStopped (Stopped line) = true
 
 -- what was read
 pub record Heard (lent : List ℕ) (state : State) (octets : List ℕ) : Type 0 where
@@ -44,7 +44,7 @@ readLines (Unreadable line) octets = unreadable line
 abbrev pub Prints : Type 0
 Prints =
     (text lent : List ℕ) (state : State) (octets : List ℕ) →
-    length lent ≡ streamLimit →
+    length lent ≡ inputLimit →
     Leads text lent state octets →
     readLines (finished state) octets ≡ output text
 
@@ -52,6 +52,6 @@ Prints =
 abbrev pub PrintsAll : Type 0
 PrintsAll =
     (text more lent : List ℕ) (line : ℕ) (octets : List ℕ) →
-    length lent ≡ streamLimit →
+    length lent ≡ inputLimit →
     Leads text lent (Stopped line) octets →
     output (text ++ more) ≡ output text

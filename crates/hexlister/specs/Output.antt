@@ -6,7 +6,7 @@ use mathlib.Core.List.{List, [], _∷_, _++_, flatten, map}
 use lib.Dec.{eqb}
 use lib.ListN.{replicate}
 use Rattle.text.specs.Lines.{accepted, element, layout, logical, refused, unreadable}
-use Rattle.hex.specs.Lines.{Outcome, reads}
+use Rattle.hex.specs.Lines.{TextMeaning, reads}
 use Rattle.hex.specs.Lines as hex
 use Rattle.hex.specs.Blocks.{lastLine}
 use Rattle.index.specs.Rows.{rowWidth}
@@ -68,7 +68,7 @@ unfoldable pub streamLines : (s : List ℕ) → List ℕ
 streamLines s = answerLines (checked s lentTable) s
 
 -- "the first line with anything else .. prints only `unreadable` and its number from 1"
-abbrev pub outcomeLines : Outcome → List ℕ
+abbrev pub outcomeLines : TextMeaning → List ℕ
 outcomeLines (hex.stream s) = streamLines s
 outcomeLines (hex.unreadable line) = unreadable (min line lastLine)
 

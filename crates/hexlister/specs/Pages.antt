@@ -5,7 +5,7 @@ use mathlib.Core.List.{List, [], _++_}
 use lib.ListN.{length}
 use lib.Seq.{sets}
 use Rattle.text.specs.Lines.{element}
-use Rattle.index.specs.Rows.{wholeColumn, kindAt, firstAt, pastAt}
+use Rattle.index.specs.Columns.{wholeColumn, kindAt, firstAt, pastAt}
 use Rattle.hexlister.specs.Output.{rowsLent, recordsLent}
 
 -- room for any line
@@ -25,7 +25,7 @@ abbrev pub pageRoom : ℕ
 pageRoom = lineRoom + elementsRoom + (sideRoom + sideRoom)
 
 -- bytes were put on a page from a place on, within some room; the place past them is told
-pub record Puts (bytes page : List ℕ) (at told : ℕ) (pageAfter : List ℕ) (room : ℕ) : Type 0 where
+pub record PutsOnPage (bytes page : List ℕ) (at told : ℕ) (pageAfter : List ℕ) (room : ℕ) : Type 0 where
   pub past : told ≡ at + length bytes
   pub stored : pageAfter ≡ sets page at bytes
   pub within : length bytes ≤ room

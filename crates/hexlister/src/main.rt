@@ -4,14 +4,14 @@
 // `page::put_output` makes of that the whole output, which is written at once.
 mod page;
 
-use hex::STREAM_LIMIT;
+use hex::INPUT_LIMIT;
 use hex::State;
 use libc::STDERR_FILENO;
 use libc::STDIN_FILENO;
 use libc::STDOUT_FILENO;
 use page::PAGE_ROOM;
 ghost use mathlib.Core.Path.{_≡_};
-ghost use Rattle.hexlister.specs.Inputs.{stopped, HeardIn};
+ghost use Rattle.hexlister.specs.Inputs.{isStopped, HeardIn};
 
 // What reading to the end gave.
 enum Input {
@@ -21,7 +21,7 @@ enum Input {
 
 // Whether a line could not be read, so that what follows is not looked at.
 fn is_stopped(state: State) -> bool
-    ensures { λ r. ⌜ r ≡ stopped state ⌝ }
+    ensures { λ r. ⌜ r ≡ isStopped state ⌝ }
 {
     match state {
         State::Stopped { line: _ } => true,
@@ -36,7 +36,7 @@ fn is_stopped(state: State) -> bool
 
 // Reads until the input ends or a line cannot be read. A proved loop has to end, and nothing says that the input does: so it counts its
 // turns down, from a number that no run uses up.
-fn read_input(octets: &mut [u8; STREAM_LIMIT]) -> Input
+fn read_input(octets: &mut [u8; INPUT_LIMIT]) -> Input
     ensures { λ r. ⌜ HeardIn (now (octets .entry)) r (now (octets .exit)) ⌝ }
 {
     let mut block = io::buffer();
@@ -61,7 +61,7 @@ fn read_input(octets: &mut [u8; STREAM_LIMIT]) -> Input
 }
 
 fn main() {
-    let mut octets = [0u8; STREAM_LIMIT];
+    let mut octets = [0u8; INPUT_LIMIT];
     match read_input(&mut octets) {
         Input::Ended(state) => {
             let mut page = [0u8; PAGE_ROOM];

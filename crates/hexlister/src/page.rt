@@ -1,6 +1,6 @@
 // The lister's whole output, put line by line on a page that has room for the longest.
+use hex::INPUT_LIMIT;
 use hex::Read;
-use hex::STREAM_LIMIT;
 use hex::State;
 use index::ROW_WIDTH;
 use odif::Checked;
@@ -11,11 +11,12 @@ use text::LINE_ROOM;
 ghost use mathlib.Core.Path.{_≡_};
 ghost use Prim.Native.Nat.{_+_, _*_, _<_, _≤_};
 ghost use lib.ListN.{length, take};
-ghost use Rattle.text.specs.Lines.{accepted, refused, unreadable, Written};
+ghost use Rattle.text.specs.Lines.{accepted, refused, unreadable, WritesLine};
 ghost use Rattle.index.specs.Rows.{rowWidth};
 ghost use Rattle.answers.specs.Answers.{checked, matchesIn, CheckOutcome, ListOutcome};
-ghost use Rattle.hexlister.specs.Output.{rowsLent, recordsLent, tableRoom, lentTable, lentList, matchLine, matchLines, sideLines, acceptedLines, streamLines};
-ghost use Rattle.hexlister.specs.Pages.{lineRoom, elementsRoom, sideRoom, pageRoom, Puts, rowLine, rowLines};
+ghost use Rattle.hexlister.specs.Output.{rowsLent, recordsLent, tableRoom, lentTable, lentList, matchLine, matchLines, sideLines, acceptedLines};
+ghost use Rattle.hexlister.specs.Output.{streamLines};
+ghost use Rattle.hexlister.specs.Pages.{lineRoom, elementsRoom, sideRoom, pageRoom, PutsOnPage, rowLine, rowLines};
 ghost use Rattle.hexlister.specs.Inputs.{readLines};
 ghost use Rattle.hex.specs.Blocks.{finished};
 
@@ -52,7 +53,7 @@ fn list_side(stream: &[u8], side: Side, table: &mut [u32]) -> SideList
 // Puts a line on the page, from a place on. Tells the place past it.
 fn append(page: &mut [u8], at: usize, line: &[u8]) -> usize
     requires { ⌜ (length (now line) ≤ lineRoom) × (at + lineRoom ≤ length (now page)) ⌝ }
-    ensures { λ r. ⌜ Puts (now (line .entry)) (now (page .entry)) at r (now (page .exit)) lineRoom ⌝ }
+    ensures { λ r. ⌜ PutsOnPage (now (line .entry)) (now (page .entry)) at r (now (page .exit)) lineRoom ⌝ }
 {
     let mut i = 0;
     while i < line.len() {
@@ -65,7 +66,7 @@ fn append(page: &mut [u8], at: usize, line: &[u8]) -> usize
 // The line of an element, from its row in the table.
 fn put_element(page: &mut [u8], at: usize, table: &[u32], number: usize) -> usize
     requires { ⌜ (number < rowsLent) × (number * rowWidth + rowWidth ≤ length (now table)) × (at + lineRoom ≤ length (now page)) ⌝ }
-    ensures { λ r. ⌜ Puts (rowLine (now (table .entry)) number) (now (page .entry)) at r (now (page .exit)) lineRoom ⌝ }
+    ensures { λ r. ⌜ PutsOnPage (rowLine (now (table .entry)) number) (now (page .entry)) at r (now (page .exit)) lineRoom ⌝ }
 {
     let row = number * ROW_WIDTH;
     let first = table[row + WHOLE];
@@ -79,7 +80,7 @@ fn put_element(page: &mut [u8], at: usize, table: &[u32], number: usize) -> usiz
 // The lines of the first rows.
 fn put_elements(page: &mut [u8], at: usize, table: &[u32], count: usize) -> usize
     requires { ⌜ (count ≤ rowsLent) × (count * rowWidth ≤ length (now table)) × (at + elementsRoom ≤ length (now page)) ⌝ }
-    ensures { λ r. ⌜ Puts (rowLines (now (table .entry)) 0 count) (now (page .entry)) at r (now (page .exit)) elementsRoom ⌝ }
+    ensures { λ r. ⌜ PutsOnPage (rowLines (now (table .entry)) 0 count) (now (page .entry)) at r (now (page .exit)) elementsRoom ⌝ }
 {
     let mut here = at;
     let mut i = 0;
@@ -93,7 +94,7 @@ fn put_elements(page: &mut [u8], at: usize, table: &[u32], count: usize) -> usiz
 // The line of a match.
 fn put_match(page: &mut [u8], at: usize, side: Side, m: Match) -> usize
     requires { ⌜ at + lineRoom ≤ length (now page) ⌝ }
-    ensures { λ r. ⌜ Puts (matchLine side m) (now (page .entry)) at r (now (page .exit)) lineRoom ⌝ }
+    ensures { λ r. ⌜ PutsOnPage (matchLine side m) (now (page .entry)) at r (now (page .exit)) lineRoom ⌝ }
 {
     let mut line = [0u8; LINE_ROOM];
     match side {
@@ -117,7 +118,7 @@ fn put_matches(
     count: usize,
 ) -> usize
     requires { ⌜ (count ≤ recordsLent) × (at + sideRoom ≤ length (now page)) ⌝ }
-    ensures { λ r. ⌜ Puts (matchLines side (take count records)) (now (page .entry)) at r (now (page .exit)) sideRoom ⌝ }
+    ensures { λ r. ⌜ PutsOnPage (matchLines side (take count records)) (now (page .entry)) at r (now (page .exit)) sideRoom ⌝ }
 {
     let mut here = at;
     let mut i = 0;
@@ -132,7 +133,7 @@ fn put_matches(
 // The matches of a side of a stream that the check has accepted.
 fn put_side(page: &mut [u8], at: usize, side: Side, stream: &[u8], table: &mut [u32]) -> usize
     requires { ⌜ (at + sideRoom ≤ length (now page)) × (length (now table) ≡ tableRoom) × (checked (now stream) lentTable .number ≡ 0) ⌝ }
-    ensures { λ r. ⌜ Puts (matchLines side (matchesIn side (now (stream .entry)))) (now (page .entry)) at r (now (page .exit)) sideRoom ⌝ }
+    ensures { λ r. ⌜ PutsOnPage (matchLines side (matchesIn side (now (stream .entry)))) (now (page .entry)) at r (now (page .exit)) sideRoom ⌝ }
 {
     let found = list_side(stream, side, table);
     let answer = found.answer;
@@ -144,7 +145,7 @@ fn put_side(page: &mut [u8], at: usize, side: Side, stream: &[u8], table: &mut [
 // The matches of both sides of such a stream.
 fn put_sides(page: &mut [u8], at: usize, stream: &[u8], table: &mut [u32]) -> usize
     requires { ⌜ (at + sideRoom + sideRoom ≤ length (now page)) × (length (now table) ≡ tableRoom) × (checked (now stream) lentTable .number ≡ 0) ⌝ }
-    ensures { λ r. ⌜ Puts (sideLines (now (stream .entry))) (now (page .entry)) at r (now (page .exit)) (sideRoom + sideRoom) ⌝ }
+    ensures { λ r. ⌜ PutsOnPage (sideLines (now (stream .entry))) (now (page .entry)) at r (now (page .exit)) (sideRoom + sideRoom) ⌝ }
 {
     let layout = put_side(page, at, Side::Layout, stream, table);
     put_side(page, layout, Side::Logical, stream, table)
@@ -153,7 +154,7 @@ fn put_sides(page: &mut [u8], at: usize, stream: &[u8], table: &mut [u32]) -> us
 // The first line of an accepted stream.
 fn put_accepted(page: &mut [u8], elements: u32, headers: u32) -> usize
     requires { ⌜ lineRoom ≤ length (now page) ⌝ }
-    ensures { λ r. ⌜ Puts (accepted elements headers) (now (page .entry)) 0 r (now (page .exit)) lineRoom ⌝ }
+    ensures { λ r. ⌜ PutsOnPage (accepted elements headers) (now (page .entry)) 0 r (now (page .exit)) lineRoom ⌝ }
 {
     let mut line = [0u8; LINE_ROOM];
     let n = text::put_accepted(&mut line, elements, headers);
@@ -163,7 +164,7 @@ fn put_accepted(page: &mut [u8], elements: u32, headers: u32) -> usize
 // The one line of a refused stream.
 fn put_refused(page: &mut [u8], number: u32, place: u32) -> usize
     requires { ⌜ lineRoom ≤ length (now page) ⌝ }
-    ensures { λ r. ⌜ Puts (refused number place) (now (page .entry)) 0 r (now (page .exit)) lineRoom ⌝ }
+    ensures { λ r. ⌜ PutsOnPage (refused number place) (now (page .entry)) 0 r (now (page .exit)) lineRoom ⌝ }
 {
     let mut line = [0u8; LINE_ROOM];
     let n = text::put_refused(&mut line, number, place);
@@ -173,7 +174,7 @@ fn put_refused(page: &mut [u8], number: u32, place: u32) -> usize
 // The one line of a text that cannot be read.
 fn put_unreadable(page: &mut [u8], number: u64) -> usize
     requires { ⌜ lineRoom ≤ length (now page) ⌝ }
-    ensures { λ r. ⌜ Puts (unreadable number) (now (page .entry)) 0 r (now (page .exit)) lineRoom ⌝ }
+    ensures { λ r. ⌜ PutsOnPage (unreadable number) (now (page .entry)) 0 r (now (page .exit)) lineRoom ⌝ }
 {
     let mut line = [0u8; LINE_ROOM];
     let n = text::put_unreadable(&mut line, number);
@@ -183,7 +184,7 @@ fn put_unreadable(page: &mut [u8], number: u64) -> usize
 // All lines of a stream that the check has accepted, by the check's answer and the table that it filled.
 fn put_letter(page: &mut [u8], stream: &[u8], answer: Checked, table: &mut [u32]) -> usize
     requires { ⌜ (length (now page) ≡ pageRoom) × (answer .number ≡ 0) × CheckOutcome (now stream) lentTable answer (now table) ⌝ }
-    ensures { λ r. ⌜ Puts (acceptedLines (answer .elements) (answer .headers) (now (stream .entry))) (now (page .entry)) 0 r (now (page .exit)) pageRoom ⌝ }
+    ensures { λ r. ⌜ PutsOnPage (acceptedLines (answer .elements) (answer .headers) (now (stream .entry))) (now (page .entry)) 0 r (now (page .exit)) pageRoom ⌝ }
 {
     let head = put_accepted(page, answer.elements, answer.headers);
     let elements = put_elements(page, head, table, answer.elements as usize);
@@ -193,7 +194,7 @@ fn put_letter(page: &mut [u8], stream: &[u8], answer: Checked, table: &mut [u32]
 // The lines of a stream: its elements and matches, or the one line of its refusal.
 fn put_stream(page: &mut [u8], stream: &[u8]) -> usize
     requires { ⌜ length (now page) ≡ pageRoom ⌝ }
-    ensures { λ r. ⌜ Puts (streamLines (now (stream .entry))) (now (page .entry)) 0 r (now (page .exit)) pageRoom ⌝ }
+    ensures { λ r. ⌜ PutsOnPage (streamLines (now (stream .entry))) (now (page .entry)) 0 r (now (page .exit)) pageRoom ⌝ }
 {
     let mut table = [0u32; ROWS * ROW_WIDTH];
     let answer = odif::check(stream, &mut table);
@@ -204,8 +205,8 @@ fn put_stream(page: &mut [u8], stream: &[u8]) -> usize
 }
 
 // The whole output, at the front of the page, for a text that led the reading here. Tells its length.
-pub fn put_output(page: &mut [u8; PAGE_ROOM], state: State, octets: &[u8; STREAM_LIMIT]) -> usize
-    ensures { λ r. ⌜ Written (readLines (finished state) (now (octets .entry))) (now (page .entry)) r (now (page .exit)) ⌝ }
+pub fn put_output(page: &mut [u8; PAGE_ROOM], state: State, octets: &[u8; INPUT_LIMIT]) -> usize
+    ensures { λ r. ⌜ WritesLine (readLines (finished state) (now (octets .entry))) (now (page .entry)) r (now (page .exit)) ⌝ }
 {
     match hex::finish(state) {
         Read::Stream { length } => put_stream(page, hex::part(octets, length)),

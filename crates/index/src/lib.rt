@@ -3,10 +3,11 @@ use names::Asked;
 ghost use mathlib.Core.Path.{_≡_};
 ghost use Prim.Native.Nat.{_+_, _*_, _<_, _≤_};
 ghost use lib.ListN.{length};
-ghost use Rattle.names.specs.Asked.{bytesOf, Within};
+ghost use Rattle.names.specs.Asked.{spelling, AskedWithin};
 ghost use Rattle.names.specs.Hash.{hash};
-ghost use Rattle.index.specs.Rows.{rowWidth, firstAt, pastAt, valueAt, Bounded, space};
-ghost use Rattle.index.specs.Index.{Indexed, named, Finds};
+ghost use Rattle.index.specs.Rows.{rowWidth, nameSpaceOf};
+ghost use Rattle.index.specs.Columns.{firstAt, pastAt, valueAt, Bounded};
+ghost use Rattle.index.specs.Index.{Indexed, named, FindsRow};
 
 // Numbers a row, and where a row has its identifier and its logical identifier.
 pub const ROW_WIDTH: usize = 12;
@@ -18,7 +19,7 @@ pub const LOGICAL: usize = 6;
 const SPACES: [u8; 9] = [0, 1, 1, 2, 0, 1, 1, 3, 3];
 
 // What a look-up answers: a row's number, or that there is none.
-pub enum Found {
+pub enum RowFound {
     At(usize),
     Nothing,
 }
@@ -37,7 +38,7 @@ fn wide32(x: u32) -> usize
 
 // The name space of a kind, 0 if it has none.
 pub fn space_of(kind: usize) -> u8
-    ensures { λ r. ⌜ r ≡ space kind ⌝ }
+    ensures { λ r. ⌜ r ≡ nameSpaceOf kind ⌝ }
 {
     if kind < SPACES.len() {
         return SPACES[kind];
@@ -51,8 +52,8 @@ fn has(s: &[u8], rows: &[u32], column: usize, j: usize, space: u8, asked: Asked)
     requires { ⌜ j * rowWidth + rowWidth ≤ length (now rows) ⌝ }
     requires { ⌜ firstAt (now rows) column j ≤ pastAt (now rows) column j ⌝ }
     requires { ⌜ pastAt (now rows) column j ≤ length (now s) ⌝ }
-    requires { ⌜ Within (now s) asked ⌝ }
-    ensures { λ r. ⌜ r ≡ named (now (s .entry)) (now (rows .entry)) column space (bytesOf (now (s .entry)) asked) j ⌝ }
+    requires { ⌜ AskedWithin (now s) asked ⌝ }
+    ensures { λ r. ⌜ r ≡ named (now (s .entry)) (now (rows .entry)) column space (spelling (now (s .entry)) asked) j ⌝ }
 {
     let at = j * ROW_WIDTH;
     let own = space_of(wide32(rows[at]));
@@ -75,22 +76,22 @@ pub fn find(
     space: u8,
     hashed: usize,
     asked: Asked,
-) -> Found
+) -> RowFound
     requires { ⌜ Bounded (now s) (now rows) column n ⌝ }
     requires { ⌜ Indexed (now s) (now rows) column (now head) (now next) n ⌝ }
-    requires { ⌜ Within (now s) asked ⌝ }
-    requires { ⌜ hashed ≡ hash (bytesOf (now s) asked) ⌝ }
-    ensures { λ r. ⌜ Finds (now (s .entry)) (now (rows .entry)) column n space (bytesOf (now (s .entry)) asked) r ⌝ }
+    requires { ⌜ AskedWithin (now s) asked ⌝ }
+    requires { ⌜ hashed ≡ hash (spelling (now s) asked) ⌝ }
+    ensures { λ r. ⌜ FindsRow (now (s .entry)) (now (rows .entry)) column n space (spelling (now (s .entry)) asked) r ⌝ }
 {
     let mut link = wide16(head[names::bucket_of(head.len(), hashed)]);
     while 0 < link {
         let j = link - 1;
         if has(s, rows, column, j, space, asked) {
-            return Found::At(j);
+            return RowFound::At(j);
         }
         link = wide16(next[j]);
     }
-    Found::Nothing
+    RowFound::Nothing
 }
 
 // Adds row n, if it has a value there. `hashed` is that value's hash, by which the caller has looked it up before.

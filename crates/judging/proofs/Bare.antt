@@ -7,8 +7,7 @@ use Prim.Native.Nat.{ℕ, _%_, _≤_}
 use native.Mathlib.Omega.{arith}
 use lib.Dec.{eqb}
 use lib.ListN.{length}
-use Rattle.octets.specs.Items.{none}
-use Rattle.octets.specs.Walk.{Walked, ends}
+use Rattle.octets.specs.Walk.{none, Walked, ends}
 use Rattle.octets.specs.Rules.{at-limit}
 use Rattle.octets.proofs.RulesHold.{derived}
 use Rattle.tree.specs.Tree.{empty, plain}
@@ -17,15 +16,14 @@ use Rattle.runs.specs.Runs.{walkIn, itemsOf, Fine}
 use Rattle.names.specs.Hash.{hashFrom}
 use Rattle.contents.specs.Search.{Value, absent, octets, amount, firstValue, firstRun, boundsOf, itemsIn}
 use Rattle.portions.specs.Portions.{allPortions, values, wellSpelt, repeats}
-use Rattle.index.specs.Rows.{space}
+use Rattle.index.specs.Rows.{nameSpaceOf}
 use Rattle.elements.specs.declared.Row.{Row}
 use Rattle.elements.specs.declared.Shape.{Shape}
 use Rattle.elements.specs.Shape.{edition1988}
-use Rattle.elements.specs.Element.{single, contentOf, Element, noType, bodyOf, elementOf, namesFit}
-use Rattle.elements.specs.Judge.{shares, clash, twice, refusalOf}
-use Rattle.elements.specs.Rows.{bodyIn, rowOf}
-use Rattle.elements.specs.Says.{noSpan, portionsRun, Says}
-use Rattle.judging.specs.declared.Item.{Item}
+use Rattle.elements.specs.Judge.{single, contentOf, Element, noType, bodyOf, elementOf, namesFit, shares, clash, twice, refusalOf}
+use Rattle.elements.specs.Rows.{bodyIn, rowOf, noSpan}
+use Rattle.elements.specs.Says.{portionsRun, Says}
+use Rattle.judging.specs.declared.PlacedItem.{PlacedItem}
 use Rattle.judging.specs.Judges.{earlyRefusal, shape1988, element1988, MayBeBare, Passing}
 use Rattle.judging.proofs.Lists.{any-false}
 use Rattle.judging.proofs.Steps.{refused-early, refused-last}
@@ -79,7 +77,7 @@ never-twice : (done : List Element) (octet : ℕ) → twice done (bareElement oc
 unfolding twice clash repeats
 never-twice done octet =
     rw (any-false (λ d. clash d (bareElement octet)) done
-    (λ j d e. rw (shares-absent (d .identifier), shares-absent (d .logical)) (and-false (eqb (space (d .kind)) (space (octet % 32))))))
+    (λ j d e. rw (shares-absent (d .identifier), shares-absent (d .logical)) (and-false (eqb (nameSpaceOf (d .kind)) (nameSpaceOf (octet % 32))))))
 
 -- no portions stand between 0 and 0
 walked-nothing : (s : List ℕ) → walkIn s (portionsRun noSpan) ≡ record { items = none; how = ends 0 }
@@ -105,7 +103,7 @@ row-says s octet first past =
     }
 
 -- rules 9 to 15 of an item in which nothing stands
-module _ (s : List ℕ) (done : List Element) (item : Item) (may : MayBeBare (item .octet)) (bare : itemsOf s (item .inner) ≡ none) where
+module _ (s : List ℕ) (done : List Element) (item : PlacedItem) (may : MayBeBare (item .octet)) (bare : itemsOf s (item .inner) ≡ none) where
   abbrev early : ℕ
   early = earlyRefusal (length done) (item .octet) (item .octet)
 

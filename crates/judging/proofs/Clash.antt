@@ -14,27 +14,27 @@ use Rattle.names.proofs.Same.{same-eq, same-refl}
 use Rattle.contents.specs.declared.Span.{Span}
 use Rattle.contents.specs.Search.{Value, absent, octets}
 use Rattle.portions.specs.Portions.{any, repeats}
-use Rattle.index.specs.declared.Found.{Found}
-use Rattle.index.specs.declared.Found.the-variants.{At, Nothing}
-use Rattle.index.specs.Rows.{rowWidth, identifierColumn, logicalColumn, kindAt, firstAt, pastAt, valueAt, Bounded, space}
-use Rattle.index.specs.Index.{Has, Finds}
+use Rattle.index.specs.declared.RowFound.{RowFound}
+use Rattle.index.specs.declared.RowFound.the-variants.{At, Nothing}
+use Rattle.index.specs.Rows.{rowWidth, nameSpaceOf}
+use Rattle.index.specs.Columns.{identifierColumn, logicalColumn, kindAt, firstAt, pastAt, valueAt, Bounded}
+use Rattle.index.specs.Index.{Has, FindsRow}
 use Rattle.elements.specs.declared.Row.{Row}
-use Rattle.elements.specs.Element.{Element}
-use Rattle.elements.specs.Judge.{shares, clash, twice}
-use Rattle.elements.specs.Rows.{cells}
-use Rattle.elements.specs.Says.{bytesIn, Names, Says}
-use Rattle.judging.specs.Done.{Holds}
+use Rattle.elements.specs.Judge.{Element, shares, clash, twice}
+use Rattle.elements.specs.Rows.{cells, bytesIn}
+use Rattle.elements.specs.Says.{Names, Says}
+use Rattle.judging.specs.Done.{Keeps}
 use Rattle.judging.specs.Judges.{Taken}
 use Rattle.judging.proofs.Lists.{below-length, at-below, any-true, any-false, any-or}
 use Rattle.judging.proofs.Rows.{RowOf, row-of, kind-at, first-at, past-at}
 
 -- what a look-up answers
-module _ {s scratch : List ℕ} {column n nameSpace : ℕ} {bytes : List ℕ} {found : Found} (finds : Finds s scratch column n nameSpace bytes found) where
+module _ {s scratch : List ℕ} {column n nameSpace : ℕ} {bytes : List ℕ} {found : RowFound} (finds : FindsRow s scratch column n nameSpace bytes found) where
   pub found-taken : (j : ℕ) → found ≡ At j → Taken s scratch column n nameSpace bytes true
-  found-taken j e = (j, subst (Finds s scratch column n nameSpace bytes) e finds .0)
+  found-taken j e = (j, subst (FindsRow s scratch column n nameSpace bytes) e finds .0)
 
   pub nothing-taken : found ≡ Nothing → Taken s scratch column n nameSpace bytes false
-  nothing-taken e = subst (Finds s scratch column n nameSpace bytes) e finds
+  nothing-taken e = subst (FindsRow s scratch column n nameSpace bytes) e finds
 
 -- no row has an empty name
 pub empty-untaken : {s scratch : List ℕ} {column n nameSpace : ℕ} (pair : Span) → Bounded s scratch column n → pair .first ≡ pair .past
@@ -72,13 +72,13 @@ not-true true n = absurd (n refl)
 not-true false n = refl
 
 module _ {s scratch head next head2 next2 : List ℕ} {n : ℕ} {table : List Row} {done : List Element}
-    (holds : Holds s scratch head next head2 next2 n table done) {row : Row} {e : Element} (says : Says s row e) where
+    (holds : Keeps s scratch head next head2 next2 n table done) {row : Row} {e : Element} (says : Says s row e) where
   -- a column of the rows, the value that elements have there, and how the one bounds the other
   module _ (column : ℕ) (in-row : column + 1 < rowWidth) (pair : Row → Span) (value : Element → Value)
       (first-is : (r : Row) → getD (cells r) column 0 ≡ pair r .first) (past-is : (r : Row) → getD (cells r) (column + 1) 0 ≡ pair r .past)
       (names : (r : Row) (d : Element) → Says s r d → Names s (pair r) (value d)) where
     abbrev hit : Element → Bool
-    hit d = eqb (space (d .kind)) (space (e .kind)) && shares (value d) (value e)
+    hit d = eqb (nameSpaceOf (d .kind)) (nameSpaceOf (e .kind)) && shares (value d) (value e)
 
     module _ (j : ℕ) (d : Element) (stands : getElem? done j ≡ some d) where
       abbrev own : RowOf s table j d
@@ -93,58 +93,58 @@ module _ {s scratch head next head2 next2 : List ℕ} {n : ℕ} {table : List Ro
       value-own : valueAt s scratch column j ≡ bytesIn s (pair (own .row))
       value-own = rw (first-own, past-own)
 
-      space-own : space (kindAt scratch j) ≡ space (d .kind)
-      space-own = ap space (kind-at holds j (own .row) (own .stands) ∙ own .says .kind)
+      space-own : nameSpaceOf (kindAt scratch j) ≡ nameSpaceOf (d .kind)
+      space-own = ap nameSpaceOf (kind-at holds j (own .row) (own .stands) ∙ own .says .kind)
 
-      has-hit : Has s scratch column n (space (row .kind)) (bytesIn s (pair row)) j → hit d ≡ true
+      has-hit : Has s scratch column n (nameSpaceOf (row .kind)) (bytesIn s (pair row)) j → hit d ≡ true
       has-hit has =
-          let same-space : space (d .kind) ≡ space (e .kind) = sym space-own ∙ has .of-space ∙ ap space (says .kind) in
-          rw (eq-eqb (space (d .kind)) (space (e .kind)) same-space)
+          let same-space : nameSpaceOf (d .kind) ≡ nameSpaceOf (e .kind) = sym space-own ∙ has .of-space ∙ ap nameSpaceOf (says .kind) in
+          rw (eq-eqb (nameSpaceOf (d .kind)) (nameSpaceOf (e .kind)) same-space)
           (bytes-share s (pair (own .row)) (pair row) (value d) (value e) (names (own .row) d (own .says)) (names row e says)
           (omega (arith, first-own, past-own, has .present)) (sym value-own ∙ has .of-bytes))
 
-      hit-has : hit d ≡ true → Has s scratch column n (space (row .kind)) (bytesIn s (pair row)) j
+      hit-has : hit d ≡ true → Has s scratch column n (nameSpaceOf (row .kind)) (bytesIn s (pair row)) j
       hit-has t =
-          let both = and-true (eqb (space (d .kind)) (space (e .kind))) (shares (value d) (value e)) t in
+          let both = and-true (eqb (nameSpaceOf (d .kind)) (nameSpaceOf (e .kind))) (shares (value d) (value e)) t in
           let shared = shares-bytes s (pair (own .row)) (pair row) (value d) (value e) (names (own .row) d (own .says)) (names row e says) (both .1) in
           record {
             below = omega (arith, below-length done j d stands, holds .counted);
             present = omega (arith, first-own, past-own, shared .0);
-            of-space = space-own ∙ eqb-true (space (d .kind)) (space (e .kind)) (both .0) ∙ ap space (sym (says .kind));
+            of-space = space-own ∙ eqb-true (nameSpaceOf (d .kind)) (nameSpaceOf (e .kind)) (both .0) ∙ ap nameSpaceOf (sym (says .kind));
             of-bytes = value-own ∙ shared .1;
           }
 
-    hits : (b : Bool) → Taken s scratch column n (space (row .kind)) (bytesIn s (pair row)) b → any (map hit done) ≡ b
+    hits : (b : Bool) → Taken s scratch column n (nameSpaceOf (row .kind)) (bytesIn s (pair row)) b → any (map hit done) ≡ b
     hits true taken =
         let d = at-below done (taken .0) (omega (arith, taken .1 .below, holds .counted)) in
         any-true hit done (taken .0) (d .0) (d .1) (has-hit (taken .0) (d .0) (d .1) (taken .1))
     hits false taken = any-false hit done (λ j d stands. not-true (hit d) (λ t. taken j (hit-has j d stands t)))
 
   abbrev shares-identifier : Element → Bool
-  shares-identifier d = eqb (space (d .kind)) (space (e .kind)) && shares (d .identifier) (e .identifier)
+  shares-identifier d = eqb (nameSpaceOf (d .kind)) (nameSpaceOf (e .kind)) && shares (d .identifier) (e .identifier)
 
   abbrev shares-logical : Element → Bool
-  shares-logical d = eqb (space (d .kind)) (space (e .kind)) && shares (d .logical) (e .logical)
+  shares-logical d = eqb (nameSpaceOf (d .kind)) (nameSpaceOf (e .kind)) && shares (d .logical) (e .logical)
 
-  by-identifier : (b : Bool) → Taken s scratch identifierColumn n (space (row .kind)) (bytesIn s (row .identifier)) b → any (map shares-identifier done) ≡ b
+  by-identifier : (b : Bool) → Taken s scratch identifierColumn n (nameSpaceOf (row .kind)) (bytesIn s (row .identifier)) b → any (map shares-identifier done) ≡ b
   by-identifier = hits identifierColumn (omega arith) (λ r. r .identifier) (λ d. d .identifier) (λ r. refl) (λ r. refl) (λ r d w. w .identifier)
 
-  by-logical : (b : Bool) → Taken s scratch logicalColumn n (space (row .kind)) (bytesIn s (row .logical)) b → any (map shares-logical done) ≡ b
+  by-logical : (b : Bool) → Taken s scratch logicalColumn n (nameSpaceOf (row .kind)) (bytesIn s (row .logical)) b → any (map shares-logical done) ≡ b
   by-logical = hits logicalColumn (omega arith) (λ r. r .logical) (λ d. d .logical) (λ r. refl) (λ r. refl) (λ r d w. w .logical)
 
   clashes : any (map (λ d. clash d e) done) ≡ (any (map shares-identifier done) || any (map shares-logical done))
   unfolding clash
   clashes = simp and-or (any-or shares-identifier shares-logical done)
 
-  pub identifier-twice : Taken s scratch identifierColumn n (space (row .kind)) (bytesIn s (row .identifier)) true → twice done e ≡ true
+  pub identifier-twice : Taken s scratch identifierColumn n (nameSpaceOf (row .kind)) (bytesIn s (row .identifier)) true → twice done e ≡ true
   unfolding twice
   identifier-twice p = rw (clashes, by-identifier true p)
 
-  module _ (p : Taken s scratch identifierColumn n (space (row .kind)) (bytesIn s (row .identifier)) false) where
-    pub logical-twice : Taken s scratch logicalColumn n (space (row .kind)) (bytesIn s (row .logical)) true → twice done e ≡ true
+  module _ (p : Taken s scratch identifierColumn n (nameSpaceOf (row .kind)) (bytesIn s (row .identifier)) false) where
+    pub logical-twice : Taken s scratch logicalColumn n (nameSpaceOf (row .kind)) (bytesIn s (row .logical)) true → twice done e ≡ true
     unfolding twice
     logical-twice q = rw (clashes, by-identifier false p, by-logical true q)
 
-    pub portions-twice : Taken s scratch logicalColumn n (space (row .kind)) (bytesIn s (row .logical)) false → twice done e ≡ repeats (e .portions)
+    pub portions-twice : Taken s scratch logicalColumn n (nameSpaceOf (row .kind)) (bytesIn s (row .logical)) false → twice done e ≡ repeats (e .portions)
     unfolding twice
     portions-twice q = rw (clashes, by-identifier false p, by-logical false q)

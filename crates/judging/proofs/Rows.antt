@@ -6,12 +6,13 @@ use Prim.Native.Nat.{ℕ, zero, suc, _+_, _*_, _<_, _≤_}
 use native.Mathlib.Omega.{arith}
 use lib.ListN.{length, getD, take, drop, getElem?, length-append, List·getD-append}
 use lib.Seq.{sets, sets-eq, getD-take, getD-append-add, take-at}
-use Rattle.index.specs.Rows.{rowWidth, kindAt, firstAt, pastAt}
+use Rattle.index.specs.Rows.{rowWidth}
+use Rattle.index.specs.Columns.{kindAt, firstAt, pastAt}
 use Rattle.elements.specs.declared.Row.{Row}
-use Rattle.elements.specs.Element.{Element}
+use Rattle.elements.specs.Judge.{Element}
 use Rattle.elements.specs.Rows.{cells, numbers}
 use Rattle.elements.specs.Says.{Says}
-use Rattle.judging.specs.Done.{Saying, none, more, Holds}
+use Rattle.judging.specs.Done.{Saying, none, more, Keeps}
 use Rattle.judging.proofs.Lists.{Last, before, last, below-length, at-front, at-end, at-last}
 
 pub numbers-length : (rows : List Row) → length (numbers rows) ≡ length rows * rowWidth
@@ -71,7 +72,7 @@ row-of (more {row} {element} {rows} {elements} w says) j x e = row-last w says j
 
 -- what the scratch has of row j
 module _ {s scratch head next head2 next2 : List ℕ} {n : ℕ} {rows : List Row} {elements : List Element}
-    (holds : Holds s scratch head next head2 next2 n rows elements) (j : ℕ) (row : Row) (stands : getElem? rows j ≡ some row) where
+    (holds : Keeps s scratch head next head2 next2 n rows elements) (j : ℕ) (row : Row) (stands : getElem? rows j ≡ some row) where
   pub row-below : j < n
   row-below = omega (arith, below-length rows j row stands, saying-length (holds .saying), holds .counted)
 

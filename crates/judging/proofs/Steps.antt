@@ -9,13 +9,12 @@ use borrow.Author.Tests.{ne-eqb, leb-false}
 use borrow.Table.Steps.{cases}
 use lib.Dec.{eqb, leb}
 use lib.ListN.{length}
-use Rattle.headers.specs.First.{constructed}
-use Rattle.octets.specs.Items.{Items, none, item}
+use Rattle.headers.specs.Head.{constructed}
+use Rattle.octets.specs.Walk.{Items, none, item}
 use Rattle.tree.specs.Tree.{Tree, plain}
 use Rattle.runs.specs.Runs.{tops}
 use Rattle.elements.specs.Shape.{edition1988}
-use Rattle.elements.specs.Element.{Element}
-use Rattle.elements.specs.Judge.{mostElements, profile, twice, shapeRefusal, refusalOf, refused, judgeOne, judgeFrom, judge}
+use Rattle.elements.specs.Judge.{Element, mostElements, profile, twice, shapeRefusal, refusalOf, refused, judgeOne, judgeFrom, judge}
 use Rattle.elements.proofs.Refusals.{refusal-9, refusal-10, refusal-11, refusal-by-shape}
 use Rattle.judging.specs.Judges.{earlyRefusal, shape1988, element1988}
 

@@ -4,10 +4,11 @@ use mathlib.Core.Path.{_≡_}
 use mathlib.Core.List.{List, [], _∷_, _++_}
 use Prim.Native.Nat.{ℕ, _*_}
 use lib.ListN.{length, take}
-use Rattle.index.specs.Rows.{rowWidth, identifierColumn, logicalColumn, Bounded}
+use Rattle.index.specs.Rows.{rowWidth}
+use Rattle.index.specs.Columns.{identifierColumn, logicalColumn, Bounded}
 use Rattle.index.specs.Index.{Indexed}
 use Rattle.elements.specs.declared.Row.{Row}
-use Rattle.elements.specs.Element.{Element}
+use Rattle.elements.specs.Judge.{Element}
 use Rattle.elements.specs.Rows.{numbers}
 use Rattle.elements.specs.Says.{Says}
 
@@ -25,7 +26,7 @@ pub record Indexes (s scratch head next head2 next2 : List ℕ) (n : ℕ) : Type
   pub by-logical : Indexed s scratch logicalColumn head2 next2 n
 
 -- n elements are done: their rows are the scratch's first, and are indexed
-pub record Holds (s scratch head next head2 next2 : List ℕ) (n : ℕ) (rows : List Row) (elements : List Element) : Type 0 where
+pub record Keeps (s scratch head next head2 next2 : List ℕ) (n : ℕ) (rows : List Row) (elements : List Element) : Type 0 where
   pub counted : length elements ≡ n
   pub written : take (n * rowWidth) scratch ≡ numbers rows
   pub saying : Saying s rows elements

@@ -12,15 +12,14 @@ use Rattle.index.specs.Index.{Has}
 use Rattle.elements.specs.declared.Row.{Row}
 use Rattle.elements.specs.declared.Shape.{Shape}
 use Rattle.elements.specs.Shape.{edition1988, shapeOf}
-use Rattle.elements.specs.Element.{Element, elementOf}
-use Rattle.elements.specs.Judge.{mostElements, profile, twice, firstOf, _when_, shapeRefusal, refusalOf}
-use Rattle.elements.specs.Rows.{rowOf}
-use Rattle.elements.specs.Says.{bytesIn, Says, RowPlaced}
+use Rattle.elements.specs.Judge.{Element, elementOf, mostElements, profile, twice, firstOf, _when_, shapeRefusal, refusalOf}
+use Rattle.elements.specs.Rows.{rowOf, bytesIn}
+use Rattle.elements.specs.Says.{Says, RowPlaced}
 use Rattle.judging.specs.declared.Hashes.{Hashes}
-use Rattle.judging.specs.declared.Item.{Item}
+use Rattle.judging.specs.declared.PlacedItem.{PlacedItem}
 use Rattle.judging.specs.declared.Judgement.{Judgement}
 use Rattle.judging.specs.declared.Judgement.the-variants.{Fails, Passes}
-use Rattle.judging.specs.Done.{Holds}
+use Rattle.judging.specs.Done.{Keeps}
 
 -- rules 9 to 11, which look at an element's number and octet alone; `known` is the octet of its shape
 unfoldable pub earlyRefusal : (n octet known : ℕ) → ℕ
@@ -52,7 +51,7 @@ pub record MayBeBare (octet : ℕ) : Type 0 where
   pub fits : shapeRefusal (shape1988 octet) empty ≡ 0
 
 -- an element that is refused by no rule: its row, which says what it says
-pub record Passing (s : List ℕ) (done : List Element) (item : Item) (row : Row) (hashes : Hashes) : Type 0 where
+pub record Passing (s : List ℕ) (done : List Element) (item : PlacedItem) (row : Row) (hashes : Hashes) : Type 0 where
   pub unrefused : refusalOf edition1988 done (item .octet ∷ []) (treeIn s (item .inner)) ≡ 0
   pub row-is : row ≡ rowOf (shape1988 (item .octet)) s (item .first) (item .past) (itemsOf s (item .inner))
   pub says : Says s row (element1988 (item .octet) (treeIn s (item .inner)))
@@ -60,23 +59,23 @@ pub record Passing (s : List ℕ) (done : List Element) (item : Item) (row : Row
   pub hashed : hashes ≡ hashesOf s row
 
 -- what rules 9 to 15 make of an item, after the elements that are done
-abbrev pub Judges : (s : List ℕ) (done : List Element) → Item → Judgement → Type 0
+abbrev pub Judges : (s : List ℕ) (done : List Element) → PlacedItem → Judgement → Type 0
 Judges s done item (Fails number) = (refusalOf edition1988 done (item .octet ∷ []) (treeIn s (item .inner)) ≡ number) × (number ≡ 0 → ⊥)
 Judges s done item (Passes row hashes) = Passing s done item row hashes
 
 -- what is said of an item, whichever elements the scratch holds
-abbrev pub JudgesAfter : (s scratch head next head2 next2 : List ℕ) (n : ℕ) → Item → Judgement → Type 0
+abbrev pub JudgesAfter : (s scratch head next head2 next2 : List ℕ) (n : ℕ) → PlacedItem → Judgement → Type 0
 JudgesAfter s scratch head next head2 next2 n item judgement =
-    (table : List Row) (done : List Element) → Holds s scratch head next head2 next2 n table done → Judges s done item judgement
+    (table : List Row) (done : List Element) → Keeps s scratch head next head2 next2 n table done → Judges s done item judgement
 
 -- whether rule 15 refuses an element with a row and these portions, whichever elements the scratch holds
 abbrev pub TellsTwice : (s scratch head next head2 next2 : List ℕ) (n : ℕ) → Row → (portions : List (List ℕ)) → Bool → Type 0
 TellsTwice s scratch head next head2 next2 n row portions b =
-    (table : List Row) (done : List Element) (e : Element) → Holds s scratch head next head2 next2 n table done → Says s row e
+    (table : List Row) (done : List Element) (e : Element) → Keeps s scratch head next head2 next2 n table done → Says s row e
     → portions ≡ e .portions → b ≡ twice done e
 
 -- the scratch with one row more, whichever elements it held
 abbrev pub Grows : (s scratch head next head2 next2 scratch' head' next' head2' next2' : List ℕ) (n : ℕ) → Row → Type 0
 Grows s scratch head next head2 next2 scratch' head' next' head2' next2' n row =
-    (table : List Row) (done : List Element) (e : Element) → Holds s scratch head next head2 next2 n table done → Says s row e
-    → Holds s scratch' head' next' head2' next2' (n + 1) (table ++ row ∷ []) (done ++ e ∷ [])
+    (table : List Row) (done : List Element) (e : Element) → Keeps s scratch head next head2 next2 n table done → Says s row e
+    → Keeps s scratch' head' next' head2' next2' (n + 1) (table ++ row ∷ []) (done ++ e ∷ [])

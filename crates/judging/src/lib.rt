@@ -2,7 +2,7 @@
 use contents::Span;
 use elements::Row;
 use elements::Seen;
-use index::Found;
+use index::RowFound;
 use names::Asked;
 use runs::Run;
 ghost use mathlib.Core.Path.{_≡_};
@@ -10,20 +10,20 @@ ghost use mathlib.Core.Bool.{true};
 ghost use mathlib.Core.List.{List};
 ghost use Prim.Native.Nat.{ℕ, _*_, _≤_};
 ghost use lib.ListN.{length, take};
-ghost use Rattle.octets.specs.Walk.{streamLimit};
-ghost use Rattle.octets.specs.Items.{none};
+ghost use Rattle.octets.specs.Walk.{streamLimit, none};
 ghost use Rattle.runs.specs.Runs.{itemsOf, Fine};
 ghost use Rattle.names.specs.Hash.{hash};
 ghost use Rattle.portions.specs.Portions.{mostPortions};
 ghost use Rattle.portions.specs.Bounds.{bounded, Inside};
-ghost use Rattle.index.specs.Rows.{Bounded};
+ghost use Rattle.index.specs.Columns.{Bounded};
 ghost use Rattle.index.specs.Index.{Indexed};
-ghost use Rattle.elements.specs.Says.{bytesIn, Placed, RowPlaced};
+ghost use Rattle.elements.specs.Rows.{bytesIn};
+ghost use Rattle.elements.specs.Says.{Placed, RowPlaced};
 ghost use Rattle.judging.specs.Done.{Indexes};
 ghost use Rattle.judging.specs.Judges.{earlyRefusal, Taken, hashesOf, TellsTwice, MayBeBare, JudgesAfter};
 
 // An item of the stream that is to be judged: its octet, where it stands, and the run inside it.
-pub struct Item {
+pub struct PlacedItem {
     pub octet: usize,
     pub first: usize,
     pub past: usize,
@@ -112,8 +112,8 @@ fn is_taken(
         to: 0,
     };
     match index::find(s, rows, head, next, n, column, space, hashed, asked) {
-        Found::At(_) => true,
-        Found::Nothing => false,
+        RowFound::At(_) => true,
+        RowFound::Nothing => false,
     }
 }
 
@@ -178,7 +178,7 @@ fn may_be_bare(octet: usize) -> bool
 }
 
 // Rules 9 to 15 for element n, in which nothing stands and nothing has to: it has no name, so it shares none.
-fn judge_bare(n: usize, item: Item) -> Judgement
+fn judge_bare(n: usize, item: PlacedItem) -> Judgement
     requires { ⌜ MayBeBare (item .octet) × (item .first ≤ item .past) ⌝ }
     ensures { λ r. ⌜ ((s scratch head next head2 next2 : List ℕ) → itemsOf s (item .inner) ≡ none → item .past ≤ length s → JudgesAfter s scratch head next head2 next2 n item r) ⌝ }
 {
@@ -216,7 +216,7 @@ fn judge_any(
     next2: &[u16],
     bounds: &mut [u32],
     n: usize,
-    item: Item,
+    item: PlacedItem,
 ) -> Judgement
     requires { ⌜ Indexes (now s) (now rows) (now head) (now next) (now head2) (now next2) n ⌝ }
     requires { ⌜ Fine (now s) (item .inner) × (length (now s) ≤ streamLimit) × (item .first ≤ item .past) × (item .past ≤ length (now s)) × (2 * mostPortions ≤ length (now bounds)) ⌝ }
@@ -251,7 +251,7 @@ pub fn judge_element(
     next2: &[u16],
     bounds: &mut [u32],
     n: usize,
-    item: Item,
+    item: PlacedItem,
 ) -> Judgement
     requires { ⌜ Indexes (now s) (now rows) (now head) (now next) (now head2) (now next2) n ⌝ }
     requires { ⌜ Fine (now s) (item .inner) × (length (now s) ≤ streamLimit) × (item .first ≤ item .past) × (item .past ≤ length (now s)) × (2 * mostPortions ≤ length (now bounds)) ⌝ }

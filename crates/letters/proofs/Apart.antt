@@ -13,11 +13,10 @@ use Rattle.tree.specs.Tree.{Tree, empty, leaf, branch}
 use Rattle.names.proofs.Same.{same-refl}
 use Rattle.contents.specs.Search.{octets, is, firstValue}
 use Rattle.portions.specs.Portions.{any, repeats}
-use Rattle.index.specs.Rows.{space}
+use Rattle.index.specs.Rows.{nameSpaceOf}
 use Rattle.elements.specs.Shape.{Edition, shapeOf}
-use Rattle.elements.specs.Element.{Element, elementOf, asTabled, typeFits, namesFit}
-use Rattle.elements.specs.Judge.{mostElements, profile, shares, clash, twice, refusalOf, Judged, accepted, refused, judgeOne, judgeFrom, judge}
-use Rattle.letters.specs.Table.{Apart}
+use Rattle.elements.specs.Judge.{Element, elementOf, asTabled, typeFits, namesFit, mostElements, profile, shares, clash, twice, refusalOf, Judged, accepted, refused, judgeOne, judgeFrom, judge}
+use Rattle.letters.specs.Apart.{Apart}
 use Rattle.judging.proofs.Lists.{Last, before, last, below-length, at-last, any-none}
 use Rattle.judging.proofs.Steps.{passed}
 
@@ -109,9 +108,9 @@ or-true a b e = rw e
 
 -- two elements of one name space have not the same identifier
 pub identifiers-differ : {elements : List Element} → Apart elements → (i j : ℕ) (d e : Element) → i < j → getElem? elements i ≡ some d
-    → getElem? elements j ≡ some e → space (d .kind) ≡ space (e .kind) → (xs ys : List ℕ) → d .identifier ≡ octets xs → e .identifier ≡ octets ys → xs ≡ ys → ⊥
+    → getElem? elements j ≡ some e → nameSpaceOf (d .kind) ≡ nameSpaceOf (e .kind) → (xs ys : List ℕ) → d .identifier ≡ octets xs → e .identifier ≡ octets ys → xs ≡ ys → ⊥
 unfolding clash
 identifiers-differ a i j d e l p q same-space xs ys x y same-bytes =
     let shared : shares (d .identifier) (e .identifier) ≡ true = rw (x, y, same-bytes) (same-refl ys) in
-    let clashing : clash d e ≡ true = rw (eq-eqb (space (d .kind)) (space (e .kind)) same-space, shared) in
+    let clashing : clash d e ≡ true = rw (eq-eqb (nameSpaceOf (d .kind)) (nameSpaceOf (e .kind)) same-space, shared) in
     true≢false (sym clashing ∙ a .apart i j d e l p q)

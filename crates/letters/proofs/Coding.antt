@@ -11,14 +11,12 @@ use borrow.Table.Steps.{cases}
 use lib.Dec.{eqb}
 use lib.ListN.{length, getElem?}
 use lib.Seq.{slice}
-use Rattle.headers.specs.First.{constructed}
-use Rattle.octets.specs.Items.{Items, none, item}
-use Rattle.octets.specs.Walk.{End, ends, pastOf, deepest}
+use Rattle.headers.specs.Head.{constructed}
+use Rattle.octets.specs.Walk.{Items, none, item, End, ends, pastOf, deepest}
 use Rattle.octets.specs.Rules.{Runs, at-limit, unclosed, closes, refuses, primitive, passes, breaks}
 use Rattle.octets.proofs.Turns.{header-ok}
 use Rattle.octets.proofs.RulesHold.{derives}
-use Rattle.tree.specs.Tree.{Tree, plain, treeOf}
-use Rattle.tree.specs.Codes.{Codes}
+use Rattle.tree.specs.Tree.{Tree, plain, treeOf, Codes}
 use Rattle.tree.proofs.Here.{sliced}
 use Rattle.tree.proofs.Sound.{Past, sound}
 use Rattle.tree.specs.Accepts.{Whole}
@@ -28,12 +26,10 @@ use Rattle.contents.proofs.Firsts.{amount-formed, run-here, run-after}
 use Rattle.elements.specs.declared.Row.{Row}
 use Rattle.elements.specs.declared.Shape.{Shape}
 use Rattle.elements.specs.Shape.{edition1988}
-use Rattle.elements.specs.Element.{single, inPieces, contentOf, Element, elementOf}
-use Rattle.elements.specs.Judge.{accepted, judge}
-use Rattle.elements.specs.Rows.{contentOctet, rowOf}
+use Rattle.elements.specs.Judge.{single, inPieces, contentOf, Element, elementOf, accepted, judge}
+use Rattle.elements.specs.Rows.{contentOctet, rowOf, bytesIn}
 use Rattle.elements.proofs.Made.{made-1988}
 use Rattle.elements.proofs.Zero.{none-zero}
-use Rattle.elements.specs.Says.{bytesIn}
 use Rattle.judging.specs.Judges.{shape1988}
 use Rattle.letters.specs.Letter.{rowsOfStream}
 use Rattle.letters.proofs.Standing.{rest-fine, rest-some, element-says}

@@ -11,25 +11,25 @@ use Rattle.runs.specs.declared.Run.{Run}
 use Rattle.runs.specs.Runs.{itemsOf, treeIn, wholeStream, Fine, Meeting}
 use Rattle.contents.specs.declared.Span.{Span}
 use Rattle.contents.specs.Search.{Value, absent, octets}
-use Rattle.index.specs.Rows.{wholeColumn}
+use Rattle.index.specs.Columns.{wholeColumn}
 use Rattle.elements.specs.declared.Holder.{Holder}
 use Rattle.elements.specs.declared.Row.{Row}
 use Rattle.elements.specs.Shape.{edition1988}
-use Rattle.elements.specs.Element.{Content, single, inPieces, contentOf, joinedContent, Element, elementOf}
+use Rattle.elements.specs.Judge.{Content, single, inPieces, contentOf, joinedContent, Element, elementOf}
 use Rattle.elements.specs.Rows.{rowOf}
 use Rattle.elements.specs.Says.{Bounds}
 use Rattle.elements.specs.Frames.{HoldsContent, Holding}
 use Rattle.judging.specs.Judges.{shape1988}
 use Rattle.letters.specs.Letter.{rowsOfStream}
 use Rattle.letters.specs.Scratch.{Filled}
-use Rattle.letters.specs.Content.{RowIn, heldBy, HeldWhole, Holds, HoldsElement}
+use Rattle.letters.specs.Content.{RowIn, heldBy, HeldWhole, HeldAs, HoldsElement}
 use Rattle.judging.proofs.Lists.{at-below}
 use Rattle.judging.proofs.Rows.{first-at, saying-length}
 use Rattle.letters.proofs.Standing.{restFrom, element-says}
 
 -- a holder as where the content stands, if the fields are its pair
 held-by : (s : List ℕ) (holder : Holder) (fields : Span) → fields ≡ holder .value → Fine s (holder .pieces)
-    → (content : Content) → HoldsContent s holder content → Holds s fields content (heldBy holder)
+    → (content : Content) → HoldsContent s holder content → HeldAs s fields content (heldBy holder)
 held-by s holder fields e fine (single value) h =
     rw (h .pieced) (record { fields-are = e; value = value; content-is = refl; bounds = subst (λ (v : Span). Bounds s v value) (sym e) (h .bounds) })
 held-by s holder fields e fine (inPieces run) h = rw (h .pieced) (record { fine = fine; content-is = ap inPieces (sym (h .tree)) })
@@ -44,7 +44,7 @@ module _ {s : List ℕ} (fine : Fine s (wholeStream s)) (j : ℕ) (row : Row) (s
       let same : row ≡ other = cc in
       let says = element-says fine j row stands octet first past (itemsOf s inner) (itemsOf s rest) (m .tree) elements judged element there in
       let fields : other .content ≡ holder .value = ap (λ (r : Row). r .content) (sym same ∙ says .row-is) ∙ sym (holding .pair) in
-      subst (λ (e : Element). Holds s (other .content) (e .content) (heldBy holder)) (sym (says .element-is))
+      subst (λ (e : Element). HeldAs s (other .content) (e .content) (heldBy holder)) (sym (says .element-is))
       (held-by s holder (other .content) fields (holding .fine) (contentOf (shape1988 octet) (treeIn s inner)) (holding .held))
 
 -- the rows that the judge of a letter left have each of its elements

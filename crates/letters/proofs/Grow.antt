@@ -6,15 +6,16 @@ use native.Mathlib.Omega.{arith}
 use lib.ListN.{length, getD, length-append}
 use lib.Seq.{slice, sets}
 use Rattle.octets.specs.Walk.{streamLimit}
-use Rattle.index.specs.Rows.{rowWidth, identifierColumn, logicalColumn, valueAt, Bounded}
+use Rattle.index.specs.Rows.{rowWidth}
+use Rattle.index.specs.Columns.{identifierColumn, logicalColumn, valueAt, Bounded}
 use Rattle.index.specs.Index.{Indexed}
 use Rattle.index.proofs.Rows.{row-value, row-bounded, row-indexed}
 use Rattle.elements.specs.declared.Row.{Row}
-use Rattle.elements.specs.Element.{Element}
+use Rattle.elements.specs.Judge.{Element}
 use Rattle.elements.specs.Rows.{cells}
 use Rattle.elements.specs.Says.{Says, RowPlaced}
 use Rattle.letters.specs.Numbers.{Narrow}
-use Rattle.judging.specs.Done.{more, Indexes, Holds}
+use Rattle.judging.specs.Done.{more, Indexes, Keeps}
 use Rattle.judging.proofs.Rows.{written-more, saying-length}
 
 -- the numbers of a row of a stream are small
@@ -54,8 +55,8 @@ module _ {s scratch head next head2 next2 scratch' : List ℕ} {n : ℕ} {row : 
       written-at logicalColumn (omega arith) (indexes .logicals) (indexes .by-logical) (placed .logical .order) (placed .logical .inside)
 
   pub holds-more : {head' next' head2' next2' : List ℕ} → Indexed s scratch' identifierColumn head' next' (n + 1) → Indexed s scratch' logicalColumn head2' next2' (n + 1)
-      → (table : List Row) (done : List Element) (e : Element) → Holds s scratch head next head2 next2 n table done → Says s row e
-      → Holds s scratch' head' next' head2' next2' (n + 1) (table ++ row ∷ []) (done ++ e ∷ [])
+      → (table : List Row) (done : List Element) (e : Element) → Keeps s scratch head next head2 next2 n table done → Says s row e
+      → Keeps s scratch' head' next' head2' next2' (n + 1) (table ++ row ∷ []) (done ++ e ∷ [])
   holds-more by-identifier by-logical table done e holds says =
       let size : length table ≡ n = saying-length (holds .saying) ∙ holds .counted in record {
         counted = length-append done (e ∷ []) ∙ ap (λ (k : ℕ). k + 1) (holds .counted);

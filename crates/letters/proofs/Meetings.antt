@@ -4,9 +4,8 @@ use mathlib.Core.Bool.{Bool, true, false, false≢true}
 use mathlib.Core.List.{List}
 use Prim.Native.Nat.{ℕ}
 use native.Mathlib.Omega.{arith}
-use Rattle.headers.specs.First.{constructed}
-use Rattle.octets.specs.Items.{Items, none, item}
-use Rattle.octets.specs.Walk.{End}
+use Rattle.headers.specs.Head.{constructed}
+use Rattle.octets.specs.Walk.{Items, none, item, End}
 use Rattle.octets.specs.Rules.{Runs, at-limit, unclosed, closes, refuses, primitive, passes, breaks}
 use Rattle.octets.proofs.RulesHold.{derives}
 use Rattle.runs.specs.declared.Run.{Run}

@@ -7,17 +7,15 @@ use Prim.Native.Nat.{ℕ, _+_, _≤_}
 use native.Mathlib.Omega.{arith}
 use borrow.Table.Steps.{cases}
 use lib.Dec.{eqb}
-use Rattle.octets.specs.Items.{Items, none, item}
-use Rattle.octets.specs.Walk.{End, ends, pastOf}
+use Rattle.octets.specs.Walk.{Items, none, item, End, ends, pastOf, startOf}
 use Rattle.octets.specs.Rules.{Runs, at-limit, unclosed, closes, refuses, primitive, passes, breaks}
 use Rattle.octets.proofs.Turns.{header-ok}
 use Rattle.tree.specs.Accepts.{Whole}
-use Rattle.runs.specs.Runs.{startOf}
 use Rattle.runs.proofs.Laws.{starts-at}
 use Rattle.contents.specs.Search.{boundsOf, itemsIn}
 use Rattle.elements.specs.declared.Shape.{Shape}
 use Rattle.elements.specs.Rows.{bodyIn}
-use Rattle.letters.specs.Table.{Within, absent, present}
+use Rattle.letters.specs.Letter.{Within, absent, present}
 
 -- all values lie between two places
 abbrev pub Nested : (from to : ℕ) → Items → Type 0

@@ -9,19 +9,17 @@ use native.Mathlib.Omega.{arith}
 use borrow.Table.Steps.{cases}
 use lib.Dec.{eqb}
 use lib.ListN.{length, getElem?, length-append}
-use Rattle.headers.specs.First.{constructed}
-use Rattle.octets.specs.Items.{Items, none, item}
-use Rattle.octets.specs.Walk.{End, Walked, deepest, run}
+use Rattle.headers.specs.Head.{constructed}
+use Rattle.octets.specs.Walk.{Items, none, item, End, Walked, deepest, run, startOf}
 use Rattle.octets.specs.Rules.{Runs, at-limit, unclosed, closes, refuses, primitive, passes, breaks}
 use Rattle.octets.proofs.RulesHold.{derived, derives}
 use Rattle.tree.specs.Tree.{Tree, empty, leaf, branch, plain, treeOf}
 use Rattle.tree.specs.Accepts.{Whole}
 use Rattle.runs.specs.declared.Run.{Run}
-use Rattle.runs.specs.Runs.{walkIn, itemsOf, wholeStream, startOf, tops, definiteRun, Fine}
+use Rattle.runs.specs.Runs.{walkIn, itemsOf, wholeStream, tops, definiteRun, Fine}
 use Rattle.elements.specs.declared.Row.{Row}
 use Rattle.elements.specs.Shape.{Edition, edition1988, shapeOf}
-use Rattle.elements.specs.Element.{Element, elementOf}
-use Rattle.elements.specs.Judge.{refusalOf, Judged, accepted, refused, judgeOne, judgeFrom, judge}
+use Rattle.elements.specs.Judge.{Element, elementOf, refusalOf, Judged, accepted, refused, judgeOne, judgeFrom, judge}
 use Rattle.elements.specs.Rows.{rowOf, rowsOf}
 use Rattle.judging.specs.Judges.{shape1988, element1988}
 use Rattle.letters.specs.Letter.{itemsOfStream, rowsOfStream}

@@ -9,25 +9,24 @@ use borrow.Author.Tests.{eqb-true, eqb-false}
 use borrow.Table.Steps.{cases}
 use lib.Dec.{eqb}
 use lib.ListN.{length}
-use Rattle.octets.specs.Items.{Items, none, item}
+use Rattle.octets.specs.Walk.{Items, none, item, startOf}
 use Rattle.tree.specs.Tree.{plain, treeOf}
 use Rattle.runs.specs.declared.Run.{Run}
-use Rattle.runs.specs.Runs.{itemsOf, treeIn, wholeStream, startOf, tops, Fine, Meeting}
+use Rattle.runs.specs.Runs.{itemsOf, treeIn, wholeStream, tops, Fine, Meeting}
 use Rattle.runs.proofs.Laws.{start-at, no-tops}
 use Rattle.names.specs.Hash.{hashes}
-use Rattle.index.specs.Rows.{identifierColumn, logicalColumn}
+use Rattle.index.specs.Columns.{identifierColumn, logicalColumn}
 use Rattle.index.proofs.Rows.{bounded-none, indexed-none}
 use Rattle.elements.specs.declared.Row.{Row}
 use Rattle.elements.specs.Shape.{edition1988}
-use Rattle.elements.specs.Element.{Element}
-use Rattle.elements.specs.Judge.{mostElements, judgeFrom, judge}
+use Rattle.elements.specs.Judge.{Element, mostElements, judgeFrom, judge}
 use Rattle.elements.specs.Rows.{rowsOf, numbers, placeOf}
 use Rattle.judging.specs.declared.Hashes.{Hashes}
-use Rattle.judging.specs.declared.Item.{Item}
+use Rattle.judging.specs.declared.PlacedItem.{PlacedItem}
 use Rattle.judging.specs.declared.Judgement.the-variants.{Fails}
 use Rattle.letters.specs.Letter.{itemsOfStream, rowsOfStream}
-use Rattle.judging.specs.Done.{none, Holds}
-use Rattle.letters.specs.Scratch.{Filled, Stopped, Gives}
+use Rattle.judging.specs.Done.{none, Keeps}
+use Rattle.letters.specs.Scratch.{Filled, Stopped, GivesVerdict}
 use Rattle.letters.specs.Lent.{rowsNeeded, Lent, endVerdict}
 use Rattle.judging.specs.Judges.{element1988, Passing, Judges}
 use Rattle.letters.proofs.Meetings.{nothing-inside}
@@ -39,7 +38,7 @@ pub record Judging (s scratch head next head2 next2 : List ℕ) (n : ℕ) (cur :
   pub to-end : cur .limit ≡ length s
   pub table : List Row
   pub done : List Element
-  pub holds : Holds s scratch head next head2 next2 n table done
+  pub holds : Keeps s scratch head next head2 next2 n table done
   pub judged : judgeFrom edition1988 [] (treeOf s) ≡ judgeFrom edition1988 done (treeIn s cur)
   pub tabled : rowsOfStream edition1988 s ≡ table ++ rowsOf edition1988 s (itemsOf s cur)
   pub counted : tops (itemsOfStream s) ≡ n + tops (itemsOf s cur)
@@ -94,12 +93,12 @@ module _ {s scratch head next head2 next2 : List ℕ} {n : ℕ} {cur : Run} (j :
           holds = rw all-rows (j .holds);
         }
 
-    pub end-gives : Gives s scratch head next head2 next2 (endVerdict n)
+    pub end-gives : GivesVerdict s scratch head next head2 next2 (endVerdict n)
     end-gives = cases (eqb n 0) (λ t. rw t (end-empty (eqb-true n 0 t))) (λ t. rw t (end-filled (eqb-false n 0 t)))
 
   -- an element is met
   module _ {octet first past : ℕ} {inner rest : Run} (m : Meeting s cur octet first past inner rest) where
-    abbrev here : Item
+    abbrev here : PlacedItem
     here = record { octet = octet; first = cur .at; past = rest .at; inner = inner }
 
     some-left : 0 < tops (itemsOfStream s)
@@ -141,7 +140,7 @@ module _ {s scratch head next head2 next2 : List ℕ} {n : ℕ} {cur : Run} (j :
       rows-here = ap (rowsOf edition1988 s) (m .tree) ∙ rw (ends-there, ← w .row-is)
 
       pub judging-more : {scratch' head' next' head2' next2' : List ℕ}
-          → Holds s scratch' head' next' head2' next2' (n + 1) (j .table ++ row ∷ []) (j .done ++ element1988 octet (treeIn s inner) ∷ [])
+          → Keeps s scratch' head' next' head2' next2' (n + 1) (j .table ++ row ∷ []) (j .done ++ element1988 octet (treeIn s inner) ∷ [])
           → Judging s scratch' head' next' head2' next2' (n + 1) rest
       unfolding placeOf
       judging-more holds = record {

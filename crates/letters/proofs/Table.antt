@@ -6,21 +6,21 @@ use mathlib.Core.Option.{some}
 use Prim.Native.Nat.{ℕ, zero, suc}
 use native.Mathlib.Omega.{arith}
 use lib.ListN.{length, getElem?}
-use Rattle.octets.specs.Items.{Items, none, item}
+use Rattle.octets.specs.Walk.{Items, none, item, startOf}
 use Rattle.octets.proofs.RulesHold.{derives}
 use Rattle.tree.specs.Tree.{plain, treeOf}
-use Rattle.runs.specs.Runs.{wholeStream, startOf, Fine}
+use Rattle.runs.specs.Runs.{wholeStream, Fine}
 use Rattle.runs.proofs.Laws.{start-at}
 use Rattle.contents.specs.Search.{octets}
 use Rattle.elements.specs.declared.Row.{Row}
 use Rattle.elements.specs.declared.Shape.{Shape}
 use Rattle.elements.specs.Shape.{Edition, edition1988, shapeOf}
-use Rattle.elements.specs.Element.{single, Element}
-use Rattle.elements.specs.Rows.{bodyIn, contentOctet, rowOf, rowsOf}
-use Rattle.elements.specs.Says.{bytesIn, Contains, Says}
-use Rattle.letters.specs.Letter.{itemsOfStream, rowsOfStream}
+use Rattle.elements.specs.Judge.{single, Element}
+use Rattle.elements.specs.Rows.{bodyIn, contentOctet, rowOf, rowsOf, bytesIn}
+use Rattle.elements.specs.Says.{Contains, Says}
+use Rattle.letters.specs.Letter.{itemsOfStream, rowsOfStream, EndToEnd, PairsWithin}
 use Rattle.letters.specs.Scratch.{Filled}
-use Rattle.letters.specs.Table.{EndToEnd, PairsWithin, Apart}
+use Rattle.letters.specs.Apart.{Apart}
 use Rattle.judging.proofs.Rows.{RowOf, row-of}
 use Rattle.letters.proofs.Nested.{Nested, Separate, separate, bounds-within, body-within}
 use Rattle.letters.proofs.Apart.{accepted-apart}

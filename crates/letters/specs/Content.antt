@@ -11,12 +11,12 @@ use Rattle.runs.specs.declared.Run.{Run}
 use Rattle.runs.specs.Runs.{treeIn, Fine}
 use Rattle.contents.specs.declared.Span.{Span}
 use Rattle.contents.specs.Search.{Value}
-use Rattle.index.specs.Rows.{rowWidth, wholeColumn, firstAt}
+use Rattle.index.specs.Rows.{rowWidth}
+use Rattle.index.specs.Columns.{wholeColumn, firstAt}
 use Rattle.elements.specs.declared.Holder.{Holder}
 use Rattle.elements.specs.declared.Row.{Row}
 use Rattle.elements.specs.Shape.{edition1988}
-use Rattle.elements.specs.Element.{Content, single, inPieces, Element}
-use Rattle.elements.specs.Judge.{accepted, judge}
+use Rattle.elements.specs.Judge.{Content, single, inPieces, Element, accepted, judge}
 use Rattle.elements.specs.Says.{Bounds}
 use Rattle.letters.specs.declared.Held.{Held}
 use Rattle.letters.specs.declared.Held.the-variants.{Part, Pieces}
@@ -45,12 +45,12 @@ pub record HeldInPieces (s : List ℕ) (run : Run) (content : Content) : Type 0 
   pub fine : Fine s run
   pub content-is : content ≡ inPieces (treeIn s run)
 
-abbrev pub Holds : (s : List ℕ) (fields : Span) (content : Content) → Held → Type 0
-Holds s fields content (Part first past) = HeldWhole s first past fields content
-Holds s fields content (Pieces run) = HeldInPieces s run content
+abbrev pub HeldAs : (s : List ℕ) (fields : Span) (content : Content) → Held → Type 0
+HeldAs s fields content (Part first past) = HeldWhole s first past fields content
+HeldAs s fields content (Pieces run) = HeldInPieces s run content
 
 -- what holds the content of element j, if the stream is a letter
 abbrev pub HoldsElement : (s : List ℕ) (j : ℕ) → Held → Type 0
 HoldsElement s j held =
     (elements : List Element) (row : Row) (element : Element) → judge edition1988 (treeOf s) ≡ accepted elements
-    → getElem? (rowsOfStream edition1988 s) j ≡ some row → getElem? elements j ≡ some element → Holds s (row .content) (element .content) held
+    → getElem? (rowsOfStream edition1988 s) j ≡ some row → getElem? elements j ≡ some element → HeldAs s (row .content) (element .content) held

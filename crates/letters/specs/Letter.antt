@@ -1,20 +1,20 @@
--- The whole stream: refusals 1 to 15 in their order, and the table of an accepted one. Document 01, "Numbers given back": "Refusal 1 comes
--- first. Then the whole stream is walked for 2 to 8 .. Then elements in order, 9 to 15 in order within each."
+-- The whole stream: refusals 1 to 15 in their order, the table of an accepted one, and what is promised of it. Document 01, "Numbers given
+-- back": "Refusal 1 comes first. Then the whole stream is walked for 2 to 8 .. Then elements in order, 9 to 15 in order within each."
 -- Definitions only: assumes nothing.
-use Prim.Native.Nat.{ℕ}
+use Prim.Native.Nat.{ℕ, _≤_}
 use mathlib.Core.Bool.{false}
-use mathlib.Core.List.{List}
+use mathlib.Core.List.{List, [], _∷_}
 use lib.ListN.{length}
-use Rattle.octets.specs.Items.{Items}
+use mathlib.Core.Path.{_≡_}
 use Rattle.octets.specs.declared.Outcome.{Outcome}
 use Rattle.octets.specs.declared.Outcome.the-variants.{Ended, Refused}
-use Rattle.octets.specs.Walk.{deepest, run, walkOf}
+use Rattle.octets.specs.Walk.{Items, run, deepest, walkOf}
 use Rattle.tree.specs.Tree.{treeOf}
+use Rattle.contents.specs.declared.Span.{Span}
 use Rattle.elements.specs.declared.Row.{Row}
 use Rattle.elements.specs.Shape.{Edition}
-use Rattle.elements.specs.Element.{Element}
-use Rattle.elements.specs.Judge.{Judged, accepted, refused, judge}
-use Rattle.elements.specs.Rows.{rowsOf, placeOf}
+use Rattle.elements.specs.Judge.{accepted, judge, Element, Judged, refused}
+use Rattle.elements.specs.Rows.{placeOf, rowsOf, noSpan}
 
 -- the items of a stream, with their places
 abbrev pub itemsOfStream : List ℕ → Items
@@ -41,3 +41,20 @@ letterOf edition s = byWalk edition s (walkOf s)
 -- the rows of a stream that is a letter
 abbrev pub rowsOfStream : Edition → List ℕ → List Row
 rowsOfStream edition s = rowsOf edition s (itemsOfStream s)
+
+-- "Elements meet end to end": the first row begins at from, each where the one before it ends, and the last ends at to
+abbrev pub EndToEnd : (from to : ℕ) → List Row → Type 0
+EndToEnd from to [] = from ≡ to
+EndToEnd from to (row ∷ rows) = (row .whole .first ≡ from) × EndToEnd (row .whole .past) to rows
+
+-- "Absent is 0 and 0"; any other pair bounds a value that lies in its element
+pub data Within (from to : ℕ) (pair : Span) : Type 0 where
+  absent : pair ≡ noSpan → Within from to pair
+  present : from ≤ pair .first → pair .first ≤ pair .past → pair .past ≤ to → Within from to pair
+
+-- every pair of a row lies in its element
+pub record PairsWithin (row : Row) : Type 0 where
+  pub identifier : Within (row .whole .first) (row .whole .past) (row .identifier)
+  pub logical : Within (row .whole .first) (row .whole .past) (row .logical)
+  pub portions : Within (row .whole .first) (row .whole .past) (row .portions)
+  pub content : Within (row .whole .first) (row .whole .past) (row .content)

@@ -3,11 +3,10 @@ use mathlib.Core.Path.{_≡_}
 use mathlib.Core.List.{List}
 use Prim.Native.Nat.{ℕ}
 use Rattle.elements.specs.Shape.{edition1988}
-use Rattle.elements.specs.Element.{Element}
-use Rattle.elements.specs.Judge.{accepted, refused, judge}
+use Rattle.elements.specs.Judge.{Element, accepted, refused, judge}
 use Rattle.elements.specs.Rows.{placeOf}
 use Rattle.tree.specs.Tree.{treeOf}
-use Rattle.judging.specs.Done.{Holds}
+use Rattle.judging.specs.Done.{Keeps}
 use Rattle.letters.specs.declared.Verdict.{Verdict}
 use Rattle.letters.specs.declared.Verdict.the-variants.{Accepted, Refused}
 use Rattle.letters.specs.Letter.{itemsOfStream, rowsOfStream}
@@ -16,7 +15,7 @@ use Rattle.letters.specs.Letter.{itemsOfStream, rowsOfStream}
 pub record Filled (s scratch head next head2 next2 : List ℕ) (count : ℕ) : Type 0 where
   pub elements : List Element
   pub judged : judge edition1988 (treeOf s) ≡ accepted elements
-  pub holds : Holds s scratch head next head2 next2 count (rowsOfStream edition1988 s) elements
+  pub holds : Keeps s scratch head next head2 next2 count (rowsOfStream edition1988 s) elements
 
 -- the element at which a stream is refused
 pub record Stopped (s : List ℕ) (number place : ℕ) : Type 0 where
@@ -25,6 +24,6 @@ pub record Stopped (s : List ℕ) (number place : ℕ) : Type 0 where
   pub placed : place ≡ placeOf element (itemsOfStream s)
 
 -- what the judge of a stream gives
-abbrev pub Gives : (s scratch head next head2 next2 : List ℕ) → Verdict → Type 0
-Gives s scratch head next head2 next2 (Accepted count) = Filled s scratch head next head2 next2 count
-Gives s scratch head next head2 next2 (Refused number place) = Stopped s number place
+abbrev pub GivesVerdict : (s scratch head next head2 next2 : List ℕ) → Verdict → Type 0
+GivesVerdict s scratch head next head2 next2 (Accepted count) = Filled s scratch head next head2 next2 count
+GivesVerdict s scratch head next head2 next2 (Refused number place) = Stopped s number place

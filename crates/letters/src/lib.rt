@@ -1,6 +1,6 @@
 // The judge of a whole stream: elements in order, rules 9 to 15 in order within each; and the rows of its table.
-use judging::Item;
 use judging::Judgement;
+use judging::PlacedItem;
 use runs::Met;
 use runs::Run;
 ghost use mathlib.Core.Path.{_≡_};
@@ -11,7 +11,7 @@ ghost use lib.ListN.{length, take, drop};
 ghost use Rattle.octets.specs.Walk.{streamLimit};
 ghost use Rattle.runs.specs.Runs.{itemsOf, wholeStream, tops, Fine};
 ghost use Rattle.index.specs.Rows.{rowWidth};
-ghost use Rattle.letters.specs.Scratch.{Gives};
+ghost use Rattle.letters.specs.Scratch.{GivesVerdict};
 ghost use Rattle.letters.specs.Lent.{Lent, endVerdict};
 
 mod content; // content.rt: where the content of one element stands
@@ -83,7 +83,7 @@ pub fn judge_stream(
 ) -> Verdict
     requires { ⌜ Fine (now s) (wholeStream (now s)) × (length (now s) ≤ streamLimit) ⌝ }
     requires { ⌜ Lent (now s) (now rows) (now head) (now next) (now head2) (now next2) (now bounds) ⌝ }
-    ensures { λ r. ⌜ Gives (now (s .entry)) (now (rows .exit)) (now (head .exit)) (now (next .exit)) (now (head2 .exit)) (now (next2 .exit)) r ⌝ }
+    ensures { λ r. ⌜ GivesVerdict (now (s .entry)) (now (rows .exit)) (now (head .exit)) (now (next .exit)) (now (head2 .exit)) (now (next2 .exit)) r ⌝ }
 {
     let mut cur = runs::whole_stream(s);
     let mut n: usize = 0;
@@ -97,7 +97,7 @@ pub fn judge_stream(
                 inner,
                 rest,
             } => {
-                let item = Item {
+                let item = PlacedItem {
                     octet,
                     first: cur.at,
                     past: rest.at,

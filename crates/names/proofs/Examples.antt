@@ -4,7 +4,7 @@ use mathlib.Core.Bool.{Bool, true, false}
 use mathlib.Core.List.{List, [], _∷_, map}
 use Prim.Native.Nat.{ℕ}
 use lib.ListN.{replicate}
-use Rattle.names.specs.Names.{digit, grouped, isIdentifier, digits, isPortion, same}
+use Rattle.names.specs.Names.{isDigit, grouped, isIdentifier, allDigits, isPortion, same}
 
 -- bytes, whether they are an identifier, whether a portion number:
 -- nothing, "0", "00", "1 0", "0 2", " 1", "1 ", "1  0", "1A", and 16, 17, 64 and 65 zeros
@@ -26,7 +26,7 @@ examples =
     ∷ []
 
 pub as-listed : map (λ (e : List ℕ × Bool × Bool). (e .0, isIdentifier (e .0), isPortion (e .0))) examples ≡ examples
-unfolding digit grouped isIdentifier digits isPortion
+unfolding isDigit grouped isIdentifier allDigits isPortion
 as-listed = refl
 
 -- "0 and 00 differ", and "1 0" is not "1 0 2 0"

@@ -5,23 +5,23 @@ use mathlib.Core.List.{List, [], _∷_, _++_}
 use Prim.Native.Nat.{ℕ}
 use lib.Dec.{leb}
 use lib.ListN.{length}
-use Rattle.names.specs.Names.{spaceByte, longestPortion, digit, digits, isPortion}
+use Rattle.names.specs.Names.{spaceByte, longestPortion, isDigit, allDigits, isPortion}
 
-portion-digits : (ys : List ℕ) → isPortion ys ≡ true → digits ys ≡ true
+portion-digits : (ys : List ℕ) → isPortion ys ≡ true → allDigits ys ≡ true
 unfolding isPortion
-portion-digits ys e = and-eq-true-iff (leb 1 (length ys) && leb (length ys) longestPortion) (digits ys) .0 e .1
+portion-digits ys e = and-eq-true-iff (leb 1 (length ys) && leb (length ys) longestPortion) (allDigits ys) .0 e .1
 
 -- bytes with a space among them are not digits
-spaced : (xs ys : List ℕ) → digits (xs ++ spaceByte ∷ ys) ≡ true → ⊥
-unfolding digits digit
+spaced : (xs ys : List ℕ) → allDigits (xs ++ spaceByte ∷ ys) ≡ true → ⊥
+unfolding allDigits isDigit
 spaced [] ys e = false≢true e
-spaced (x ∷ xs) ys e = spaced xs ys (and-eq-true-iff (digit x) (digits (xs ++ spaceByte ∷ ys)) .0 e .1)
+spaced (x ∷ xs) ys e = spaced xs ys (and-eq-true-iff (isDigit x) (allDigits (xs ++ spaceByte ∷ ys)) .0 e .1)
 
-parts : (xs us ys vs : List ℕ) → digits ys ≡ true → digits vs ≡ true → xs ++ spaceByte ∷ ys ≡ us ++ spaceByte ∷ vs
+parts : (xs us ys vs : List ℕ) → allDigits ys ≡ true → allDigits vs ≡ true → xs ++ spaceByte ∷ ys ≡ us ++ spaceByte ∷ vs
     → (xs ≡ us) × (ys ≡ vs)
 parts [] [] ys vs p q e = (refl, cc)
-parts [] (u ∷ us) ys vs p q e = let t : ys ≡ us ++ spaceByte ∷ vs = cc in absurd (spaced us vs (ap digits (sym t) ∙ p))
-parts (x ∷ xs) [] ys vs p q e = let t : vs ≡ xs ++ spaceByte ∷ ys = cc in absurd (spaced xs ys (ap digits (sym t) ∙ q))
+parts [] (u ∷ us) ys vs p q e = let t : ys ≡ us ++ spaceByte ∷ vs = cc in absurd (spaced us vs (ap allDigits (sym t) ∙ p))
+parts (x ∷ xs) [] ys vs p q e = let t : vs ≡ xs ++ spaceByte ∷ ys = cc in absurd (spaced xs ys (ap allDigits (sym t) ∙ q))
 parts (x ∷ xs) (u ∷ us) ys vs p q e =
     let h : x ≡ u = cc in
     let t : xs ++ spaceByte ∷ ys ≡ us ++ spaceByte ∷ vs = cc in

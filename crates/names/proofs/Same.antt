@@ -11,7 +11,7 @@ use lib.ListN.{length, getD, length-append}
 use lib.Seq.{slice, length-slice}
 use Rattle.names.specs.declared.Asked.{Asked}
 use Rattle.names.specs.Names.{spaceByte, same}
-use Rattle.names.specs.Asked.{bytesOf, Within}
+use Rattle.names.specs.Asked.{spelling, AskedWithin}
 use Rattle.names.proofs.Parts.{slice-more, slice-cut}
 
 pub same-eq : (xs ys : List ℕ) → same xs ys ≡ true → xs ≡ ys
@@ -53,7 +53,7 @@ same-more s first past from to some inside some' inside' =
     rw (slice-more s first past some inside, slice-more s from to some' inside')
 
 -- a name of two parts, compared with a part of the stream
-module _ (s : List ℕ) (asked : Asked) (within : Within s asked) (joined : asked .joined ≡ true) (first past : ℕ) (inside : past ≤ length s) where
+module _ (s : List ℕ) (asked : Asked) (within : AskedWithin s asked) (joined : asked .joined ≡ true) (first past : ℕ) (inside : past ≤ length s) where
   abbrev size : ℕ
   size = asked .past - asked .first
 
@@ -69,13 +69,13 @@ module _ (s : List ℕ) (asked : Asked) (within : Within s asked) (joined : aske
   long' : length (slice (asked .from) (asked .to) s) ≡ size'
   long' = length-slice (asked .from) (asked .to) s (within .second-inside)
 
-  pub joined-other : (past - first ≡ size + 1 + size' → ⊥) → same (bytesOf s asked) (slice first past s) ≡ false
+  pub joined-other : (past - first ≡ size + 1 + size' → ⊥) → same (spelling s asked) (slice first past s) ≡ false
   joined-other n =
       rw joined
       (same-lengths (slice (asked .first) (asked .past) s ++ spaceByte ∷ slice (asked .from) (asked .to) s) (slice first past s)
       (simp (length-append, long, long', length-slice first past s inside) (λ e. n (omega arith))))
 
-  pub joined-same : past - first ≡ size + 1 + size' → same (bytesOf s asked) (slice first past s)
+  pub joined-same : past - first ≡ size + 1 + size' → same (spelling s asked) (slice first past s)
       ≡ (same (slice (asked .first) (asked .past) s) (slice first at s)
       && (eqb spaceByte (getD s at 0) && same (slice (asked .from) (asked .to) s) (slice (at + 1) (at + 1 + size') s)))
   joined-same e =

@@ -8,7 +8,7 @@ use borrow.Author.Tests.{le-leb, lt-leb}
 use lib.Dec.{eqb}
 use lib.ListN.{length, getD}
 use lib.Seq.{slice, length-slice}
-use Rattle.names.specs.Names.{spaceByte, longestIdentifier, longestPortion, digit, grouped, isIdentifier, digits, isPortion}
+use Rattle.names.specs.Names.{spaceByte, longestIdentifier, longestPortion, isDigit, grouped, isIdentifier, allDigits, isPortion}
 use Rattle.names.proofs.Parts.{slice-more}
 
 module _ (s : List ℕ) (first past : ℕ) (inside : past ≤ length s) where
@@ -38,7 +38,7 @@ module _ (s : List ℕ) (first past : ℕ) (inside : past ≤ length s) where
     unfolding isPortion
     portion-long l = rw (size, le-leb _ _ not-empty, lt-leb _ _ l)
 
-    pub portion-short : past - first ≤ longestPortion → isPortion part ≡ digits part
+    pub portion-short : past - first ≤ longestPortion → isPortion part ≡ allDigits part
     unfolding isPortion
     portion-short l = rw (size, le-leb _ _ not-empty, le-leb _ _ l)
 
@@ -50,10 +50,10 @@ module _ (s : List ℕ) (first past : ℕ) (inside : past ≤ length s) where
     rest = slice (first + 1) past s
 
     pub grouped-more : (inGroup : Bool) → grouped inGroup part
-        ≡ cond (digit byte) (grouped true rest) (eqb byte spaceByte && inGroup && grouped false rest)
+        ≡ cond (isDigit byte) (grouped true rest) (eqb byte spaceByte && inGroup && grouped false rest)
     unfolding grouped
     grouped-more inGroup = ap (grouped inGroup) (slice-more s first past some inside)
 
-    pub digits-more : digits part ≡ (digit byte && digits rest)
-    unfolding digits
-    digits-more = ap digits (slice-more s first past some inside)
+    pub digits-more : allDigits part ≡ (isDigit byte && allDigits rest)
+    unfolding allDigits
+    digits-more = ap allDigits (slice-more s first past some inside)

@@ -8,14 +8,14 @@ use Rattle.names.specs.Names.{spaceByte}
 use Rattle.names.specs.declared.Asked.{Asked}
 
 -- "the element's identifier, one space, the portion"; or the first part alone
-abbrev pub bytesOf : List ℕ → Asked → List ℕ
-bytesOf s asked =
+abbrev pub spelling : List ℕ → Asked → List ℕ
+spelling s asked =
     cond (asked .joined)
     (slice (asked .first) (asked .past) s ++ spaceByte ∷ slice (asked .from) (asked .to) s)
     (slice (asked .first) (asked .past) s)
 
 -- both parts lie in the stream
-pub record Within (s : List ℕ) (asked : Asked) : Type 0 where
+pub record AskedWithin (s : List ℕ) (asked : Asked) : Type 0 where
   pub first-order : asked .first ≤ asked .past
   pub first-inside : asked .past ≤ length s
   pub second-order : asked .from ≤ asked .to

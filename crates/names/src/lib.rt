@@ -4,8 +4,8 @@ ghost use mathlib.Core.List.{[], _∷_};
 ghost use Prim.Native.Nat.{_+_, _-_, _<_, _≤_};
 ghost use lib.ListN.{length};
 ghost use lib.Seq.{slice};
-ghost use Rattle.names.specs.Names.{spaceByte, digit, isIdentifier, isPortion, same};
-ghost use Rattle.names.specs.Asked.{bytesOf, Within};
+ghost use Rattle.names.specs.Names.{spaceByte, isDigit, isIdentifier, isPortion, same};
+ghost use Rattle.names.specs.Asked.{spelling, AskedWithin};
 ghost use Rattle.names.specs.Hash.{hashes, hashStep, hashFrom, bucket};
 
 const SPACE: u8 = 32;
@@ -19,7 +19,7 @@ const MULTIPLIER: usize = 2_654_435_761;
 const HASHES: usize = 4_294_967_296;
 
 fn is_digit(byte: u8) -> bool
-    ensures { λ r. ⌜ r ≡ digit byte ⌝ }
+    ensures { λ r. ⌜ r ≡ isDigit byte ⌝ }
 {
     if byte < 48 {
         return false;
@@ -115,8 +115,8 @@ pub struct Asked {
 
 // Whether s[first..past] is the name asked for, compared in place.
 pub fn is_asked(s: &[u8], asked: Asked, first: usize, past: usize) -> bool
-    requires { ⌜ Within (now s) asked × (first ≤ past) × (past ≤ length (now s)) ⌝ }
-    ensures { λ r. ⌜ r ≡ same (bytesOf (now (s .entry)) asked) (slice first past (now (s .entry))) ⌝ }
+    requires { ⌜ AskedWithin (now s) asked × (first ≤ past) × (past ≤ length (now s)) ⌝ }
+    ensures { λ r. ⌜ r ≡ same (spelling (now (s .entry)) asked) (slice first past (now (s .entry))) ⌝ }
 {
     if !asked.joined {
         return is_same(s, asked.first, asked.past, first, past);

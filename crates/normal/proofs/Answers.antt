@@ -13,8 +13,8 @@ use Rattle.normal.specs.declared.Measured.{Measured}
 use Rattle.normal.specs.declared.Answer.{Answer}
 use Rattle.normal.specs.declared.Answer.the-variants.{Written, Refused as Not}
 use Rattle.normal.specs.Normal.{normalForm}
-use Rattle.normal.specs.Passes.{RunEnds, normalFrom, RunMeasures, Puts}
-use Rattle.normal.specs.Writes.{answerOf, outputOf, answerFor, Gives}
+use Rattle.normal.specs.Passes.{RunEnds, normalFrom, RunMeasures, PutsOctets}
+use Rattle.normal.specs.Writes.{answerOf, outputOf, answerFor, GivesAnswer}
 use Rattle.normal.proofs.Passes.{form-end}
 use Rattle.normal.proofs.Putting.{put-front}
 
@@ -37,17 +37,17 @@ stream-measured s r m v =
     )
 
 module _ (form out : List ℕ) where
-  pub gives-17 : streamLimit < length form → Gives (answerOf form out) form out (Not 17 0) out
+  pub gives-17 : streamLimit < length form → GivesAnswer (answerOf form out) form out (Not 17 0) out
   unfolding answerOf
   gives-17 l = rw (lt-leb (length form) streamLimit l) (record { answered = refl; output = refl })
 
   module _ (l : length form ≤ streamLimit) where
-    pub gives-18 : length out < length form → Gives (answerOf form out) form out (Not 18 0) out
+    pub gives-18 : length out < length form → GivesAnswer (answerOf form out) form out (Not 18 0) out
     unfolding answerOf
     gives-18 f = rw (le-leb (length form) streamLimit l, lt-leb (length form) (length out) f) (record { answered = refl; output = refl })
 
     pub gives-form : length form ≤ length out → (n : ℕ) → n ≡ length form → (octets : List ℕ) → form ≡ octets → (past : ℕ) (after : List ℕ)
-        → Puts out 0 octets past after → Gives (answerOf form out) form out (Written n) after
+        → PutsOctets out 0 octets past after → GivesAnswer (answerOf form out) form out (Written n) after
     unfolding answerOf
     gives-form f n e octets same past after p =
         rw (le-leb (length form) streamLimit l, le-leb (length form) (length out) f)
@@ -56,20 +56,20 @@ module _ (form out : List ℕ) where
 -- after the walk: its refusals, or what the writer gives
 module _ (s out : List ℕ) where
   pub gives-walked : (at k : ℕ) → walkOf s ≡ Ended at k → (answer : Answer) (after : List ℕ)
-      → Gives (answerOf (normalForm s) out) (normalForm s) out answer after → Gives (answerFor s out) (normalForm s) out answer after
+      → GivesAnswer (answerOf (normalForm s) out) (normalForm s) out answer after → GivesAnswer (answerFor s out) (normalForm s) out answer after
   unfolding answerFor
   gives-walked at k e answer after g = rw e g
 
-  pub gives-refused : (number place k : ℕ) → walkOf s ≡ Refused number place k → Gives (answerFor s out) (normalForm s) out (Not number place) out
+  pub gives-refused : (number place k : ℕ) → walkOf s ≡ Refused number place k → GivesAnswer (answerFor s out) (normalForm s) out (Not number place) out
   unfolding answerFor
   gives-refused number place k e = rw e (record { answered = refl; output = refl })
 
--- A contract that says `Gives` leaves nothing open: two outcomes that it allows are equal.
+-- A contract that says `GivesAnswer` leaves nothing open: two outcomes that it allows are equal.
 pub determined : {expected : Answer} {form before : List ℕ} {a b : Answer} {x y : List ℕ}
-    → Gives expected form before a x → Gives expected form before b y → (a ≡ b) × (x ≡ y)
+    → GivesAnswer expected form before a x → GivesAnswer expected form before b y → (a ≡ b) × (x ≡ y)
 determined g h = (g .answered ∙ sym (h .answered), g .output ∙ sym (h .output))
 
 -- After a refusal the output is as it was.
 pub untouched : {expected : Answer} {form before : List ℕ} {number place : ℕ} {after : List ℕ}
-    → Gives expected form before (Not number place) after → after ≡ before
+    → GivesAnswer expected form before (Not number place) after → after ≡ before
 untouched {expected} {form} {before} g = g .output ∙ ap (λ (a : Answer). outputOf a form before) (sym (g .answered))

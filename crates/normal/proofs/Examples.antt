@@ -1,15 +1,12 @@
 -- The writer gives of each example what it should. Assumes nothing.
 use mathlib.Core.Path.{_≡_, refl}
 use mathlib.Core.List.{map}
-use Rattle.headers.specs.First.{permits, formAllowed}
-use Rattle.headers.specs.Lengths.{bigEndianFrom, misfits}
-use Rattle.headers.specs.Head.{definiteAt, indefiniteAt, longAt, byFirst, lengthAt, itemAt, closingAt, headAt}
+use Rattle.headers.specs.Head.{permits, formAllowed, bigEndianFrom, misfits, definiteAt, indefiniteAt, longAt, byFirst, lengthAt, itemAt, closingAt, headAt}
 use Rattle.octets.specs.Walk.{runFor, run, walkOf}
-use Rattle.normal.specs.Length.{digits}
-use Rattle.normal.specs.Normal.{normalOf}
+use Rattle.normal.specs.Normal.{numberOctets, normalOf}
 use Rattle.normal.specs.Writes.{answerOf, answerFor}
 use Rattle.normal.specs.Examples.{Example, examples, given}
 
 pub all-hold : map (λ (e : Example). given (e .stream)) examples ≡ examples
-unfolding permits formAllowed bigEndianFrom misfits definiteAt indefiniteAt longAt byFirst lengthAt itemAt closingAt headAt runFor run walkOf digits normalOf answerOf answerFor
+unfolding permits formAllowed bigEndianFrom misfits definiteAt indefiniteAt longAt byFirst lengthAt itemAt closingAt headAt runFor run walkOf numberOctets normalOf answerOf answerFor
 all-hold = refl

@@ -7,10 +7,10 @@ use native.Mathlib.Nat.{zero-add, pow-suc, pow-le-pow-right, lt-of-not-le}
 use lib.Dec.{ltb, lit<}
 use lib.ListN.{length}
 use borrow.Author.Tests.{ltb-false, lt-ltb}
-use Rattle.headers.specs.Lengths.{bigEndian, bigEndianFrom}
+use Rattle.headers.specs.Head.{bigEndian, bigEndianFrom}
 use Rattle.headers.proofs.Lies.{cond-holds}
-use Rattle.tree.specs.Codes.{Length, short, long}
-use Rattle.normal.specs.Length.{furtherOctets, lengthOctets, Octets}
+use Rattle.tree.specs.Tree.{Length, short, long}
+use Rattle.normal.specs.Normal.{furtherOctets, lengthOctets, Octets}
 use Rattle.normal.proofs.Lengths.{length-length}
 use Rattle.normal.proofs.Own.{octets-second}
 

@@ -12,7 +12,7 @@ use lib.Pow.{pow-mono}
 use lib.Seq.{sets}
 use borrow.Author.Tests.{le-ltb}
 use Rattle.headers.proofs.Lies.{cond-holds}
-use Rattle.normal.specs.Length.{furtherOctets, digits, lengthBy, lengthOctets}
+use Rattle.normal.specs.Normal.{furtherOctets, numberOctets, lengthBy, lengthOctets}
 
 -- a number whose leading zeros and k digits make 32 is below 2 ^ k
 pub zeros-lt : (n k : ℕ) → n < 2 ^ 32 → 32 ≤ leadingZeros 32 n + k → n < 2 ^ k
@@ -29,8 +29,8 @@ zeros-ge n k f h =
     let twice : 2 ^ suc k ≤ 2 * n + 1 = le-trans (pow-mono long) (s .3) in
     omega (arith, pow-suc 2 k, twice)
 
-pub length-digits : (k n : ℕ) → length (digits k n) ≡ k
-unfolding digits
+pub length-digits : (k n : ℕ) → length (numberOctets k n) ≡ k
+unfolding numberOctets
 length-digits zero n = refl
 length-digits (suc k) n = simp (length-append, length-digits k (n / 256)) (omega arith)
 
@@ -65,16 +65,16 @@ sets-append l i (x ∷ xs) ys =
     sets-append (set l i x) (suc i) xs ys ∙ ap (λ (k : ℕ). sets (sets (set l i x) (suc i) xs) k ys) (omega arith)
 
 -- the digits above the last, and then the last
-pub put-digit : (l : List ℕ) (at k n : ℕ) → 0 < k → set (sets l at (digits (k - 1) (n / 256))) (at + (k - 1)) (n % 256) ≡ sets l at (digits k n)
-unfolding digits
+pub put-digit : (l : List ℕ) (at k n : ℕ) → 0 < k → set (sets l at (numberOctets (k - 1) (n / 256))) (at + (k - 1)) (n % 256) ≡ sets l at (numberOctets k n)
+unfolding numberOctets
 put-digit l at zero n p = absurd (omega arith)
 put-digit l at (suc k) n p =
     let e : suc k - 1 ≡ k = omega arith in
     let d = length-digits k (n / 256) in
-    rw (e, sets-append l at (digits k (n / 256)) (n % 256 ∷ []), d)
+    rw (e, sets-append l at (numberOctets k (n / 256)) (n % 256 ∷ []), d)
 
-pub put-none : (l : List ℕ) (at k n : ℕ) → k ≤ 0 → l ≡ sets l at (digits k n)
-unfolding digits
+pub put-none : (l : List ℕ) (at k n : ℕ) → k ≤ 0 → l ≡ sets l at (numberOctets k n)
+unfolding numberOctets
 put-none l at k n h = let e : k ≡ 0 = omega arith in rw e
 
 pub put-short : (l : List ℕ) (at n : ℕ) → furtherOctets n ≡ 0 → set l at (n % 256) ≡ sets l at (lengthOctets n)
@@ -82,10 +82,10 @@ put-short l at n e =
     let small : n % 256 ≡ n = omega (arith, further-none n e) in
     rw (small, e)
 
-pub by-some : (k n : ℕ) → (k ≡ 0 → ⊥) → lengthBy k n ≡ (0x80 + k) ∷ digits k n
+pub by-some : (k n : ℕ) → (k ≡ 0 → ⊥) → lengthBy k n ≡ (0x80 + k) ∷ numberOctets k n
 by-some zero n p = absurd (p refl)
 by-some (suc k) n p = refl
 
-pub put-long : (l : List ℕ) (at n k : ℕ) → k ≡ furtherOctets n → (k ≡ 0 → ⊥) → sets (set l at (0x80 + k)) (at + 1) (digits k n) ≡ sets l at (lengthOctets n)
+pub put-long : (l : List ℕ) (at n k : ℕ) → k ≡ furtherOctets n → (k ≡ 0 → ⊥) → sets (set l at (0x80 + k)) (at + 1) (numberOctets k n) ≡ sets l at (lengthOctets n)
 put-long l at n k e p =
     rw (add-one at) (ap (sets l at) (sym (by-some k n p) ∙ ap (λ (j : ℕ). lengthBy j n) e))

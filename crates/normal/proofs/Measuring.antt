@@ -7,14 +7,14 @@ use native.Mathlib.Omega.{arith}
 use lib.ListN.{length}
 use lib.Seq.{slice, slice-empty, length-slice}
 use Rattle.headers.specs.declared.Header.{Header}
-use Rattle.headers.specs.First.{constructed}
+use Rattle.headers.specs.Head.{constructed}
 use Rattle.octets.specs.Walk.{pastOf, run}
 use Rattle.normal.specs.declared.Measured.{Measured}
-use Rattle.normal.specs.Length.{lengthOctets, Octets}
+use Rattle.normal.specs.Normal.{lengthOctets, Octets}
 use Rattle.normal.specs.Passes.{RunEnds, ValueEnds, endOf, normalFrom, normalIn, headerSize, RunMeasures, ValueMeasures}
 use Rattle.normal.proofs.Own.{own-header, slice-join}
 use Rattle.normal.proofs.Passes.{Turn, Meets, turned, run-left, form-small, value-run, value-plain, unmarked}
-use Rattle.normal.specs.declared.Met.the-variants.{Last}
+use Rattle.normal.specs.declared.Ahead.the-variants.{Last}
 
 -- a primitive value is its own normal form
 pub plain-measured : (room : ℕ) (s : List ℕ) (h : Header) → ValueEnds room s h → constructed (h .octet) ≡ false

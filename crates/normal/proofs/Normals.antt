@@ -8,25 +8,23 @@ use native.Mathlib.Nat.{pow-suc}
 use lib.Dec.{ltb}
 use lib.ListN.{length, length-append}
 use borrow.Author.Tests.{ltb-true}
-use Rattle.headers.specs.Lengths.{bigEndian, bigEndianFrom}
+use Rattle.headers.specs.Head.{bigEndian, bigEndianFrom}
 use Rattle.headers.proofs.Lengths.{be-snoc}
 use Rattle.headers.proofs.Lies.{cond-holds}
-use Rattle.tree.specs.Tree.{Tree}
-use Rattle.tree.specs.Codes.{TypeField, oneOctet, Length, short, long, Codes, nothing, primitive, definite, indefinite}
-use Rattle.normal.specs.Length.{furtherOctets, digits, lengthBy, lengthOctets}
-use Rattle.normal.specs.Normal.{coded, normalOf}
+use Rattle.tree.specs.Tree.{Tree, TypeField, oneOctet, Length, short, long, Codes, nothing, primitive, definite, indefinite}
+use Rattle.normal.specs.Normal.{furtherOctets, numberOctets, lengthBy, lengthOctets, coded, normalOf}
 use Rattle.normal.proofs.Lengths.{length-digits, length-length, further-le}
 
-digits-say : (k n : ℕ) → n < 256 ^ k → bigEndian (digits k n) ≡ n
-unfolding digits bigEndianFrom
+digits-say : (k n : ℕ) → n < 256 ^ k → bigEndian (numberOctets k n) ≡ n
+unfolding numberOctets bigEndianFrom
 digits-say zero n l = let z : n < 1 = l in omega arith
 digits-say (suc k) n l =
     let m : n < 256 ^ k * 256 = rw (pow-suc 256 k) at l in
-    be-snoc 0 (digits k (n / 256)) (n % 256) ∙ rw (digits-say k (n / 256) (omega arith)) (omega arith)
+    be-snoc 0 (numberOctets k (n / 256)) (n % 256) ∙ rw (digits-say k (n / 256) (omega arith)) (omega arith)
 
 long-length : (k n : ℕ) → k ≤ 3 → n < 256 ^ suc k → Length n (lengthBy (suc k) n)
 long-length k n a l =
-    let ds = digits (suc k) n in
+    let ds = numberOctets (suc k) n in
     let d = length-digits (suc k) n in
     let f : Length (bigEndian ds) ((0x80 + length ds) ∷ ds) = long {octets = ds} (omega arith) (omega arith) in
     subst (λ (j : ℕ). Length j ((0x80 + suc k) ∷ ds)) (digits-say (suc k) n l)

@@ -11,12 +11,11 @@ use lib.ListN.{length, take, drop, List·getD-append, List·getD-eq-default}
 use lib.Seq.{getD-drop, getD-append-add, take-add, drop-drop, slice}
 use borrow.Author.Tests.{ltb-true, ltb-false, lt-ltb}
 use Rattle.headers.specs.declared.Header.{Header}
-use Rattle.headers.specs.Lengths.{bigEndian, bigEndianFrom}
-use Rattle.headers.specs.Head.{octetAt}
-use Rattle.tree.specs.Codes.{Length, short, long}
+use Rattle.headers.specs.Head.{bigEndian, bigEndianFrom, octetAt}
+use Rattle.tree.specs.Tree.{Length, short, long}
 use Rattle.tree.proofs.Here.{Here, slice-is, sliced}
 use Rattle.tree.proofs.Heads.{Sized, ReadFrom}
-use Rattle.normal.specs.Length.{furtherOctets, digits, lengthBy, lengthOctets, Octets}
+use Rattle.normal.specs.Normal.{furtherOctets, numberOctets, lengthBy, lengthOctets, Octets}
 use Rattle.normal.specs.Passes.{headerSize}
 use Rattle.normal.proofs.Lengths.{by-some}
 
@@ -37,8 +36,8 @@ octets-here s at xs o (rest, e) =
     octets-first xs rest (λ i. subst (λ (l : List ℕ). octetAt l i < 256) e (rw (getD-drop at s i 0) (o (at + i))))
 
 -- the digits of a number that octets say, are these octets
-digits-of : (k n : ℕ) (ds : List ℕ) → Octets ds → digits (k + length ds) (bigEndianFrom n ds) ≡ digits k n ++ ds
-unfolding digits bigEndianFrom
+digits-of : (k n : ℕ) (ds : List ℕ) → Octets ds → numberOctets (k + length ds) (bigEndianFrom n ds) ≡ numberOctets k n ++ ds
+unfolding numberOctets bigEndianFrom
 digits-of k n [] o = let e : k + 0 ≡ k = omega arith in rw (e, append-nil)
 digits-of k n (d ∷ ds) o =
     let small : d < 256 = o 0 in
@@ -47,9 +46,9 @@ digits-of k n (d ∷ ds) o =
     let r : (n * 256 + d) % 256 ≡ d = omega arith in
     rw e (digits-of (suc k) (n * 256 + d) ds (λ i. o (suc i)) ∙ rw (q, r, append-assoc))
 
-digits-all : (ds : List ℕ) → Octets ds → digits (length ds) (bigEndian ds) ≡ ds
-unfolding digits
-digits-all ds o = ap (λ (k : ℕ). digits k (bigEndian ds)) (sym (zero-add (length ds))) ∙ digits-of 0 0 ds o
+digits-all : (ds : List ℕ) → Octets ds → numberOctets (length ds) (bigEndian ds) ≡ ds
+unfolding numberOctets
+digits-all ds o = ap (λ (k : ℕ). numberOctets k (bigEndian ds)) (sym (zero-add (length ds))) ∙ digits-of 0 0 ds o
 
 -- length octets that are as few as they can be
 only : {n : ℕ} {len : List ℕ} → Length n len → Octets len → length len ≡ furtherOctets n + 1 → len ≡ lengthOctets n
@@ -57,7 +56,7 @@ only (short {n} l) o e = rw (lt-ltb n 0x80 l)
 only (long {octets} a b) o e =
     let n = bigEndian octets in
     let k : length octets ≡ furtherOctets n = omega arith in
-    let d : digits (length octets) n ≡ octets = digits-all octets (octets-second ((0x80 + length octets) ∷ []) octets o) in
+    let d : numberOctets (length octets) n ≡ octets = digits-all octets (octets-second ((0x80 + length octets) ∷ []) octets o) in
     ap (λ (l : List ℕ). (0x80 + length octets) ∷ l) (sym d) ∙ sym (by-some (length octets) n (λ z. omega arith)) ∙ ap (λ (j : ℕ). lengthBy j n) k
 
 -- a definite header that is as short as it can be

@@ -12,10 +12,9 @@ use borrow.Author.Tests.{le-leb, leb-true, leb-false}
 use Rattle.headers.specs.declared.Header.{Header}
 use Rattle.headers.specs.declared.Head.{Head}
 use Rattle.headers.specs.declared.Head.the-variants.{Item, ClosingMark, Refusal}
-use Rattle.headers.specs.First.{constructed}
-use Rattle.headers.specs.Head.{headAt, Passed}
-use Rattle.octets.specs.Items.{Items, item, count}
-use Rattle.octets.specs.Walk.{End, ends, stops, Walked, ended, stopped, pastOf, follow, run, valueOf}
+use Rattle.headers.specs.Head.{constructed, headAt, Passed}
+use Rattle.octets.specs.Walk.{Items, item, count, End, ends, stops, Walked, ended, stopped, pastOf, follow, run}
+use Rattle.octets.specs.Further.{valueOf}
 use Rattle.headers.proofs.Lies.{Lies}
 use Rattle.octets.proofs.Walks.{EndOk, value-ok, run-ok, run-step}
 use Rattle.octets.proofs.RulesHold.{derives}
@@ -25,10 +24,10 @@ use Rattle.tree.specs.Accepts.{Whole}
 use Rattle.tree.proofs.Heads.{ReadFrom, Tells, head-tells}
 use Rattle.tree.proofs.Sound.{Coded, sound, read-from}
 use Rattle.normal.specs.declared.Measured.{Measured}
-use Rattle.normal.specs.declared.Met.{Met}
-use Rattle.normal.specs.declared.Met.the-variants.{Item as Inner, Last}
+use Rattle.normal.specs.declared.Ahead.{Ahead}
+use Rattle.normal.specs.declared.Ahead.the-variants.{Item as Inner, Last}
 use Rattle.normal.specs.Normal.{coded, normalOf}
-use Rattle.normal.specs.Passes.{RunEnds, ValueEnds, endOf, normalFrom, normalIn, metBy, metAt, headerSize, ValueMeasures}
+use Rattle.normal.specs.Passes.{RunEnds, ValueEnds, endOf, normalFrom, normalIn, aheadBy, aheadAt, headerSize, ValueMeasures}
 use Rattle.normal.proofs.Normals.{small, coded-length}
 
 -- ---- a run that ended
@@ -136,7 +135,7 @@ module _ (room : ℕ) (s : List ℕ) (at limit : ℕ) (marked : Bool) where
         ≡ coded (h .octet ∷ []) (normalIn room s h) (normalFrom room s (endOf (valueOf room s h .how)) limit marked)
 
   -- what was met
-  abbrev pub Meets : Met → Type 0
+  abbrev pub Meets : Ahead → Type 0
   Meets (Inner h) = Turn h
   Meets (Last past) = (run room s at limit marked .how ≡ ends past) × (normalFrom room s at limit marked ≡ []) × (pastOf marked past ≡ at)
 
@@ -176,7 +175,7 @@ module _ (room : ℕ) (s : List ℕ) (at limit : ℕ) (marked : Bool) where
         let back : at + 2 - 2 ≡ at = omega arith in
         (ap (λ (x : Walked). x .how) p, ap (λ (x : Walked). normalOf (plain s (x .items))) p, rw m back)
 
-    meets-head : at < limit → (head : Head) → headAt s at limit marked room ≡ head → Meets (metBy at head)
+    meets-head : at < limit → (head : Head) → headAt s at limit marked room ≡ head → Meets (aheadBy at head)
     meets-head l (Item h) e = turn l h e
     meets-head l ClosingMark e = at-mark l e
     meets-head l (Refusal number place) e = absurd (subst Passed e (passed room s at limit marked l (r .whole)))
@@ -191,12 +190,12 @@ at-end room s at limit false e w =
     (ap (λ (x : Walked). x .how) p, ap (λ (x : Walked). normalOf (plain s (x .items))) p, sym e)
 
 module _ (room : ℕ) (s : List ℕ) (at limit : ℕ) (marked : Bool) (r : RunEnds room s at limit marked) where
-  meets-at : (b : Bool) → leb limit at ≡ b → Meets room s at limit marked (cond b (Last limit) (metBy at (headAt s at limit marked room)))
+  meets-at : (b : Bool) → leb limit at ≡ b → Meets room s at limit marked (cond b (Last limit) (aheadBy at (headAt s at limit marked room)))
   meets-at true e = let l = leb-true limit at e in at-end room s at limit marked (omega (arith, r .order)) (r .whole)
   meets-at false e = meets-head room s at limit marked r (leb-false limit at e) (headAt s at limit marked room) refl
 
-  pub meets : (x : Met) → metAt room s at limit marked ≡ x → Meets room s at limit marked x
-  unfolding metAt
+  pub meets : (x : Ahead) → aheadAt room s at limit marked ≡ x → Meets room s at limit marked x
+  unfolding aheadAt
   meets x e = subst (Meets room s at limit marked) e (meets-at (leb limit at) refl)
 
 -- what is left of a run that ended

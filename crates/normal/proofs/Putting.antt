@@ -11,10 +11,9 @@ use Rattle.headers.specs.declared.Header.{Header}
 use Rattle.octets.specs.Walk.{pastOf}
 use Rattle.headers.proofs.Lies.{cond-holds}
 use Rattle.normal.specs.declared.Measured.{Measured}
-use Rattle.normal.specs.declared.Met.the-variants.{Last}
-use Rattle.normal.specs.Length.{lengthOctets}
-use Rattle.normal.specs.Normal.{coded}
-use Rattle.normal.specs.Passes.{RunEnds, ValueEnds, normalFrom, normalIn, headerSize, ValueMeasures, Puts}
+use Rattle.normal.specs.declared.Ahead.the-variants.{Last}
+use Rattle.normal.specs.Normal.{lengthOctets, coded}
+use Rattle.normal.specs.Passes.{RunEnds, ValueEnds, normalFrom, normalIn, headerSize, ValueMeasures, PutsOctets}
 use Rattle.normal.proofs.Lengths.{length-length, sets-append}
 use Rattle.normal.proofs.Passes.{Turn, Meets, turned, run-left, form-small, value-past}
 
@@ -29,7 +28,7 @@ copies room s h w m v b =
 
 -- an item: its header, its value, and what follows it
 put-coded : (out mid last : List ℕ) (pos octet : ℕ) (value after : List ℕ) (past next : ℕ)
-    → Puts out pos (octet ∷ lengthOctets (length value)) past mid → Puts mid past value next last
+    → PutsOctets out pos (octet ∷ lengthOctets (length value)) past mid → PutsOctets mid past value next last
     → sets out pos (coded (octet ∷ []) value after) ≡ sets last next after
 put-coded out mid last pos octet value after past next p q =
     let head = octet ∷ lengthOctets (length value) in
@@ -53,7 +52,7 @@ module _ (room : ℕ) (s : List ℕ) (from limit : ℕ) (marked : Bool) (out₀ 
 
   module _ (at pos : ℕ) (out : List ℕ) (c : PutSoFar at pos out) where
     -- at the end of the run all is written
-    pub all-put : (past : ℕ) → Meets room s at limit marked (Last past) → Puts out₀ begin (normalFrom room s from limit marked) pos out
+    pub all-put : (past : ℕ) → Meets room s at limit marked (Last past) → PutsOctets out₀ begin (normalFrom room s from limit marked) pos out
     all-put past (e, f, g) = record {
       to = sym (c .to ∙ ap (λ (l : List ℕ). pos + length l) f ∙ omega arith);
       written = sym (c .written ∙ ap (sets out pos) f);
@@ -70,10 +69,10 @@ module _ (room : ℕ) (s : List ℕ) (from limit : ℕ) (marked : Bool) (out₀ 
 
       -- a turn writes the item
       pub item-put : (octet : ℕ) → octet ≡ h .octet → (past pos′ : ℕ) (mid out′ : List ℕ)
-          → Puts out pos (octet ∷ lengthOctets (m .size)) past mid → Puts mid past (normalIn room s h) pos′ out′ → PutSoFar (m .next) pos′ out′
+          → PutsOctets out pos (octet ∷ lengthOctets (m .size)) past mid → PutsOctets mid past (normalIn room s h) pos′ out′ → PutSoFar (m .next) pos′ out′
       item-put octet o past pos′ mid out′ p q =
           let (later, within, rest, form, len) = turned room s at limit marked h u m v in
-          let p′ = subst (λ (k : ℕ). Puts out pos (octet ∷ lengthOctets k) past mid) (v .measures .size) p in
+          let p′ = subst (λ (k : ℕ). PutsOctets out pos (octet ∷ lengthOctets k) past mid) (v .measures .size) p in
           let after = normalFrom room s (m .next) limit marked in
           let same : normalFrom room s at limit marked ≡ coded (octet ∷ []) (normalIn room s h) after =
           form ∙ ap (λ (k : ℕ). coded (k ∷ []) (normalIn room s h) after) (sym o) in
@@ -88,7 +87,7 @@ module _ (room : ℕ) (s : List ℕ) (from limit : ℕ) (marked : Bool) (out₀ 
           }
 
 -- what is written from the start on
-pub put-front : (out form after : List ℕ) (past : ℕ) → length form ≤ length out → Puts out 0 form past after → after ≡ form ++ drop (length form) out
+pub put-front : (out form after : List ℕ) (past : ℕ) → length form ≤ length out → PutsOctets out 0 form past after → after ≡ form ++ drop (length form) out
 put-front out form after past l p =
     let e : 0 + length form ≡ length form = omega arith in
     p .written ∙ sets-eq form out 0 (omega arith) ∙ rw e

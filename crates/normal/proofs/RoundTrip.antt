@@ -6,8 +6,7 @@ use Prim.Native.Nat.{ℕ, _≤_}
 use native.Mathlib.Omega.{arith}
 use lib.ListN.{length}
 use Rattle.octets.specs.Walk.{streamLimit}
-use Rattle.tree.specs.Tree.{Tree}
-use Rattle.tree.specs.Codes.{Codes, nothing, primitive, definite, indefinite}
+use Rattle.tree.specs.Tree.{Tree, Codes, nothing, primitive, definite, indefinite}
 use Rattle.tree.specs.Accepts.{Accepts}
 use Rattle.tree.proofs.Meaning.{means, accepts}
 use Rattle.normal.specs.Normal.{normalOf, normalForm}

@@ -10,10 +10,8 @@ use lib.ListN.{length, length-append}
 use borrow.Author.Tests.{ltb-true, lt-ltb}
 use Rattle.octets.specs.Walk.{deepest}
 use Rattle.headers.proofs.Lies.{cond-holds}
-use Rattle.tree.specs.Tree.{Tree}
-use Rattle.tree.specs.Codes.{Codes, nothing, primitive, definite, indefinite}
-use Rattle.normal.specs.Length.{furtherOctets, Octets}
-use Rattle.normal.specs.Normal.{normalOf}
+use Rattle.tree.specs.Tree.{Tree, Codes, nothing, primitive, definite, indefinite}
+use Rattle.normal.specs.Normal.{furtherOctets, Octets, normalOf}
 use Rattle.normal.specs.Forms.{Definite}
 use Rattle.normal.proofs.Lengths.{length-length}
 use Rattle.normal.proofs.Own.{octets-first, octets-second}

@@ -3,9 +3,8 @@ use Prim.Native.Nat.{ℕ}
 use mathlib.Core.Path.{_≡_}
 use mathlib.Core.List.{List}
 use lib.ListN.{length}
-use Rattle.tree.specs.Tree.{Tree}
-use Rattle.tree.specs.Codes.{Codes, nothing, primitive, definite, indefinite}
-use Rattle.normal.specs.Length.{lengthOctets}
+use Rattle.tree.specs.Tree.{Tree, Codes, nothing, primitive, definite, indefinite}
+use Rattle.normal.specs.Normal.{lengthOctets}
 
 -- no item is indefinite
 abbrev pub Definite : {room : ℕ} {t : Tree} {xs : List ℕ} → Codes room t xs → Type 0

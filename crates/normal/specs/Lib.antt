@@ -1,4 +1,3 @@
-pub mod Length
 pub mod Normal
 pub mod Forms
 pub mod Passes

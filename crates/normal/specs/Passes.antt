@@ -10,16 +10,15 @@ use lib.Seq.{slice, sets}
 use Rattle.headers.specs.declared.Header.{Header}
 use Rattle.headers.specs.declared.Head.{Head}
 use Rattle.headers.specs.declared.Head.the-variants.{Item, ClosingMark, Refusal}
-use Rattle.headers.specs.First.{constructed}
-use Rattle.headers.specs.Head.{headAt}
-use Rattle.octets.specs.Walk.{streamLimit, End, ends, stops, pastOf, run, valueOf}
+use Rattle.headers.specs.Head.{constructed, headAt}
+use Rattle.octets.specs.Walk.{streamLimit, End, ends, stops, pastOf, run}
+use Rattle.octets.specs.Further.{valueOf}
 use Rattle.tree.specs.Tree.{plain}
 use Rattle.tree.specs.Accepts.{Whole}
 use Rattle.normal.specs.declared.Measured.{Measured}
-use Rattle.normal.specs.declared.Met.{Met}
-use Rattle.normal.specs.declared.Met.the-variants.{Item as Inner, Last}
-use Rattle.normal.specs.Length.{furtherOctets}
-use Rattle.normal.specs.Normal.{normalOf}
+use Rattle.normal.specs.declared.Ahead.{Ahead}
+use Rattle.normal.specs.declared.Ahead.the-variants.{Item as Inner, Last}
+use Rattle.normal.specs.Normal.{furtherOctets, normalOf}
 
 -- The run from `from` was walked to its end, in a stream within the limit.
 pub record RunEnds (room : ℕ) (s : List ℕ) (from limit : ℕ) (marked : Bool) : Type 0 where
@@ -52,13 +51,13 @@ normalIn room s h =
     cond (constructed (h .octet)) (normalFrom (room - 1) s (h .start) (h .bound) (h .marked)) (slice (h .start) (h .bound) s)
 
 -- what a pass meets at `at`: an item, or the end of the run with the place past it
-abbrev pub metBy : (at : ℕ) → Head → Met
-metBy at (Item h) = Inner h
-metBy at ClosingMark = Last (at + 2)
-metBy at (Refusal number place) = Last at
+abbrev pub aheadBy : (at : ℕ) → Head → Ahead
+aheadBy at (Item h) = Inner h
+aheadBy at ClosingMark = Last (at + 2)
+aheadBy at (Refusal number place) = Last at
 
-unfoldable pub metAt : (room : ℕ) → List ℕ → (at limit : ℕ) → (marked : Bool) → Met
-metAt room s at limit marked = cond (leb limit at) (Last limit) (metBy at (headAt s at limit marked room))
+unfoldable pub aheadAt : (room : ℕ) → List ℕ → (at limit : ℕ) → (marked : Bool) → Ahead
+aheadAt room s at limit marked = cond (leb limit at) (Last limit) (aheadBy at (headAt s at limit marked room))
 
 -- how many octets come before a value of so many in the normal form of an item
 abbrev pub headerSize : (size : ℕ) → ℕ
@@ -80,6 +79,6 @@ pub record ValueMeasures (room : ℕ) (s : List ℕ) (h : Header) (m : Measured)
   pub inner : m .shortest ≡ false → constructed (h .octet) ≡ true
 
 -- Octets were written from begin up to past, and nothing else.
-pub record Puts (before : List ℕ) (begin : ℕ) (octets : List ℕ) (past : ℕ) (after : List ℕ) : Type 0 where
+pub record PutsOctets (before : List ℕ) (begin : ℕ) (octets : List ℕ) (past : ℕ) (after : List ℕ) : Type 0 where
   pub to : past ≡ begin + length octets
   pub written : after ≡ sets before begin octets

@@ -24,7 +24,7 @@ outputOf (Written n) form out = form ++ drop (length form) out
 outputOf (Not number place) form out = out
 
 -- The answer is the expected one, and the output holds what goes with it: nothing else is left open.
-pub record Gives (expected : Answer) (form before : List ℕ) (answer : Answer) (after : List ℕ) : Type 0 where
+pub record GivesAnswer (expected : Answer) (form before : List ℕ) (answer : Answer) (after : List ℕ) : Type 0 where
   pub answered : answer ≡ expected
   pub output : after ≡ outputOf expected form before
 

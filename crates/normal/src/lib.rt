@@ -10,13 +10,12 @@ ghost use lib.ListN.{length};
 ghost use lib.Seq.{slice, sets};
 ghost use Rattle.octets.specs.Walk.{streamLimit, deepest, run};
 ghost use Rattle.tree.specs.Accepts.{Whole};
-ghost use Rattle.normal.specs.Length.{furtherOctets, digits, lengthOctets};
-ghost use Rattle.normal.specs.Normal.{normalForm};
-ghost use Rattle.normal.specs.Passes.{RunEnds, ValueEnds, normalFrom, normalIn, metAt, headerSize, RunMeasures, ValueMeasures, Puts};
-ghost use Rattle.normal.specs.Writes.{answerOf, answerFor, Gives};
+ghost use Rattle.normal.specs.Normal.{furtherOctets, numberOctets, lengthOctets, normalForm};
+ghost use Rattle.normal.specs.Passes.{RunEnds, ValueEnds, normalFrom, normalIn, aheadAt, headerSize, RunMeasures, ValueMeasures, PutsOctets};
+ghost use Rattle.normal.specs.Writes.{answerOf, answerFor, GivesAnswer};
 
 // What a pass over a run that was walked to its end meets at a place: an item, or the end of the run, with the place past it.
-enum Met {
+enum Ahead {
     Item(Header),
     Last { past: usize },
 }
@@ -62,7 +61,7 @@ fn further_octets(len: u32) -> usize
 // Writes n as k octets, most significant first.
 fn put_digits(out: &mut [u8], at: usize, k: usize, n: u32)
     requires { ⌜ at + k ≤ length (now out) ⌝ }
-    ensures { λ _. ⌜ now (out .exit) ≡ sets (now (out .entry)) at (digits k n) ⌝ }
+    ensures { λ _. ⌜ now (out .exit) ≡ sets (now (out .entry)) at (numberOctets k n) ⌝ }
 {
     if 0 < k {
         put_digits(out, at, k - 1, n / 256);
@@ -73,7 +72,7 @@ fn put_digits(out: &mut [u8], at: usize, k: usize, n: u32)
 // Writes the length octets of a value of `len` octets, and says the place past them.
 fn put_length(out: &mut [u8], at: usize, len: u32) -> usize
     requires { ⌜ at + 1 + furtherOctets len ≤ length (now out) ⌝ }
-    ensures { λ r. ⌜ Puts (now (out .entry)) at (lengthOctets len) r (now (out .exit)) ⌝ }
+    ensures { λ r. ⌜ PutsOctets (now (out .entry)) at (lengthOctets len) r (now (out .exit)) ⌝ }
 {
     let further = further_octets(len);
     if further == 0 {
@@ -95,20 +94,20 @@ fn header_size(size: usize) -> usize
 }
 
 // What stands at `at` in a run that was walked to its end.
-fn meet(s: &[u8], at: usize, limit: usize, marked: bool, room: usize) -> Met
+fn meet(s: &[u8], at: usize, limit: usize, marked: bool, room: usize) -> Ahead
     requires { ⌜ RunEnds room (now s) at limit marked ⌝ }
-    ensures { λ r. ⌜ r ≡ metAt room (now (s .entry)) at limit marked ⌝ }
+    ensures { λ r. ⌜ r ≡ aheadAt room (now (s .entry)) at limit marked ⌝ }
 {
     if limit <= at {
-        return Met::Last { past: limit };
+        return Ahead::Last { past: limit };
     }
     match headers::passed_head(s, at, limit, marked, room) {
-        Head::Item(h) => Met::Item(h),
-        Head::ClosingMark => Met::Last { past: at + 2 },
+        Head::Item(h) => Ahead::Item(h),
+        Head::ClosingMark => Ahead::Last { past: at + 2 },
         Head::Refusal {
             number: _,
             place: _,
-        } => Met::Last { past: at },
+        } => Ahead::Last { past: at },
     }
 }
 
@@ -162,14 +161,14 @@ fn measure_run(s: &[u8], from: usize, limit: usize, marked: bool, room: usize) -
     let mut shortest = true;
     loop {
         match meet(s, at, limit, marked, room) {
-            Met::Item(h) => {
+            Ahead::Item(h) => {
                 let m = measure_item(s, h, room);
                 let head = header_size(m.size);
                 shortest = stays_shortest(shortest, at, h, m, head);
                 size = size + head + m.size;
                 at = m.next;
             }
-            Met::Last { past } => return Measured {
+            Ahead::Last { past } => return Measured {
                 next: past,
                 size,
                 shortest,
@@ -181,7 +180,7 @@ fn measure_run(s: &[u8], from: usize, limit: usize, marked: bool, room: usize) -
 // Copies the octets of s from start to bound, and says the place past them.
 fn put_value(s: &[u8], start: usize, bound: usize, out: &mut [u8], begin: usize) -> usize
     requires { ⌜ (start ≤ bound) × (bound ≤ length (now s)) × (begin + (bound - start) ≤ length (now out)) ⌝ }
-    ensures { λ r. ⌜ Puts (now (out .entry)) begin (slice start bound (now (s .entry))) r (now (out .exit)) ⌝ }
+    ensures { λ r. ⌜ PutsOctets (now (out .entry)) begin (slice start bound (now (s .entry))) r (now (out .exit)) ⌝ }
 {
     let mut at = start;
     let mut pos = begin;
@@ -196,7 +195,7 @@ fn put_value(s: &[u8], start: usize, bound: usize, out: &mut [u8], begin: usize)
 // Writes a type field and the length octets of a value of `size` octets, and says the place past them.
 fn put_header(out: &mut [u8], begin: usize, octet: u8, size: usize) -> usize
     requires { ⌜ (size < 4294967296) × (begin + headerSize size ≤ length (now out)) ⌝ }
-    ensures { λ r. ⌜ Puts (now (out .entry)) begin (octet ∷ lengthOctets size) r (now (out .exit)) ⌝ }
+    ensures { λ r. ⌜ PutsOctets (now (out .entry)) begin (octet ∷ lengthOctets size) r (now (out .exit)) ⌝ }
 {
     out[begin] = octet;
     put_length(out, begin + 1, size as u32)
@@ -205,7 +204,7 @@ fn put_header(out: &mut [u8], begin: usize, octet: u8, size: usize) -> usize
 // Writes the normal form of the value of the item with the header h, which was measured as m.
 fn put_item(s: &[u8], h: Header, m: Measured, room: usize, out: &mut [u8], begin: usize) -> usize
     requires { ⌜ ValueEnds room (now s) h × ValueMeasures room (now s) h m × (begin + length (normalIn room (now s) h) ≤ length (now out)) ⌝ }
-    ensures { λ r. ⌜ Puts (now (out .entry)) begin (normalIn room (now (s .entry)) h) r (now (out .exit)) ⌝ }
+    ensures { λ r. ⌜ PutsOctets (now (out .entry)) begin (normalIn room (now (s .entry)) h) r (now (out .exit)) ⌝ }
 {
     let start = h.start;
     let bound = h.bound;
@@ -230,20 +229,20 @@ fn put_run(
     begin: usize,
 ) -> usize
     requires { ⌜ RunEnds room (now s) from limit marked × (begin + length (normalFrom room (now s) from limit marked) ≤ length (now out)) ⌝ }
-    ensures { λ r. ⌜ Puts (now (out .entry)) begin (normalFrom room (now (s .entry)) from limit marked) r (now (out .exit)) ⌝ }
+    ensures { λ r. ⌜ PutsOctets (now (out .entry)) begin (normalFrom room (now (s .entry)) from limit marked) r (now (out .exit)) ⌝ }
 {
     let mut at = from;
     let mut pos = begin;
     loop {
         match meet(s, at, limit, marked, room) {
-            Met::Item(h) => {
+            Ahead::Item(h) => {
                 let m = measure_item(s, h, room);
                 let octet = s[at];
                 let past = put_header(out, pos, octet, m.size);
                 pos = put_item(s, h, m, room, out, past);
                 at = m.next;
             }
-            Met::Last { past: _ } => return pos,
+            Ahead::Last { past: _ } => return pos,
         }
     }
 }
@@ -251,7 +250,7 @@ fn put_run(
 // Writes the normal form of a stream whose walk ended: refusals 17 and 18 alone. A caller that has other refusals to give has given them.
 pub fn write(s: &[u8], out: &mut [u8]) -> Answer
     requires { ⌜ (length (now s) ≤ streamLimit) × Whole (run deepest (now s) 0 (length (now s)) false .how) ⌝ }
-    ensures { λ r. ⌜ Gives (answerOf (normalForm (now (s .entry))) (now (out .entry))) (normalForm (now (s .entry))) (now (out .entry)) r (now (out .exit)) ⌝ }
+    ensures { λ r. ⌜ GivesAnswer (answerOf (normalForm (now (s .entry))) (now (out .entry))) (normalForm (now (s .entry))) (now (out .entry)) r (now (out .exit)) ⌝ }
 {
     let m = measure_run(s, 0, s.len(), false, DEEPEST);
     let length = m.size;
@@ -278,7 +277,7 @@ pub fn write(s: &[u8], out: &mut [u8]) -> Answer
 
 // Writes the normal form of any stream: refusals 1 to 8 of the walk, then 17 and 18.
 pub fn normal(s: &[u8], out: &mut [u8]) -> Answer
-    ensures { λ r. ⌜ Gives (answerFor (now (s .entry)) (now (out .entry))) (normalForm (now (s .entry))) (now (out .entry)) r (now (out .exit)) ⌝ }
+    ensures { λ r. ⌜ GivesAnswer (answerFor (now (s .entry)) (now (out .entry))) (normalForm (now (s .entry))) (now (out .entry)) r (now (out .exit)) ⌝ }
 {
     match octets::walk(s) {
         Outcome::Ended { at: _, count: _ } => write(s, out),

@@ -1,10 +1,9 @@
 -- The walk tells of each example what document 01 says. Assumes nothing.
 use mathlib.Core.Path.{_≡_, refl}
 use mathlib.Core.List.{map}
-use Rattle.headers.specs.First.{permits, formAllowed}
-use Rattle.headers.specs.Lengths.{bigEndianFrom, misfits}
-use Rattle.headers.specs.Head.{definiteAt, indefiniteAt, longAt, byFirst, lengthAt, itemAt, closingAt, headAt}
-use Rattle.octets.specs.Walk.{runFor, run, told, walkOf}
+use Rattle.headers.specs.Head.{permits, formAllowed, bigEndianFrom, misfits, definiteAt, indefiniteAt, longAt, byFirst, lengthAt, itemAt, closingAt, headAt}
+use Rattle.octets.specs.Walk.{runFor, run, walkOf}
+use Rattle.octets.specs.Further.{told}
 use Rattle.octets.specs.Examples.{Example, examples}
 
 pub all-hold : map (λ (e : Example). told (walkOf (e .stream))) examples ≡ map (λ (e : Example). e .told) examples

@@ -6,15 +6,15 @@ use native.Mathlib.Omega.{arith}
 use lib.Dec.{leb}
 use lib.ListN.{length}
 use Rattle.octets.specs.declared.Outcome.{Outcome}
-use Rattle.octets.specs.Items.{count}
-use Rattle.octets.specs.Walk.{End, ends, stops, run, answerOf, told, walkOf}
+use Rattle.octets.specs.Walk.{count, End, ends, stops, run, outcomeOf, walkOf}
+use Rattle.octets.specs.Further.{told}
 use Rattle.headers.proofs.Lies.{cond-holds}
 use Rattle.octets.proofs.Walks.{EndOk, run-ok}
 
 abbrev Half : ℕ → Outcome → Type 0
 Half n o = told o .headers + told o .headers ≤ n
 
-half-of : (limit n : ℕ) (e : End) → EndOk 0 limit n e → Half limit (answerOf n e)
+half-of : (limit n : ℕ) (e : End) → EndOk 0 limit n e → Half limit (outcomeOf n e)
 half-of limit n (ends next) o = omega arith
 half-of limit n (stops number place) o = omega arith
 

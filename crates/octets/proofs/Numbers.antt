@@ -8,11 +8,8 @@ use native.Mathlib.Omega.{arith}
 use lib.Dec.{leb, ltb, eqb}
 use Rattle.headers.specs.declared.Head.{Head}
 use Rattle.headers.specs.declared.Head.the-variants.{Item, ClosingMark, Refusal}
-use Rattle.headers.specs.First.{number, constructed, formAllowed}
-use Rattle.headers.specs.Lengths.{misfits}
-use Rattle.headers.specs.Head.{octetAt, definiteAt, indefiniteAt, longAt, byFirst, lengthAt, itemAt, closingAt, headAt}
-use Rattle.octets.specs.Items.{Items, none, item}
-use Rattle.octets.specs.Walk.{End, ends, stops, run}
+use Rattle.headers.specs.Head.{number, constructed, formAllowed, misfits, octetAt, definiteAt, indefiniteAt, longAt, byFirst, lengthAt, itemAt, closingAt, headAt}
+use Rattle.octets.specs.Walk.{Items, none, item, End, ends, stops, run}
 use Rattle.octets.specs.Rules.{Runs, at-limit, unclosed, closes, refuses, primitive, passes, breaks}
 use Rattle.headers.proofs.Lies.{cond-holds}
 use Rattle.octets.proofs.Turns.{header-ok}

@@ -10,10 +10,8 @@ use borrow.Author.Tests.{le-leb, lt-leb, leb-true, leb-false}
 use Rattle.headers.specs.declared.Header.{Header}
 use Rattle.headers.specs.declared.Head.{Head}
 use Rattle.headers.specs.declared.Head.the-variants.{Item, ClosingMark, Refusal}
-use Rattle.headers.specs.First.{constructed}
-use Rattle.headers.specs.Head.{headAt}
-use Rattle.octets.specs.Items.{Items, count}
-use Rattle.octets.specs.Walk.{End, ends, stops, Walked, ended, stopped, follow, value, onHead, step, runFor, run}
+use Rattle.headers.specs.Head.{constructed, headAt}
+use Rattle.octets.specs.Walk.{Items, count, End, ends, stops, Walked, ended, stopped, follow, value, onHead, step, runFor, run}
 use Rattle.octets.specs.Rules.{Runs, at-limit, unclosed, closes, refuses, primitive, passes, breaks}
 use Rattle.headers.proofs.Lies.{HeadOk, head-ok}
 use Rattle.octets.proofs.Walks.{EndOk, WalkOk, RunOk, run-for-ok, run-step}

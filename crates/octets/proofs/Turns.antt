@@ -10,10 +10,9 @@ use Rattle.headers.specs.declared.Head.{Head}
 use Rattle.headers.specs.declared.Head.the-variants.{Item, ClosingMark, Refusal}
 use Rattle.octets.specs.declared.Outcome.{Outcome}
 use Rattle.octets.specs.declared.Outcome.the-variants.{Ended, Refused}
-use Rattle.headers.specs.First.{constructed}
-use Rattle.headers.specs.Head.{headAt}
-use Rattle.octets.specs.Items.{Items, none, item, count}
-use Rattle.octets.specs.Walk.{End, ends, stops, Walked, ended, stopped, pastOf, follow, onHead, run, valueOf, answerOf, answer}
+use Rattle.headers.specs.Head.{constructed, headAt}
+use Rattle.octets.specs.Walk.{Items, none, item, count, End, ends, stops, Walked, ended, stopped, pastOf, follow, onHead, run, outcomeOf, answer}
+use Rattle.octets.specs.Further.{valueOf}
 use Rattle.headers.proofs.Lies.{HeadOk, head-ok}
 use Rattle.octets.proofs.Walks.{EndOk, value-ok, run-ok, run-step}
 
@@ -30,12 +29,12 @@ pub plus-zero : (o : Outcome) → o ≡ plus 0 o
 plus-zero (Ended at k) = ap (Ended at) (omega arith)
 plus-zero (Refused number place k) = ap (Refused number place) (omega arith)
 
-plus-answer : (k n : ℕ) (e : End) → answerOf (suc (k + n)) e ≡ plus (k + 1) (answerOf n e)
+plus-answer : (k n : ℕ) (e : End) → outcomeOf (suc (k + n)) e ≡ plus (k + 1) (outcomeOf n e)
 plus-answer k n (ends at) = ap (Ended at) (omega arith)
 plus-answer k n (stops number place) = ap (Refused number place) (omega arith)
 
 pub follow-passes : (at : ℕ) (h : Header) (inside : Items) (e : End) (more : ℕ → Walked) (next k : ℕ)
-    → answerOf (count inside) e ≡ Ended next k → answer (follow at h inside e more) ≡ plus (k + 1) (answer (more next))
+    → outcomeOf (count inside) e ≡ Ended next k → answer (follow at h inside e more) ≡ plus (k + 1) (answer (more next))
 follow-passes at h inside (ends to) more next k p =
     let a : to ≡ next = cc in
     let b : count inside ≡ k = cc in
@@ -43,7 +42,7 @@ follow-passes at h inside (ends to) more next k p =
 follow-passes at h inside (stops n place) more next k p = let z : _≡_ {A = ℕ} 0 1 = cc in absurd (omega arith)
 
 pub follow-breaks : (at : ℕ) (h : Header) (inside : Items) (e : End) (more : ℕ → Walked) (number place k : ℕ)
-    → answerOf (count inside) e ≡ Refused number place k → answer (follow at h inside e more) ≡ Refused number place (k + 1)
+    → outcomeOf (count inside) e ≡ Refused number place k → answer (follow at h inside e more) ≡ Refused number place (k + 1)
 follow-breaks at h inside (ends to) more number place k p = let z : _≡_ {A = ℕ} 0 1 = cc in absurd (omega arith)
 follow-breaks at h inside (stops n q) more number place k p =
     let a : n ≡ number = cc in
@@ -88,7 +87,7 @@ abbrev pub OutcomeOk : (at limit : ℕ) → Outcome → Type 0
 OutcomeOk at limit (Ended next k) = (at + (k + k) ≤ next) × (next ≤ limit)
 OutcomeOk at limit (Refused number place k) = at + (k + k) ≤ limit
 
-answer-ok : (at limit n : ℕ) (e : End) → EndOk at limit n e → OutcomeOk at limit (answerOf n e)
+answer-ok : (at limit n : ℕ) (e : End) → EndOk at limit n e → OutcomeOk at limit (outcomeOf n e)
 answer-ok at limit n (ends to) o = o
 answer-ok at limit n (stops number place) o = o
 
@@ -121,11 +120,11 @@ module _ (room : ℕ) (s : List ℕ) (at limit : ℕ) (marked : Bool) (h : Heade
       omega arith
 
 -- The tree of a run, by what stands at its place.
-pub answer-ends : (n : ℕ) (e : End) (next k : ℕ) → answerOf n e ≡ Ended next k → e ≡ ends next
+pub answer-ends : (n : ℕ) (e : End) (next k : ℕ) → outcomeOf n e ≡ Ended next k → e ≡ ends next
 answer-ends n (ends to) next k p = let a : to ≡ next = cc in ap ends a
 answer-ends n (stops number place) next k p = let z : _≡_ {A = ℕ} 0 1 = cc in absurd (omega arith)
 
-pub answer-stops : (n : ℕ) (e : End) (number place k : ℕ) → answerOf n e ≡ Refused number place k → e ≡ stops number place
+pub answer-stops : (n : ℕ) (e : End) (number place k : ℕ) → outcomeOf n e ≡ Refused number place k → e ≡ stops number place
 answer-stops n (ends to) number place k p = let z : _≡_ {A = ℕ} 0 1 = cc in absurd (omega arith)
 answer-stops n (stops m q) number place k p = cc
 

@@ -10,11 +10,9 @@ use borrow.Author.Tests.{leb-false}
 use Rattle.headers.specs.declared.Header.{Header}
 use Rattle.headers.specs.declared.Head.{Head}
 use Rattle.headers.specs.declared.Head.the-variants.{Item, ClosingMark, Refusal}
-use Rattle.headers.specs.First.{constructed}
-use Rattle.headers.specs.Head.{headAt}
+use Rattle.headers.specs.Head.{constructed, headAt}
 use Rattle.headers.proofs.Lies.{HeadOk, head-ok}
-use Rattle.octets.specs.Items.{Items, item, count}
-use Rattle.octets.specs.Walk.{End, ends, stops, Walked, ended, stopped, pastOf, follow, value, onHead, step, runFor, run}
+use Rattle.octets.specs.Walk.{Items, item, count, End, ends, stops, Walked, ended, stopped, pastOf, follow, value, onHead, step, runFor, run}
 
 -- a walk from `at` with n items ends past them and within the limit
 abbrev pub EndOk : (at limit n : ℕ) → End → Type 0

@@ -1,4 +1,4 @@
-pub mod Items
 pub mod Walk
 pub mod Rules
+pub mod Further
 pub mod Examples

@@ -1,18 +1,28 @@
 -- The walk of a stream: the items whose headers passed, and how the walk ended. Document 01, "Octet rules" and "Numbers given back".
+-- Items have places, and values are bounded, not copied; what they stand for, with no places, is a tree of another crate.
 -- Definitions only: assumes nothing.
-use Prim.Native.Nat.{ℕ, zero, suc, _+_, _-_}
-use mathlib.Core.Bool.{Bool, true, false, cond}
+use Prim.Native.Nat.{ℕ, suc, _+_, _-_, zero}
+use mathlib.Core.Bool.{Bool, cond, true, false}
 use mathlib.Core.List.{List}
 use lib.ListN.{length}
 use lib.Dec.{leb}
 use Rattle.headers.specs.declared.Header.{Header}
 use Rattle.headers.specs.declared.Head.{Head}
 use Rattle.headers.specs.declared.Head.the-variants.{Item, ClosingMark, Refusal}
+use Rattle.headers.specs.Head.{constructed, headAt}
 use Rattle.octets.specs.declared.Outcome.{Outcome}
 use Rattle.octets.specs.declared.Outcome.the-variants.{Ended, Refused}
-use Rattle.headers.specs.First.{constructed}
-use Rattle.headers.specs.Head.{headAt}
-use Rattle.octets.specs.Items.{Items, none, item, count}
+
+-- "An item is a header with a value; a constructed value is a run of items, each with a value of its own." A run is none, or an
+-- item with its place, its first octet, its value from start to past, the run inside it (none in a primitive) and the items after it.
+pub data Items : Type 0 where
+  none : Items
+  item : (at octet start past : ℕ) → (inside after : Items) → Items
+
+-- how many items there are, at any level
+abbrev pub count : Items → ℕ
+count none = 0
+count (item at octet start past inside after) = suc (count inside + count after)
 
 -- "stream over 1,048,576 bytes"
 abbrev pub streamLimit : ℕ
@@ -81,35 +91,19 @@ runFor (suc fuel) room s at limit marked =
 unfoldable pub run : (room : ℕ) → List ℕ → (at limit : ℕ) → (marked : Bool) → Walked
 run room s at limit marked = runFor (suc (limit - at)) room s at limit marked
 
--- the value of the item with the header h, which is at the first of room levels
-unfoldable pub valueOf : (room : ℕ) → List ℕ → Header → Walked
-valueOf room s h = value (constructed (h .octet)) h (λ g. run (room - 1) s (g .start) (g .bound) (g .marked))
-
--- the item at `at` alone, with nothing walked after it
-unfoldable pub oneOf : (room : ℕ) → List ℕ → (at limit : ℕ) → Walked
-oneOf room s at limit =
-    step (leb limit at) at limit false (headAt s at limit false room)
-    (λ h. run (room - 1) s (h .start) (h .bound) (h .marked))
-    (λ next. ended next)
-
 -- "the header count is the number of items that passed 2 to 8": the count of the items that were walked
-abbrev pub answerOf : ℕ → End → Outcome
-answerOf n (ends at) = Ended at n
-answerOf n (stops number place) = Refused number place n
+abbrev pub outcomeOf : ℕ → End → Outcome
+outcomeOf n (ends at) = Ended at n
+outcomeOf n (stops number place) = Refused number place n
 
 abbrev pub answer : Walked → Outcome
-answer w = answerOf (count (w .items)) (w .how)
+answer w = outcomeOf (count (w .items)) (w .how)
 
 -- "Refusal 1 comes first. Then the whole stream is walked for 2 to 8". After 1 the count is 0.
 unfoldable pub walkOf : List ℕ → Outcome
 walkOf s = cond (leb (length s) streamLimit) (answer (run deepest s 0 (length s) false)) (Refused 1 0 0)
 
--- the number, place and header count that document 01 gives an outcome: 0 at 0 is accepted
-pub record Told : Type 0 where
-  pub number : ℕ
-  pub place : ℕ
-  pub headers : ℕ
-
-abbrev pub told : Outcome → Told
-told (Ended at n) = record { number = 0; place = 0; headers = n }
-told (Refused number place n) = record { number = number; place = place; headers = n }
+-- where the first item of a run stands: at end if there is none
+abbrev pub startOf : (end : ℕ) → Items → ℕ
+startOf end none = end
+startOf end (item at octet start past inside after) = at

@@ -4,7 +4,8 @@ use headers::Header;
 ghost use mathlib.Core.Path.{_≡_};
 ghost use Prim.Native.Nat.{_<_, _≤_};
 ghost use lib.ListN.{length};
-ghost use Rattle.octets.specs.Walk.{run, valueOf, oneOf, answer, walkOf};
+ghost use Rattle.octets.specs.Walk.{run, answer, walkOf};
+ghost use Rattle.octets.specs.Further.{valueOf, oneOf};
 
 // How a walk ended, past a run or with a refusal, and how many items passed.
 pub enum Outcome {

@@ -14,7 +14,7 @@ use Rattle.normal.specs.declared.Answer.the-variants.{Written as Wrote, Refused
 use Rattle.normal.specs.Normal.{normalForm}
 use Rattle.normal.specs.Writes.{answerOf, outputOf}
 use Rattle.elements.specs.Shape.{edition1988}
-use Rattle.elements.specs.Element.{Element}
+use Rattle.elements.specs.Judge.{Element}
 use Rattle.letters.specs.Letter.{letter, refusal}
 use Rattle.answers.specs.declared.Written.{Written}
 use Rattle.answers.specs.Answers.{letterIn, written, writtenOutput, NormalOutcome}

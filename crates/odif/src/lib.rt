@@ -1,9 +1,9 @@
 // The public questions, and nothing else. None has a `requires`: any caller may ask, of any octets, with any buffers.
 pub use answers::Checked;
+use answers::ContentFound;
 pub use answers::Copied;
-use answers::Found;
+pub use answers::Found;
 pub use answers::Listed;
-pub use answers::Located;
 pub use answers::Reason;
 pub use answers::Written;
 use letters::Verdict;
@@ -74,13 +74,13 @@ pub fn content<'a>(stream: &'a [u8], element: usize) -> &'a [u8]
     ensures { λ r. ⌜ now r ≡ fetched (now (stream .entry)) element .part ⌝ }
 {
     match scratch::fetch(stream, element) {
-        Found::Content { first, past } => &stream[first..past],
-        Found::Refused {
+        ContentFound::Content { first, past } => &stream[first..past],
+        ContentFound::Refused {
             number: _,
             place: _,
         } => &stream[..0],
-        Found::NoUnit => &stream[..0],
-        Found::Pieces { run: _ } => &stream[..0],
+        ContentFound::NoUnit => &stream[..0],
+        ContentFound::Pieces { run: _ } => &stream[..0],
     }
 }
 
@@ -96,29 +96,29 @@ pub fn why(stream: &[u8], element: usize) -> Reason
 }
 
 // Where the content of an element stands in the stream, with the number and place of a refusal.
-fn locate(stream: &[u8], element: usize) -> Located
+fn locate(stream: &[u8], element: usize) -> Found
     ensures { λ r. ⌜ Fetches (now (stream .entry)) element r ⌝ }
 {
     match scratch::fetch(stream, element) {
-        Found::Content { first, past } => Located {
+        ContentFound::Content { first, past } => Found {
             number: 0,
             place: 0,
             first: first as u32,
             past: past as u32,
         },
-        Found::Refused { number, place } => Located {
+        ContentFound::Refused { number, place } => Found {
             number: number as u32,
             place: place as u32,
             first: 0,
             past: 0,
         },
-        Found::NoUnit => Located {
+        ContentFound::NoUnit => Found {
             number: NO_UNIT,
             place: 0,
             first: 0,
             past: 0,
         },
-        Found::Pieces { run: _ } => Located {
+        ContentFound::Pieces { run: _ } => Found {
             number: IN_PIECES,
             place: 0,
             first: 0,
@@ -133,14 +133,14 @@ pub fn joined(stream: &[u8], element: usize, out: &mut [u8]) -> Copied
     ensures { λ r. ⌜ JoinedOutcome (now (stream .entry)) element (now (out .entry)) r (now (out .exit)) ⌝ }
 {
     match scratch::fetch(stream, element) {
-        Found::Content { first, past } => answers::copy_part(stream, first, past, out),
-        Found::Pieces { run } => answers::copy_pieces(stream, run, out),
-        Found::Refused { number, place } => Copied {
+        ContentFound::Content { first, past } => answers::copy_part(stream, first, past, out),
+        ContentFound::Pieces { run } => answers::copy_pieces(stream, run, out),
+        ContentFound::Refused { number, place } => Copied {
             number: number as u32,
             place: place as u32,
             length: 0,
         },
-        Found::NoUnit => Copied {
+        ContentFound::NoUnit => Copied {
             number: NO_UNIT,
             place: 0,
             length: 0,
@@ -178,7 +178,7 @@ pub extern "C" fn odif_logical(stream: &[u8], table: &mut [u32], list: &mut [Mat
 }
 
 #[no_mangle]
-pub extern "C" fn odif_content(stream: &[u8], element: u32) -> Located
+pub extern "C" fn odif_content(stream: &[u8], element: u32) -> Found
     ensures { λ r. ⌜ Fetches (now (stream .entry)) element r ⌝ }
 {
     locate(stream, element as usize)

@@ -7,9 +7,8 @@ use Prim.Native.Nat.{ℕ, _+_, _-_, _≤_}
 use native.Mathlib.Omega.{arith}
 use lib.ListN.{length, length-append}
 use lib.Seq.{slice, length-slice}
-use Rattle.headers.specs.First.{constructed}
-use Rattle.octets.specs.Items.{Items, none, count}
-use Rattle.octets.specs.Walk.{End, ends, stops, pastOf}
+use Rattle.headers.specs.Head.{constructed}
+use Rattle.octets.specs.Walk.{Items, none, count, End, ends, stops, pastOf}
 use Rattle.octets.specs.Rules.{Runs, at-limit, unclosed, closes, refuses, primitive, passes, breaks}
 use Rattle.octets.proofs.Walks.{EndOk, run-ok}
 use Rattle.octets.proofs.Turns.{header-ok}

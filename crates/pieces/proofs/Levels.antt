@@ -5,8 +5,7 @@ use mathlib.Core.Bool.{Bool}
 use mathlib.Core.List.{List}
 use Prim.Native.Nat.{ℕ, _<_, _≤_}
 use native.Mathlib.Omega.{arith}
-use Rattle.octets.specs.Items.{Items, none, item}
-use Rattle.octets.specs.Walk.{End}
+use Rattle.octets.specs.Walk.{Items, none, item, End}
 use Rattle.octets.specs.Rules.{Runs, at-limit, unclosed, closes, refuses, primitive, passes, breaks}
 use Rattle.octets.proofs.Turns.{header-ok}
 use Rattle.octets.proofs.RulesHold.{derives}

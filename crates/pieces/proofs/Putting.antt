@@ -6,7 +6,7 @@ use Prim.Native.Nat.{ℕ, _+_, _-_, _≤_}
 use native.Mathlib.Omega.{arith}
 use lib.ListN.{length, take, drop, length-append, length-drop, drop-of-length-le, take-append-drop}
 use lib.Seq.{take-length, take-all, take-at, drop-at, drop-drop, length-take-le, slice}
-use Rattle.octets.specs.Items.{none}
+use Rattle.octets.specs.Walk.{none}
 use Rattle.tree.proofs.Here.{slice-is}
 use Rattle.runs.specs.declared.Run.{Run}
 use Rattle.runs.specs.Runs.{itemsOf, treeIn, Fine}

@@ -8,12 +8,12 @@ use lib.ListN.{take}
 use borrow.Author.Tests.{not-true, not-false}
 use Rattle.runs.specs.declared.Run.{Run}
 use Rattle.runs.specs.Runs.{treeIn}
-use Rattle.portions.specs.declared.Listed.{Listed}
+use Rattle.portions.specs.declared.PortionList.{PortionList}
 use Rattle.portions.specs.Portions.{mostPortions, allPortions, values, wellSpelt, repeats}
 use Rattle.portions.specs.Bounds.{bounded}
-use Rattle.portions.specs.Lists.{Lists}
+use Rattle.portions.specs.Lists.{ListsPortions}
 
-module _ {s : List ℕ} {r : Run} {listed : Listed} {numbers : List ℕ} (lists : Lists s r listed numbers) where
+module _ {s : List ℕ} {r : Run} {listed : PortionList} {numbers : List ℕ} (lists : ListsPortions s r listed numbers) where
   -- 12: a run with other items is refused
   pub has-others : listed .others ≡ true → allPortions (treeIn s r) ≡ false
   has-others o = not-true (allPortions (treeIn s r)) (sym (lists .others) ∙ o)

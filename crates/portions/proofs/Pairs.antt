@@ -11,12 +11,12 @@ use Rattle.names.proofs.Parts.{slice-more}
 use Rattle.contents.specs.declared.Span.{Span}
 use Rattle.names.specs.Names.{same}
 use Rattle.portions.specs.Portions.{among, repeats}
-use Rattle.portions.specs.Bounds.{spanOf, valueOf, bounded, Inside}
+use Rattle.portions.specs.Bounds.{pairAt, boundedAt, bounded, Inside}
 
 -- the value k of so many, and those after it
 module _ (s numbers : List ℕ) (k count : ℕ) (some : k < count) (enough : 2 * count ≤ length numbers) where
   abbrev span : Span
-  span = spanOf numbers k
+  span = pairAt numbers k
 
   abbrev rest : List ℕ
   rest = slice (2 * (k + 1)) (2 * count) numbers
@@ -27,7 +27,7 @@ module _ (s numbers : List ℕ) (k count : ℕ) (some : k < count) (enough : 2 *
       slice-more numbers (2 * k) (2 * count) (omega arith) enough
       ∙ rw e (ap (λ (l : List ℕ). span .first ∷ l) (slice-more numbers (2 * k + 1) (2 * count) (omega arith) enough))
 
-  bounded-more : bounded s (slice (2 * k) (2 * count) numbers) ≡ valueOf s numbers k ∷ bounded s rest
+  bounded-more : bounded s (slice (2 * k) (2 * count) numbers) ≡ boundedAt s numbers k ∷ bounded s rest
   unfolding bounded
   bounded-more = ap (bounded s) pair-more
 
@@ -35,11 +35,11 @@ module _ (s numbers : List ℕ) (k count : ℕ) (some : k < count) (enough : 2 *
   unfolding Inside
   inside-more inside = subst (Inside s) pair-more inside
 
-  pub among-more : (v : List ℕ) → among v (bounded s (slice (2 * k) (2 * count) numbers)) ≡ (same v (valueOf s numbers k) || among v (bounded s rest))
+  pub among-more : (v : List ℕ) → among v (bounded s (slice (2 * k) (2 * count) numbers)) ≡ (same v (boundedAt s numbers k) || among v (bounded s rest))
   unfolding among
   among-more v = ap (among v) bounded-more
 
-  pub repeats-more : repeats (bounded s (slice (2 * k) (2 * count) numbers)) ≡ (among (valueOf s numbers k) (bounded s rest) || repeats (bounded s rest))
+  pub repeats-more : repeats (bounded s (slice (2 * k) (2 * count) numbers)) ≡ (among (boundedAt s numbers k) (bounded s rest) || repeats (bounded s rest))
   unfolding repeats
   repeats-more = ap repeats bounded-more
 

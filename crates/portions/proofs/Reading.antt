@@ -7,13 +7,13 @@ use Prim.Native.Nat.{ℕ, _+_, _*_, _-_, _<_, _≤_}
 use native.Mathlib.Omega.{arith}
 use lib.ListN.{length, take}
 use lib.Seq.{slice, length-take-le}
-use Rattle.octets.specs.Items.{none}
+use Rattle.octets.specs.Walk.{none}
 use Rattle.names.specs.Names.{isPortion}
 use Rattle.runs.specs.declared.Run.{Run}
 use Rattle.runs.specs.Runs.{itemsOf, treeIn, Fine, Meeting}
 use Rattle.portions.specs.Portions.{mostPortions, allPortions, values, all}
 use Rattle.portions.specs.Bounds.{bounded, Inside}
-use Rattle.portions.specs.Lists.{Lists}
+use Rattle.portions.specs.Lists.{ListsPortions}
 use Rattle.portions.proofs.Pairs.{bounded-append, inside-append}
 use Rattle.portions.proofs.Meetings.{portions-met, others-met, values-met, portions-end, values-end}
 
@@ -39,7 +39,7 @@ either-spells false true after = refl
 either-spells false false after = refl
 
 module _ {s : List ℕ} {r left : Run} {count : ℕ} {misspelt : Bool} {numbers : List ℕ} (so-far : Reads s r left count misspelt numbers) where
-  pub all-read : itemsOf s left ≡ none → Lists s r (record { count = count; others = false; misspelt = misspelt }) numbers
+  pub all-read : itemsOf s left ≡ none → ListsPortions s r (record { count = count; others = false; misspelt = misspelt }) numbers
   all-read end =
       let no : values (treeIn s left) ≡ [] = values-end s left end in
       record {
@@ -51,7 +51,7 @@ module _ {s : List ℕ} {r left : Run} {count : ℕ} {misspelt : Bool} {numbers 
       }
 
   module _ {octet first past : ℕ} {inner rest : Run} (met : Meeting s left octet first past inner rest) where
-    pub other-read : (octet ≡ 0x12 → ⊥) → Lists s r (record { count = 0; others = true; misspelt = false }) numbers
+    pub other-read : (octet ≡ 0x12 → ⊥) → ListsPortions s r (record { count = 0; others = true; misspelt = false }) numbers
     other-read n =
         record {
           others = sym (ap not (so-far .portions ∙ others-met met n));

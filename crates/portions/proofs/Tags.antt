@@ -14,7 +14,7 @@ use Rattle.names.specs.Names.{same}
 use Rattle.names.proofs.Parts.{slice-more}
 use Rattle.names.proofs.Same.{same-eq}
 use Rattle.portions.specs.Portions.{among, repeats}
-use Rattle.portions.specs.Bounds.{valueOf, bounded, Inside}
+use Rattle.portions.specs.Bounds.{boundedAt, bounded, Inside}
 use Rattle.portions.specs.Tags.{tags, tagFrom, tag}
 use Rattle.portions.proofs.Pairs.{inside-more, among-more, repeats-more, among-none}
 
@@ -58,22 +58,22 @@ module _ (s numbers : List ℕ) (count : ℕ) (enough : 2 * count ≤ length num
   repeats-before (suc k) l e =
       let after : repeats (bounded s (from s numbers count (k + 1))) ≡ true = ap (λ (n : List ℕ). repeats (bounded s n)) (next-is k) ∙ e in
       repeats-before k (omega arith)
-      (repeats-more s numbers k count (omega arith) enough ∙ or-right (among (valueOf s numbers k) (bounded s (from s numbers count (k + 1)))) after)
+      (repeats-more s numbers k count (omega arith) enough ∙ or-right (among (boundedAt s numbers k) (bounded s (from s numbers count (k + 1)))) after)
 
-  module _ (k : ℕ) (some : k < count) (marks : List ℕ) (m : Marked s numbers count (k + 1) marks) (small : tag (valueOf s numbers k) < length marks) where
-    own-marked : (v : List ℕ) → tag v ≡ tag (valueOf s numbers k) → getD (set marks (tag (valueOf s numbers k)) 1) (tag v) 0 ≡ 1
-    own-marked v e = rw e (getD-set-same marks (tag (valueOf s numbers k)) 1 0 small)
+  module _ (k : ℕ) (some : k < count) (marks : List ℕ) (m : Marked s numbers count (k + 1) marks) (small : tag (boundedAt s numbers k) < length marks) where
+    own-marked : (v : List ℕ) → tag v ≡ tag (boundedAt s numbers k) → getD (set marks (tag (boundedAt s numbers k)) 1) (tag v) 0 ≡ 1
+    own-marked v e = rw e (getD-set-same marks (tag (boundedAt s numbers k)) 1 0 small)
 
-    still-marked : (v : List ℕ) → among v (bounded s (from s numbers count (k + 1))) ≡ true → getD (set marks (tag (valueOf s numbers k)) 1) (tag v) 0 ≡ 1
+    still-marked : (v : List ℕ) → among v (bounded s (from s numbers count (k + 1))) ≡ true → getD (set marks (tag (boundedAt s numbers k)) 1) (tag v) 0 ≡ 1
     still-marked v e =
-        cases (eqb (tag v) (tag (valueOf s numbers k)))
-        (λ t. own-marked v (eqb-true (tag v) (tag (valueOf s numbers k)) t))
-        (λ t. getD-set-other marks (tag (valueOf s numbers k)) (tag v) 1 0 (eqb-false (tag v) (tag (valueOf s numbers k)) t) ∙ m v e)
+        cases (eqb (tag v) (tag (boundedAt s numbers k)))
+        (λ t. own-marked v (eqb-true (tag v) (tag (boundedAt s numbers k)) t))
+        (λ t. getD-set-other marks (tag (boundedAt s numbers k)) (tag v) 1 0 (eqb-false (tag v) (tag (boundedAt s numbers k)) t) ∙ m v e)
 
     -- with its own tag marked, the value k is done too
-    pub marked-more : Marked s numbers count k (set marks (tag (valueOf s numbers k)) 1)
+    pub marked-more : Marked s numbers count k (set marks (tag (boundedAt s numbers k)) 1)
     marked-more v e =
         let one-of = sym (among-more s numbers k count some enough v) ∙ e in
-        cases (same v (valueOf s numbers k))
-        (λ t. own-marked v (ap tag (same-eq v (valueOf s numbers k) t)))
+        cases (same v (boundedAt s numbers k))
+        (λ t. own-marked v (ap tag (same-eq v (boundedAt s numbers k) t)))
         (λ t. still-marked v (rw t at one-of))

@@ -7,12 +7,12 @@ use lib.Seq.{slice}
 use Rattle.contents.specs.declared.Span.{Span}
 
 -- the bounds of the value k
-abbrev pub spanOf : (numbers : List ℕ) → (k : ℕ) → Span
-spanOf numbers k = record { first = getD numbers (2 * k) 0; past = getD numbers (2 * k + 1) 0 }
+abbrev pub pairAt : (numbers : List ℕ) → (k : ℕ) → Span
+pairAt numbers k = record { first = getD numbers (2 * k) 0; past = getD numbers (2 * k + 1) 0 }
 
 -- the value k
-abbrev pub valueOf : (s numbers : List ℕ) → (k : ℕ) → List ℕ
-valueOf s numbers k = slice (spanOf numbers k .first) (spanOf numbers k .past) s
+abbrev pub boundedAt : (s numbers : List ℕ) → (k : ℕ) → List ℕ
+boundedAt s numbers k = slice (pairAt numbers k .first) (pairAt numbers k .past) s
 
 -- the values that numbers bound
 unfoldable pub bounded : (s numbers : List ℕ) → List (List ℕ)

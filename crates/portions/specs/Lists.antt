@@ -9,11 +9,11 @@ use Rattle.runs.specs.declared.Run.{Run}
 use Rattle.runs.specs.Runs.{treeIn}
 use Rattle.portions.specs.Portions.{mostPortions, allPortions, values, all}
 use Rattle.portions.specs.Bounds.{bounded, Inside}
-use Rattle.portions.specs.declared.Listed.{Listed}
+use Rattle.portions.specs.declared.PortionList.{PortionList}
 
 -- The items of a run, if all are 12: how many they are, whether one is misspelt, and, if they are at most 64, the numbers that bound
 -- them. Of a run with other items only that is told.
-pub record Lists (s : List ℕ) (r : Run) (listed : Listed) (numbers : List ℕ) : Type 0 where
+pub record ListsPortions (s : List ℕ) (r : Run) (listed : PortionList) (numbers : List ℕ) : Type 0 where
   pub others : listed .others ≡ not (allPortions (treeIn s r))
   pub count : listed .others ≡ false → listed .count ≡ length (values (treeIn s r))
   pub misspelt : listed .others ≡ false → listed .misspelt ≡ not (all (map isPortion (values (treeIn s r))))

@@ -12,8 +12,8 @@ ghost use Rattle.octets.specs.Walk.{streamLimit};
 ghost use Rattle.names.specs.Names.{isPortion};
 ghost use Rattle.runs.specs.Runs.{Fine};
 ghost use Rattle.portions.specs.Portions.{mostPortions, among, repeats};
-ghost use Rattle.portions.specs.Bounds.{spanOf, valueOf, bounded, Inside};
-ghost use Rattle.portions.specs.Lists.{Lists};
+ghost use Rattle.portions.specs.Bounds.{pairAt, boundedAt, bounded, Inside};
+ghost use Rattle.portions.specs.Lists.{ListsPortions};
 ghost use Rattle.portions.specs.Tags.{tags, tag};
 
 const PORTION: usize = 0x12;
@@ -26,7 +26,7 @@ const NO_DIGITS: usize = 16;
 
 // What one reading of the portions tells: how many they are, whether other items than portions are among them (then nothing else is
 // told), and whether one is misspelt.
-pub struct Listed {
+pub struct PortionList {
     pub count: usize,
     pub others: bool,
     pub misspelt: bool,
@@ -62,16 +62,16 @@ fn is_misspelt(s: &[u8], before: bool, first: usize, past: usize) -> bool
 
 // Reads the portions of an element, once: rules 12, 14 and 15 are judged by what it tells and by the numbers that it leaves, two for
 // each of the first 64. The numbers lent are for this alone.
-pub fn read_portions(s: &[u8], r: Run, bounds: &mut [u32]) -> Listed
+pub fn read_portions(s: &[u8], r: Run, bounds: &mut [u32]) -> PortionList
     requires { ⌜ Fine (now s) r × (length (now s) ≤ streamLimit) × (2 * mostPortions ≤ length (now bounds)) ⌝ }
-    ensures { λ listed. ⌜ Lists (now (s .entry)) r listed (now (bounds .exit)) ⌝ }
+    ensures { λ listed. ⌜ ListsPortions (now (s .entry)) r listed (now (bounds .exit)) ⌝ }
 {
     let mut left = r;
     let mut count: usize = 0;
     let mut misspelt = false;
     loop {
         match runs::meet(s, left) {
-            Met::End => return Listed {
+            Met::End => return PortionList {
                 count,
                 others: false,
                 misspelt,
@@ -84,7 +84,7 @@ pub fn read_portions(s: &[u8], r: Run, bounds: &mut [u32]) -> Listed
                 rest,
             } => {
                 if octet != PORTION {
-                    return Listed {
+                    return PortionList {
                         count: 0,
                         others: true,
                         misspelt: false,
@@ -102,7 +102,7 @@ pub fn read_portions(s: &[u8], r: Run, bounds: &mut [u32]) -> Listed
 // The bounds of the value k.
 fn bounds_of(bounds: &[u32], k: usize) -> Span
     requires { ⌜ 2 * k + 1 < length (now bounds) ⌝ }
-    ensures { λ r. ⌜ r ≡ spanOf (now (bounds .entry)) k ⌝ }
+    ensures { λ r. ⌜ r ≡ pairAt (now (bounds .entry)) k ⌝ }
 {
     let first = wide(bounds[2 * k]);
     let past = wide(bounds[2 * k + 1]);
@@ -112,7 +112,7 @@ fn bounds_of(bounds: &[u32], k: usize) -> Span
 // Whether the value k stands again among those after it.
 fn is_among(s: &[u8], bounds: &[u32], k: usize, count: usize) -> bool
     requires { ⌜ (k < count) × (2 * count ≤ length (now bounds)) × Inside (now s) (slice (2 * k) (2 * count) (now bounds)) ⌝ }
-    ensures { λ r. ⌜ r ≡ among (valueOf (now (s .entry)) (now (bounds .entry)) k) (bounded (now (s .entry)) (slice (2 * (k + 1)) (2 * count) (now (bounds .entry)))) ⌝ }
+    ensures { λ r. ⌜ r ≡ among (boundedAt (now (s .entry)) (now (bounds .entry)) k) (bounded (now (s .entry)) (slice (2 * (k + 1)) (2 * count) (now (bounds .entry)))) ⌝ }
 {
     let one = bounds_of(bounds, k);
     let mut j = k + 1;
@@ -129,8 +129,8 @@ fn is_among(s: &[u8], bounds: &[u32], k: usize, count: usize) -> bool
 // The same, by the mark of its tag: where that is 0, no value after it has the tag.
 fn is_again(s: &[u8], bounds: &[u32], k: usize, count: usize, mark: u8) -> bool
     requires { ⌜ (k < count) × (2 * count ≤ length (now bounds)) × Inside (now s) (slice (2 * k) (2 * count) (now bounds)) ⌝ }
-    requires { ⌜ (mark ≡ 0 → among (valueOf (now s) (now bounds) k) (bounded (now s) (slice (2 * (k + 1)) (2 * count) (now bounds))) ≡ false) ⌝ }
-    ensures { λ r. ⌜ r ≡ among (valueOf (now (s .entry)) (now (bounds .entry)) k) (bounded (now (s .entry)) (slice (2 * (k + 1)) (2 * count) (now (bounds .entry)))) ⌝ }
+    requires { ⌜ (mark ≡ 0 → among (boundedAt (now s) (now bounds) k) (bounded (now s) (slice (2 * (k + 1)) (2 * count) (now bounds))) ≡ false) ⌝ }
+    ensures { λ r. ⌜ r ≡ among (boundedAt (now (s .entry)) (now (bounds .entry)) k) (bounded (now (s .entry)) (slice (2 * (k + 1)) (2 * count) (now (bounds .entry)))) ⌝ }
 {
     if mark == 0 {
         return false;

@@ -4,7 +4,7 @@ use mathlib.Core.List.{List, [], _∷_, map}
 use Prim.Native.Nat.{ℕ}
 use Rattle.names.specs.Names.{same}
 use Rattle.contents.specs.Search.{Value, absent, octets}
-use Rattle.elements.specs.Element.{single, Element}
+use Rattle.elements.specs.Judge.{single, Element}
 use Rattle.reading.specs.declared.Match.{Match}
 use Rattle.reading.specs.declared.Side.the-variants.{Layout, Logical}
 use Rattle.reading.specs.Match.{joins, forEach, portionMatches, elementMatches, matches}

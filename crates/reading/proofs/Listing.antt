@@ -12,9 +12,8 @@ use lib.ListN.{length, getElem?, length-append}
 use lib.Seq.{slice}
 use borrow.Author.Tests.{ltb-true, ltb-false, lt-ltb}
 use borrow.Table.Steps.{cases}
-use Rattle.headers.specs.First.{isIn}
-use Rattle.octets.specs.Items.{none}
-use Rattle.octets.specs.Walk.{Walked}
+use Rattle.headers.specs.Head.{isIn}
+use Rattle.octets.specs.Walk.{none, Walked}
 use Rattle.octets.specs.Rules.{at-limit}
 use Rattle.octets.proofs.RulesHold.{derived}
 use Rattle.names.specs.Names.{spaceByte}
@@ -23,17 +22,18 @@ use Rattle.runs.specs.declared.Run.{Run}
 use Rattle.runs.specs.Runs.{itemsOf, treeIn, Fine, Meeting}
 use Rattle.portions.specs.Portions.{mostPortions, allPortions, values}
 use Rattle.portions.proofs.Meetings.{values-next, portions-left, values-end}
-use Rattle.index.specs.declared.Found.{Found}
-use Rattle.index.specs.declared.Found.the-variants.{At, Nothing}
-use Rattle.index.specs.Rows.{identifierColumn, kindAt, firstAt, pastAt, Bounded}
-use Rattle.index.specs.Index.{Finds}
-use Rattle.elements.specs.Element.{Element}
-use Rattle.elements.specs.Says.{bytesIn, Placed}
+use Rattle.index.specs.declared.RowFound.{RowFound}
+use Rattle.index.specs.declared.RowFound.the-variants.{At, Nothing}
+use Rattle.index.specs.Columns.{identifierColumn, kindAt, firstAt, pastAt, Bounded}
+use Rattle.index.specs.Index.{FindsRow}
+use Rattle.elements.specs.Judge.{Element}
+use Rattle.elements.specs.Rows.{bytesIn}
+use Rattle.elements.specs.Says.{Placed}
 use Rattle.reading.specs.declared.Match.{Match}
 use Rattle.reading.specs.declared.Side.{Side}
 use Rattle.reading.specs.Match.{kindsOf, forEach, portionMatches, elementMatches}
-use Rattle.reading.specs.Records.{Puts}
-use Rattle.reading.specs.Ready.{columnOf, unitSpace, spanAt, portionsAt, Tells, Ready, listed, portionsColumn, Searchable, Room, PutsElement, foundMatches, FoundBelow, elementAt, noElement}
+use Rattle.reading.specs.Records.{PutsRecords}
+use Rattle.reading.specs.Ready.{columnOf, unitSpace, spanAt, portionsAt, Tells, RowsTell, isListed, portionsColumn, Searchable, Room, PutsElement, foundMatches, FoundBelow, elementAt, noElement}
 use Rattle.reading.proofs.Lists.{at-getD}
 use Rattle.reading.proofs.OnePlace.{few-portions}
 use Rattle.reading.proofs.Matches.{joins-told}
@@ -55,8 +55,8 @@ record Named (side : Side) (rows : List ℕ) (n e : ℕ) : Type 0 where
   on-side : isIn (kindAt rows e) (kindsOf side) ≡ true
   named : firstAt rows identifierColumn e < pastAt rows identifierColumn e
 
-listed-named : (side : Side) (rows : List ℕ) (n e : ℕ) → e < n → listed side rows e ≡ true → Named side rows n e
-unfolding listed
+listed-named : (side : Side) (rows : List ℕ) (n e : ℕ) → e < n → isListed side rows e ≡ true → Named side rows n e
+unfolding isListed
 listed-named side rows n e l t =
     let on = isIn (kindAt rows e) (kindsOf side) in
     let there = ltb (firstAt rows identifierColumn e) (pastAt rows identifierColumn e) in
@@ -69,12 +69,12 @@ pub record Listing (side : Side) (s rows : List ℕ) (n element : ℕ) (flat₀ 
   pub only-portions : allPortions (treeIn s left) ≡ true
   pub placed : place + length (values (treeIn s left)) ≤ mostPortions
   pub kept : length flat ≡ length flat₀
-  pub room : (elements : List Element) → Ready s rows n elements → 3 * (total + length (toCome side s elements element left place)) ≤ length flat
-  pub goes-on : (elements : List Element) → Ready s rows n elements → (after : List ℕ) (end : ℕ)
-      → Puts flat total (toCome side s elements element left place) after end
-      → Puts flat₀ count (elementMatches side elements element (elementAt elements element)) after end
+  pub room : (elements : List Element) → RowsTell s rows n elements → 3 * (total + length (toCome side s elements element left place)) ≤ length flat
+  pub goes-on : (elements : List Element) → RowsTell s rows n elements → (after : List ℕ) (end : ℕ)
+      → PutsRecords flat total (toCome side s elements element left place) after end
+      → PutsRecords flat₀ count (elementMatches side elements element (elementAt elements element)) after end
 
-module _ (s rows : List ℕ) (n element : ℕ) (below : element < n) (elements : List Element) (ready : Ready s rows n elements) where
+module _ (s rows : List ℕ) (n element : ℕ) (below : element < n) (elements : List Element) (ready : RowsTell s rows n elements) where
   pub element-there : getElem? elements element ≡ some (elementAt elements element)
   element-there = at-getD elements element noElement (omega (arith, ready .counted))
 
@@ -85,7 +85,7 @@ module _ (s rows : List ℕ) (n element : ℕ) (below : element < n) (elements :
   unfolding elementMatches
   all-to-come side = ap (λ (vs : List (List ℕ)). forEach 0 vs (portionMatches side elements element (elementAt elements element))) (element-told .portions)
 
-module _ {side : Side} {s rows head next : List ℕ} {n element : ℕ} (known : Searchable side s rows head next n) (below : element < n) (is-listed : listed side rows element ≡ true) where
+module _ {side : Side} {s rows head next : List ℕ} {n element : ℕ} (known : Searchable side s rows head next n) (below : element < n) (is-listed : isListed side rows element ≡ true) where
   abbrev named : Named side rows n element
   named = listed-named side rows n element below is-listed
 
@@ -102,7 +102,7 @@ module _ {side : Side} {s rows head next : List ℕ} {n element : ℕ} (known : 
         placed = omega (arith, ap length (there .portions), few-portions (elementAt (known .elements) element) spelt);
         kept = refl;
         room = λ elements ready. rw (all-to-come s rows n element (named .below) elements ready side) (room elements ready);
-        goes-on = λ elements ready after end p. subst (λ (ms : List Match). Puts flat count ms after end) (all-to-come s rows n element (named .below) elements ready side) p;
+        goes-on = λ elements ready after end p. subst (λ (ms : List Match). PutsRecords flat count ms after end) (all-to-come s rows n element (named .below) elements ready side) p;
       }
 
   module _ {flat₀ : List ℕ} {count : ℕ} {flat : List ℕ} {left : Run} {place total : ℕ} (listing : Listing side s rows n element flat₀ count flat left place total) where
@@ -111,14 +111,14 @@ module _ {side : Side} {s rows head next : List ℕ} {n element : ℕ} (known : 
     unfolding forEach
     listing-none e elements ready =
         listing .goes-on elements ready flat total
-        (subst (λ (vs : List (List ℕ)). Puts flat total (forEach place vs (portionMatches side elements element (elementAt elements element))) flat total)
+        (subst (λ (vs : List (List ℕ)). PutsRecords flat total (forEach place vs (portionMatches side elements element (elementAt elements element))) flat total)
         (sym (values-end s left e)) (puts-none flat total))
 
-    module _ {octet from to : ℕ} {inner rest : Run} (met : Meeting s left octet from to inner rest) (found : Found)
-        (finds : Finds s rows (columnOf side) n unitSpace
+    module _ {octet from to : ℕ} {inner rest : Run} (met : Meeting s left octet from to inner rest) (found : RowFound)
+        (finds : FindsRow s rows (columnOf side) n unitSpace
         (bytesIn s (spanAt rows identifierColumn element) ++ spaceByte ∷ slice from to s) found) where
       -- a portion that is met yields what was found, and then come the others
-      one-more : (elements : List Element) → Ready s rows n elements
+      one-more : (elements : List Element) → RowsTell s rows n elements
           → toCome side s elements element left place ≡ foundMatches element place found ++ toCome side s elements element rest (place + 1)
       unfolding forEach
       one-more elements ready =
@@ -151,12 +151,12 @@ module _ {side : Side} {s rows head next : List ℕ} {n element : ℕ} (known : 
       pub found-small : FoundBelow 4294967296 found
       found-small = smaller found (finds-below s rows (columnOf side) n unitSpace (bytesIn s (spanAt rows identifierColumn element) ++ spaceByte ∷ slice from to s) found finds)
         where
-          smaller : (f : Found) → FoundBelow n f → FoundBelow 4294967296 f
+          smaller : (f : RowFound) → FoundBelow n f → FoundBelow 4294967296 f
           smaller (At u) b = omega (arith, known .ready .counted, known .ready .apart .few)
           smaller Nothing b = tt
 
       -- and once it is put, the others are left
-      pub listing-more : {flat' : List ℕ} {total' : ℕ} → Puts flat total (foundMatches element place found) flat' total'
+      pub listing-more : {flat' : List ℕ} {total' : ℕ} → PutsRecords flat total (foundMatches element place found) flat' total'
           → Listing side s rows n element flat₀ count flat' rest (place + 1) total'
       listing-more {flat'} {total'} put = record {
         fine = met .rest-fine;
@@ -169,12 +169,12 @@ module _ {side : Side} {s rows head next : List ℕ} {n element : ℕ} (known : 
             omega (arith, put .counted, puts-length put);
         goes-on = λ elements ready after end p.
             listing .goes-on elements ready after end
-            (subst (λ (ms : List Match). Puts flat total ms after end) (sym (one-more elements ready))
+            (subst (λ (ms : List Match). PutsRecords flat total ms after end) (sym (one-more elements ready))
             (puts-then (foundMatches element place found) (toCome side s elements element rest (place + 1)) put p));
       }
 
 -- an element that is not listed has no match
-module _ (side : Side) (s rows : List ℕ) (n e : ℕ) (below : e < n) (elements : List Element) (ready : Ready s rows n elements) where
+module _ (side : Side) (s rows : List ℕ) (n e : ℕ) (below : e < n) (elements : List Element) (ready : RowsTell s rows n elements) where
   abbrev x : Element
   x = elementAt elements e
 
@@ -202,8 +202,8 @@ module _ (side : Side) (s rows : List ℕ) (n e : ℕ) (below : e < n) (elements
       let none-left : x .portions ≡ [] = sym (told .portions) ∙ values-end s (portionsAt rows e) empty in
       rw none-left
 
-  pub unlisted : listed side rows e ≡ false → elementMatches side elements e x ≡ []
-  unfolding listed
+  pub unlisted : isListed side rows e ≡ false → elementMatches side elements e x ≡ []
+  unfolding isListed
   unlisted t =
       cases (isIn (kindAt rows e) (kindsOf side))
       (λ a. cases (ltb (firstAt rows identifierColumn e) (pastAt rows identifierColumn e)) (λ b. no-portion (rw (a, b) at t)) no-name)

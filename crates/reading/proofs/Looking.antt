@@ -9,31 +9,31 @@ use native.Mathlib.Omega.{arith}
 use lib.Dec.{ltb}
 use lib.ListN.{getElem?}
 use borrow.Author.Tests.{ltb-true, lt-ltb}
-use Rattle.headers.specs.First.{isIn}
+use Rattle.headers.specs.Head.{isIn}
 use Rattle.names.specs.Names.{spaceByte}
 use Rattle.contents.specs.declared.Span.{Span}
 use Rattle.contents.specs.Search.{absent, octets}
-use Rattle.index.specs.declared.Found.{Found}
-use Rattle.index.specs.declared.Found.the-variants.{At, Nothing}
-use Rattle.index.specs.Rows.{kindAt, firstAt, pastAt, space}
-use Rattle.index.specs.Index.{Has, Finds}
-use Rattle.elements.specs.Element.{Element}
-use Rattle.elements.specs.Says.{bytesIn}
+use Rattle.index.specs.declared.RowFound.{RowFound}
+use Rattle.index.specs.declared.RowFound.the-variants.{At, Nothing}
+use Rattle.index.specs.Columns.{kindAt, firstAt, pastAt}
+use Rattle.index.specs.Rows.{nameSpaceOf}
+use Rattle.index.specs.Index.{Has, FindsRow}
+use Rattle.elements.specs.Judge.{Element}
+use Rattle.elements.specs.Rows.{bytesIn}
 use Rattle.judging.proofs.Lists.{below-length}
 use Rattle.reading.specs.declared.Match.{Match}
 use Rattle.reading.specs.declared.Side.{Side}
 use Rattle.reading.specs.declared.Side.the-variants.{Layout, Logical}
-use Rattle.reading.specs.Match.{unitKind, kindsOf, nameOn, joins, portionMatches}
-use Rattle.reading.specs.Promises.{Joined}
-use Rattle.reading.specs.Ready.{columnOf, unitSpace, spanAt, nameIn, Tells, Ready, foundMatches, FoundBelow, elementAt, noElement}
+use Rattle.reading.specs.Match.{unitKind, kindsOf, nameOn, joins, portionMatches, Joined}
+use Rattle.reading.specs.Ready.{columnOf, unitSpace, spanAt, nameIn, Tells, RowsTell, foundMatches, FoundBelow, elementAt, noElement}
 use Rattle.reading.proofs.Lists.{at-getD}
 use Rattle.reading.proofs.Each.{none-passes, one-passes}
 use Rattle.reading.proofs.Matches.{joins-told, joined-joins}
 use Rattle.reading.proofs.Single.{one-unit}
 
 -- text units are alone in their name space
-unit-kind : (kind : ℕ) → space kind ≡ unitSpace → kind ≡ unitKind
-unfolding space
+unit-kind : (kind : ℕ) → nameSpaceOf kind ≡ unitSpace → kind ≡ unitKind
+unfolding nameSpaceOf
 unit-kind zero e = absurd (omega arith)
 unit-kind (suc zero) e = absurd (omega arith)
 unit-kind (suc (suc zero)) e = absurd (omega arith)
@@ -45,8 +45,8 @@ unit-kind (suc (suc (suc (suc (suc (suc (suc zero))))))) e = absurd (omega arith
 unit-kind (suc (suc (suc (suc (suc (suc (suc (suc zero)))))))) e = absurd (omega arith)
 unit-kind (suc (suc (suc (suc (suc (suc (suc (suc (suc k))))))))) e = absurd (omega arith)
 
-unit-space : space unitKind ≡ unitSpace
-unfolding space
+unit-space : nameSpaceOf unitKind ≡ unitSpace
+unfolding nameSpaceOf
 unit-space = refl
 
 -- a name that is there
@@ -60,7 +60,7 @@ name-there s pair bytes e = by-test (ltb (pair .first) (pair .past)) refl
         (ltb-true (pair .first) (pair .past) t, g)
     by-test false t = let f : absent ≡ octets bytes = rw t at e in let z : _≡_ {A = ℕ} 0 1 = cc in absurd (omega arith)
 
-module _ {s rows : List ℕ} {n : ℕ} {elements : List Element} (ready : Ready s rows n elements) (side : Side) where
+module _ {s rows : List ℕ} {n : ℕ} {elements : List Element} (ready : RowsTell s rows n elements) (side : Side) where
   -- what a row has at the column of the side is the name on that side
   name-told : (side : Side) (j : ℕ) (unit : Element) → Tells s rows j unit
       → nameOn side unit ≡ nameIn s (spanAt rows (columnOf side) j)
@@ -87,7 +87,7 @@ module _ {s rows : List ℕ} {n : ℕ} {elements : List Element} (ready : Ready 
           record {
             below = omega (arith, below-length elements j unit there, ready .counted);
             present = h .0;
-            of-space = ap space (tells .kind ∙ joined .of-unit) ∙ unit-space;
+            of-space = ap nameSpaceOf (tells .kind ∙ joined .of-unit) ∙ unit-space;
             of-bytes = h .1;
           }
 
@@ -126,11 +126,11 @@ module _ {s rows : List ℕ} {n : ℕ} {elements : List Element} (ready : Ready 
       found-nowhere none = none-passes (joins side element portion) made 0 elements (λ k unit there t. none k (joins-has k unit there t))
 
       -- the matches of a portion are what the look-up of its joined name yields
-      pub found-matches : (found : Found) → Finds s rows (columnOf side) n unitSpace bytes found → portionMatches side elements e element p portion ≡ foundMatches e p found
+      pub found-matches : (found : RowFound) → FindsRow s rows (columnOf side) n unitSpace bytes found → portionMatches side elements e element p portion ≡ foundMatches e p found
       found-matches (At u) finds = found-there u (finds .0)
       found-matches Nothing finds = found-nowhere finds
 
 -- a unit that is found is one of the first n rows
-pub finds-below : (s rows : List ℕ) (column n nameSpace : ℕ) (bytes : List ℕ) (found : Found) → Finds s rows column n nameSpace bytes found → FoundBelow n found
+pub finds-below : (s rows : List ℕ) (column n nameSpace : ℕ) (bytes : List ℕ) (found : RowFound) → FindsRow s rows column n nameSpace bytes found → FoundBelow n found
 finds-below s rows column n nameSpace bytes (At u) finds = finds .0 .below
 finds-below s rows column n nameSpace bytes Nothing finds = tt

@@ -9,15 +9,14 @@ use native.Mathlib.Omega.{arith}
 use lib.Dec.{eqb}
 use lib.ListN.{getElem?}
 use borrow.Author.Tests.{eqb-true, eq-eqb}
-use Rattle.headers.specs.First.{isIn}
+use Rattle.headers.specs.Head.{isIn}
 use Rattle.names.specs.Names.{spaceByte}
 use Rattle.names.proofs.Same.{same-eq, same-refl}
 use Rattle.contents.specs.Search.{Value, absent, octets}
-use Rattle.elements.specs.Element.{Element}
+use Rattle.elements.specs.Judge.{Element}
 use Rattle.reading.specs.declared.Match.{Match}
 use Rattle.reading.specs.declared.Side.{Side}
-use Rattle.reading.specs.Match.{unitKind, kindsOf, nameOn, spells, joins, only, portionMatches, elementMatches, matches}
-use Rattle.reading.specs.Promises.{Joined, IsMatch, Before}
+use Rattle.reading.specs.Match.{unitKind, kindsOf, nameOn, spells, joins, only, portionMatches, elementMatches, matches, Joined, IsMatch, Before}
 use Rattle.reading.proofs.Lists.{Sorted, Once, sorted-once}
 use Rattle.reading.proofs.Each.{only-in, only-out, only-sorted, each-out, each-in, each-sorted}
 

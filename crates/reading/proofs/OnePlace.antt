@@ -12,9 +12,8 @@ use borrow.Table.Steps.{cases}
 use Rattle.names.specs.Names.{same, isPortion}
 use Rattle.names.proofs.Same.{same-refl}
 use Rattle.portions.specs.Portions.{mostPortions, all, among, repeats, wellSpelt}
-use Rattle.elements.specs.Element.{Element, spelt, namesFit}
-use Rattle.elements.specs.Judge.{clash}
-use Rattle.letters.specs.Table.{Apart}
+use Rattle.elements.specs.Judge.{Element, spelt, namesFit, clash}
+use Rattle.letters.specs.Apart.{Apart}
 use Rattle.judging.proofs.Lists.{any-true}
 
 -- the portions of a well spelt element are at most 64,

@@ -7,10 +7,10 @@ use native.Mathlib.Omega.{arith}
 use native.Mathlib.Numerals.{add-one}
 use lib.ListN.{length, getD, set, take, drop, length-append}
 use lib.Seq.{sets, sets-eq, length-sets, take-suc, take-all}
-use Rattle.index.specs.declared.Found.{Found}
-use Rattle.index.specs.declared.Found.the-variants.{At, Nothing}
+use Rattle.index.specs.declared.RowFound.{RowFound}
+use Rattle.index.specs.declared.RowFound.the-variants.{At, Nothing}
 use Rattle.reading.specs.declared.Match.{Match}
-use Rattle.reading.specs.Records.{numbersOf, recordAt, records, Puts}
+use Rattle.reading.specs.Records.{numbersOf, recordAt, records, PutsRecords}
 use Rattle.reading.specs.Ready.{foundMatches, FoundBelow}
 use Rattle.reading.proofs.Made.{noMatch}
 
@@ -30,19 +30,19 @@ sets-append l i (x ∷ xs) ys =
     let e : i + suc (length xs) ≡ suc i + length xs = omega arith in rw e (sets-append (set l i x) (suc i) xs ys)
 
 -- nothing is put
-pub puts-none : (l : List ℕ) (count : ℕ) → Puts l count [] l count
+pub puts-none : (l : List ℕ) (count : ℕ) → PutsRecords l count [] l count
 unfolding numbersOf
 puts-none l count = record { counted = omega arith; stored = refl }
 
 -- one record is put by three stores
-pub puts-one : (l : List ℕ) (k e p u : ℕ) → Puts l k (foundMatches e p (At u)) (set (set (set l (3 * k) e) (3 * k + 1) p) (3 * k + 2) u) (k + 1)
+pub puts-one : (l : List ℕ) (k e p u : ℕ) → PutsRecords l k (foundMatches e p (At u)) (set (set (set l (3 * k) e) (3 * k + 1) p) (3 * k + 2) u) (k + 1)
 unfolding numbersOf
 puts-one l k e p u =
     let two : 3 * k + 2 ≡ suc (suc (3 * k)) = omega arith in
     record { counted = refl; stored = rw (add-one (3 * k), two) }
 
 -- some are put, and then others
-pub puts-then : {a b d : List ℕ} {i j k : ℕ} (ms ns : List Match) → Puts a i ms b j → Puts b j ns d k → Puts a i (ms ++ ns) d k
+pub puts-then : {a b d : List ℕ} {i j k : ℕ} (ms ns : List Match) → PutsRecords a i ms b j → PutsRecords b j ns d k → PutsRecords a i (ms ++ ns) d k
 puts-then {a} {b} {d} {i} {j} {k} ms ns p q =
     let at : 3 * j ≡ 3 * i + length (numbersOf ms) = omega (arith, p .counted, length-numbers ms) in
     record {
@@ -50,11 +50,11 @@ puts-then {a} {b} {d} {i} {j} {k} ms ns p q =
       stored = q .stored ∙ rw (at, p .stored, numbers-append ms ns) (sym (sets-append a (3 * i) (numbersOf ms) (numbersOf ns)));
     }
 
-pub puts-length : {a b : List ℕ} {i j : ℕ} {ms : List Match} → Puts a i ms b j → length b ≡ length a
+pub puts-length : {a b : List ℕ} {i j : ℕ} {ms : List Match} → PutsRecords a i ms b j → length b ≡ length a
 puts-length {a} {i = i} {ms = ms} p = ap length (p .stored) ∙ length-sets a (3 * i) (numbersOf ms)
 
 -- all are put, from the start: their numbers, and then what was there
-module _ {a b : List ℕ} {count : ℕ} (ms : List Match) (p : Puts a 0 ms b count) (room : 3 * length ms ≤ length a) where
+module _ {a b : List ℕ} {count : ℕ} (ms : List Match) (p : PutsRecords a 0 ms b count) (room : 3 * length ms ≤ length a) where
   pub puts-count : count ≡ length ms
   puts-count = omega (arith, p .counted)
 
@@ -66,13 +66,13 @@ module _ {a b : List ℕ} {count : ℕ} (ms : List Match) (p : Puts a 0 ms b cou
 
 -- what was found is a match or none
 module _ (e p : ℕ) where
-  pub found-one : (found : Found) (u : ℕ) → found ≡ At u → foundMatches e p found ≡ foundMatches e p (At u)
+  pub found-one : (found : RowFound) (u : ℕ) → found ≡ At u → foundMatches e p found ≡ foundMatches e p (At u)
   found-one found u q = ap (foundMatches e p) q
 
-  pub found-none : (found : Found) → found ≡ Nothing → foundMatches e p found ≡ []
+  pub found-none : (found : RowFound) → found ≡ Nothing → foundMatches e p found ≡ []
   found-none found q = ap (foundMatches e p) q
 
-pub found-below : (n : ℕ) (found : Found) (u : ℕ) → found ≡ At u → FoundBelow n found → u < n
+pub found-below : (n : ℕ) (found : RowFound) (u : ℕ) → found ≡ At u → FoundBelow n found → u < n
 found-below n found u q b = rw q at b
 
 -- the records that stand at the front of numbers

@@ -12,11 +12,11 @@ use Rattle.runs.specs.Runs.{treeIn, Fine}
 use Rattle.contents.specs.declared.Span.{Span}
 use Rattle.contents.specs.Search.{Value, absent, octets}
 use Rattle.portions.specs.Portions.{allPortions, values}
-use Rattle.index.specs.Rows.{rowWidth, identifierColumn, logicalColumn}
+use Rattle.index.specs.Rows.{rowWidth}
+use Rattle.index.specs.Columns.{identifierColumn, logicalColumn}
 use Rattle.elements.specs.declared.Row.{Row}
 use Rattle.elements.specs.Shape.{edition1988}
-use Rattle.elements.specs.Element.{Element}
-use Rattle.elements.specs.Judge.{accepted, judge}
+use Rattle.elements.specs.Judge.{Element, accepted, judge}
 use Rattle.elements.specs.Rows.{cells}
 use Rattle.elements.specs.Says.{Names, portionsRun}
 use Rattle.letters.specs.Letter.{rowsOfStream}
@@ -26,8 +26,8 @@ use Rattle.letters.proofs.Table.{filled-apart, filled-row}
 use Rattle.reading.specs.declared.Side.{Side}
 use Rattle.reading.specs.declared.Side.the-variants.{Layout, Logical}
 use Rattle.reading.specs.Match.{matches}
-use Rattle.reading.specs.Records.{numbersOf, records, Lists}
-use Rattle.reading.specs.Ready.{portionsColumn, spanAt, nameIn, portionsAt, Tells, Ready, Searchable, PutsAll}
+use Rattle.reading.specs.Records.{numbersOf, records, ListsMatches}
+use Rattle.reading.specs.Ready.{portionsColumn, spanAt, nameIn, portionsAt, Tells, RowsTell, Searchable, PutsAll}
 use Rattle.reading.proofs.Putting.{puts-length, puts-count, puts-all, records-back}
 use Rattle.reading.proofs.Single.{no-more-than-elements}
 
@@ -62,7 +62,7 @@ module _ {s rows head next head2 next2 : List ℕ} {n : ℕ} (filled : Filled s 
           portions = ap (λ (r : Run). values (treeIn s r)) run-at ∙ says .portions;
         }
 
-  pub filled-ready : Ready s rows n (filled .elements)
+  pub filled-ready : RowsTell s rows n (filled .elements)
   filled-ready = record { apart = filled-apart filled; counted = filled .holds .counted; tells = filled-tells }
 
   pub layout-set : Searchable Layout s rows head next n
@@ -85,7 +85,7 @@ module _ {s rows head next head2 next2 : List ℕ} {n : ℕ} (filled : Filled s 
 
   -- all matches of a side are put: that is its list
   pub puts-list : (side given : Side) → side ≡ given → (before after : List ℕ) (count : ℕ) → 3 * n ≤ length before → PutsAll given s rows n before after count
-      → (elements : List Element) → judge edition1988 (treeOf s) ≡ accepted elements → Lists side elements before after count
+      → (elements : List Element) → judge edition1988 (treeOf s) ≡ accepted elements → ListsMatches side elements before after count
   puts-list side given same-side before after count enough puts elements judged =
       let e : accepted (filled .elements) ≡ accepted elements = sym (filled .judged) ∙ judged in
       let same : filled .elements ≡ elements = cc in
@@ -101,7 +101,7 @@ module _ {s rows head next head2 next2 : List ℕ} {n : ℕ} (filled : Filled s 
       })
 
 -- the records of the list are the matches
-pub lists-records : {side : Side} {elements : List Element} {before after : List ℕ} {count : ℕ} → Lists side elements before after count
+pub lists-records : {side : Side} {elements : List Element} {before after : List ℕ} {count : ℕ} → ListsMatches side elements before after count
     → records after count ≡ matches side elements
 lists-records {side} {elements} {before} {after} {count} lists =
     let ms = matches side elements in

@@ -11,28 +11,26 @@ use lib.Dec.{eqb}
 use lib.ListN.{length, getElem?, length-append, length-map}
 use borrow.Author.Tests.{eqb-true, eq-eqb}
 use borrow.Table.Steps.{cases}
-use Rattle.headers.specs.First.{isIn}
+use Rattle.headers.specs.Head.{isIn}
 use Rattle.names.specs.Names.{spaceByte}
 use Rattle.names.proofs.Same.{same-refl}
 use Rattle.names.proofs.Joined.{joined-parts}
-use Rattle.index.specs.Rows.{space}
+use Rattle.index.specs.Rows.{nameSpaceOf}
 use Rattle.contents.specs.Search.{octets}
-use Rattle.elements.specs.Element.{Element}
-use Rattle.elements.specs.Judge.{shares, clash}
-use Rattle.letters.specs.Table.{Apart}
+use Rattle.elements.specs.Judge.{Element, shares, clash}
+use Rattle.letters.specs.Apart.{Apart}
 use Rattle.reading.specs.declared.Match.{Match}
 use Rattle.reading.specs.declared.Side.{Side}
 use Rattle.reading.specs.declared.Side.the-variants.{Layout, Logical}
-use Rattle.reading.specs.Match.{unitKind, kindsOf, nameOn, joins, forEach, portionMatches, elementMatches, matches}
-use Rattle.reading.specs.Promises.{IsMatch, units, portionsOn}
+use Rattle.reading.specs.Match.{unitKind, kindsOf, nameOn, joins, forEach, portionMatches, elementMatches, matches, IsMatch, units, portionsOn}
 use Rattle.reading.proofs.Lists.{once-fits, once-map}
 use Rattle.reading.proofs.Each.{none-passes, few-pass, each-none, each-few}
 use Rattle.reading.proofs.OnePlace.{portion-spelt, one-place, one-element}
 use Rattle.reading.proofs.Matches.{joins-told, matches-are, matches-once}
 
 -- the elements of a side are of one name space
-side-space : (side : Side) (kind : ℕ) → isIn kind (kindsOf side) ≡ true → space kind ≡ 1
-unfolding space
+side-space : (side : Side) (kind : ℕ) → isIn kind (kindsOf side) ≡ true → nameSpaceOf kind ≡ 1
+unfolding nameSpaceOf
 side-space Layout kind e =
     cases (eqb kind 1) (λ t. rw (eqb-true kind 1 t))
     (λ t. cases (eqb kind 2) (λ u. rw (eqb-true kind 2 u)) (λ u. absurd (false≢true (rw (t, u) at e))))
@@ -41,12 +39,12 @@ side-space Logical kind e =
     (λ t. cases (eqb kind 6) (λ u. rw (eqb-true kind 6 u)) (λ u. absurd (false≢true (rw (t, u) at e))))
 
 -- two of a name space that have the same name clash: by their identifiers, or by the name of a side
-clash-identifier : (d e : Element) (bytes : List ℕ) → space (d .kind) ≡ space (e .kind) → d .identifier ≡ octets bytes → e .identifier ≡ octets bytes
+clash-identifier : (d e : Element) (bytes : List ℕ) → nameSpaceOf (d .kind) ≡ nameSpaceOf (e .kind) → d .identifier ≡ octets bytes → e .identifier ≡ octets bytes
     → clash d e ≡ true
 unfolding clash
 clash-identifier d e bytes s p q = rw (eq-eqb _ _ s, p, q, same-refl bytes)
 
-clash-side : (side : Side) (d e : Element) (bytes : List ℕ) → space (d .kind) ≡ space (e .kind) → nameOn side d ≡ octets bytes → nameOn side e ≡ octets bytes
+clash-side : (side : Side) (d e : Element) (bytes : List ℕ) → nameSpaceOf (d .kind) ≡ nameSpaceOf (e .kind) → nameOn side d ≡ octets bytes → nameOn side e ≡ octets bytes
     → clash d e ≡ true
 unfolding clash
 clash-side Layout d e bytes s p q = rw (eq-eqb _ _ s, p, q, same-refl bytes)
@@ -98,7 +96,7 @@ module _ (elements : List Element) (apart : Apart elements) (side : Side) where
   pub one-unit : (i j : ℕ) (u v : Element) (bytes : List ℕ) → getElem? elements i ≡ some u → getElem? elements j ≡ some v → u .kind ≡ unitKind
       → v .kind ≡ unitKind → nameOn side u ≡ octets bytes → nameOn side v ≡ octets bytes → i ≡ j
   one-unit i j u v bytes p q k l m n =
-      let s : space (u .kind) ≡ space (v .kind) = ap space (k ∙ sym l) in
+      let s : nameSpaceOf (u .kind) ≡ nameSpaceOf (v .kind) = ap nameSpaceOf (k ∙ sym l) in
       one-element elements apart i j u v p q (clash-side side u v bytes s m n) (clash-side side v u bytes (sym s) n m)
 
   -- a portion of an element has at most one unit
@@ -132,7 +130,7 @@ module _ (elements : List Element) (apart : Apart elements) (side : Side) where
 
     same-element : m .element ≡ n .element
     same-element =
-        let s : space (a .element .kind) ≡ space (b .element .kind) =
+        let s : nameSpaceOf (a .element .kind) ≡ nameSpaceOf (b .element .kind) =
         side-space side (a .element .kind) (a .joined .on-side) ∙ sym (side-space side (b .element .kind) (b .joined .on-side)) in
         let named : b .element .identifier ≡ octets (a .joined .identifier) = b .joined .named ∙ ap octets (sym (told .0)) in
         one-element elements apart (m .element) (n .element) (a .element) (b .element) (a .element-there) (b .element-there)

@@ -7,12 +7,12 @@ use native.Mathlib.Omega.{arith}
 use native.Mathlib.Numerals.{add-one}
 use lib.ListN.{length, drop, length-append, drop-of-length-le}
 use lib.Seq.{drop-cons}
-use Rattle.elements.specs.Element.{Element}
+use Rattle.elements.specs.Judge.{Element}
 use Rattle.reading.specs.declared.Match.{Match}
 use Rattle.reading.specs.declared.Side.{Side}
 use Rattle.reading.specs.Match.{forEach, elementMatches, matches}
-use Rattle.reading.specs.Records.{Puts}
-use Rattle.reading.specs.Ready.{Ready, Room, PutsElement, PutsAll, elementAt, noElement}
+use Rattle.reading.specs.Records.{PutsRecords}
+use Rattle.reading.specs.Ready.{RowsTell, Room, PutsElement, PutsAll, elementAt, noElement}
 use Rattle.reading.proofs.Putting.{puts-none, puts-then}
 use Rattle.reading.proofs.Single.{no-more-than-elements}
 
@@ -23,9 +23,9 @@ left side elements element = forEach element (drop element elements) (elementMat
 pub record Turning (side : Side) (s rows : List ℕ) (n : ℕ) (flat₀ flat : List ℕ) (element count : ℕ) : Type 0 where
   pub within : element ≤ n
   pub kept : length flat ≡ length flat₀
-  pub room : (elements : List Element) → Ready s rows n elements → 3 * (count + length (left side elements element)) ≤ length flat
-  pub goes-on : (elements : List Element) → Ready s rows n elements → (after : List ℕ) (end : ℕ)
-      → Puts flat count (left side elements element) after end → Puts flat₀ 0 (matches side elements) after end
+  pub room : (elements : List Element) → RowsTell s rows n elements → 3 * (count + length (left side elements element)) ≤ length flat
+  pub goes-on : (elements : List Element) → RowsTell s rows n elements → (after : List ℕ) (end : ℕ)
+      → PutsRecords flat count (left side elements element) after end → PutsRecords flat₀ 0 (matches side elements) after end
 
 -- at the start all are left
 pub turning-all : (side : Side) (s rows : List ℕ) (n : ℕ) (flat : List ℕ) → 3 * n ≤ length flat → Turning side s rows n flat flat 0 0
@@ -43,18 +43,18 @@ module _ {side : Side} {s rows : List ℕ} {n : ℕ} {flat₀ flat : List ℕ} {
   unfolding forEach
   turning-none l elements ready =
       turning .goes-on elements ready flat count
-      (subst (λ (xs : List Element). Puts flat count (forEach element xs (elementMatches side elements)) flat count)
+      (subst (λ (xs : List Element). PutsRecords flat count (forEach element xs (elementMatches side elements)) flat count)
       (sym (drop-of-length-le elements {i = element} (omega (arith, ready .counted)))) (puts-none flat count))
 
   module _ (below : element < n) where
-    one-more : (elements : List Element) → Ready s rows n elements
+    one-more : (elements : List Element) → RowsTell s rows n elements
         → left side elements element ≡ elementMatches side elements element (elementAt elements element) ++ left side elements (element + 1)
     unfolding forEach
     one-more elements ready =
         ap (λ (xs : List Element). forEach element xs (elementMatches side elements)) (drop-cons elements element noElement (omega (arith, ready .counted)))
         ∙ rw (add-one element)
 
-    lengths : (elements : List Element) → Ready s rows n elements
+    lengths : (elements : List Element) → RowsTell s rows n elements
         → length (left side elements element) ≡ length (elementMatches side elements element (elementAt elements element)) + length (left side elements (element + 1))
     lengths elements ready =
         ap length (one-more elements ready) ∙ length-append (elementMatches side elements element (elementAt elements element)) (left side elements (element + 1))
@@ -72,6 +72,6 @@ module _ {side : Side} {s rows : List ℕ} {n : ℕ} {flat₀ flat : List ℕ} {
       room = λ elements ready. omega (arith, turning .room elements ready, lengths elements ready, puts elements ready .counted, same);
       goes-on = λ elements ready after end p.
           turning .goes-on elements ready after end
-          (subst (λ (ms : List Match). Puts flat count ms after end) (sym (one-more elements ready))
+          (subst (λ (ms : List Match). PutsRecords flat count ms after end) (sym (one-more elements ready))
           (puts-then (elementMatches side elements element (elementAt elements element)) (left side elements (element + 1)) (puts elements ready) p));
     }

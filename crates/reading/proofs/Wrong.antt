@@ -5,17 +5,16 @@ use mathlib.Core.List.{List, [], _∷_, _++_, List·Memᴰ, List·Memᴰ·not-ni
 use Prim.Native.Nat.{ℕ, _*_, _<_}
 use native.Mathlib.Omega.{arith}
 use lib.ListN.{length, drop}
-use Rattle.elements.specs.Element.{Element}
+use Rattle.elements.specs.Judge.{Element}
 use Rattle.reading.specs.declared.Match.{Match}
 use Rattle.reading.specs.declared.Side.{Side}
-use Rattle.reading.specs.Match.{matches}
-use Rattle.reading.specs.Promises.{IsMatch}
-use Rattle.reading.specs.Records.{numbersOf, Lists}
+use Rattle.reading.specs.Match.{matches, IsMatch}
+use Rattle.reading.specs.Records.{numbersOf, ListsMatches}
 use Rattle.reading.proofs.Matches.{matches-all}
 
-module _ {side : Side} {elements : List Element} {before after : List ℕ} {count : ℕ} (lists : Lists side elements before after count) where
+module _ {side : Side} {elements : List Element} {before after : List ℕ} {count : ℕ} (lists : ListsMatches side elements before after count) where
   -- the list and its count are determined
-  pub determined : {after' : List ℕ} {count' : ℕ} → Lists side elements before after' count' → (after ≡ after') × (count ≡ count')
+  pub determined : {after' : List ℕ} {count' : ℕ} → ListsMatches side elements before after' count' → (after ≡ after') × (count ≡ count')
   determined other =
       let same : count ≡ _ = lists .counted ∙ sym (other .counted) in
       (lists .stored ∙ ap (λ (k : ℕ). numbersOf (matches side elements) ++ drop (3 * k) before) same ∙ sym (other .stored), same)

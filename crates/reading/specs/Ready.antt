@@ -7,24 +7,25 @@ use mathlib.Core.List.{List, [], _∷_}
 use Prim.Native.Nat.{ℕ, _+_, _*_, _<_, _≤_}
 use lib.Dec.{ltb}
 use lib.ListN.{length, getD, getElem?}
-use Rattle.headers.specs.First.{isIn}
+use Rattle.headers.specs.Head.{isIn}
 use Rattle.runs.specs.declared.Run.{Run}
 use Rattle.runs.specs.Runs.{treeIn, Fine}
 use Rattle.contents.specs.declared.Span.{Span}
 use Rattle.contents.specs.Search.{Value, absent, octets}
 use Rattle.portions.specs.Portions.{allPortions, values}
-use Rattle.index.specs.declared.Found.{Found}
-use Rattle.index.specs.declared.Found.the-variants.{At, Nothing}
-use Rattle.index.specs.Rows.{identifierColumn, logicalColumn, kindAt, firstAt, pastAt, Bounded}
+use Rattle.index.specs.declared.RowFound.{RowFound}
+use Rattle.index.specs.declared.RowFound.the-variants.{At, Nothing}
+use Rattle.index.specs.Columns.{identifierColumn, logicalColumn, kindAt, firstAt, pastAt, Bounded}
 use Rattle.index.specs.Index.{Indexed}
-use Rattle.elements.specs.Element.{single, Element}
-use Rattle.elements.specs.Says.{bytesIn, portionsRun}
-use Rattle.letters.specs.Table.{Apart}
+use Rattle.elements.specs.Judge.{single, Element}
+use Rattle.elements.specs.Rows.{bytesIn}
+use Rattle.elements.specs.Says.{portionsRun}
+use Rattle.letters.specs.Apart.{Apart}
 use Rattle.reading.specs.declared.Match.{Match}
 use Rattle.reading.specs.declared.Side.{Side}
 use Rattle.reading.specs.declared.Side.the-variants.{Layout, Logical}
 use Rattle.reading.specs.Match.{kindsOf, elementMatches, matches}
-use Rattle.reading.specs.Records.{Puts}
+use Rattle.reading.specs.Records.{PutsRecords}
 
 -- where a row has the portions, and the identifier of a side
 abbrev pub portionsColumn : ℕ
@@ -64,7 +65,7 @@ pub record Tells (s rows : List ℕ) (j : ℕ) (element : Element) : Type 0 wher
   pub portions : values (treeIn s (portionsAt rows j)) ≡ element .portions
 
 -- the first n rows tell of the elements of an accepted letter
-pub record Ready (s rows : List ℕ) (n : ℕ) (elements : List Element) : Type 0 where
+pub record RowsTell (s rows : List ℕ) (n : ℕ) (elements : List Element) : Type 0 where
   pub apart : Apart elements
   pub counted : length elements ≡ n
   pub tells : (j : ℕ) (element : Element) → getElem? elements j ≡ some element → Tells s rows j element
@@ -72,18 +73,18 @@ pub record Ready (s rows : List ℕ) (n : ℕ) (elements : List Element) : Type 
 -- the elements need not be known, and the rows are indexed by the identifier of the side
 pub record Searchable (side : Side) (s rows head next : List ℕ) (n : ℕ) : Type 0 where
   pub elements : List Element
-  pub ready : Ready s rows n elements
+  pub ready : RowsTell s rows n elements
   pub bounded : Bounded s rows identifierColumn n
   pub bounded-on : Bounded s rows (columnOf side) n
   pub indexed : Indexed s rows (columnOf side) head next n
 
 -- the matches that a look-up of a portion yields
-abbrev pub foundMatches : (e p : ℕ) → Found → List Match
+abbrev pub foundMatches : (e p : ℕ) → RowFound → List Match
 foundMatches e p (At u) = record { element = e; portion = p; unit = u } ∷ []
 foundMatches e p Nothing = []
 
 -- a unit that was found has a number below n
-abbrev pub FoundBelow : (n : ℕ) → Found → Type 0
+abbrev pub FoundBelow : (n : ℕ) → RowFound → Type 0
 FoundBelow n (At u) = u < n
 FoundBelow n Nothing = Unit {0}
 
@@ -95,20 +96,20 @@ abbrev pub elementAt : List Element → (e : ℕ) → Element
 elementAt elements e = getD elements e noElement
 
 -- whether element e is read on the side and has an identifier and portions
-unfoldable pub listed : (side : Side) (rows : List ℕ) (e : ℕ) → Bool
-listed side rows e =
+unfoldable pub isListed : (side : Side) (rows : List ℕ) (e : ℕ) → Bool
+isListed side rows e =
     isIn (kindAt rows e) (kindsOf side) && there (spanAt rows identifierColumn e) && there (spanAt rows portionsColumn e)
 
 -- there is room for the matches of element e after so many
 abbrev pub Room : (side : Side) (s rows : List ℕ) (n e : ℕ) (flat : List ℕ) (count : ℕ) → Type 0
 Room side s rows n e flat count =
-    (elements : List Element) → Ready s rows n elements → 3 * (count + length (elementMatches side elements e (elementAt elements e))) ≤ length flat
+    (elements : List Element) → RowsTell s rows n elements → 3 * (count + length (elementMatches side elements e (elementAt elements e))) ≤ length flat
 
 -- the matches of element e are put after so many
 abbrev pub PutsElement : (side : Side) (s rows : List ℕ) (n e : ℕ) (before : List ℕ) (count : ℕ) (after : List ℕ) (total : ℕ) → Type 0
 PutsElement side s rows n e before count after total =
-    (elements : List Element) → Ready s rows n elements → Puts before count (elementMatches side elements e (elementAt elements e)) after total
+    (elements : List Element) → RowsTell s rows n elements → PutsRecords before count (elementMatches side elements e (elementAt elements e)) after total
 
 -- all matches of the side are put
 abbrev pub PutsAll : (side : Side) (s rows : List ℕ) (n : ℕ) (before after : List ℕ) (total : ℕ) → Type 0
-PutsAll side s rows n before after total = (elements : List Element) → Ready s rows n elements → Puts before 0 (matches side elements) after total
+PutsAll side s rows n before after total = (elements : List Element) → RowsTell s rows n elements → PutsRecords before 0 (matches side elements) after total

@@ -5,7 +5,7 @@ use mathlib.Core.List.{List, [], _∷_, _++_}
 use Prim.Native.Nat.{ℕ, zero, suc, _+_, _*_, _≤_}
 use lib.ListN.{length, getD, drop}
 use lib.Seq.{sets}
-use Rattle.elements.specs.Element.{Element}
+use Rattle.elements.specs.Judge.{Element}
 use Rattle.reading.specs.declared.Match.{Match}
 use Rattle.reading.specs.declared.Side.{Side}
 use Rattle.reading.specs.Match.{matches}
@@ -26,12 +26,12 @@ records numbers zero = []
 records numbers (suc n) = records numbers n ++ (recordAt numbers n ∷ [])
 
 -- after so many records these were put, in their place, and so many are there then
-pub record Puts (before : List ℕ) (count : ℕ) (ms : List Match) (after : List ℕ) (total : ℕ) : Type 0 where
+pub record PutsRecords (before : List ℕ) (count : ℕ) (ms : List Match) (after : List ℕ) (total : ℕ) : Type 0 where
   pub counted : total ≡ count + length ms
   pub stored : after ≡ sets before (3 * count) (numbersOf ms)
 
 -- the list of a side, from its start: so many records, and past them what was there
-pub record Lists (side : Side) (elements : List Element) (before after : List ℕ) (count : ℕ) : Type 0 where
+pub record ListsMatches (side : Side) (elements : List Element) (before after : List ℕ) (count : ℕ) : Type 0 where
   pub counted : count ≡ length (matches side elements)
   pub fits : 3 * count ≤ length after
   pub stored : after ≡ numbersOf (matches side elements) ++ drop (3 * count) before

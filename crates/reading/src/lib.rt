@@ -1,9 +1,9 @@
 // The reading list of a side.
 use contents::Span;
-use index::Found;
 use index::IDENTIFIER;
 use index::LOGICAL;
 use index::ROW_WIDTH;
+use index::RowFound;
 use names::Asked;
 use runs::Met;
 use runs::Run;
@@ -12,20 +12,22 @@ ghost use mathlib.Core.Bool.{true};
 ghost use mathlib.Core.List.{List, [], _∷_, _++_};
 ghost use Prim.Native.Nat.{_+_, _*_, _<_, _≤_};
 ghost use lib.ListN.{length, drop};
-ghost use Rattle.headers.specs.First.{isIn};
+ghost use Rattle.headers.specs.Head.{isIn};
 ghost use Rattle.names.specs.Names.{spaceByte};
 ghost use Rattle.names.specs.Hash.{hash, hashFrom, hashes};
-ghost use Rattle.index.specs.Rows.{rowWidth, Bounded};
-ghost use Rattle.index.specs.Index.{Indexed, Finds};
+ghost use Rattle.index.specs.Rows.{rowWidth};
+ghost use Rattle.index.specs.Columns.{Bounded};
+ghost use Rattle.index.specs.Index.{Indexed, FindsRow};
 ghost use Rattle.tree.specs.Tree.{treeOf};
 ghost use Rattle.elements.specs.Shape.{edition1988};
-ghost use Rattle.elements.specs.Element.{Element};
-ghost use Rattle.elements.specs.Judge.{accepted, judge};
-ghost use Rattle.elements.specs.Says.{bytesIn, Placed};
+ghost use Rattle.elements.specs.Judge.{Element, accepted, judge};
+ghost use Rattle.elements.specs.Rows.{bytesIn};
+ghost use Rattle.elements.specs.Says.{Placed};
 ghost use Rattle.letters.specs.Scratch.{Filled};
 ghost use Rattle.reading.specs.Match.{kindsOf};
-ghost use Rattle.reading.specs.Records.{recordAt, records, Puts, Lists};
-ghost use Rattle.reading.specs.Ready.{columnOf, unitSpace, spanAt, there, portionsAt, listed, Searchable, Room, PutsElement, PutsAll, foundMatches, FoundBelow};
+ghost use Rattle.reading.specs.Records.{recordAt, records, PutsRecords, ListsMatches};
+ghost use Rattle.reading.specs.Ready.{columnOf, unitSpace, spanAt, there, portionsAt, isListed, Searchable, Room, PutsElement, PutsAll, foundMatches};
+ghost use Rattle.reading.specs.Ready.{FoundBelow};
 
 // Where a row has its portions.
 const PORTIONS: usize = 8;
@@ -142,7 +144,7 @@ fn portions_at(rows: &[u32], j: usize) -> Run
 // Whether element j is read on the side and has an identifier and portions.
 fn is_listed(rows: &[u32], side: Side, j: usize) -> bool
     requires { ⌜ j * rowWidth + rowWidth ≤ length (now rows) ⌝ }
-    ensures { λ r. ⌜ r ≡ listed side (now (rows .entry)) j ⌝ }
+    ensures { λ r. ⌜ r ≡ isListed side (now (rows .entry)) j ⌝ }
 {
     let kind = wide(rows[j * ROW_WIDTH]);
     if !is_read(side, kind) {
@@ -165,12 +167,12 @@ fn unit_of(
     hashed: usize,
     name: Span,
     portion: Span,
-) -> Found
+) -> RowFound
     requires { ⌜ Bounded (now s) (now rows) column n ⌝ }
     requires { ⌜ Indexed (now s) (now rows) column (now head) (now next) n ⌝ }
     requires { ⌜ (hashed ≡ hashFrom (hash (bytesIn (now s) name)) (spaceByte ∷ [])) × (hashed < hashes) ⌝ }
     requires { ⌜ Placed (now s) name × Placed (now s) portion ⌝ }
-    ensures { λ r. ⌜ Finds (now (s .entry)) (now (rows .entry)) column n unitSpace (bytesIn (now (s .entry)) name ++ spaceByte ∷ bytesIn (now (s .entry)) portion) r ⌝ }
+    ensures { λ r. ⌜ FindsRow (now (s .entry)) (now (rows .entry)) column n unitSpace (bytesIn (now (s .entry)) name ++ spaceByte ∷ bytesIn (now (s .entry)) portion) r ⌝ }
 {
     let asked = Asked {
         first: name.first,
@@ -187,7 +189,7 @@ fn unit_of(
 fn put_record(flat: &mut [u32], k: usize, element: usize, portion: usize, unit: usize)
     requires { ⌜ 3 * k + 3 ≤ length (now flat) ⌝ }
     requires { ⌜ (element < 4294967296) × (portion < 4294967296) × (unit < 4294967296) ⌝ }
-    ensures { λ _. ⌜ Puts (now (flat .entry)) k (foundMatches element portion (Found.At unit)) (now (flat .exit)) (k + 1) ⌝ }
+    ensures { λ _. ⌜ PutsRecords (now (flat .entry)) k (foundMatches element portion (RowFound.At unit)) (now (flat .exit)) (k + 1) ⌝ }
 {
     let at = 3 * k;
     flat[at] = element as u32;
@@ -196,17 +198,23 @@ fn put_record(flat: &mut [u32], k: usize, element: usize, portion: usize, unit: 
 }
 
 // Puts the record of a portion whose unit was found.
-fn put_found(flat: &mut [u32], count: usize, element: usize, portion: usize, found: Found) -> usize
+fn put_found(
+    flat: &mut [u32],
+    count: usize,
+    element: usize,
+    portion: usize,
+    found: RowFound,
+) -> usize
     requires { ⌜ 3 * (count + length (foundMatches element portion found)) ≤ length (now flat) ⌝ }
     requires { ⌜ (element < 4294967296) × (portion < 4294967296) × FoundBelow 4294967296 found ⌝ }
-    ensures { λ r. ⌜ Puts (now (flat .entry)) count (foundMatches element portion found) (now (flat .exit)) r ⌝ }
+    ensures { λ r. ⌜ PutsRecords (now (flat .entry)) count (foundMatches element portion found) (now (flat .exit)) r ⌝ }
 {
     match found {
-        Found::At(unit) => {
+        RowFound::At(unit) => {
             put_record(flat, count, element, portion, unit);
             count + 1
         }
-        Found::Nothing => count,
+        RowFound::Nothing => count,
     }
 }
 
@@ -223,7 +231,7 @@ fn list_portions(
     count: usize,
 ) -> usize
     requires { ⌜ Searchable side (now s) (now rows) (now head) (now next) n ⌝ }
-    requires { ⌜ (element < n) × (listed side (now rows) element ≡ true) ⌝ }
+    requires { ⌜ (element < n) × (isListed side (now rows) element ≡ true) ⌝ }
     requires { ⌜ Room side (now s) (now rows) n element (now flat) count ⌝ }
     ensures { λ r. ⌜ PutsElement side (now (s .entry)) (now (rows .entry)) n element (now (flat .entry)) count (now (flat .exit)) r ⌝ }
 {
@@ -313,7 +321,7 @@ pub fn list_matches(
 ) -> usize
     requires { ⌜ Filled (now s) (now rows) (now head) (now next) (now head2) (now next2) n ⌝ }
     requires { ⌜ 3 * n ≤ length (now flat) ⌝ }
-    ensures { λ r. ⌜ ((elements : List Element) → judge edition1988 (treeOf (now (s .entry))) ≡ accepted elements → Lists side elements (now (flat .entry)) (now (flat .exit)) r) ⌝ }
+    ensures { λ r. ⌜ ((elements : List Element) → judge edition1988 (treeOf (now (s .entry))) ≡ accepted elements → ListsMatches side elements (now (flat .entry)) (now (flat .exit)) r) ⌝ }
 {
     match side {
         Side::Layout => list_side(s, rows, head, next, n, Side::Layout, flat),

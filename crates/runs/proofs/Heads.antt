@@ -9,9 +9,7 @@ use borrow.Author.Tests.{eqb-false}
 use Rattle.headers.specs.declared.Header.{Header}
 use Rattle.headers.specs.declared.Head.{Head}
 use Rattle.headers.specs.declared.Head.the-variants.{Item, ClosingMark, Refusal}
-use Rattle.headers.specs.First.{number, constructed, formAllowed}
-use Rattle.headers.specs.Lengths.{misfits}
-use Rattle.headers.specs.Head.{octetAt, definiteAt, indefiniteAt, longAt, byFirst, lengthAt, closingAt, itemAt, headAt}
+use Rattle.headers.specs.Head.{number, constructed, formAllowed, misfits, octetAt, definiteAt, indefiniteAt, longAt, byFirst, lengthAt, closingAt, itemAt, headAt}
 use Rattle.headers.proofs.Lies.{cond-holds}
 
 -- an item with this octet, or a refusal

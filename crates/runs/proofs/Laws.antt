@@ -11,9 +11,8 @@ use lib.Seq.{slice}
 use borrow.Author.Tests.{leb-true, le-leb}
 use Rattle.octets.specs.declared.Outcome.{Outcome}
 use Rattle.octets.specs.declared.Outcome.the-variants.{Ended, Refused}
-use Rattle.headers.specs.First.{constructed}
-use Rattle.octets.specs.Items.{Items, none, item, count}
-use Rattle.octets.specs.Walk.{End, ends, stops, streamLimit, run, answerOf, answer, walkOf}
+use Rattle.headers.specs.Head.{constructed}
+use Rattle.octets.specs.Walk.{Items, none, item, count, End, ends, stops, streamLimit, run, outcomeOf, answer, walkOf, startOf}
 use Rattle.octets.specs.Rules.{Runs, at-limit, unclosed, closes, refuses, primitive, passes, breaks}
 use Rattle.octets.proofs.Walks.{EndOk, run-ok}
 use Rattle.octets.proofs.Turns.{answer-ends}
@@ -21,7 +20,7 @@ use Rattle.octets.proofs.RulesHold.{derives}
 use Rattle.tree.specs.Tree.{empty, formed, plain}
 use Rattle.tree.specs.Accepts.{Whole}
 use Rattle.runs.specs.declared.Run.{Run}
-use Rattle.runs.specs.Runs.{walkIn, itemsOf, treeIn, wholeStream, startOf, tops, Fine, Meeting}
+use Rattle.runs.specs.Runs.{walkIn, itemsOf, treeIn, wholeStream, tops, Fine, Meeting}
 use Rattle.runs.proofs.Heads.{mark-marked}
 use Rattle.runs.proofs.Ends.{ends-right, ends-at-limit}
 
@@ -51,7 +50,7 @@ unfolding walkOf
 stream-ended s l f =
     let w = walkIn s (wholeStream s) in
     let e : w .how ≡ ends (length s) = ends-at-limit 0 (length s) (w .how) (ends-right _ s 0 (length s) false (omega arith)) (f .whole) in
-    rw (le-leb _ _ l) (ap (answerOf (count (w .items))) e)
+    rw (le-leb _ _ l) (ap (outcomeOf (count (w .items))) e)
 
 -- a stream's walk ends at its length, and its header count is that of its items
 pub stream-count : (s : List ℕ) (at n : ℕ) → walkOf s ≡ Ended at n → (at ≡ length s) × (n ≡ count (itemsOf s (wholeStream s)))

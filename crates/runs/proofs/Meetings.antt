@@ -11,10 +11,9 @@ use lib.Dec.{leb}
 use Rattle.headers.specs.declared.Header.{Header}
 use Rattle.headers.specs.declared.Head.{Head}
 use Rattle.headers.specs.declared.Head.the-variants.{Item, ClosingMark, Refusal}
-use Rattle.headers.specs.First.{constructed}
-use Rattle.headers.specs.Head.{octetAt, headAt, Passed}
-use Rattle.octets.specs.Items.{Items, item, count}
-use Rattle.octets.specs.Walk.{End, ends, stops, Walked, ended, pastOf, follow, run, valueOf, answerOf}
+use Rattle.headers.specs.Head.{constructed, octetAt, headAt, Passed}
+use Rattle.octets.specs.Walk.{Items, item, count, End, ends, stops, Walked, ended, pastOf, follow, run, outcomeOf}
+use Rattle.octets.specs.Further.{valueOf}
 use Rattle.headers.proofs.Lies.{Lies}
 use Rattle.octets.proofs.Walks.{run-step}
 use Rattle.octets.proofs.Turns.{header-ok, passed-ok, at-head, tree-ends}
@@ -140,7 +139,7 @@ module _ (s : List ℕ) (r : Run) (fine : Fine s r) (l : r .at < r .limit) (h : 
 
     pub next-within : (r .at < next) × (next ≤ r .limit)
     next-within =
-        let n = passed-ok (r .room) s (r .at) (r .limit) (r .marked) h e next (count (valueOf (r .room) s h .items)) (ap (answerOf (count (valueOf (r .room) s h .items))) v) in
+        let n = passed-ok (r .room) s (r .at) (r .limit) (r .marked) h e next (count (valueOf (r .room) s h .items)) (ap (outcomeOf (count (valueOf (r .room) s h .items))) v) in
         (omega arith, omega arith)
 
     -- a closing mark is two octets

@@ -3,14 +3,13 @@
 -- After this crate nobody looks at headers, limits or closing marks: a pass over a run asks what is met, and goes on with the rest.
 -- Only runs that were walked without a refusal are met (`Fine`). Definitions only: assumes nothing.
 use mathlib.Core.Path.{_≡_}
-use mathlib.Core.Bool.{Bool, true, false, cond, not, _&&_}
+use mathlib.Core.Bool.{Bool, cond, false, true, not, _&&_}
 use mathlib.Core.List.{List}
-use Prim.Native.Nat.{ℕ, suc, _+_, _-_, _<_, _≤_}
+use Prim.Native.Nat.{ℕ, _≤_, _-_, suc, _+_, _<_}
 use lib.ListN.{length}
 use Rattle.headers.specs.declared.Header.{Header}
-use Rattle.headers.specs.First.{constructed}
-use Rattle.octets.specs.Items.{Items, none, item}
-use Rattle.octets.specs.Walk.{Walked, ends, deepest, run}
+use Rattle.headers.specs.Head.{constructed}
+use Rattle.octets.specs.Walk.{Walked, run, Items, deepest, none, item, ends}
 use Rattle.tree.specs.Tree.{Tree, plain}
 use Rattle.tree.specs.Accepts.{Whole}
 use Rattle.runs.specs.declared.Run.{Run}
@@ -42,11 +41,6 @@ abbrev pub insideOf : Header → (room : ℕ) → Run
 insideOf h room =
     cond (constructed (h .octet)) (record { at = h .start; limit = h .bound; marked = h .marked; room = room - 1 })
     (definiteRun (h .bound) (h .bound) (room - 1))
-
--- where the first item of a run stands: at end if there is none
-abbrev pub startOf : (end : ℕ) → Items → ℕ
-startOf end none = end
-startOf end (item at octet start past inside after) = at
 
 -- how many items a run has, not looking inside them
 abbrev pub tops : Items → ℕ

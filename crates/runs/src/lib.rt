@@ -6,8 +6,9 @@ ghost use mathlib.Core.Bool.{true};
 ghost use Prim.Native.Nat.{_<_, _≤_};
 ghost use lib.Dec.{eqb};
 ghost use lib.ListN.{length};
-ghost use Rattle.headers.specs.First.{constructed};
-ghost use Rattle.octets.specs.Walk.{ends, run, valueOf};
+ghost use Rattle.headers.specs.Head.{constructed};
+ghost use Rattle.octets.specs.Walk.{ends, run};
+ghost use Rattle.octets.specs.Further.{valueOf};
 ghost use Rattle.tree.specs.Accepts.{Whole};
 ghost use Rattle.runs.specs.Runs.{itemsOf, insideOf, wholeStream, tops, Fine, Meets};
 

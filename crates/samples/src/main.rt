@@ -1,8 +1,8 @@
 // Runs the checked examples of document 01 and the worked examples of X.209, the streams of vectors/, and prints what comes out: octets,
 // then for each stream the check's number, place and header count, a normal form, or - where it is refused, and of a text unit its number
 // and its joined content.
+use hex::INPUT_LIMIT;
 use hex::Read;
-use hex::STREAM_LIMIT;
 use libc::STDOUT_FILENO;
 ghost use Prim.Native.Nat.{_<_};
 
@@ -44,7 +44,7 @@ fn print_check(stream: &[u8]) {
 }
 
 fn print_normal(stream: &[u8]) {
-    let mut form = [0u8; STREAM_LIMIT];
+    let mut form = [0u8; INPUT_LIMIT];
     let answer = odif::normal(stream, &mut form);
     if answer.number == 0 {
         print_pairs(hex::part(&form, answer.length as usize));
@@ -54,7 +54,7 @@ fn print_normal(stream: &[u8]) {
 }
 
 fn print_joined(stream: &[u8], element: usize) {
-    let mut out = [0u8; STREAM_LIMIT];
+    let mut out = [0u8; INPUT_LIMIT];
     let answer = odif::joined(stream, element, &mut out);
     if answer.number == 0 {
         io::print_decimal(STDOUT_FILENO, element as u64);
@@ -70,7 +70,7 @@ fn print_between() {
 }
 
 // Reads three parts of one line of pairs.
-fn read(before: &[u8], pairs: &[u8], after: &[u8], octets: &mut [u8; STREAM_LIMIT]) -> usize {
+fn read(before: &[u8], pairs: &[u8], after: &[u8], octets: &mut [u8; INPUT_LIMIT]) -> usize {
     let opened = hex::feed(hex::start(), before, octets);
     let inside = hex::feed(opened, pairs, octets);
     match hex::finish(hex::feed(inside, after, octets)) {
@@ -81,19 +81,19 @@ fn read(before: &[u8], pairs: &[u8], after: &[u8], octets: &mut [u8; STREAM_LIMI
 
 // What the check answers of an item between what opens and what ends a profile, or of it alone.
 fn check_in(before: &[u8], pairs: &[u8], after: &[u8]) {
-    let mut octets = [0u8; STREAM_LIMIT];
+    let mut octets = [0u8; INPUT_LIMIT];
     let length = read(before, pairs, after, &mut octets);
     print_check(hex::part(&octets, length));
 }
 
 fn normal_in(before: &[u8], pairs: &[u8], after: &[u8]) {
-    let mut octets = [0u8; STREAM_LIMIT];
+    let mut octets = [0u8; INPUT_LIMIT];
     let length = read(before, pairs, after, &mut octets);
     print_normal(hex::part(&octets, length));
 }
 
 fn joined_in(pairs: &[u8], element: usize) {
-    let mut octets = [0u8; STREAM_LIMIT];
+    let mut octets = [0u8; INPUT_LIMIT];
     let length = read(b"", pairs, b"", &mut octets);
     print_joined(hex::part(&octets, length), element);
 }

@@ -1,16 +1,16 @@
 // The content of one element, by its row.
 use super::is_few;
-use answers::Found;
+use answers::ContentFound;
 use octets::Outcome;
 ghost use Prim.Native.Nat.{_≤_};
 ghost use Rattle.tree.specs.Tree.{treeOf};
 ghost use Rattle.tree.specs.Accepts.{Accepts};
 ghost use Rattle.letters.specs.Lent.{rowsNeeded};
-ghost use Rattle.answers.specs.Asking.{Finds};
+ghost use Rattle.answers.specs.Asking.{FindsContent};
 
 // The content of an element of a stream, by rules 1 to 15 and then 20.
-pub fn fetch(stream: &[u8], element: usize) -> Found
-    ensures { λ r. ⌜ Finds (now (stream .entry)) element r ⌝ }
+pub fn fetch(stream: &[u8], element: usize) -> ContentFound
+    ensures { λ r. ⌜ FindsContent (now (stream .entry)) element r ⌝ }
 {
     match octets::walk(stream) {
         Outcome::Ended { at: _, count } => {
@@ -23,14 +23,14 @@ pub fn fetch(stream: &[u8], element: usize) -> Found
             number,
             place,
             count: _,
-        } => Found::Refused { number, place },
+        } => ContentFound::Refused { number, place },
     }
 }
 
-fn fetch_few(stream: &[u8], element: usize) -> Found
+fn fetch_few(stream: &[u8], element: usize) -> ContentFound
     requires { ⌜ Accepts (now stream) (treeOf (now stream)) ⌝ }
     requires { ⌜ rowsNeeded (now stream) ≤ 512 ⌝ }
-    ensures { λ r. ⌜ Finds (now (stream .entry)) element r ⌝ }
+    ensures { λ r. ⌜ FindsContent (now (stream .entry)) element r ⌝ }
 {
     let mut rows = [0u32; 6144];
     let mut head = [0u16; 1024];
@@ -50,9 +50,9 @@ fn fetch_few(stream: &[u8], element: usize) -> Found
     answers::fetch_judged(stream, element, &rows, verdict)
 }
 
-fn fetch_many(stream: &[u8], element: usize) -> Found
+fn fetch_many(stream: &[u8], element: usize) -> ContentFound
     requires { ⌜ Accepts (now stream) (treeOf (now stream)) ⌝ }
-    ensures { λ r. ⌜ Finds (now (stream .entry)) element r ⌝ }
+    ensures { λ r. ⌜ FindsContent (now (stream .entry)) element r ⌝ }
 {
     let mut rows = [0u32; 49152];
     let mut head = [0u16; 8192];

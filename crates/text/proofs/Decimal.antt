@@ -8,7 +8,7 @@ use mathlib.Core.List.{List, [], _∷_, _++_}
 use lib.Dec.{ltb}
 use lib.ListN.{length, length-append}
 use borrow.Author.Tests.{lt-ltb, le-ltb, ltb-true, ltb-false}
-use Rattle.text.specs.Decimal.{digit, turn, decimalIn, decimal, spelt}
+use Rattle.text.specs.Decimal.{digit, turn, decimalIn, decimal, numberSpelt}
 
 -- two ways to go on with the tenth that agree on it
 same-turn : (n : ℕ) (p q : ℕ → List ℕ) → (10 ≤ n → p (n / 10) ≡ q (n / 10)) → turn (ltb n 10) n p ≡ turn (ltb n 10) n q
@@ -46,16 +46,16 @@ by-tenths P small large n = go (suc n) n (omega arith)
     go zero n h = absurd (omega arith)
     go (suc bound) n h = step n (ltb n 10) refl (λ many. go bound (n / 10) (omega arith))
 
-spelt-last : (n : ℕ) (ds : List ℕ) (d : ℕ) → spelt n (ds ++ (d ∷ [])) ≡ spelt n ds * 10 + (d - 48)
-unfolding spelt
+spelt-last : (n : ℕ) (ds : List ℕ) (d : ℕ) → numberSpelt n (ds ++ (d ∷ [])) ≡ numberSpelt n ds * 10 + (d - 48)
+unfolding numberSpelt
 spelt-last n [] d = refl
 spelt-last n (c ∷ ds) d = spelt-last (n * 10 + (c - 48)) ds d
 
 -- the digits of a number spell it
-pub reads-back : (n : ℕ) → spelt 0 (decimal n) ≡ n
-unfolding spelt
+pub reads-back : (n : ℕ) → numberSpelt 0 (decimal n) ≡ n
+unfolding numberSpelt
 reads-back =
-    by-tenths (λ n. spelt 0 (decimal n) ≡ n)
+    by-tenths (λ n. numberSpelt 0 (decimal n) ≡ n)
     (λ n h. rw (decimal-small n h) (omega arith))
     (λ n h same. rw (decimal-large n h, spelt-last 0 (decimal (n / 10)) (digit (n % 10)), same) (omega arith))
 

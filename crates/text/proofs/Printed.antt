@@ -3,8 +3,8 @@ use mathlib.Core.Path.{_≡_, refl}
 use mathlib.Core.List.{flatten}
 use Rattle.text.specs.Decimal.{decimalIn, decimal}
 use Rattle.text.specs.Lines.{spaced}
-use Rattle.text.specs.Printed.{printed, written}
+use Rattle.text.specs.Printed.{printed, writtenLines}
 
-pub as-printed : written ≡ printed
+pub as-printed : writtenLines ≡ printed
 unfolding decimal decimalIn spaced flatten
 as-printed = refl

@@ -7,9 +7,9 @@ use mathlib.Core.Path.{_≡_, sym, _∙_}
 use mathlib.Core.List.{List, [], _∷_, _++_, append-assoc}
 use lib.ListN.{length, drop, getD, set, length-append, drop-of-length-le}
 use lib.Seq.{sets, sets-eq, length-sets, length-take-le, drop-cons}
-use Rattle.text.specs.Ascii.{space, newline}
+use Rattle.text.specs.Ascii.{spaceByte, newline}
 use Rattle.text.specs.Decimal.{decimal}
-use Rattle.text.specs.Lines.{spaced, rest, line, Written}
+use Rattle.text.specs.Lines.{spaced, rest, line, WritesLine}
 
 pub sets-join : (l : List ℕ) (i : ℕ) (xs ys : List ℕ) → sets (sets l i xs) (i + length xs) ys ≡ sets l i (xs ++ ys)
 sets-join l i [] ys = rw add-zero
@@ -24,7 +24,7 @@ module _ (numbers : List ℕ) (i : ℕ) (h : i < length numbers) where
   abbrev number : ℕ
   number = getD numbers i 0
 
-  rest-next : rest (drop i numbers) ≡ space ∷ (decimal number ++ rest (drop (i + 1) numbers))
+  rest-next : rest (drop i numbers) ≡ spaceByte ∷ (decimal number ++ rest (drop (i + 1) numbers))
   unfolding spaced
   rest-next = rw (add-one, drop-cons numbers i 0, append-assoc)
 
@@ -33,7 +33,7 @@ module _ (numbers : List ℕ) (i : ℕ) (h : i < length numbers) where
 
   pub rest-stores :
       (l : List ℕ) (here : ℕ) →
-      sets (sets (set l here space) (here + 1) (decimal number)) (here + 1 + length (decimal number)) (rest (drop (i + 1) numbers)) ≡ sets l here (rest (drop i numbers))
+      sets (sets (set l here spaceByte) (here + 1) (decimal number)) (here + 1 + length (decimal number)) (rest (drop (i + 1) numbers)) ≡ sets l here (rest (drop i numbers))
   rest-stores l here = rw (rest-next, add-one here, sets-join)
 
 pub rest-end : (numbers : List ℕ) (i : ℕ) → length numbers ≤ i → rest (drop i numbers) ≡ newline ∷ []
@@ -53,7 +53,7 @@ pub written :
     with ≡ sets lent 0 first →
     (told ≡ at + length (rest numbers)) × (told ≤ length with) →
     array ≡ sets with at (rest numbers) →
-    Written (line first numbers) lent told array
+    WritesLine (line first numbers) lent told array
 written first numbers lent with array at told past word count stores =
     let full : length with ≡ length lent = rw word (length-sets lent 0 first) in
     let whole : length (line first numbers) ≡ told = length-append first (rest numbers) ∙ omega (arith, count .0) in

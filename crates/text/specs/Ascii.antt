@@ -10,8 +10,8 @@ ascii String.[] = []
 ascii (String._∷_ c cs) = code c ∷ ascii cs
 
 -- what stands before a number
-abbrev pub space : ℕ
-space = 32
+abbrev pub spaceByte : ℕ
+spaceByte = 32
 
 -- what ends a line
 abbrev pub newline : ℕ

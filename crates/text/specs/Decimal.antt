@@ -25,6 +25,6 @@ unfoldable pub decimal : ℕ → List ℕ
 decimal n = decimalIn (suc n) n
 
 -- the number that digits spell, after those of a number
-unfoldable pub spelt : ℕ → List ℕ → ℕ
-spelt n [] = n
-spelt n (d ∷ ds) = spelt (n * 10 + (d - 48)) ds
+unfoldable pub numberSpelt : ℕ → List ℕ → ℕ
+numberSpelt n [] = n
+numberSpelt n (d ∷ ds) = numberSpelt (n * 10 + (d - 48)) ds

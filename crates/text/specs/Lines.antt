@@ -3,13 +3,13 @@ use Prim.Native.Nat.{ℕ, _≤_}
 use mathlib.Core.Path.{_≡_}
 use mathlib.Core.List.{List, [], _∷_, _++_}
 use lib.ListN.{length, take, drop}
-use Rattle.text.specs.Ascii.{ascii, space, newline}
+use Rattle.text.specs.Ascii.{ascii, spaceByte, newline}
 use Rattle.text.specs.Decimal.{decimal}
 
 -- each number, with a space before it
 unfoldable pub spaced : List ℕ → List ℕ
 spaced [] = []
-spaced (n ∷ ns) = space ∷ (decimal n ++ spaced ns)
+spaced (n ∷ ns) = spaceByte ∷ (decimal n ++ spaced ns)
 
 -- what follows the first word of a line
 abbrev pub rest : List ℕ → List ℕ
@@ -44,7 +44,7 @@ abbrev pub unreadable : ℕ → List ℕ
 unreadable number = line (ascii "unreadable") (number ∷ [])
 
 -- a line was written into a lent array: its length is told, and it stands at the array's front, whose other bytes stay
-pub record Written (line lent : List ℕ) (told : ℕ) (array : List ℕ) : Type 0 where
+pub record WritesLine (line lent : List ℕ) (told : ℕ) (array : List ℕ) : Type 0 where
   pub count : told ≡ length line
   pub bytes : array ≡ line ++ drop (length line) lent
   -- these follow: the line fits the array, and can be lent as a part of it

@@ -7,14 +7,14 @@ ghost use Prim.Native.Nat.{_+_, _*_, _≤_, _<_};
 ghost use lib.ListN.{length};
 ghost use lib.Seq.{sets};
 ghost use Rattle.text.specs.Decimal.{decimal};
-ghost use Rattle.text.specs.Lines.{rest, line, accepted, element, layout, logical, refused, unreadable, Written};
+ghost use Rattle.text.specs.Lines.{rest, line, accepted, element, layout, logical, refused, unreadable, WritesLine};
 
 // Room for any line: a word of at most 10 bytes or a number, and three numbers of at most 20 digits.
 pub const LINE_ROOM: usize = 128;
 
 // A stream was accepted: how many elements, and how many headers.
 pub fn put_accepted(out: &mut [u8; LINE_ROOM], elements: u32, headers: u32) -> usize
-    ensures { λ r. ⌜ Written (accepted elements headers) (now (out .entry)) r (now (out .exit)) ⌝ }
+    ensures { λ r. ⌜ WritesLine (accepted elements headers) (now (out .entry)) r (now (out .exit)) ⌝ }
 {
     put_line(out, b"accepted", &[elements as u64, headers as u64])
 }
@@ -27,7 +27,7 @@ pub fn put_element(
     past: u32,
     kind: u32,
 ) -> usize
-    ensures { λ r. ⌜ Written (element number first past kind) (now (out .entry)) r (now (out .exit)) ⌝ }
+    ensures { λ r. ⌜ WritesLine (element number first past kind) (now (out .entry)) r (now (out .exit)) ⌝ }
 {
     let at = put_number(out, 0, number as u64);
     put_rest(out, at, &[first as u64, past as u64, kind as u64])
@@ -35,7 +35,7 @@ pub fn put_element(
 
 // A match of the layout side.
 pub fn put_layout(out: &mut [u8; LINE_ROOM], element: u32, portion: u32, unit: u32) -> usize
-    ensures { λ r. ⌜ Written (layout element portion unit) (now (out .entry)) r (now (out .exit)) ⌝ }
+    ensures { λ r. ⌜ WritesLine (layout element portion unit) (now (out .entry)) r (now (out .exit)) ⌝ }
 {
     put_line(
         out,
@@ -46,7 +46,7 @@ pub fn put_layout(out: &mut [u8; LINE_ROOM], element: u32, portion: u32, unit: u
 
 // A match of the logical side.
 pub fn put_logical(out: &mut [u8; LINE_ROOM], element: u32, portion: u32, unit: u32) -> usize
-    ensures { λ r. ⌜ Written (logical element portion unit) (now (out .entry)) r (now (out .exit)) ⌝ }
+    ensures { λ r. ⌜ WritesLine (logical element portion unit) (now (out .entry)) r (now (out .exit)) ⌝ }
 {
     put_line(
         out,
@@ -57,14 +57,14 @@ pub fn put_logical(out: &mut [u8; LINE_ROOM], element: u32, portion: u32, unit: 
 
 // A stream was refused: the number, and the place.
 pub fn put_refused(out: &mut [u8; LINE_ROOM], number: u32, place: u32) -> usize
-    ensures { λ r. ⌜ Written (refused number place) (now (out .entry)) r (now (out .exit)) ⌝ }
+    ensures { λ r. ⌜ WritesLine (refused number place) (now (out .entry)) r (now (out .exit)) ⌝ }
 {
     put_line(out, b"refused", &[number as u64, place as u64])
 }
 
 // The input was no lines of hexadecimal pairs: the first line that is none.
 pub fn put_unreadable(out: &mut [u8; LINE_ROOM], number: u64) -> usize
-    ensures { λ r. ⌜ Written (unreadable number) (now (out .entry)) r (now (out .exit)) ⌝ }
+    ensures { λ r. ⌜ WritesLine (unreadable number) (now (out .entry)) r (now (out .exit)) ⌝ }
 {
     put_line(out, b"unreadable", &[number])
 }
@@ -72,7 +72,7 @@ pub fn put_unreadable(out: &mut [u8; LINE_ROOM], number: u64) -> usize
 // A word and some numbers, each of which takes a space and at most 20 digits.
 fn put_line(out: &mut [u8], word: &[u8], numbers: &[u64]) -> usize
     requires { ⌜ length (now word) + 21 * length (now numbers) < length (now out) ⌝ }
-    ensures { λ r. ⌜ Written (line (now (word .entry)) (now (numbers .entry))) (now (out .entry)) r (now (out .exit)) ⌝ }
+    ensures { λ r. ⌜ WritesLine (line (now (word .entry)) (now (numbers .entry))) (now (out .entry)) r (now (out .exit)) ⌝ }
 {
     let at = put_word(out, word);
     put_rest(out, at, numbers)

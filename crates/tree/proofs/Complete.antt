@@ -9,14 +9,10 @@ use lib.Seq.{slice}
 use borrow.Author.Tests.{le-leb, lt-ltb, le-ltb, ne-eqb, eqb-true}
 use Rattle.headers.specs.declared.Header.{Header}
 use Rattle.headers.specs.declared.Head.the-variants.{Item, ClosingMark}
-use Rattle.headers.specs.First.{number, constructed, permits, formAllowed}
-use Rattle.headers.specs.Lengths.{misfits, bigEndian}
-use Rattle.headers.specs.Head.{octetAt, definiteAt, indefiniteAt, longAt, byFirst, lengthAt, closingAt, itemAt, headAt}
-use Rattle.octets.specs.Items.{Items, none, item}
-use Rattle.octets.specs.Walk.{End, ends, pastOf}
+use Rattle.headers.specs.Head.{number, constructed, permits, formAllowed, misfits, bigEndian, octetAt, definiteAt, indefiniteAt, longAt, byFirst, lengthAt, closingAt, itemAt, headAt}
+use Rattle.octets.specs.Walk.{Items, none, item, End, ends, pastOf}
 use Rattle.octets.specs.Rules.{Runs, at-limit, closes, primitive, passes}
-use Rattle.tree.specs.Tree.{Tree, empty, leaf, branch, plain}
-use Rattle.tree.specs.Codes.{oneOctet, Length, short, long, Codes, nothing, primitive as leaf-coding, definite, indefinite}
+use Rattle.tree.specs.Tree.{Tree, empty, leaf, branch, plain, oneOctet, Length, short, long, Codes, nothing, primitive as leaf-coding, definite, indefinite}
 use Rattle.tree.proofs.Here.{Here, first, second, tail, octet-at, taken, sliced, moved, three-length}
 
 -- no type field begins with 00

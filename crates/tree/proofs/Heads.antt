@@ -11,11 +11,9 @@ use borrow.Author.Tests.{leb-true, ltb-true, ltb-false, eqb-true, eqb-false}
 use Rattle.headers.specs.declared.Header.{Header}
 use Rattle.headers.specs.declared.Head.{Head}
 use Rattle.headers.specs.declared.Head.the-variants.{Item, ClosingMark, Refusal}
-use Rattle.headers.specs.First.{number, constructed, formAllowed}
-use Rattle.headers.specs.Lengths.{misfits, bigEndian}
-use Rattle.headers.specs.Head.{octetAt, definiteAt, indefiniteAt, longAt, byFirst, lengthAt, closingAt, itemAt, headAt}
+use Rattle.headers.specs.Head.{number, constructed, formAllowed, misfits, bigEndian, octetAt, definiteAt, indefiniteAt, longAt, byFirst, lengthAt, closingAt, itemAt, headAt}
 use Rattle.headers.proofs.Lies.{cond-holds}
-use Rattle.tree.specs.Codes.{TypeField, oneOctet, Length, short, long}
+use Rattle.tree.specs.Tree.{TypeField, oneOctet, Length, short, long}
 use Rattle.tree.proofs.Here.{Here, one, some, joined}
 
 long-of : (first : ℕ) (octets : List ℕ) → first ≡ 0x80 + length octets → 1 ≤ length octets → length octets ≤ 4

@@ -9,12 +9,10 @@ use lib.Dec.{leb}
 use lib.ListN.{length}
 use borrow.Author.Tests.{le-leb, leb-true}
 use Rattle.octets.specs.declared.Outcome.the-variants.{Ended, Refused}
-use Rattle.octets.specs.Items.{none, count}
-use Rattle.octets.specs.Walk.{streamLimit, deepest, End, ends, stops, Walked, run, answerOf, walkOf}
+use Rattle.octets.specs.Walk.{none, count, streamLimit, deepest, End, ends, stops, Walked, run, outcomeOf, walkOf}
 use Rattle.octets.specs.Rules.{Runs, at-limit}
 use Rattle.octets.proofs.RulesHold.{derives, derived}
-use Rattle.tree.specs.Tree.{Tree, plain, treeOf}
-use Rattle.tree.specs.Codes.{Codes}
+use Rattle.tree.specs.Tree.{Tree, plain, treeOf, Codes}
 use Rattle.tree.specs.Accepts.{Accepts, Whole}
 use Rattle.tree.proofs.Here.{all}
 use Rattle.tree.proofs.Sound.{sound}
@@ -25,7 +23,7 @@ abbrev top : List ℕ → Walked
 top s = run deepest s 0 (length s) false
 
 -- an outcome that ended, of a stream within the limit
-ended-how : (n : ℕ) (e : End) (b : Bool) (at k : ℕ) → cond b (answerOf n e) (Refused 1 0 0) ≡ Ended at k → (b ≡ true) × (e ≡ ends at)
+ended-how : (n : ℕ) (e : End) (b : Bool) (at k : ℕ) → cond b (outcomeOf n e) (Refused 1 0 0) ≡ Ended at k → (b ≡ true) × (e ≡ ends at)
 ended-how n (ends to) true at k p = let a : to ≡ at = cc in (refl, ap ends a)
 ended-how n (ends to) false at k p = let z : _≡_ {A = ℕ} 0 1 = cc in absurd (omega arith)
 ended-how n (stops number place) true at k p = let z : _≡_ {A = ℕ} 0 1 = cc in absurd (omega arith)

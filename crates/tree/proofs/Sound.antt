@@ -8,15 +8,11 @@ use lib.ListN.{length, drop}
 use lib.Seq.{slice}
 use Rattle.headers.specs.declared.Header.{Header}
 use Rattle.headers.specs.declared.Head.the-variants.{Item}
-use Rattle.headers.specs.First.{constructed}
-use Rattle.headers.specs.Lengths.{misfits}
-use Rattle.headers.specs.Head.{headAt}
-use Rattle.octets.specs.Items.{Items}
-use Rattle.octets.specs.Walk.{End, ends, stops, pastOf}
+use Rattle.headers.specs.Head.{constructed, misfits, headAt}
+use Rattle.octets.specs.Walk.{Items, End, ends, stops, pastOf}
 use Rattle.octets.specs.Rules.{Runs, at-limit, unclosed, closes, refuses, primitive, passes, breaks}
 use Rattle.octets.proofs.Turns.{header-ok}
-use Rattle.tree.specs.Tree.{Tree, empty, leaf, branch, plain}
-use Rattle.tree.specs.Codes.{TypeField, firstOctet, Length, Codes, nothing, primitive as leaf-coding, definite, indefinite}
+use Rattle.tree.specs.Tree.{Tree, empty, leaf, branch, plain, TypeField, firstOctet, Length, Codes, nothing, primitive as leaf-coding, definite, indefinite}
 use Rattle.tree.proofs.Here.{Here, part, joined, moved, three, three-length}
 use Rattle.tree.proofs.Heads.{ReadFrom, Tells, head-tells}
 

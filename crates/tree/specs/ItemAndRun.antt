@@ -6,8 +6,8 @@ use mathlib.Core.Path.{_≡_}
 use mathlib.Core.Bool.{true, false}
 use mathlib.Core.List.{List, [], _∷_, _++_}
 use lib.ListN.{length}
-use Rattle.headers.specs.Lengths.{misfits}
-use Rattle.tree.specs.Codes.{TypeField, firstOctet, Length}
+use Rattle.headers.specs.Head.{misfits}
+use Rattle.tree.specs.Tree.{TypeField, firstOctet, Length}
 
 -- "An item is a header with a value; a constructed value is a run of items, each with a value of its own."
 mutual

@@ -1,4 +1,3 @@
 pub mod Tree
-pub mod Codes
 pub mod ItemAndRun
 pub mod Accepts

@@ -3,7 +3,7 @@ use mathlib.Core.Path.{_∙_, subst}
 use borrow.Author.Needs.{needs}
 use native.Mathlib.Omega.{arith}
 use denote.Ref.{now}
-use Rattle.letters.specs.Scratch.{Gives}
+use Rattle.letters.specs.Scratch.{GivesVerdict}
 use Rattle.reading.proofs.Single.{no-more-than-elements}
 use Rattle.answers.proofs.Judging.{judged-in, refused-judged, accepted-judged}
 use Rattle.answers.proofs.Checks.{table-filled}
@@ -55,7 +55,7 @@ list-matches-requires c κs =
     let s = now (a .args .stream) in
     let j = judged-in s (now (a .args .rows)) (now (a .args .head)) (now (a .args .next)) (now (a .args .head2)) (now (a .args .next2)) (a .args .verdict) (a .pre .1 .0) in
     let l = accepted-judged (a .pre .0 .ended) j (c .before .before .before .before .before .before .before .verdict2 .given .1) in
-    (subst (Gives s (now (a .args .rows)) (now (a .args .head)) (now (a .args .next)) (now (a .args .head2)) (now (a .args .next2))) (c .before .before .before .before .before .before .before .verdict2 .given .1) (a .pre .1 .0), omega arith)
+    (subst (GivesVerdict s (now (a .args .rows)) (now (a .args .head)) (now (a .args .next)) (now (a .args .head2)) (now (a .args .next2))) (c .before .before .before .before .before .before .before .verdict2 .given .1) (a .pre .1 .0), omega arith)
 
 cast-t27 : tie.Need-cast-t27
 cast-t27 c =

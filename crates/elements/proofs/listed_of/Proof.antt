@@ -4,19 +4,19 @@ use mathlib.Core.Bool.{false}
 use mathlib.Core.List.{List}
 use Prim.Native.Nat.{ℕ}
 use borrow.Author.Needs.{needs}
-use Rattle.octets.specs.Items.{none}
+use Rattle.octets.specs.Walk.{none}
 use Rattle.tree.specs.Tree.{empty}
 use Rattle.runs.specs.declared.Run.{Run}
 use Rattle.runs.specs.Runs.{itemsOf, treeIn}
 use Rattle.runs.proofs.Laws.{tree-none}
 use Rattle.portions.specs.Portions.{allPortions, values}
 use Rattle.portions.specs.Bounds.{bounded, Inside}
-use Rattle.portions.specs.Lists.{Lists}
+use Rattle.portions.specs.Lists.{ListsPortions}
 use Rattle.elements.proofs.listed_of.Statement.{statement}
 use Rattle.elements.proofs.listed_of.Tie as tie
 
 none-listed : (s : List ℕ) (r : Run) (numbers : List ℕ) → itemsOf s r ≡ none
-    → Lists s r (record { count = 0; others = false; misspelt = false }) numbers
+    → ListsPortions s r (record { count = 0; others = false; misspelt = false }) numbers
 unfolding allPortions values bounded Inside
 none-listed s r numbers e =
     let t : treeIn s r ≡ empty = tree-none s r e in

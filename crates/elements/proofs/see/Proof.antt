@@ -4,7 +4,7 @@ use mathlib.Core.Path.{sym, _∙_, subst}
 use borrow.Author.Needs.{needs}
 use borrow.Author.Tests.{not-true, not-false}
 use Rattle.runs.specs.Runs.{treeIn}
-use Rattle.elements.specs.Element.{contentOf}
+use Rattle.elements.specs.Judge.{contentOf}
 use Rattle.elements.specs.Frames.{Framed}
 use Rattle.elements.specs.Sees.{Sees}
 use Rattle.elements.proofs.Seeing.{sees-unordered, sees-others}

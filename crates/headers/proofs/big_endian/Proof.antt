@@ -4,7 +4,7 @@ use Prim.Native.Nat.{_+_, _-_, _^_, _≤_, _<_}
 use borrow.Author.Needs.{needs}
 use native.Mathlib.Omega.{arith}
 use lib.ListN.{take, drop}
-use Rattle.headers.specs.Lengths.{bigEndian, bigEndianFrom}
+use Rattle.headers.specs.Head.{bigEndian, bigEndianFrom}
 use Rattle.headers.proofs.Lengths.{be-more, be-grows, be-small}
 use Rattle.headers.proofs.big_endian.Statement.{statement}
 use Rattle.headers.proofs.big_endian.Tie as tie

@@ -1,6 +1,6 @@
 use borrow.Author.Needs.{needs}
 use borrow.Author.Tests.{lt-ltb, le-ltb}
-use Rattle.headers.specs.First.{formAllowed}
+use Rattle.headers.specs.Head.{formAllowed}
 use Rattle.headers.proofs.form_allowed.Statement.{statement}
 use Rattle.headers.proofs.form_allowed.Tie as tie
 use Rattle.headers.proofs.form_allowed.Reads as reads

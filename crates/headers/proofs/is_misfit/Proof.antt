@@ -4,7 +4,7 @@ use mathlib.Core.Logic.{_⊎_, inl, inr}
 use Prim.Native.Nat.{ℕ}
 use lib.Dec.{eqb}
 use borrow.Author.Tests.{ne-eqb}
-use Rattle.headers.specs.Lengths.{misfits}
+use Rattle.headers.specs.Head.{misfits}
 use Rattle.headers.proofs.is_misfit.Statement.{statement}
 use Rattle.headers.proofs.is_misfit.Tie as tie
 use Rattle.headers.proofs.is_misfit.Reads as reads

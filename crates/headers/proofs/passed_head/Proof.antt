@@ -5,8 +5,7 @@ use Prim.Native.Nat.{_+_, _-_, _<_, _≤_}
 use native.Mathlib.Omega.{arith}
 use denote.Ref.{now}
 use lib.ListN.{take, drop}
-use Rattle.headers.specs.Lengths.{bigEndian}
-use Rattle.headers.specs.Head.{octetAt, byFirst, headAt, Passed}
+use Rattle.headers.specs.Head.{bigEndian, octetAt, byFirst, headAt, Passed}
 use Rattle.headers.proofs.Passed.{definite, passed-mark, passed-item, passed-short, passed-open, passed-long}
 use Rattle.headers.proofs.wide.Reads as wide-reads
 use Rattle.headers.proofs.passed_long.Reads as passed-long-reads

@@ -6,7 +6,7 @@ use Prim.Native.Nat.{ℕ, _/_, _%_}
 use lib.Dec.{T, eqb}
 use lib.ListN.{getD}
 use borrow.Author.Needs.{needs}
-use Rattle.headers.specs.First.{permits}
+use Rattle.headers.specs.Head.{permits}
 use Rattle.headers.proofs.Table.{at, both, both-left, both-right}
 use Rattle.headers.proofs.permitted.Statement.{statement}
 use Rattle.headers.proofs.permitted.Tie as tie

@@ -3,7 +3,7 @@ use Prim.Native.Nat.{_≤_, _<_}
 use native.Mathlib.Omega.{arith}
 use borrow.Author.Needs.{needs}
 use borrow.Author.Tests.{lt-ltb, le-ltb}
-use Rattle.hex.specs.Lines.{streamLimit}
+use Rattle.hex.specs.Lines.{inputLimit}
 use Rattle.hex.proofs.read_second.Statement.{statement}
 use Rattle.hex.proofs.read_second.Tie as tie
 
@@ -25,10 +25,10 @@ returns-2 c =
 returns-3 : tie.Need-returns-3
 returns-3 c =
     let length = c .before .before .before .before .before .args .length in
-    let full : streamLimit ≤ length = omega arith in
+    let full : inputLimit ≤ length = omega arith in
     let high = c .before .before .before .before .value .ensures in
     let low = c .before .before .before .value2 .ensures in
-    rw (← high, lt-ltb _ _ (c .before .before .if1 .left), ← low, lt-ltb _ _ (c .before .if2 .left), le-ltb length streamLimit full)
+    rw (← high, lt-ltb _ _ (c .before .before .if1 .left), ← low, lt-ltb _ _ (c .before .if2 .left), le-ltb length inputLimit full)
 
 mul-out : tie.Need-mul-out
 mul-out c = search needs
@@ -45,10 +45,10 @@ add-t13 c = search needs
 returns-4 : tie.Need-returns-4
 returns-4 c =
     let length = c .before .before .before .before .before .args .length in
-    let room : length < streamLimit = omega arith in
+    let room : length < inputLimit = omega arith in
     let high = c .before .before .before .before .value .ensures in
     let low = c .before .before .before .value2 .ensures in
-    rw (← high, lt-ltb _ _ (c .before .before .if1 .left), ← low, lt-ltb _ _ (c .before .if2 .left), lt-ltb length streamLimit room)
+    rw (← high, lt-ltb _ _ (c .before .before .if1 .left), ← low, lt-ltb _ _ (c .before .if2 .left), lt-ltb length inputLimit room)
 
 pub read-second-spec : {M : Type 1} → statement M
 read-second-spec =

@@ -1,6 +1,6 @@
 -- `hex::step` meets its contract: it is the definition, case by case. Assumes nothing.
 use borrow.Author.Needs.{needs}
-use Rattle.hex.specs.Blocks.{step}
+use Rattle.hex.specs.Blocks.{onByte}
 use Rattle.hex.proofs.step.Statement.{statement}
 use Rattle.hex.proofs.step.Tie as tie
 
@@ -20,15 +20,15 @@ enum-known-state-3 : tie.Need-enum-known-state-3
 enum-known-state-3 c = search needs
 
 returns : tie.Need-returns
-unfolding step
+unfolding onByte
 returns c = rw (c .before .before .state .given .1, c .read-first .ensures)
 
 returns-2 : tie.Need-returns-2
-unfolding step
+unfolding onByte
 returns-2 c = rw (c .before .before .before .state2 .given .1) (c .read-second .ensures)
 
 returns-3 : tie.Need-returns-3
-unfolding step
+unfolding onByte
 returns-3 c = rw (c .before .state3 .given .1)
 
 pub step-spec : {M : Type 1} → statement M

@@ -5,7 +5,7 @@ use native.Mathlib.Omega.{arith}
 use lib.ListN.{length, length-set}
 use Rattle.names.specs.Hash.{hashes, hash, bucket}
 use Rattle.names.proofs.Hashing.{hash-below}
-use Rattle.index.specs.Rows.{valueAt}
+use Rattle.index.specs.Columns.{valueAt}
 use Rattle.index.proofs.Grow.{skipped, added}
 use borrow.Author.Needs.{needs}
 use Rattle.index.proofs.insert.Statement.{statement}

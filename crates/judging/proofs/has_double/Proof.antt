@@ -2,9 +2,10 @@
 use mathlib.Core.Path.{_≡_, sym, ap, _∙_, subst}
 use mathlib.Core.Bool.{Bool, true, false}
 use Prim.Native.Nat.{ℕ}
-use Rattle.index.specs.Rows.{identifierColumn, logicalColumn, space}
+use Rattle.index.specs.Columns.{identifierColumn, logicalColumn}
+use Rattle.index.specs.Rows.{nameSpaceOf}
 use Rattle.portions.specs.Portions.{repeats}
-use Rattle.elements.specs.Says.{bytesIn}
+use Rattle.elements.specs.Rows.{bytesIn}
 use Rattle.judging.specs.declared.Hashes.{Hashes}
 use Rattle.judging.specs.Judges.{Taken}
 use Rattle.judging.proofs.Clash.{identifier-twice, logical-twice, portions-twice}
@@ -15,7 +16,7 @@ use Rattle.judging.proofs.has_double.Tie as tie
 -- what the look-up of the identifier says, if it answers b
 identifier-taken : (c : tie.After-is-taken) (b : Bool) → c .is-taken .result ≡ b →
     let a = c .before .before .before .before .before .before .before .before .before .before .args in
-    Taken (a .s .now) (a .rows .now) identifierColumn (a .n) (space (a .seen .row .kind)) (bytesIn (a .s .now) (a .seen .row .identifier)) b
+    Taken (a .s .now) (a .rows .now) identifierColumn (a .n) (nameSpaceOf (a .seen .row .kind)) (bytesIn (a .s .now) (a .seen .row .identifier)) b
 identifier-taken c b e =
     let a = c .before .before .before .before .before .before .before .before .before .before .args in
     subst (λ (k : ℕ). Taken (a .s .now) (a .rows .now) identifierColumn (a .n) k (bytesIn (a .s .now) (a .seen .row .identifier)) b) (c .before .space-of .ensures)
@@ -23,7 +24,7 @@ identifier-taken c b e =
 
 logical-taken : (c : tie.After-is-taken2) (b : Bool) → c .is-taken2 .result ≡ b →
     let a = c .before .before .before .before .before .before .before .before .before .before .before .before .args in
-    Taken (a .s .now) (a .rows .now) logicalColumn (a .n) (space (a .seen .row .kind)) (bytesIn (a .s .now) (a .seen .row .logical)) b
+    Taken (a .s .now) (a .rows .now) logicalColumn (a .n) (nameSpaceOf (a .seen .row .kind)) (bytesIn (a .s .now) (a .seen .row .logical)) b
 logical-taken c b e =
     let a = c .before .before .before .before .before .before .before .before .before .before .before .before .args in
     subst (λ (k : ℕ). Taken (a .s .now) (a .rows .now) logicalColumn (a .n) k (bytesIn (a .s .now) (a .seen .row .logical)) b) (c .before .before .before .space-of .ensures)

@@ -8,12 +8,11 @@ use lib.ListN.{length}
 use Rattle.runs.specs.Runs.{treeIn}
 use Rattle.elements.specs.declared.Row.{Row}
 use Rattle.elements.specs.declared.Shape.{Shape}
-use Rattle.elements.specs.Element.{Element}
-use Rattle.elements.specs.Judge.{twice, shapeRefusal}
+use Rattle.elements.specs.Judge.{Element, twice, shapeRefusal}
 use Rattle.elements.specs.WellMade.{WellMade}
 use Rattle.elements.specs.Sees.{Sees}
 use Rattle.elements.proofs.Made.{made-1988}
-use Rattle.judging.specs.Done.{Holds}
+use Rattle.judging.specs.Done.{Keeps}
 use Rattle.judging.specs.Judges.{earlyRefusal, shape1988, element1988}
 use Rattle.judging.proofs.Steps.{refused-early, refused-later, refused-last}
 use Rattle.judging.proofs.judge_any.Statement.{statement}
@@ -22,7 +21,7 @@ use Rattle.judging.proofs.judge_any.Tie as tie
 -- the elements that are done, and their rows
 abbrev Done : tie.Start → List Row → List Element → Type 0
 Done c table done =
-    Holds (c .args .s .now) (c .args .rows .now) (c .args .head .now) (c .args .next .now) (c .args .head2 .now) (c .args .next2 .now) (c .args .n) table done
+    Keeps (c .args .s .now) (c .args .rows .now) (c .args .head .now) (c .args .next .now) (c .args .head2 .now) (c .args .next2 .now) (c .args .n) table done
 
 -- rules 9 to 11
 early-is : (c : tie.After-early) (table : List Row) (done : List Element) → Done (c .before .before .before .before .before .before .before .before .before) table done →

@@ -3,12 +3,10 @@ use mathlib.Core.Path.{_≡_, refl}
 use mathlib.Core.Bool.{false≢true}
 use mathlib.Core.Logic.{_⊎_, inl, inr}
 use Prim.Native.Nat.{ℕ}
-use Rattle.contents.specs.Search.{amount, firstValue, firstRun}
-use Rattle.contents.specs.Order.{inOrder}
+use Rattle.contents.specs.Search.{amount, firstValue, firstRun, inOrder}
 use Rattle.portions.specs.Portions.{allPortions, values, wellSpelt}
 use Rattle.elements.specs.Shape.{shapeOf}
-use Rattle.elements.specs.Element.{bodyOf, contentOf, elementOf, ordered, asTabled, namesFit}
-use Rattle.elements.specs.Judge.{shapeRefusal}
+use Rattle.elements.specs.Judge.{bodyOf, contentOf, elementOf, ordered, asTabled, namesFit, shapeRefusal}
 use Rattle.judging.specs.Judges.{MayBeBare}
 use Rattle.judging.proofs.may_be_bare.Statement.{statement}
 use Rattle.judging.proofs.may_be_bare.Tie as tie

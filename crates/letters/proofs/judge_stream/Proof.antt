@@ -6,7 +6,7 @@ use native.Mathlib.Omega.{arith}
 use borrow.Author.Needs.{needs}
 use lib.ListN.{length}
 use Rattle.runs.specs.Runs.{Meeting}
-use Rattle.judging.specs.declared.Item.{Item}
+use Rattle.judging.specs.declared.PlacedItem.{PlacedItem}
 use Rattle.judging.specs.declared.Judgement.{Judgement}
 use Rattle.judging.specs.Judges.{Judges, Passing}
 use Rattle.contents.proofs.Firsts.{met}
@@ -28,7 +28,7 @@ meeting : (c : tie.After-known-told Inv-loop μ-loop) →
     Meeting (c .before .before .before .before .before .before .before .before .before .before .before .before .before .args .s .now) (c .before .before .before .before .loop .cur) (g .0) (g .1 .0) (g .1 .1 .0) (g .1 .1 .1 .0) (g .1 .1 .1 .1 .0)
 meeting c = met (c .before .before .before .before .before .before .before .before .before .before .before .before .before .args .s .now) (c .before .before .before .before .loop .cur) (c .before .before .before .meet .ensures) (c .before .octet .given .1)
 
-abbrev item : tie.After-known-told Inv-loop μ-loop → Item
+abbrev item : tie.After-known-told Inv-loop μ-loop → PlacedItem
 item c =
     let g = c .before .octet .given .0 in
     record { octet = g .0; first = c .before .before .before .before .loop .cur .at; past = g .1 .1 .1 .1 .0 .at; inner = g .1 .1 .1 .0 }

@@ -9,7 +9,7 @@ use lib.Dec.{eqb}
 use lib.ListN.{getD}
 use lib.Seq.{slice}
 use Rattle.names.specs.Names.{spaceByte, same}
-use Rattle.names.specs.Asked.{bytesOf}
+use Rattle.names.specs.Asked.{spelling}
 use Rattle.names.proofs.Same.{joined-other, joined-same}
 use borrow.Author.Needs.{needs}
 use Rattle.names.proofs.is_asked.Statement.{statement}
@@ -19,7 +19,7 @@ use Rattle.names.proofs.is_asked.Tie as tie
 parts : (c : tie.Else2) →
     let a = c .before .before .before .before .before .before .args in
     let at = a .first + (a .asked .past - a .asked .first) in
-    same (bytesOf (a .s .now) (a .asked)) (slice (a .first) (a .past) (a .s .now))
+    same (spelling (a .s .now) (a .asked)) (slice (a .first) (a .past) (a .s .now))
     ≡ (same (slice (a .asked .first) (a .asked .past) (a .s .now)) (slice (a .first) at (a .s .now))
     && (eqb spaceByte (getD (a .s .now) at 0)
     && same (slice (a .asked .from) (a .asked .to) (a .s .now)) (slice (at + 1) (at + 1 + (a .asked .to - a .asked .from)) (a .s .now))))

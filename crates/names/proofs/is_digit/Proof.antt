@@ -1,15 +1,15 @@
 -- `names::is_digit` meets its contract: the two tests are the definition's. Assumes nothing.
 use borrow.Author.Tests.{le-leb, lt-leb}
-use Rattle.names.specs.Names.{digit}
+use Rattle.names.specs.Names.{isDigit}
 use Rattle.names.proofs.is_digit.Statement.{statement}
 use Rattle.names.proofs.is_digit.Tie as tie
 
 returns : tie.Need-returns
-unfolding digit
+unfolding isDigit
 returns c = rw (lt-leb _ _ (c .if1 .taken))
 
 returns-2 : tie.Need-returns-2
-unfolding digit
+unfolding isDigit
 returns-2 c = rw (le-leb _ _ (c .if1 .left))
 
 pub is-digit-spec : {M : Type 1} → statement M

@@ -9,7 +9,7 @@ use borrow.Author.Tests.{eq-eqb, ne-eqb, not-true, not-false}
 use lib.Dec.{eqb}
 use lib.ListN.{getD}
 use lib.Seq.{slice, slice-empty}
-use Rattle.names.specs.Names.{spaceByte, digit, grouped, isIdentifier}
+use Rattle.names.specs.Names.{spaceByte, isDigit, grouped, isIdentifier}
 use Rattle.names.proofs.Spelling.{identifier-long, identifier-short, grouped-more}
 use Rattle.names.proofs.is_identifier.Statement.{statement}
 use Rattle.names.proofs.is_identifier.Tie as tie
@@ -26,7 +26,7 @@ turn : (c : tie.In-loop Inv-loop μ-loop) →
     let a = c .before .before .before .before .args in
     let l = c .before .loop in
     isIdentifier (slice (a .first) (a .past) (a .s .now))
-    ≡ cond (digit (getD (a .s .now) (l .i) 0))
+    ≡ cond (isDigit (getD (a .s .now) (l .i) 0))
     (grouped true (slice (l .i + 1) (a .past) (a .s .now)))
     (eqb (getD (a .s .now) (l .i) 0) spaceByte && l .in-group && grouped false (slice (l .i + 1) (a .past) (a .s .now)))
 turn c =

@@ -8,14 +8,14 @@ use borrow.Author.Needs.{needs}
 use borrow.Author.Tests.{not-true, not-false}
 use lib.ListN.{getD}
 use lib.Seq.{slice, slice-empty}
-use Rattle.names.specs.Names.{digit, digits, isPortion}
+use Rattle.names.specs.Names.{isDigit, allDigits, isPortion}
 use Rattle.names.proofs.Spelling.{portion-empty, portion-long, portion-short, digits-more}
 use Rattle.names.proofs.is_portion.Statement.{statement}
 use Rattle.names.proofs.is_portion.Tie as tie
 
 abbrev Inv-loop : tie.InvT-loop
 Inv-loop s first past i₀ i =
-    (i ≤ past) × (isPortion (slice first past s) ≡ digits (slice i past s))
+    (i ≤ past) × (isPortion (slice first past s) ≡ allDigits (slice i past s))
 
 abbrev μ-loop : tie.MeasureT-loop
 μ-loop s first past i₀ i = past - i
@@ -25,7 +25,7 @@ turn : (c : tie.In-loop Inv-loop μ-loop) →
     let a = c .before .before .before .before .before .args in
     let l = c .before .loop in
     isPortion (slice (a .first) (a .past) (a .s .now))
-    ≡ (digit (getD (a .s .now) (l .i) 0) && digits (slice (l .i + 1) (a .past) (a .s .now)))
+    ≡ (isDigit (getD (a .s .now) (l .i) 0) && allDigits (slice (l .i + 1) (a .past) (a .s .now)))
 turn c =
     let a = c .before .before .before .before .before .args in
     let l = c .before .loop in
@@ -69,7 +69,7 @@ loop-again c =
     (omega arith, turn (c .before .before .before) ∙ rw (sym (c .before .is-digit .ensures) ∙ not-false _ (c .if3 .left)))
 
 returns-4 : tie.Need-returns-4 Inv-loop μ-loop
-unfolding digits
+unfolding allDigits
 returns-4 c =
     let a = c .before .before .before .before .before .args in
     let l = c .before .loop in

@@ -7,9 +7,9 @@ use borrow.Author.Needs.{needs}
 use borrow.Author.Tests.{eq-eqb, ne-eqb}
 use denote.Ref.{now}
 use lib.ListN.{length}
-use Rattle.normal.specs.declared.Met.{Met}
-use Rattle.normal.specs.declared.Met.the-variants.{Item as Inner, Last}
-use Rattle.normal.specs.Length.{Octets}
+use Rattle.normal.specs.declared.Ahead.{Ahead}
+use Rattle.normal.specs.declared.Ahead.the-variants.{Item as Inner, Last}
+use Rattle.normal.specs.Normal.{Octets}
 use Rattle.normal.specs.Passes.{headerSize}
 use Rattle.normal.proofs.Passes.{Turn, Meets, meets, turned, value-run-ends}
 use Rattle.normal.proofs.Measuring.{plain-measured, run-measured, Counted, none-counted, all-counted, bounded, item-counted}
@@ -89,7 +89,7 @@ module _ (t : ℕ) where
       plain-measured (a .room) (now (a .s)) (a .h) (c .before .before .pre .1) (ne-eqb _ _ (c .if1 .left))
 
   -- what was met at `at`
-  met : (c : run-lts.After-meet (run-calls t) (run-at t) measure-run.Post Inv μ) (x : Met) → c .meet .result ≡ x →
+  met : (c : run-lts.After-meet (run-calls t) (run-at t) measure-run.Post Inv μ) (x : Ahead) → c .meet .result ≡ x →
       let a = c .before .before .before .args in
       Meets (a .room) (now (a .s)) (c .before .loop .at) (a .limit) (a .marked) x
   met c x e =

@@ -8,8 +8,8 @@ use denote.Ref.{now}
 use lib.ListN.{length}
 use lib.Seq.{slice}
 use Rattle.tree.proofs.Here.{octet-at}
-use Rattle.normal.specs.declared.Met.{Met}
-use Rattle.normal.specs.declared.Met.the-variants.{Item as Inner, Last}
+use Rattle.normal.specs.declared.Ahead.{Ahead}
+use Rattle.normal.specs.declared.Ahead.the-variants.{Item as Inner, Last}
 use Rattle.normal.specs.Passes.{normalIn, headerSize}
 use Rattle.normal.proofs.Lengths.{length-length}
 use Rattle.normal.proofs.Passes.{Turn, Meets, meets, turned, value-run, value-run-ends}
@@ -114,7 +114,7 @@ module _ (t : ℕ) where
       rw (value-run (a .room) (now (a .s)) (a .h) (p .1 .inner (c .before .before .before .before .if1 .left)) .1) (c .before .before .put-run .ensures)
 
   -- what was met at `at`
-  met : (c : run-lts.After-meet (run-calls t) (run-at t) put-run.Post Inv μ) (x : Met) → c .meet .result ≡ x →
+  met : (c : run-lts.After-meet (run-calls t) (run-at t) put-run.Post Inv μ) (x : Ahead) → c .meet .result ≡ x →
       let a = c .before .before .before .before .args in
       Meets (a .room) (now (a .s)) (c .before .loop .at) (a .limit) (a .marked) x
   met c x e =

@@ -1,4 +1,4 @@
--- `normal::meet` meets its contract: each arm is a case of `metBy`. Assumes nothing.
+-- `normal::meet` meets its contract: each arm is a case of `aheadBy`. Assumes nothing.
 use mathlib.Core.Path.{_≡_, sym, _∙_}
 use mathlib.Core.Bool.{Bool}
 use mathlib.Core.List.{List}
@@ -10,18 +10,18 @@ use denote.Ref.{now}
 use Rattle.headers.specs.declared.Head.{Head}
 use Rattle.headers.specs.declared.Head.the-variants.{Item, ClosingMark, Refusal}
 use Rattle.headers.specs.Head.{headAt}
-use Rattle.normal.specs.Passes.{metBy, metAt}
+use Rattle.normal.specs.Passes.{aheadBy, aheadAt}
 use Rattle.normal.proofs.Passes.{passed}
 use Rattle.normal.proofs.meet.Statement.{statement}
 use Rattle.normal.proofs.meet.Tie as tie
 
 before-limit : (room : ℕ) (s : List ℕ) (at limit : ℕ) (marked : Bool) → at < limit → (head : Head) → headAt s at limit marked room ≡ head
-    → metBy at head ≡ metAt room s at limit marked
-unfolding metAt
+    → aheadBy at head ≡ aheadAt room s at limit marked
+unfolding aheadAt
 before-limit room s at limit marked l head e = rw (lt-leb limit at l, e)
 
 returns : tie.Need-returns
-unfolding metAt
+unfolding aheadAt
 returns c = let a = c .before .before .args in rw (le-leb (a .limit) (a .at) (c .if1 .taken))
 
 passed-head-requires : tie.Need-passed-head-requires

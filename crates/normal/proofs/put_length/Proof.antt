@@ -4,7 +4,7 @@ use borrow.Author.Needs.{needs}
 use native.Mathlib.Omega.{arith}
 use denote.Ref.{now}
 use lib.ListN.{length-set}
-use Rattle.normal.specs.Length.{furtherOctets}
+use Rattle.normal.specs.Normal.{furtherOctets}
 use Rattle.normal.proofs.Lengths.{length-length, further-le, put-short, put-long}
 use Rattle.normal.proofs.put_length.Statement.{statement}
 use Rattle.normal.proofs.put_length.Tie as tie

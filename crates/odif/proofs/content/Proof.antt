@@ -4,7 +4,7 @@ use borrow.Author.Needs.{needs}
 use native.Mathlib.Omega.{arith}
 use denote.Ref.{now}
 use Rattle.pieces.proofs.Putting.{part-slice}
-use Rattle.answers.specs.Asking.{Finds}
+use Rattle.answers.specs.Asking.{FindsContent}
 use Rattle.odif.proofs.content.Statement.{statement}
 use Rattle.odif.proofs.content.Tie as tie
 
@@ -17,19 +17,19 @@ enum-known-first c = search needs
 sub-result : tie.Need-sub-result
 sub-result c =
     let a = c .before .before .before .before .before .args in
-    let f = subst (Finds (now (a .stream)) (a .element)) (c .before .first .given .1) (c .before .before .before .fetch .ensures) in
+    let f = subst (FindsContent (now (a .stream)) (a .element)) (c .before .first .given .1) (c .before .before .before .fetch .ensures) in
     omega arith
 
 part-result-start : tie.Need-part-result-start
 part-result-start c =
     let a = c .before .before .before .before .before .args in
-    let f = subst (Finds (now (a .stream)) (a .element)) (c .before .first .given .1) (c .before .before .before .fetch .ensures) in
+    let f = subst (FindsContent (now (a .stream)) (a .element)) (c .before .first .given .1) (c .before .before .before .fetch .ensures) in
     omega (arith, f .fetches .order)
 
 part-result-end : tie.Need-part-result-end
 part-result-end c =
     let a = c .before .before .before .before .before .args in
-    let f = subst (Finds (now (a .stream)) (a .element)) (c .before .first .given .1) (c .before .before .before .fetch .ensures) in
+    let f = subst (FindsContent (now (a .stream)) (a .element)) (c .before .first .given .1) (c .before .before .before .fetch .ensures) in
     omega (arith, f .fetches .order, f .fetches .inside)
 
 enum-told : tie.Need-enum-told
@@ -53,25 +53,25 @@ slice-aggregate-result-3 c = search needs
 returns : tie.Need-returns
 returns c =
     let a = c .before .before .before .before .before .before .args in
-    let f = subst (Finds (now (a .stream)) (a .element)) (c .before .before .first .given .1) (c .before .before .before .before .fetch .ensures) in
+    let f = subst (FindsContent (now (a .stream)) (a .element)) (c .before .before .first .given .1) (c .before .before .before .before .fetch .ensures) in
     part-slice _ _ (now (a .stream)) (f .fetches .order) ∙ f .fetches .part
 
 returns-2 : tie.Need-returns-2
 returns-2 c =
     let a = c .before .before .before .before .before .args in
-    let f = subst (Finds (now (a .stream)) (a .element)) (c .before .enum-told .given .1) (c .before .before .before .fetch .ensures) in
+    let f = subst (FindsContent (now (a .stream)) (a .element)) (c .before .enum-told .given .1) (c .before .before .before .fetch .ensures) in
     f .fetches .part
 
 returns-3 : tie.Need-returns-3
 returns-3 c =
     let a = c .before .before .before .before .before .args in
-    let f = subst (Finds (now (a .stream)) (a .element)) (c .before .enum-told2 .given .1) (c .before .before .before .fetch .ensures) in
+    let f = subst (FindsContent (now (a .stream)) (a .element)) (c .before .enum-told2 .given .1) (c .before .before .before .fetch .ensures) in
     f .fetches .part
 
 returns-4 : tie.Need-returns-4
 returns-4 c =
     let a = c .before .before .before .before .before .args in
-    let f = subst (Finds (now (a .stream)) (a .element)) (c .before .enum-told3 .given .1) (c .before .before .before .fetch .ensures) in
+    let f = subst (FindsContent (now (a .stream)) (a .element)) (c .before .enum-told3 .given .1) (c .before .before .before .fetch .ensures) in
     f .fetches .part
 
 pub content-spec : {M : Type 1} → statement M

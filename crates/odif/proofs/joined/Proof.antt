@@ -3,7 +3,7 @@ use mathlib.Core.Path.{subst}
 use borrow.Author.Needs.{needs}
 use native.Mathlib.Omega.{arith}
 use denote.Ref.{now}
-use Rattle.answers.specs.Asking.{Finds}
+use Rattle.answers.specs.Asking.{FindsContent}
 use Rattle.answers.proofs.Copying.{joins-unit, joins-none}
 use Rattle.odif.proofs.joined.Statement.{statement}
 use Rattle.odif.proofs.joined.Tie as tie
@@ -17,7 +17,7 @@ enum-known-first c = search needs
 copy-part-requires : tie.Need-copy-part-requires
 copy-part-requires c κs =
     let a = c .before .before .before .before .before .before .before .args in
-    let f = subst (Finds (now (a .stream)) (a .element)) (c .before .before .first .given .1) (c .before .before .before .before .fetch .ensures) in
+    let f = subst (FindsContent (now (a .stream)) (a .element)) (c .before .before .first .given .1) (c .before .before .before .before .fetch .ensures) in
     (f .fetches .order, f .fetches .inside, f .near-past)
 
 enum-known-run : tie.Need-enum-known-run
@@ -26,7 +26,7 @@ enum-known-run c = search needs
 copy-pieces-requires : tie.Need-copy-pieces-requires
 copy-pieces-requires c κs =
     let a = c .before .before .before .before .before .before .before .args in
-    let f = subst (Finds (now (a .stream)) (a .element)) (c .before .before .run .given .1) (c .before .before .before .before .fetch .ensures) in
+    let f = subst (FindsContent (now (a .stream)) (a .element)) (c .before .before .run .given .1) (c .before .before .before .before .fetch .ensures) in
     (f .known, f .short)
 
 enum-known-number : tie.Need-enum-known-number
@@ -35,13 +35,13 @@ enum-known-number c = search needs
 cast-t15 : tie.Need-cast-t15
 cast-t15 c =
     let a = c .before .before .before .before .before .before .args in
-    let f = subst (Finds (now (a .stream)) (a .element)) (c .before .number .given .1) (c .before .before .before .fetch .ensures) in
+    let f = subst (FindsContent (now (a .stream)) (a .element)) (c .before .number .given .1) (c .before .before .before .fetch .ensures) in
     omega arith
 
 cast-t16 : tie.Need-cast-t16
 cast-t16 c =
     let a = c .before .before .before .before .before .before .args in
-    let f = subst (Finds (now (a .stream)) (a .element)) (c .before .number .given .1) (c .before .before .before .fetch .ensures) in
+    let f = subst (FindsContent (now (a .stream)) (a .element)) (c .before .number .given .1) (c .before .before .before .fetch .ensures) in
     omega arith
 
 enum-told : tie.Need-enum-told
@@ -53,7 +53,7 @@ same-length c = search needs
 returns : tie.Need-returns
 returns c =
     let a = c .before .before .before .before .before .before .before .before .before .before .args in
-    let f = subst (Finds (now (a .stream)) (a .element)) (c .before .before .before .before .before .first .given .1) (c .before .before .before .before .before .before .before .fetch .ensures) in
+    let f = subst (FindsContent (now (a .stream)) (a .element)) (c .before .before .before .before .before .first .given .1) (c .before .before .before .before .before .before .before .fetch .ensures) in
     joins-unit (now (a .stream)) (a .element) (now (a .out)) (f .joins) (c .before .before .copy-part .ensures)
 
 same-length-2 : tie.Need-same-length-2
@@ -62,19 +62,19 @@ same-length-2 c = search needs
 returns-2 : tie.Need-returns-2
 returns-2 c =
     let a = c .before .before .before .before .before .before .before .before .before .before .args in
-    let f = subst (Finds (now (a .stream)) (a .element)) (c .before .before .before .before .before .run .given .1) (c .before .before .before .before .before .before .before .fetch .ensures) in
+    let f = subst (FindsContent (now (a .stream)) (a .element)) (c .before .before .before .before .before .run .given .1) (c .before .before .before .before .before .before .before .fetch .ensures) in
     joins-unit (now (a .stream)) (a .element) (now (a .out)) (f .joins) (c .before .before .copy-pieces .ensures)
 
 returns-3 : tie.Need-returns-3
 returns-3 c =
     let a = c .before .before .before .before .before .before .args in
-    let f = subst (Finds (now (a .stream)) (a .element)) (c .before .number .given .1) (c .before .before .before .fetch .ensures) in
+    let f = subst (FindsContent (now (a .stream)) (a .element)) (c .before .number .given .1) (c .before .before .before .fetch .ensures) in
     joins-none (now (a .stream)) (a .element) (now (a .out)) _ _ (λ z. omega (arith, f .known)) (f .joins)
 
 returns-4 : tie.Need-returns-4
 returns-4 c =
     let a = c .before .before .before .before .before .args in
-    let f = subst (Finds (now (a .stream)) (a .element)) (c .enum-told .given .1) (c .before .before .fetch .ensures) in
+    let f = subst (FindsContent (now (a .stream)) (a .element)) (c .enum-told .given .1) (c .before .before .fetch .ensures) in
     joins-none (now (a .stream)) (a .element) (now (a .out)) 20 0 (λ z. omega arith) (f .joins)
 
 pub joined-spec : {M : Type 1} → statement M

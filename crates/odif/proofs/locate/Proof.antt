@@ -3,7 +3,7 @@ use mathlib.Core.Path.{subst}
 use borrow.Author.Needs.{needs}
 use native.Mathlib.Omega.{arith}
 use denote.Ref.{now}
-use Rattle.answers.specs.Asking.{Finds}
+use Rattle.answers.specs.Asking.{FindsContent}
 use Rattle.odif.proofs.locate.Statement.{statement}
 use Rattle.odif.proofs.locate.Tie as tie
 
@@ -16,13 +16,13 @@ enum-known-first c = search needs
 cast-t9 : tie.Need-cast-t9
 cast-t9 c =
     let a = c .before .before .before .before .before .args in
-    let f = subst (Finds (now (a .stream)) (a .element)) (c .before .first .given .1) (c .before .before .before .fetch .ensures) in
+    let f = subst (FindsContent (now (a .stream)) (a .element)) (c .before .first .given .1) (c .before .before .before .fetch .ensures) in
     omega arith
 
 cast-t10 : tie.Need-cast-t10
 cast-t10 c =
     let a = c .before .before .before .before .before .args in
-    let f = subst (Finds (now (a .stream)) (a .element)) (c .before .first .given .1) (c .before .before .before .fetch .ensures) in
+    let f = subst (FindsContent (now (a .stream)) (a .element)) (c .before .first .given .1) (c .before .before .before .fetch .ensures) in
     omega arith
 
 enum-known-number : tie.Need-enum-known-number
@@ -31,13 +31,13 @@ enum-known-number c = search needs
 cast-t11 : tie.Need-cast-t11
 cast-t11 c =
     let a = c .before .before .before .before .before .args in
-    let f = subst (Finds (now (a .stream)) (a .element)) (c .before .number .given .1) (c .before .before .before .fetch .ensures) in
+    let f = subst (FindsContent (now (a .stream)) (a .element)) (c .before .number .given .1) (c .before .before .before .fetch .ensures) in
     omega arith
 
 cast-t12 : tie.Need-cast-t12
 cast-t12 c =
     let a = c .before .before .before .before .before .args in
-    let f = subst (Finds (now (a .stream)) (a .element)) (c .before .number .given .1) (c .before .before .before .fetch .ensures) in
+    let f = subst (FindsContent (now (a .stream)) (a .element)) (c .before .number .given .1) (c .before .before .before .fetch .ensures) in
     omega arith
 
 enum-told : tie.Need-enum-told
@@ -49,25 +49,25 @@ enum-told-2 c = search needs
 returns : tie.Need-returns
 returns c =
     let a = c .before .before .before .before .before .args in
-    let f = subst (Finds (now (a .stream)) (a .element)) (c .before .first .given .1) (c .before .before .before .fetch .ensures) in
+    let f = subst (FindsContent (now (a .stream)) (a .element)) (c .before .first .given .1) (c .before .before .before .fetch .ensures) in
     f .fetches
 
 returns-2 : tie.Need-returns-2
 returns-2 c =
     let a = c .before .before .before .before .before .args in
-    let f = subst (Finds (now (a .stream)) (a .element)) (c .before .number .given .1) (c .before .before .before .fetch .ensures) in
+    let f = subst (FindsContent (now (a .stream)) (a .element)) (c .before .number .given .1) (c .before .before .before .fetch .ensures) in
     f .fetches
 
 returns-3 : tie.Need-returns-3
 returns-3 c =
     let a = c .before .before .before .before .args in
-    let f = subst (Finds (now (a .stream)) (a .element)) (c .enum-told .given .1) (c .before .before .fetch .ensures) in
+    let f = subst (FindsContent (now (a .stream)) (a .element)) (c .enum-told .given .1) (c .before .before .fetch .ensures) in
     f .fetches
 
 returns-4 : tie.Need-returns-4
 returns-4 c =
     let a = c .before .before .before .before .args in
-    let f = subst (Finds (now (a .stream)) (a .element)) (c .enum-told2 .given .1) (c .before .before .fetch .ensures) in
+    let f = subst (FindsContent (now (a .stream)) (a .element)) (c .enum-told2 .given .1) (c .before .before .fetch .ensures) in
     f .fetches
 
 pub locate-spec : {M : Type 1} → statement M

@@ -8,7 +8,7 @@ use native.Mathlib.Omega.{arith}
 use lib.ListN.{length, getD, set, length-set, replicate}
 use lib.Seq.{slice}
 use Rattle.portions.specs.Portions.{repeats}
-use Rattle.portions.specs.Bounds.{valueOf, bounded, Inside}
+use Rattle.portions.specs.Bounds.{boundedAt, bounded, Inside}
 use Rattle.portions.specs.Tags.{tag}
 use Rattle.portions.proofs.Pairs.{inside-more, repeats-more, repeats-none}
 use Rattle.portions.proofs.Tags.{Marked, none-marked, unmarked-apart, inside-from, repeats-before, marked-more}
@@ -55,7 +55,7 @@ module _ (c : tie.In-loop Inv-loop μ-loop) where
   done-apart = ap (λ (k : ℕ). repeats (bounded stream (slice (2 * k) (2 * count) numbers))) (sym done-is) ∙ c .before .loop .inv .2
 
 -- the tag that was computed
-tag-is : (c : tie.After-tag-of Inv-loop μ-loop) → let at = c .before .before in c .tag-of .result ≡ tag (valueOf (stream at) (numbers at) (own at))
+tag-is : (c : tie.After-tag-of Inv-loop μ-loop) → let at = c .before .before in c .tag-of .result ≡ tag (boundedAt (stream at) (numbers at) (own at))
 tag-is c = c .tag-of .ensures .0 ∙ rw (c .before .bounds-of .ensures)
 
 loop-holds : tie.Need-loop-holds Inv-loop μ-loop
@@ -83,7 +83,7 @@ is-again-requires c κs =
     let at = c .before .before in (
       (below at, enough at, inside at),
       λ z. unmarked-apart (stream at) (numbers at) (count at) (own at + 1) (at .before .loop .marks) (done-marked at)
-          (valueOf (stream at) (numbers at) (own at)) (ap (λ (t : ℕ). getD (at .before .loop .marks) t 0) (sym (tag-is c)) ∙ z),
+          (boundedAt (stream at) (numbers at) (own at)) (ap (λ (t : ℕ). getD (at .before .loop .marks) t 0) (sym (tag-is c)) ∙ z),
     )
 
 returns : tie.Need-returns Inv-loop μ-loop
@@ -107,7 +107,7 @@ loop-again c =
     let apart = sym (c .before .is-again .ensures) ∙ c .if1 .left in
     let same-length : length marks ≡ 64 = at .before .loop .inv .1 in
     let t = tag-is at-tag in
-    let small : tag (valueOf (stream at) (numbers at) (own at)) < length marks = omega (arith, at-tag .tag-of .ensures .1, t, same-length) in (
+    let small : tag (boundedAt (stream at) (numbers at) (own at)) < length marks = omega (arith, at-tag .tag-of .ensures .1, t, same-length) in (
       omega (arith, below at),
       length-set marks (at-tag .tag-of .result) 1 ∙ same-length,
       repeats-more (stream at) (numbers at) (own at) (count at) (below at) (enough at) ∙ rw (apart, done-apart at),

@@ -6,7 +6,7 @@ use native.Mathlib.Omega.{arith}
 use lib.Seq.{slice}
 use Rattle.names.specs.Names.{same}
 use Rattle.portions.specs.Portions.{among}
-use Rattle.portions.specs.Bounds.{valueOf, bounded, Inside}
+use Rattle.portions.specs.Bounds.{boundedAt, bounded, Inside}
 use Rattle.portions.proofs.Pairs.{inside-more, among-more, among-none}
 use Rattle.portions.proofs.is_among.Statement.{statement}
 use Rattle.portions.proofs.is_among.Tie as tie
@@ -14,8 +14,8 @@ use Rattle.portions.proofs.is_among.Tie as tie
 abbrev Inv-loop : tie.InvT-loop
 Inv-loop s bounds k count one j₀ j =
     (j ≤ count) × Inside s (slice (2 * j) (2 * count) bounds)
-    × (among (valueOf s bounds k) (bounded s (slice (2 * (k + 1)) (2 * count) bounds))
-    ≡ among (valueOf s bounds k) (bounded s (slice (2 * j) (2 * count) bounds)))
+    × (among (boundedAt s bounds k) (bounded s (slice (2 * (k + 1)) (2 * count) bounds))
+    ≡ among (boundedAt s bounds k) (bounded s (slice (2 * j) (2 * count) bounds)))
 
 abbrev μ-loop : tie.MeasureT-loop
 μ-loop s bounds k count one j₀ j = count - j
@@ -23,7 +23,7 @@ abbrev μ-loop : tie.MeasureT-loop
 -- what was found of the values k and j
 compared : (c : tie.After-is-same Inv-loop μ-loop) →
     let a = c .before .before .before .before .before .before .before .args in
-    same (valueOf (a .s .now) (a .bounds .now) (a .k)) (valueOf (a .s .now) (a .bounds .now) (c .before .before .before .loop .j))
+    same (boundedAt (a .s .now) (a .bounds .now) (a .k)) (boundedAt (a .s .now) (a .bounds .now) (c .before .before .before .loop .j))
     ≡ c .is-same .result
 compared c =
     sym (c .is-same .ensures ∙ rw (c .before .bounds-of2 .ensures, c .before .before .before .before .bounds-of .ensures))
@@ -57,7 +57,7 @@ returns c =
     let a = c .before .before .before .before .before .before .before .before .args in
     let l = c .before .before .before .before .loop in
     sym (l .inv .2
-    ∙ among-more (a .s .now) (a .bounds .now) (l .j) (a .count) (omega arith) (omega arith) (valueOf (a .s .now) (a .bounds .now) (a .k))
+    ∙ among-more (a .s .now) (a .bounds .now) (l .j) (a .count) (omega arith) (omega arith) (boundedAt (a .s .now) (a .bounds .now) (a .k))
     ∙ rw (compared (c .before) ∙ c .if1 .taken))
 
 add-j-2 : tie.Need-add-j-2 Inv-loop μ-loop
@@ -73,7 +73,7 @@ loop-again c =
       omega arith,
       inside-more (a .s .now) (a .bounds .now) (l .j) (a .count) (omega arith) (omega arith) (l .inv .1) .2,
       l .inv .2
-          ∙ among-more (a .s .now) (a .bounds .now) (l .j) (a .count) (omega arith) (omega arith) (valueOf (a .s .now) (a .bounds .now) (a .k))
+          ∙ among-more (a .s .now) (a .bounds .now) (l .j) (a .count) (omega arith) (omega arith) (boundedAt (a .s .now) (a .bounds .now) (a .k))
           ∙ rw (compared (c .before) ∙ c .if1 .left),
     )
 
@@ -82,7 +82,7 @@ returns-2 c =
     let a = c .before .before .before .before .before .args in
     let l = c .before .loop in
     let e : l .j ≡ a .count = omega arith in
-    sym (l .inv .2 ∙ rw e (among-none (a .s .now) (a .bounds .now) (a .count) (valueOf (a .s .now) (a .bounds .now) (a .k))))
+    sym (l .inv .2 ∙ rw e (among-none (a .s .now) (a .bounds .now) (a .count) (boundedAt (a .s .now) (a .bounds .now) (a .k))))
 
 pub is-among-spec : {M : Type 1} → statement M
 is-among-spec =

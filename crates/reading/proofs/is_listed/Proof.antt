@@ -3,10 +3,10 @@ use mathlib.Core.Path.{_≡_, sym, ap, _∙_}
 use Prim.Native.Nat.{ℕ}
 use borrow.Author.Needs.{needs}
 use borrow.Author.Tests.{not-true, not-false}
-use Rattle.headers.specs.First.{isIn}
-use Rattle.index.specs.Rows.{identifierColumn, kindAt}
+use Rattle.headers.specs.Head.{isIn}
+use Rattle.index.specs.Columns.{identifierColumn, kindAt}
 use Rattle.reading.specs.Match.{kindsOf}
-use Rattle.reading.specs.Ready.{spanAt, there, listed}
+use Rattle.reading.specs.Ready.{spanAt, there, isListed}
 use Rattle.reading.proofs.is_listed.Statement.{statement}
 use Rattle.reading.proofs.is_listed.Tie as tie
 
@@ -30,7 +30,7 @@ kind-read : (c : tie.After-is-read) → isIn (kindAt (c .before .before .before 
 kind-read c = ap (λ (k : ℕ). isIn k (kindsOf (c .before .before .before .before .args .side))) (sym (c .before .wide .ensures)) ∙ sym (c .is-read .ensures)
 
 returns : tie.Need-returns
-unfolding listed
+unfolding isListed
 returns c = rw (kind-read (c .before) ∙ not-true _ (c .if1 .taken))
 
 bounds-at-requires : tie.Need-bounds-at-requires
@@ -46,7 +46,7 @@ name-there : (c : tie.After-is-there) →
 name-there c = ap there (sym (c .before .bounds-at .ensures)) ∙ sym (c .is-there .ensures)
 
 returns-2 : tie.Need-returns-2
-unfolding listed
+unfolding isListed
 returns-2 c =
     let kind = c .before .before .before in
     rw (kind-read (kind .before) ∙ not-false _ (kind .if1 .left), name-there (c .before) ∙ not-true _ (c .if2 .taken))
@@ -58,7 +58,7 @@ is-there-requires-2 : tie.Need-is-there-requires-2
 is-there-requires-2 c κs = search needs
 
 returns-3 : tie.Need-returns-3
-unfolding listed
+unfolding isListed
 returns-3 c =
     let name = c .before .before in
     let kind = name .before .before .before in

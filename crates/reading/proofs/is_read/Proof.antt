@@ -1,6 +1,6 @@
 -- `reading::is_read` meets its contract: one case for each side. Assumes nothing.
 use mathlib.Core.Path.{sym, ap, _∙_}
-use Rattle.headers.specs.First.{isIn}
+use Rattle.headers.specs.Head.{isIn}
 use Rattle.reading.specs.declared.Side.{Side}
 use Rattle.reading.specs.Match.{kindsOf}
 use borrow.Author.Needs.{needs}

@@ -4,7 +4,7 @@ use mathlib.Core.List.{List}
 use native.Mathlib.Omega.{arith}
 use borrow.Author.Tests.{not-true, not-false}
 use Rattle.reading.specs.declared.Match.{Match}
-use Rattle.reading.specs.Records.{Puts}
+use Rattle.reading.specs.Records.{PutsRecords}
 use Rattle.reading.proofs.Putting.{puts-none}
 use Rattle.reading.proofs.Listing.{unlisted}
 use borrow.Author.Needs.{needs}
@@ -22,7 +22,7 @@ returns c elements ready =
     let a = start .args in
     let none = unlisted (a .side) (a .s .now) (a .rows .now) (a .n) (a .element) (start .pre .1 .0) elements ready
     (sym (c .before .is-listed .ensures) ∙ not-true _ (c .if1 .taken)) in
-    subst (λ (ms : List Match). Puts (a .flat .now) (a .count) ms (a .flat .now) (a .count)) (sym none) (puts-none (a .flat .now) (a .count))
+    subst (λ (ms : List Match). PutsRecords (a .flat .now) (a .count) ms (a .flat .now) (a .count)) (sym none) (puts-none (a .flat .now) (a .count))
 
 list-portions-requires : tie.Need-list-portions-requires
 list-portions-requires c κs =

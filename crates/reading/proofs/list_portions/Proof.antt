@@ -9,9 +9,10 @@ use borrow.Author.Needs.{needs}
 use Rattle.reading.proofs.Listing.{Listing, listing-all, listing-none, listing-more, room-for-one, small-element, small-place, found-small, span-placed}
 use Rattle.runs.specs.Runs.{Meets, Meeting}
 use Rattle.names.specs.Names.{spaceByte}
-use Rattle.index.specs.Rows.{identifierColumn}
-use Rattle.index.specs.Index.{Finds}
-use Rattle.elements.specs.Says.{bytesIn, Placed}
+use Rattle.index.specs.Columns.{identifierColumn}
+use Rattle.index.specs.Index.{FindsRow}
+use Rattle.elements.specs.Rows.{bytesIn}
+use Rattle.elements.specs.Says.{Placed}
 use Rattle.reading.specs.Ready.{columnOf, unitSpace, spanAt}
 use Rattle.reading.proofs.list_portions.Statement.{statement}
 use Rattle.reading.proofs.list_portions.Tie as tie
@@ -40,7 +41,7 @@ meeting c =
 finds : (c : tie.After-unit-of Inv-loop μ-loop) →
     let a = entry (c .before .before .before .before .before .before) .args in
     let g = c .before .before .before .first .given .0 in
-    Finds (a .s .now) (a .rows .now) (columnOf (a .side)) (a .n) unitSpace (bytesIn (a .s .now) (spanAt (a .rows .now) identifierColumn (a .element)) ++ spaceByte ∷ slice (g .1 .0) (g .1 .1 .0) (a .s .now)) (c .unit-of .result)
+    FindsRow (a .s .now) (a .rows .now) (columnOf (a .side)) (a .n) unitSpace (bytesIn (a .s .now) (spanAt (a .rows .now) identifierColumn (a .element)) ++ spaceByte ∷ slice (g .1 .0) (g .1 .1 .0) (a .s .now)) (c .unit-of .result)
 finds c =
     let name = c .before .before .before .before .before .before .before .before .before .before .bounds-at .ensures in
     rw (c .before .column-of .ensures, name) at (c .unit-of .ensures)

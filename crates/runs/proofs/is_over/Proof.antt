@@ -7,7 +7,7 @@ use native.Mathlib.Omega.{arith}
 use borrow.Author.Needs.{needs}
 use borrow.Author.Tests.{ne-eqb}
 use lib.Dec.{eqb}
-use Rattle.octets.specs.Items.{Items, none}
+use Rattle.octets.specs.Walk.{Items, none}
 use Rattle.octets.proofs.Turns.{tree-ends, tree-closes, tree-refuses}
 use Rattle.runs.specs.declared.Run.{Run}
 use Rattle.runs.specs.Runs.{itemsOf, tops}

@@ -3,8 +3,8 @@ use mathlib.Core.Path.{_≡_, sym, _∙_}
 use mathlib.Core.Bool.{true, false}
 use borrow.Author.Needs.{needs}
 use Rattle.runs.specs.Runs.{treeIn}
-use Rattle.contents.specs.Order.{inOrder}
-use Rattle.elements.specs.Element.{ordered}
+use Rattle.contents.specs.Search.{inOrder}
+use Rattle.elements.specs.Judge.{ordered}
 use Rattle.elements.proofs.frames.stands.Statement.{statement}
 use Rattle.elements.proofs.frames.stands.Tie as tie
 

@@ -3,7 +3,7 @@ use mathlib.Core.Path.{_≡_, sym, _∙_}
 use mathlib.Core.Bool.{true, false, and-true}
 use borrow.Author.Needs.{needs}
 use borrow.Author.Tests.{not-true, not-false, le-leb, lt-leb}
-use Rattle.elements.specs.Element.{spelt}
+use Rattle.elements.specs.Judge.{spelt}
 use Rattle.elements.proofs.rules.are_spelt.Statement.{statement}
 use Rattle.elements.proofs.rules.are_spelt.Tie as tie
 

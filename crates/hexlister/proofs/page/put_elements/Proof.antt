@@ -5,13 +5,13 @@ use native.Mathlib.Omega.{arith}
 use mathlib.Core.Path.{_≡_, refl, subst, _∙_}
 use denote.Ref.{now}
 use lib.ListN.{length}
-use Rattle.hexlister.specs.Pages.{lineRoom, Puts, rowLines}
+use Rattle.hexlister.specs.Pages.{lineRoom, PutsOnPage, rowLines}
 use Rattle.hexlister.proofs.Pages.{puts-nothing, puts-within, puts-row}
 use Rattle.hexlister.proofs.page.put_elements.Statement.{statement}
 use Rattle.hexlister.proofs.page.put_elements.Tie as tie
 
 abbrev Inv-loop : tie.InvT-loop
-Inv-loop page₀ at table count here₀ i₀ page here i = (i ≤ count) × (length page ≡ length page₀) × Puts (rowLines table 0 i) page₀ at here page (lineRoom * i)
+Inv-loop page₀ at table count here₀ i₀ page here i = (i ≤ count) × (length page ≡ length page₀) × PutsOnPage (rowLines table 0 i) page₀ at here page (lineRoom * i)
 
 abbrev μ-loop : tie.MeasureT-loop
 μ-loop page₀ at table count here₀ i₀ page here i = count - i
@@ -46,7 +46,7 @@ returns c =
     let l = c .before .loop in
     let a = c .before .before .before .before .args in
     let e : l .i ≡ a .count = omega arith in
-    puts-within (subst (λ (k : ℕ). Puts (rowLines (now (a .table)) 0 k) (now (a .page)) (a .at) (l .here) (l .page) (lineRoom * k)) e (l .inv .2)) (omega arith)
+    puts-within (subst (λ (k : ℕ). PutsOnPage (rowLines (now (a .table)) 0 k) (now (a .page)) (a .at) (l .here) (l .page) (lineRoom * k)) e (l .inv .2)) (omega arith)
 
 pub put-elements-spec : {M : Type 1} → statement M
 put-elements-spec =

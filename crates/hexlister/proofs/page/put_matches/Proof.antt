@@ -7,13 +7,13 @@ use mathlib.Core.List.{flatten}
 use denote.Ref.{now}
 use lib.ListN.{length, take}
 use Rattle.hexlister.specs.Output.{noRecord, matchLines}
-use Rattle.hexlister.specs.Pages.{lineRoom, Puts}
+use Rattle.hexlister.specs.Pages.{lineRoom, PutsOnPage}
 use Rattle.hexlister.proofs.Pages.{puts-nothing, puts-within, puts-match}
 use Rattle.hexlister.proofs.page.put_matches.Statement.{statement}
 use Rattle.hexlister.proofs.page.put_matches.Tie as tie
 
 abbrev Inv-loop : tie.InvT-loop
-Inv-loop page₀ at side count records here₀ i₀ page here i = (i ≤ count) × (length page ≡ length page₀) × Puts (matchLines side (take i records)) page₀ at here page (lineRoom * i)
+Inv-loop page₀ at side count records here₀ i₀ page here i = (i ≤ count) × (length page ≡ length page₀) × PutsOnPage (matchLines side (take i records)) page₀ at here page (lineRoom * i)
 
 abbrev μ-loop : tie.MeasureT-loop
 μ-loop page₀ at side count records here₀ i₀ page here i = count - i
@@ -55,7 +55,7 @@ returns c =
     let l = c .before .loop in
     let a = c .before .before .before .args in
     let e : l .i ≡ a .count = omega arith in
-    puts-within (subst (λ (k : ℕ). Puts (matchLines (a .side) (take k (a .t4))) (now (a .page)) (a .at) (l .here) (l .page) (lineRoom * k)) e (l .inv .2)) (omega arith)
+    puts-within (subst (λ (k : ℕ). PutsOnPage (matchLines (a .side) (take k (a .t4))) (now (a .page)) (a .at) (l .here) (l .page) (lineRoom * k)) e (l .inv .2)) (omega arith)
 
 pub put-matches-spec : {M : Type 1} → statement M
 put-matches-spec =
