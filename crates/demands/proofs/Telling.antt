@@ -15,7 +15,7 @@ use Rattle.headers.specs.Head.{constructed}
 use Rattle.octets.specs.Walk.{Items, none, item, count, End, startOf}
 use Rattle.octets.specs.Rules.{Runs, at-limit, unclosed, closes, refuses, primitive, passes, breaks}
 use Rattle.tree.specs.Tree.{Tree, empty, leaf, branch, formed, plain}
-use Rattle.contents.specs.Search.{Value, firstValue, firstRun, boundsOf, itemsIn as insideOf}
+use Rattle.contents.specs.Search.{Value, firstValue, firstRun, boundsOf, itemsIn}
 use Rattle.elements.specs.Rows.{bytesIn, bodyIn, contentOctet, rowOf, rowsOf}
 use Rattle.elements.specs.declared.Row.{Row}
 use Rattle.elements.specs.declared.Shape.{Shape}
@@ -75,8 +75,8 @@ module _ (s : List ℕ) where
       (λ p. rw (t, p, t) (value-at octet c after)))
 
   -- the items inside the first constructed item with an octet are its run
-  run-at : (octet : ℕ) → constructed octet ≡ true → (i : Items) → plain s (insideOf octet i) ≡ firstRun octet (plain s i)
-  unfolding insideOf firstRun
+  run-at : (octet : ℕ) → constructed octet ≡ true → (i : Items) → plain s (itemsIn octet i) ≡ firstRun octet (plain s i)
+  unfolding itemsIn firstRun
   run-at octet c none = refl
   run-at octet c (item at type start past inside after) =
       cases (eqb type octet)

@@ -1,4 +1,5 @@
--- A name that is looked for: a part of the stream, or two parts with one space between them. The latter is compared and hashed in its parts, and never written out.
+-- A name that is looked for: a part of the stream, or two parts with one space between them. The latter is compared and hashed in its
+-- parts, and never written out.
 use Prim.Native.Nat.{ℕ, _≤_}
 use mathlib.Core.Bool.{cond}
 use mathlib.Core.List.{List, _∷_, _++_}
