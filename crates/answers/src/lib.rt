@@ -1,5 +1,6 @@
 // The work behind the questions: what each does with a stream that was judged.
 // Nothing that was lent to a question is written before all that can refuse it is known.
+use index::ROW_WIDTH;
 use letters::Held;
 use letters::Verdict;
 use octets::Outcome;
@@ -20,13 +21,16 @@ ghost use Rattle.letters.specs.Content.{RowIn};
 ghost use Rattle.answers.specs.Answers.{refusedCheck, CheckOutcome};
 ghost use Rattle.answers.specs.Asking.{JudgedIn, ContentAt, FindsContent, Copies, ListsFlat};
 
-const ROW_WIDTH: usize = 12;
-
 const TEXT_UNIT: u32 = 3;
 
+// The refusal numbers of the questions themselves, of the table, the list, the content and its copy; 17 and 18 are crate normal's.
 const TOO_FEW_ROWS: u32 = 16;
 
 const LIST_TOO_SHORT: u32 = 19;
+
+pub const NO_UNIT: u32 = 20;
+
+pub const IN_PIECES: u32 = 21;
 
 const COPY_TOO_SHORT: u32 = 22;
 

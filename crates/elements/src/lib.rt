@@ -24,6 +24,9 @@ mod shapes; // shapes.rt: the shapes of the edition of 1988
 pub use frames::holder_in;
 pub use shapes::shape_1988;
 
+// The object type of an element that has none.
+pub const NO_TYPE: usize = 255;
+
 // The shape of an element: which items it has, and what they are for. An octet 0 stands for none.
 pub struct Shape {
     pub octet: usize,

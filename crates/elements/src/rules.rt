@@ -1,7 +1,9 @@
 // Rules 12 to 14 of an element whose items stand in order, by what was found in it.
+use super::NO_TYPE;
 use super::Typed;
 use contents::Gathered;
 use contents::Span;
+use portions::MOST_PORTIONS;
 use portions::PortionList;
 ghost use mathlib.Core.Path.{_≡_};
 ghost use Prim.Native.Nat.{_<_};
@@ -10,10 +12,6 @@ ghost use Rattle.elements.specs.Judge.{spelt};
 ghost use Rattle.elements.specs.Says.{Placed, Bounds};
 ghost use Rattle.elements.specs.Frames.{Types};
 ghost use Rattle.elements.specs.Sees.{once, tabledBy, speltBy, numberOf};
-
-const NO_TYPE: usize = 255;
-
-const MOST_PORTIONS: usize = 64;
 
 fn wide(x: u8) -> usize
     ensures { λ r. ⌜ (r ≡ x) × (r < 256) ⌝ }

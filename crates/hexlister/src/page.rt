@@ -3,6 +3,7 @@ use hex::INPUT_LIMIT;
 use hex::Read;
 use hex::State;
 use index::ROW_WIDTH;
+use index::WHOLE;
 use odif::Checked;
 use odif::Listed;
 use reading::Match;
@@ -24,9 +25,6 @@ ghost use Rattle.hex.specs.Blocks.{finished};
 const ROWS: usize = 1024;
 
 const RECORDS: usize = 1024;
-
-// Where a row has the bounds of its element.
-const WHOLE: usize = 2;
 
 // Room for a line of the whole stream, one for each row, and one for each record of either side.
 pub const PAGE_ROOM: usize = (1 + ROWS + 2 * RECORDS) * LINE_ROOM;

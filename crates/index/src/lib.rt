@@ -9,12 +9,16 @@ ghost use Rattle.index.specs.Rows.{rowWidth, nameSpaceOf};
 ghost use Rattle.index.specs.Columns.{firstAt, pastAt, valueAt, Bounded};
 ghost use Rattle.index.specs.Index.{Indexed, named, FindsRow};
 
-// Numbers a row, and where a row has its identifier and its logical identifier.
+// Numbers a row, and where a row has the first of its element, of its identifier, of its logical identifier and of its portions.
 pub const ROW_WIDTH: usize = 12;
+
+pub const WHOLE: usize = 2;
 
 pub const IDENTIFIER: usize = 4;
 
 pub const LOGICAL: usize = 6;
+
+pub const PORTIONS: usize = 8;
 
 const SPACES: [u8; 9] = [0, 1, 1, 2, 0, 1, 1, 3, 3];
 

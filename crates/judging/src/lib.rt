@@ -46,8 +46,6 @@ const MOST_ELEMENTS: usize = 4096;
 
 const PROFILE: usize = 0xA0;
 
-const NO_TYPE: usize = 255;
-
 // Rules 9 to 11 for element n: the number of the one that refuses, or 0. `known` is the octet of its shape.
 fn early(n: usize, octet: usize, known: usize) -> usize
     ensures { λ r. ⌜ r ≡ earlyRefusal n octet known ⌝ }
@@ -189,7 +187,7 @@ fn judge_bare(n: usize, item: PlacedItem) -> Judgement
     Judgement::Passes {
         row: Row {
             kind: item.octet % 32,
-            object: NO_TYPE,
+            object: elements::NO_TYPE,
             whole: Span {
                 first: item.first,
                 past: item.past,

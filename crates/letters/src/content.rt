@@ -7,9 +7,6 @@ ghost use mathlib.Core.Path.{_≡_};
 ghost use Rattle.runs.specs.Runs.{wholeStream, Fine};
 ghost use Rattle.letters.specs.Content.{RowIn, heldBy, HoldsElement};
 
-// Where a row has the place of its element.
-const WHOLE: usize = 2;
-
 fn wide(x: u32) -> usize
     ensures { λ r. ⌜ r ≡ x ⌝ }
 {
@@ -36,7 +33,7 @@ pub fn content_of(s: &[u8], rows: &[u32], j: usize) -> Held
     requires { ⌜ Fine (now s) (wholeStream (now s)) × RowIn (now s) (now rows) j ⌝ }
     ensures { λ held. ⌜ HoldsElement (now (s .entry)) j held ⌝ }
 {
-    let at = wide(rows[j * index::ROW_WIDTH + WHOLE]);
+    let at = wide(rows[j * index::ROW_WIDTH + index::WHOLE]);
     let whole = runs::whole_stream(s);
     let from = Run {
         at,

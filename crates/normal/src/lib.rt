@@ -1,7 +1,9 @@
 // The normal form of a stream: each item in the same order, definite, with the fewest length octets.
 use headers::Head;
 use headers::Header;
+use octets::DEEPEST;
 use octets::Outcome;
+use octets::STREAM_LIMIT;
 ghost use mathlib.Core.Path.{_≡_};
 ghost use mathlib.Core.Bool.{true, false};
 ghost use mathlib.Core.List.{List, _∷_};
@@ -33,10 +35,6 @@ pub enum Answer {
     Written { length: usize },
     Refused { number: usize, place: usize },
 }
-
-const STREAM_LIMIT: usize = 1048576;
-
-const DEEPEST: usize = 16;
 
 // How many length octets follow the first: told by the leading zeros of the length.
 fn further_octets(len: u32) -> usize

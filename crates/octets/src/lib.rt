@@ -20,9 +20,9 @@ pub enum Outcome {
     },
 }
 
-const STREAM_LIMIT: usize = 1048576;
+pub const STREAM_LIMIT: usize = 1048576;
 
-const DEEPEST: usize = 16;
+pub const DEEPEST: usize = 16;
 
 // Walks the value of the item with the header h: a constructed value is a run of items. An empty one is told without a call.
 fn walk_item(s: &[u8], h: Header, room: usize) -> Outcome

@@ -3,7 +3,9 @@ pub use answers::Checked;
 use answers::ContentFound;
 pub use answers::Copied;
 pub use answers::Found;
+use answers::IN_PIECES;
 pub use answers::Listed;
+use answers::NO_UNIT;
 pub use answers::Reason;
 pub use answers::Written;
 use letters::Verdict;
@@ -13,10 +15,6 @@ pub use reading::Match;
 pub use reading::Side;
 ghost use mathlib.Core.Path.{_≡_};
 ghost use Rattle.answers.specs.Answers.{CheckOutcome, NormalOutcome, ListOutcome, fetched, whyNot, Fetches, JoinedOutcome};
-
-const NO_UNIT: u32 = 20;
-
-const IN_PIECES: u32 = 21;
 
 // Checks a stream and fills the element table, twelve numbers a row. The viewer asks this first.
 pub fn check(stream: &[u8], table: &mut [u32]) -> Checked

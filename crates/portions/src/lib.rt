@@ -18,7 +18,7 @@ ghost use Rattle.portions.specs.Tags.{tags, tag};
 
 const PORTION: usize = 0x12;
 
-const MOST_PORTIONS: usize = 64;
+pub const MOST_PORTIONS: usize = 64;
 
 const TAGS: usize = 64;
 

@@ -2,6 +2,7 @@
 use contents::Span;
 use index::IDENTIFIER;
 use index::LOGICAL;
+use index::PORTIONS;
 use index::ROW_WIDTH;
 use index::RowFound;
 use names::Asked;
@@ -28,9 +29,6 @@ ghost use Rattle.reading.specs.Match.{kindsOf};
 ghost use Rattle.reading.specs.Records.{recordAt, records, PutsRecords, ListsMatches};
 ghost use Rattle.reading.specs.Ready.{columnOf, unitSpace, spanAt, there, portionsAt, isListed, Searchable, Room, PutsElement, PutsAll, foundMatches};
 ghost use Rattle.reading.specs.Ready.{FoundBelow};
-
-// Where a row has its portions.
-const PORTIONS: usize = 8;
 
 // The name space of text units.
 const UNITS: u8 = 2;

@@ -1,6 +1,7 @@
 // A run of items as a value: what is met at its start. Every pass after the walk goes through `meet`.
 use headers::Head;
 use headers::Header;
+use octets::DEEPEST;
 ghost use mathlib.Core.Path.{_≡_};
 ghost use mathlib.Core.Bool.{true};
 ghost use Prim.Native.Nat.{_<_, _≤_};
@@ -11,8 +12,6 @@ ghost use Rattle.octets.specs.Walk.{ends, run};
 ghost use Rattle.octets.specs.Further.{valueOf};
 ghost use Rattle.tree.specs.Accepts.{Whole};
 ghost use Rattle.runs.specs.Runs.{itemsOf, insideOf, wholeStream, tops, Fine, Meets};
-
-const DEEPEST: usize = 16;
 
 // A run of items from `at` to `limit`, or, if it is marked, to a closing mark before it; with `room` levels left.
 pub struct Run {
