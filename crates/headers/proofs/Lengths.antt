@@ -1,7 +1,7 @@
 -- Laws on the definitions of specs/. Assumes nothing.
 use mathlib.Core.Path.{_≡_, refl}
 use mathlib.Core.List.{List, [], _∷_, _++_}
-use Prim.Native.Nat.{ℕ, _+_, _*_, _^_, _<_, _≤_}
+use Prim.Native.Nat.{ℕ, _+_, _*_, _%_, _^_, _<_, _≤_}
 use native.Mathlib.Numerals.{add-one}
 use native.Mathlib.Omega.{arith}
 use native.Mathlib.Nat.{pow-suc, pow-le-pow-right}
@@ -22,8 +22,12 @@ be-more s a i h =
     let l : i < length (drop a s) = simp length-drop (omega arith) in
     rw (add-one, take-suc (drop a s) i 0, getD-drop) (be-snoc 0 (take i (drop a s)) (getD s (a + i) 0))
 
-pub be-grows : (i n b : ℕ) → n < 256 ^ i → b < 256 → n * 256 + b < 256 ^ (i + 1)
-be-grows i n b hn hb = rw (add-one, pow-suc) (omega arith)
-
 pub be-small : (i : ℕ) → i ≤ 4 → 256 ^ i ≤ 256 ^ 4
 be-small i h = pow-le-pow-right (lit< tt) h
+
+-- The shift by 8 is the product with 256, of what fewer than four octets say: no bit is lost of 64.
+pub shift-is : (i n : ℕ) → i < 4 → n < 256 ^ i → (n * 2 ^ 8) % 2 ^ 64 ≡ n * 256
+shift-is i n h l = let b = be-small i (omega arith) in omega arith
+
+pub be-grows : (i n b : ℕ) → n < 256 ^ i → b < 256 → n * 256 + b < 256 ^ (i + 1)
+be-grows i n b hn hb = rw (add-one, pow-suc) (omega arith)

@@ -87,7 +87,8 @@ fn form_allowed(octet: u8) -> bool
     true
 }
 
-// The number that the k octets from `from` are, most significant first.
+// The number that the k octets from `from` are, most significant first. They are gathered with shifts and sums, as not every machine
+// that runs this multiplies.
 fn big_endian(s: &[u8], from: usize, k: usize) -> usize
     requires { ⌜ (from + k ≤ length (now s)) × (k ≤ 4) ⌝ }
     ensures { λ r. ⌜ r ≡ bigEndian (take k (drop from (now (s .entry)))) ⌝ }
@@ -95,7 +96,7 @@ fn big_endian(s: &[u8], from: usize, k: usize) -> usize
     let mut n: usize = 0;
     let mut i: usize = 0;
     while i < k {
-        n = n * 256 + wide(s[from + i]);
+        n = (n << 8) + wide(s[from + i]);
         i += 1;
     }
     n

@@ -1,11 +1,11 @@
 -- `octets::big_endian` meets its contract: after i turns n is the number of the first i octets. Assumes nothing.
-use mathlib.Core.Path.{_≡_, refl, sym}
-use Prim.Native.Nat.{_+_, _-_, _^_, _≤_, _<_}
+use mathlib.Core.Path.{_≡_, refl, ap, sym, _∙_, subst}
+use Prim.Native.Nat.{ℕ, _+_, _-_, _^_, _≤_, _<_}
 use borrow.Author.Needs.{needs}
 use native.Mathlib.Omega.{arith}
 use lib.ListN.{take, drop}
 use Rattle.headers.specs.Head.{bigEndian, bigEndianFrom}
-use Rattle.headers.proofs.Lengths.{be-more, be-grows, be-small}
+use Rattle.headers.proofs.Lengths.{be-more, be-grows, be-small, shift-is}
 use Rattle.headers.proofs.big_endian.Statement.{statement}
 use Rattle.headers.proofs.big_endian.Tie as tie
 use Rattle.headers.proofs.big_endian.Reads as reads
@@ -22,9 +22,6 @@ loop-holds : tie.Need-loop-holds Inv-loop μ-loop
 unfolding bigEndianFrom
 loop-holds c = (search needs, refl, search needs)
 
-mul-n : tie.Need-mul-n Inv-loop μ-loop
-mul-n c = omega (arith, be-small (c .before .loop .i) (omega arith))
-
 add-wide : tie.Need-add-wide Inv-loop μ-loop
 add-wide c = omega arith
 
@@ -38,7 +35,7 @@ add-n : tie.Need-add-n Inv-loop μ-loop
 add-n c =
     let l = c .before .before .before .loop in
     let a = c .before .before .before .before .before .args in
-    omega (arith, be-small (l .i) (omega arith), be-small (l .i + 1) (omega arith), c .before .shared-slice-known2 .given (a .from + l .i), c .wide .ensures)
+    omega (arith, be-small (l .i) (omega arith), c .before .shared-slice-known2 .given (a .from + l .i), c .wide .ensures, shift-is (l .i) (l .n) (omega arith) (l .inv .2))
 
 add-i : tie.Need-add-i Inv-loop μ-loop
 add-i c = omega arith
@@ -50,10 +47,12 @@ loop-again : tie.Need-loop-again Inv-loop μ-loop
 loop-again c =
     let l = c .before .before .before .loop in
     let a = c .before .before .before .before .before .args in
-    let b : c .wide .result < 256 = omega (arith, c .before .shared-slice-known2 .given (a .from + l .i)) in (
+    let x = c .wide .result in
+    let small : x < 256 = omega (arith, c .before .shared-slice-known2 .given (a .from + l .i)) in
+    let product = ap (λ (m : ℕ). m + x) (shift-is (l .i) (l .n) (omega arith) (l .inv .2)) in (
       omega arith,
-      simp (l .inv .1, c .wide .ensures) (sym (be-more (a .s .now) (a .from) (l .i) (omega arith))),
-      be-grows (l .i) (l .n) (c .wide .result) (l .inv .2) b,
+      product ∙ simp (l .inv .1, c .wide .ensures) (sym (be-more (a .s .now) (a .from) (l .i) (omega arith))),
+      subst (λ (m : ℕ). m < 256 ^ (l .i + 1)) (sym product) (be-grows (l .i) (l .n) x (l .inv .2) small),
     )
 
 returns : tie.Need-returns Inv-loop μ-loop
@@ -68,7 +67,6 @@ big-endian-spec =
     Inv-loop
     μ-loop
     loop-holds
-    mul-n
     add-wide
     shared-slice-read-wide
     wide-requires
