@@ -19,21 +19,22 @@ use Rattle.tree.specs.Accepts.{Accepts}
 use Rattle.tree.proofs.Meaning.{means, accepts}
 use Rattle.runs.proofs.Laws.{stream-fine, stream-count}
 use Rattle.normal.specs.Normal.{normalForm}
-use Rattle.normal.proofs.RoundTrip.{round-trip, again}
+use Rattle.normal.proofs.RoundTrip.{round-trip, form-tree}
 use Rattle.index.specs.Rows.{rowWidth}
 use Rattle.elements.specs.declared.Row.{Row}
 use Rattle.elements.specs.Shape.{edition1988}
 use Rattle.elements.specs.Judge.{Element, accepted, judge}
 use Rattle.letters.specs.Letter.{letter, itemsOfStream}
 use Rattle.letters.proofs.Table.{end-to-end, pairs-within}
-use Rattle.letters.proofs.Coding.{content-codes}
 use Rattle.judging.proofs.Lists.{below-length, at-below}
 use Rattle.answers.specs.Answers.{letterIn, rowsIn, onto, tableOf, checked, checkedTable, written, writtenOutput}
-use Rattle.demands.specs.Demands.{IsLetterOf, RowTells, SameRow, OfLetter, Demand2, itemCount}
+use Rattle.demands.specs.Refusals.{TopItem, topItems}
+use Rattle.demands.specs.Demands.{IsLetterOf, RowTells, OfLetter, Demand2, itemCount}
 use Rattle.answers.proofs.Letters.{Found, letter-found, accepted-letter}
 use Rattle.answers.proofs.Judging.{accepts-walked}
-use Rattle.demands.proofs.Telling.{Proper, proper, count-tree, rows-counted, rows-tell}
-use Rattle.demands.proofs.Joining.{told-within, same-content, tells-content, content, content-20, content-21, joins, joins-20, joins-22, part-joined, same-joined}
+use Rattle.demands.proofs.Refusals.{refused-is}
+use Rattle.demands.proofs.Telling.{Proper, proper, count-tree, tops-counted, rows-counted, rows-tell}
+use Rattle.demands.proofs.Joining.{told-within, content, content-20, content-21, joins, joins-20, joins-22, part-joined}
 use Rattle.answers.proofs.Checks.{checks-letter}
 
 -- the header count of a walk that ended is the tree's item count
@@ -54,28 +55,26 @@ module _ (s : List ℕ) (headers : ℕ) (elements : List Element) where
       let h : a .headers ≡ headers = headers-tree s (a .at) (a .headers) (a .ended) ∙ ap itemCount (a .tree) ∙ sym (i .counted) in
       accepted-letter edition1988 s (a .at) (a .headers) elements (a .ended) j ∙ ap (λ (n : ℕ). letter n elements) h
 
--- the items of a stream
-proper-stream : (s : List ℕ) → Proper (itemsOfStream s)
-proper-stream s = proper (derives deepest s 0 (length s) false (omega arith))
-
 module _ (s : List ℕ) (headers : ℕ) (elements : List Element) (e : letterIn s ≡ letter headers elements) where
   found : Found edition1988 s headers elements
   found = letter-found edition1988 s headers elements e
 
   -- its rows
-  counted : length (rowsIn s) ≡ length elements
-  counted = rows-counted s (proper-stream s) elements (found .judged)
+  items-proper : Proper s deepest (itemsOfStream s)
+  items-proper =
+      let fine = stream-fine s (found .at) headers (found .walked) in
+      proper (derives deepest s 0 (length s) false (fine .order)) (fine .whole) (omega arith)
 
-  tell : (j : ℕ) (row : Row) (element : Element) → getElem? (rowsIn s) j ≡ some row → getElem? elements j ≡ some element → RowTells s row element
-  tell j row element p there =
-      let t = rows-tell s (proper-stream s) elements (found .judged) j row element p there in
-      record {
-        kind = t .kind;
-        object = t .object;
-        identifier = t .identifier;
-        logical = t .logical;
-        content = tells-content (element .content) (t .whole) (λ run is. content-codes (stream-fine s (found .at) headers (found .walked)) elements (found .judged) j row p element there run is);
-      }
+  counted : length (rowsIn s) ≡ length elements
+  counted = rows-counted s items-proper elements (found .judged)
+
+  pub tell : (j : ℕ) (row : Row) (item : TopItem) (element : Element) → getElem? (rowsIn s) j ≡ some row → getElem? (topItems (treeOf s)) j ≡ some item
+      → getElem? elements j ≡ some element → RowTells s row item element
+  tell = rows-tell s items-proper elements (found .judged)
+
+  -- each element stands in the tree
+  pub top-at : (j : ℕ) (element : Element) → getElem? elements j ≡ some element → (item : TopItem) × (getElem? (topItems (treeOf s)) j ≡ some item)
+  top-at j element there = at-below (topItems (treeOf s)) j (omega (arith, below-length elements j element there, tops-counted s items-proper elements (found .judged)))
 
   -- the check
   checks : (table : List ℕ) → length elements ≤ length table / rowWidth
@@ -134,25 +133,8 @@ module _ (s : List ℕ) (headers : ℕ) (elements : List Element) (e : letterIn 
         is-letter (normalForm s) headers elements
         (record { tree = treeOf s; coded = c; within = l; shaped = found .judged; counted = headers-tree s (found .at) headers (found .walked) })
 
-    normal-tree : treeOf (normalForm s) ≡ treeOf s
-    normal-tree = accepts-again .tree
-
-same-rows : {s t : List ℕ} {row other : Row} {element : Element} → RowTells s row element → RowTells t other element → SameRow element s row t other
-same-rows {element = element} a b =
-    record {
-      kind = a .kind ∙ sym (b .kind);
-      object = a .object ∙ sym (b .object);
-      identifier = a .identifier ∙ sym (b .identifier);
-      logical = a .logical ∙ sym (b .logical);
-      content = same-content (element .content) _ _ (a .content) (b .content);
-    }
-
-normal-rows : (s : List ℕ) (headers : ℕ) (elements : List Element) (e : letterIn s ≡ letter headers elements) → length (normalForm s) ≤ streamLimit
-    → (j : ℕ) (element : Element) (row other : Row) → getElem? elements j ≡ some element → getElem? (rowsIn s) j ≡ some row
-    → getElem? (rowsIn (normalForm s)) j ≡ some other → SameRow element s row (normalForm s) other
-normal-rows s headers elements e within j element row other there p q =
-    same-rows (tell s headers elements e j row element p there)
-    (tell (normalForm s) headers elements (normal-accepted s headers elements e within) j other element q there)
+  pub normal-tree : treeOf (normalForm s) ≡ treeOf s
+  normal-tree = form-tree s (treeOf s) (accepts-walked (found .walked))
 
 of-letter : (s : List ℕ) (headers : ℕ) (elements : List Element) → letterIn s ≡ letter headers elements → OfLetter s headers elements
 of-letter s headers elements e =
@@ -171,17 +153,20 @@ of-letter s headers elements e =
       joins = joins s headers elements e;
       joins-20 = joins-20 s headers elements e;
       joins-22 = joins-22 s headers elements e;
-      joins-within = λ j unit at row p. told-within (unit .content) _ (tell s headers elements e j row unit p (at .there) .content);
+      joins-within = λ j unit at row p.
+          let (item, there) = top-at s headers elements e j unit (at .there) in
+          told-within s (row .content) (unit .content) (tell s headers elements e j row item unit p there (at .there) .content);
       part-joined = part-joined s headers elements e;
       writes = writes s headers elements e;
       writes-17 = writes-17 s headers elements e;
       writes-18 = writes-18 s headers elements e;
       normal-accepted = normal-accepted s headers elements e;
       normal-tree = normal-tree s headers elements e;
-      normal-rows = normal-rows s headers elements e;
-      normal-joined = λ within. same-joined s (normalForm s) e (normal-accepted s headers elements e within);
-      normal-again = again s (treeOf s) (accepts-walked (f .walked));
     }
 
 pub demand2 : Demand2
-demand2 = record { accepted-is = λ s headers elements. (letter-is s headers elements, is-letter s headers elements); of-letter = of-letter }
+demand2 = record {
+  accepted-is = λ s headers elements. (letter-is s headers elements, is-letter s headers elements);
+  refused-is = λ s. refused-is edition1988 s;
+  of-letter = of-letter;
+}

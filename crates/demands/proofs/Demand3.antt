@@ -11,8 +11,6 @@ use lib.Dec.{ltb}
 use lib.ListN.{length, getElem?}
 use borrow.Author.Tests.{le-ltb, ltb-true, ltb-false}
 use borrow.Table.Steps.{cases}
-use Rattle.octets.specs.Walk.{streamLimit}
-use Rattle.normal.specs.Normal.{normalForm}
 use Rattle.index.specs.Rows.{rowWidth}
 use Rattle.elements.specs.Judge.{Element}
 use Rattle.letters.specs.Letter.{letter}
@@ -23,7 +21,6 @@ use Rattle.reading.proofs.Lists.{Sorted}
 use Rattle.reading.proofs.Matches.{matches-are, matches-all, matches-sorted}
 use Rattle.answers.specs.Answers.{letterIn, onto, tableOf, listed, listedTable, matchesIn, listedList}
 use Rattle.demands.specs.Demands.{In, Demand3}
-use Rattle.demands.proofs.Demand2.{normal-accepted}
 
 -- a member of a list stands somewhere in it
 member-in : (m : Match) (ms : List Match) → List·Memᴰ m ms → In m ms
@@ -111,9 +108,6 @@ module _ (side : Side) (s : List ℕ) (headers : ℕ) (elements : List Element) 
       (λ u. rw (e, t, u) (λ n m. absurd (m refl)))
       (λ u. rw (e, t, u) (λ n m. refl)))
 
-  normal-list : length (normalForm s) ≤ streamLimit → matchesIn side (normalForm s) ≡ matchesIn side s
-  normal-list within = rw (normal-accepted s headers elements e within, e)
-
 pub demand3 : Demand3
 demand3 = record {
   of-letter = λ side s headers elements e. record {
@@ -124,6 +118,5 @@ demand3 = record {
     lists-16 = lists-16 side s headers elements e;
     lists-19 = lists-19 side s headers elements e;
     lists-else = lists-else side s headers elements e;
-    normal-list = normal-list side s headers elements e;
   };
 }

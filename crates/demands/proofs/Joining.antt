@@ -9,18 +9,21 @@ use Prim.Native.Nat.{ℕ, _<_, _≤_}
 use native.Mathlib.Omega.{arith}
 use lib.Dec.{eqb, ltb}
 use lib.ListN.{length, getElem?, length-append}
+use lib.Seq.{slice-empty}
 use borrow.Author.Tests.{ltb-true, ltb-false, eq-eqb, eqb-true}
 use borrow.Table.Steps.{cases}
 use Rattle.tree.specs.Tree.{Tree, Codes, nothing, primitive, definite, indefinite}
-use Rattle.contents.specs.Search.{Value}
+use Rattle.contents.specs.declared.Span.{Span}
+use Rattle.contents.specs.Search.{Value, absent, octets}
 use Rattle.pieces.specs.Pieces.{joined}
+use Rattle.elements.specs.Rows.{bytesIn}
 use Rattle.elements.specs.Judge.{bytesOf, Content, single, inPieces, joinedContent, Element}
 use Rattle.letters.specs.Letter.{letter}
 use Rattle.reading.specs.Match.{unitKind}
 use Rattle.answers.specs.Answers.{letterIn, onto, Fetched, handed, fetchedOf, partOf, fetched, allOf, joinedIn, copiedFrom, copied, copiedOutput}
 use Rattle.answers.proofs.Fetching.{one-piece, of-unit}
 use Rattle.answers.proofs.Copying.{copies-all, joins-unit}
-use Rattle.demands.specs.Demands.{TellsContent, SameContent, UnitAt, PiecesAt}
+use Rattle.demands.specs.Demands.{TellsValue, TellsContent, UnitAt, PiecesAt}
 
 -- joined, pieces are no longer than octets that code them
 codes-joined : {room : ℕ} {t : Tree} {xs : List ℕ} → Codes room t xs → length (joined t) ≤ length xs
@@ -38,19 +41,14 @@ codes-joined (indefinite {room} {type} {value} {rest} {inside} {after} f v c) =
     let m = codes-joined c in
     rw (length-append (joined inside) (joined after), length-append type (0x80 ∷ (value ++ (0 ∷ 0 ∷ rest))), length-append value (0 ∷ 0 ∷ rest)) (omega arith)
 
-pub told-within : (content : Content) (bytes : List ℕ) → TellsContent bytes content → length (joinedContent content) ≤ length bytes
-told-within (single value) bytes e = let p = ap length (one-piece value ∙ sym e) in omega arith
-told-within (inPieces run) bytes c = codes-joined c
+-- the octets of a value that a pair tells
+pub told-bytes : (s : List ℕ) (pair : Span) (value : Value) → TellsValue s pair value → bytesIn s pair ≡ bytesOf value
+told-bytes s pair absent e = ap (bytesIn s) e ∙ slice-empty 0 s
+told-bytes s pair (octets bytes) (e, there) = e
 
-pub same-content : (content : Content) (bytes other : List ℕ) → TellsContent bytes content → TellsContent other content → SameContent content bytes other
-same-content (single value) bytes other e f = e ∙ sym f
-same-content (inPieces run) bytes other c d = (c, d)
-
--- what may be told of a content: the value of one item, or pieces
-pub tells-content : (content : Content) {bytes : List ℕ} → ((value : Value) → content ≡ single value → bytes ≡ bytesOf value)
-    → ((run : Tree) → content ≡ inPieces run → TellsContent bytes (inPieces run)) → TellsContent bytes content
-tells-content (single value) whole coded = whole value refl
-tells-content (inPieces run) whole coded = coded run refl
+pub told-within : (s : List ℕ) (pair : Span) (content : Content) → TellsContent s pair content → length (joinedContent content) ≤ length (bytesIn s pair)
+told-within s pair (single value) told = let p = ap length (one-piece value ∙ sym (told-bytes s pair value told)) in omega arith
+told-within s pair (inPieces run) (codes, there) = codes-joined codes
 
 -- 20 is given for what is no text unit, whatever is wanted of a content
 no-unit : (wanted : Content → Fetched) → ((c : Content) → wanted c .number ≡ 20 → ⊥) → (found-at : Option Element)

@@ -1,44 +1,41 @@
 -- A row tells what its element says: both are of one item, and the bounds of an item's value are those of its octets. And the items of a
 -- stream are as many as its tree has. Assumes nothing.
 use mathlib.Core.Path.{_≡_, refl, ap, sym, _∙_, subst}
-use mathlib.Core.Bool.{Bool, true, false, true≢false}
-use mathlib.Core.List.{List, [], _∷_, _++_, append-assoc, append-nil}
+use mathlib.Core.Logic.{_⊎_, inl, inr, _↔_}
+use mathlib.Core.Bool.{Bool, true, false, not, _&&_, true≢false, false≢true}
+use mathlib.Core.List.{List, [], _∷_, _++_, map}
 use mathlib.Core.Option.{some}
-use Prim.Native.Nat.{ℕ, zero, suc, _+_}
+use Prim.Native.Nat.{ℕ, zero, suc, _+_, _-_, _<_, _≤_}
 use native.Mathlib.Omega.{arith}
 use lib.Dec.{eqb}
-use lib.ListN.{length, getElem?}
-use lib.Seq.{slice}
-use borrow.Author.Tests.{eqb-true, eqb-false}
+use lib.ListN.{length, getElem?, length-map}
+use lib.Seq.{slice, slice-empty}
+use borrow.Author.Tests.{eqb-true, eqb-false, ne-eqb}
 use borrow.Table.Steps.{cases}
-use Rattle.headers.specs.Head.{constructed}
-use Rattle.octets.specs.Walk.{Items, none, item, count, End, startOf}
+use Rattle.headers.specs.Head.{constructed, misfits}
+use Rattle.octets.specs.Walk.{Items, none, item, count, End, ends, pastOf, deepest, startOf}
 use Rattle.octets.specs.Rules.{Runs, at-limit, unclosed, closes, refuses, primitive, passes, breaks}
-use Rattle.tree.specs.Tree.{Tree, empty, leaf, branch, formed, plain}
-use Rattle.contents.specs.Search.{Value, firstValue, firstRun, boundsOf, itemsIn}
-use Rattle.elements.specs.Rows.{bytesIn, bodyIn, contentOctet, rowOf, rowsOf}
+use Rattle.octets.proofs.Turns.{header-ok}
+use Rattle.tree.specs.Tree.{Tree, empty, leaf, branch, formed, plain, TypeField, firstOctet, Codes, nothing, primitive as flat, definite, indefinite}
+use Rattle.tree.specs.Accepts.{Whole}
+use Rattle.tree.proofs.Here.{sliced}
+use Rattle.tree.proofs.Sound.{Past, sound}
+use Rattle.runs.proofs.Heads.{item-octet}
+use Rattle.contents.specs.declared.Span.{Span}
+use Rattle.contents.specs.Search.{is, amount, firstValue, firstRun, boundsOf, itemsIn as insideOf}
+use Rattle.contents.proofs.Firsts.{amount-formed}
+use Rattle.portions.specs.Portions.{allPortions, values, all}
+use Rattle.elements.specs.Rows.{noSpan, bytesIn, bodyIn, contentOctet, rowOf, rowsOf}
 use Rattle.elements.specs.declared.Row.{Row}
 use Rattle.elements.specs.declared.Shape.{Shape}
-use Rattle.elements.specs.Shape.{Edition, edition1988, shapeOf}
-use Rattle.elements.specs.Judge.{bytesOf, noneOf, single, inPieces, contentOf, Element, bodyOf, elementOf, Judged, accepted, refused, refusalOf, judgeOne, judgeFrom, judge}
+use Rattle.elements.specs.Shape.{edition1988, shapeOf}
+use Rattle.elements.specs.Judge.{atMostOne, noneOf, contentOf, piecesAlone, Element, bodyOf, elementOf, ordered, asTabled, accepted, judge}
 use Rattle.elements.specs.WellMade.{WellMade}
 use Rattle.elements.proofs.Made.{made-1988}
-use Rattle.demands.specs.Demands.{itemCount}
-
--- a primitive item has no items inside
-pub data Proper : Items → Type 0 where
-  nothing : Proper none
-  more : {at octet start past : ℕ} {inside after : Items} → (constructed octet ≡ false → inside ≡ none) → Proper after
-      → Proper (item at octet start past inside after)
-
-pub proper : {s : List ℕ} {room at limit : ℕ} {marked : Bool} {i : Items} {e : End} → Runs s room at limit marked i e → Proper i
-proper (at-limit p) = nothing
-proper (unclosed p) = nothing
-proper (closes l h) = nothing
-proper (refuses l h) = nothing
-proper (primitive l h c r) = more (λ _. refl) (proper r)
-proper (passes l h c v r) = more (λ p. absurd (true≢false (sym c ∙ p))) (proper r)
-proper (breaks l h c v) = more (λ p. absurd (true≢false (sym c ∙ p))) nothing
+use Rattle.letters.proofs.Nested.{past-between, stays}
+use Rattle.demands.specs.Refusals.{TopItem, topItems, saysIn, misshapen}
+use Rattle.demands.specs.Demands.{itemCount, TellsValue, TellsContent, portionItems, RowTells}
+use Rattle.demands.proofs.Refusals.{accepted-elements, accepted-pass}
 
 -- the count of the items is that of the tree
 pub count-tree : {s : List ℕ} {room at limit : ℕ} {marked : Bool} {i : Items} {e : End} → Runs s room at limit marked i e → count i ≡ itemCount (plain s i)
@@ -50,33 +47,82 @@ count-tree (primitive l h c r) = rw c (let e = count-tree r in omega arith)
 count-tree (passes l h c v r) = rw c (let e = count-tree v in let f = count-tree r in omega arith)
 count-tree (breaks l h c v) = rw c (let e = count-tree v in omega arith)
 
--- what a row tells of its element; of its content, if that is one value
-pub record Tells (s : List ℕ) (row : Row) (element : Element) : Type 0 where
-  pub kind : row .kind ≡ element .kind
-  pub object : row .object ≡ element .object
-  pub identifier : bytesIn s (row .identifier) ≡ bytesOf (element .identifier)
-  pub logical : bytesIn s (row .logical) ≡ bytesOf (element .logical)
-  pub whole : (value : Value) → element .content ≡ single value → bytesIn s (row .content) ≡ bytesOf value
+past-at : (s : List ℕ) (limit to next : ℕ) (marked : Bool) → Past s limit to next marked → pastOf marked next ≡ to
+past-at s limit to next true p = omega (arith, p .0)
+past-at s limit to next false p = p .1 ∙ sym (p .0)
+
+-- the value of an item codes the run inside it
+value-codes : {s : List ℕ} {room at limit : ℕ} {marked : Bool} {items : Items} {next : ℕ} → Runs s room at limit marked items (ends next)
+    → limit ≤ length s → Codes room (plain s items) (slice at (pastOf marked next) s)
+value-codes {s} {room} {at} {limit} {marked} {items} {next} runs f =
+    let (xs, codes, stands, past) = sound runs f in
+    let same = sliced s at xs (pastOf marked next) (past-at s limit (at + length xs) next marked past) stands in
+    subst (Codes room (plain s items)) (sym same) codes
+
+-- Items whose walk ended: a value ends past 0, no octet is 0, a primitive item has nothing inside, and the value of a constructed item codes
+-- what is inside.
+pub data Proper (s : List ℕ) : (room : ℕ) → Items → Type 0 where
+  no-more : {room : ℕ} → Proper s room none
+  more : {room at octet start past : ℕ} {inside after : Items} → 0 < past → (octet ≡ 0 → ⊥) → (constructed octet ≡ false → inside ≡ none)
+      → (constructed octet ≡ true → Codes (room - 1) (plain s inside) (slice start past s))
+      → Proper s (room - 1) inside → Proper s room after → Proper s room (item at octet start past inside after)
+
+pub proper : {s : List ℕ} {room at limit : ℕ} {marked : Bool} {i : Items} {e : End} → Runs s room at limit marked i e → Whole e → limit ≤ length s
+    → Proper s room i
+proper (at-limit p) w f = no-more
+proper (unclosed p) w f = absurd w
+proper (closes l h) w f = no-more
+proper (refuses l h) w f = absurd w
+proper {s} (primitive {room} {at} {limit} {marked} {h} {after} l p q r) w f =
+    let head = header-ok s at limit room marked h p in
+    let o = item-octet s at limit marked room h p in
+    let past = past-between (h .marked) (h .start) (h .bound) (head .order) (λ m. absurd (false≢true (sym q ∙ head .mark m))) in
+    let there : 0 < pastOf (h .marked) (h .bound) = omega (arith, head .header, past .0) in
+    more there (λ z. o .1 (sym (o .0) ∙ z)) (λ _. refl) (λ c. absurd (false≢true (sym q ∙ c))) no-more (proper r w f)
+proper {s} (passes {room} {at} {limit} {marked} {h} {inside} {after} {next} l p q v r) w f =
+    let head = header-ok s at limit room marked h p in
+    let o = item-octet s at limit marked room h p in
+    let within = stays v next refl in
+    let past = past-between (h .marked) (h .start) next (within .order) (within .mark) in
+    let there : 0 < pastOf (h .marked) next = omega (arith, head .header, past .0) in
+    more there (λ z. o .1 (sym (o .0) ∙ z)) (λ c. absurd (true≢false (sym q ∙ c)))
+    (λ _. value-codes v (omega (arith, head .within))) (proper v tt (omega (arith, head .within))) (proper r w f)
+proper (breaks l p q v) w f = absurd w
 
 module _ (s : List ℕ) where
-  -- the bounds of the first primitive item with an octet bound its value
-  value-at : (octet : ℕ) → constructed octet ≡ false → (i : Items) → bytesIn s (boundsOf octet i) ≡ bytesOf (firstValue octet (plain s i))
+  -- the bounds of the first primitive item with an octet tell its value
+  value-at : (octet : ℕ) → constructed octet ≡ false → {room : ℕ} {i : Items} → Proper s room i → TellsValue s (boundsOf octet i) (firstValue octet (plain s i))
   unfolding boundsOf firstValue
-  value-at octet c none = refl
-  value-at octet c (item at type start past inside after) =
+  value-at octet c no-more = refl
+  value-at octet c (more {octet = type} there n f codes p q) =
       cases (eqb type octet)
       (λ t.
       let same = eqb-true type octet t in
-      let p : constructed type ≡ false = ap constructed same ∙ c in
-      rw (t, p, t))
+      let k : constructed type ≡ false = ap constructed same ∙ c in
+      rw (t, k, t) (refl, there))
       (λ t.
       cases (constructed type)
-      (λ p. rw (t, p) (value-at octet c after))
-      (λ p. rw (t, p, t) (value-at octet c after)))
+      (λ k. rw (t, k) (value-at octet c q))
+      (λ k. rw (t, k, t) (value-at octet c q)))
+
+  -- the bounds of an item that is there end past 0, and those of one that is not are 0 and 0
+  there-at : (octet : ℕ) {room : ℕ} {i : Items} → Proper s room i → (boundsOf octet i ≡ noSpan) ↔ (amount octet (plain s i) ≡ 0)
+  unfolding boundsOf amount
+  there-at octet no-more = (λ _. refl, λ _. refl)
+  there-at octet (more {octet = type} {start} {past} {inside} {after} there n f codes p q) =
+      let counted = amount-formed octet type (slice start past s) (plain s inside) (plain s after) (constructed type) in
+      cases (eqb type octet)
+      (λ t.
+      let one : amount octet (plain s (item 0 type start past inside after)) ≡ 1 + amount octet (plain s after) = counted ∙ rw t in
+      rw t (λ e. let z = ap (λ (v : Span). v .past) e in absurd (omega arith), λ z. absurd (omega arith)))
+      (λ t.
+      let fewer : amount octet (plain s (item 0 type start past inside after)) ≡ amount octet (plain s after) = counted ∙ rw t (omega arith) in
+      let (to, from) = there-at octet q in
+      rw t (λ e. fewer ∙ to e, λ z. from (sym fewer ∙ z)))
 
   -- the items inside the first constructed item with an octet are its run
-  run-at : (octet : ℕ) → constructed octet ≡ true → (i : Items) → plain s (itemsIn octet i) ≡ firstRun octet (plain s i)
-  unfolding itemsIn firstRun
+  run-at : (octet : ℕ) → constructed octet ≡ true → (i : Items) → plain s (insideOf octet i) ≡ firstRun octet (plain s i)
+  unfolding insideOf firstRun
   run-at octet c none = refl
   run-at octet c (item at type start past inside after) =
       cases (eqb type octet)
@@ -88,6 +134,37 @@ module _ (s : List ℕ) where
       cases (constructed type)
       (λ p. rw (t, p, t) (run-at octet c after))
       (λ p. rw (t, p) (run-at octet c after)))
+
+  inside-proper : (octet : ℕ) {room : ℕ} {i : Items} → Proper s room i → Proper s (room - 1) (insideOf octet i)
+  unfolding insideOf
+  inside-proper octet no-more = no-more
+  inside-proper octet (more {octet = type} there n f codes p q) =
+      cases (eqb type octet) (λ t. rw t p) (λ t. rw t (inside-proper octet q))
+
+  -- and the bounds of its value code the run
+  codes-at : (octet : ℕ) → constructed octet ≡ true → {room : ℕ} {i : Items} → Proper s room i → (amount octet (plain s i) ≡ 0 → ⊥)
+      → Codes (room - 1) (firstRun octet (plain s i)) (bytesIn s (boundsOf octet i)) × (0 < boundsOf octet i .past)
+  unfolding boundsOf firstRun amount
+  codes-at octet c no-more present = absurd (present refl)
+  codes-at octet c (more {octet = type} {start} {past} {inside} {after} there n f codes p q) present =
+      cases (eqb type octet)
+      (λ t.
+      let same = eqb-true type octet t in
+      let k : constructed type ≡ true = ap constructed same ∙ c in
+      rw (t, k, t) (codes k, there))
+      (λ t.
+      let counted = amount-formed octet type (slice start past s) (plain s inside) (plain s after) (constructed type) in
+      let fewer : amount octet (plain s (item 0 type start past inside after)) ≡ amount octet (plain s after) = counted ∙ rw t (omega arith) in
+      let rest = codes-at octet c q (λ z. present (fewer ∙ z)) in
+      cases (constructed type) (λ k. rw (t, k, t) rest) (λ k. rw (t, k) rest))
+
+  -- no item has octet 0
+  zero-at : {room : ℕ} {i : Items} → Proper s room i → (octet : ℕ) → octet ≡ 0 → amount octet (plain s i) ≡ 0
+  unfolding amount
+  zero-at no-more octet z = refl
+  zero-at (more {octet = type} {start} {past} {inside} {after} there n f codes p q) octet z =
+      amount-formed octet type (slice start past s) (plain s inside) (plain s after) (constructed type)
+      ∙ rw (ne-eqb type octet (λ e. n (e ∙ z)), zero-at q octet z)
 
   -- the items that name an element are the run that does
   body-at : (shape : Shape) → WellMade shape → (i : Items) → plain s (bodyIn shape i) ≡ bodyOf shape (plain s i)
@@ -102,103 +179,194 @@ module _ (s : List ℕ) where
       rw (l, z) (run-at (shape .within) held i)))
       (λ l. rw l)
 
-  -- the content fields of an element whose content is one value bound that
-  whole-at : (shape : Shape) → WellMade shape → (i : Items) (value : Value) → contentOf shape (plain s i) ≡ single value
-      → bytesIn s (boundsOf (contentOctet shape (plain s i)) i) ≡ bytesOf value
-  unfolding contentOf contentOctet
-  whole-at shape made i value e =
-      cases (noneOf (shape .pieces) (plain s i))
-      (λ t.
-      let q : single (firstValue (shape .content) (plain s i)) ≡ single value = rw t at e in
-      let v : firstValue (shape .content) (plain s i) ≡ value = cc in
-      rw t (value-at (shape .content) (made .content) i ∙ ap bytesOf v))
-      (λ t.
-      let q : inPieces (firstRun (shape .pieces) (plain s i)) ≡ single value = rw t at e in
-      let z : _≡_ {A = ℕ} 0 1 = cc in
-      absurd (omega arith))
+  body-proper : (shape : Shape) {room : ℕ} {i : Items} → Proper s room i → (levels : ℕ) × Proper s levels (bodyIn shape i)
+  unfolding bodyIn
+  body-proper shape {room} p =
+      cases (shape .looked)
+      (λ l. cases (eqb (shape .within) 0) (λ z. rw (l, z) (room, p)) (λ z. rw (l, z) (room - 1, inside-proper (shape .within) p)))
+      (λ l. rw l (0, no-more))
 
-  row-tells : (shape : Shape) → WellMade shape → (first past : ℕ) (i : Items) → Tells s (rowOf shape s first past i) (elementOf shape (plain s i))
+constructed-by : (octet : ℕ) → (octet ≡ 0) ⊎ (constructed octet ≡ true) → (octet ≡ 0 → ⊥) → constructed octet ≡ true
+constructed-by octet (inl z) present = absurd (present z)
+constructed-by octet (inr c) present = c
+
+-- a type field that is this one octet
+is-octet : (octet : ℕ) (type : List ℕ) → is octet type ≡ true → type ≡ octet ∷ []
+is-octet octet [] e = absurd (false≢true e)
+is-octet octet (x ∷ []) e = ap (λ (k : ℕ). k ∷ []) (eqb-true x octet e)
+is-octet octet (x ∷ y ∷ ys) e = absurd (false≢true e)
+
+both : (a b : Bool) → a && b ≡ true → (a ≡ true) × (b ≡ true)
+both true b e = (refl, e)
+both false b e = absurd (false≢true e)
+
+-- Items 12 alone are those of the list of their values, and take one level.
+one-level : {room : ℕ} {t : Tree} {xs : List ℕ} → Codes room t xs → allPortions t ≡ true → Codes 1 (portionItems (values t)) xs
+unfolding allPortions values
+one-level nothing e = nothing
+one-level (flat {type = type} {len} {value} {rest} {after} f m l c) e =
+    let (a, b) = both (is 0x12 type) (allPortions after) e in
+    let k = is-octet 0x12 type a in
+    subst (λ (field : List ℕ). Codes 1 (portionItems (value ∷ values after)) (field ++ (len ++ (value ++ rest)))) (sym k)
+    (flat (subst (λ (field : List ℕ). TypeField field false) k f)
+    (subst (λ (field : List ℕ). misfits (firstOctet field) (length value) ≡ false) k m) l (one-level c b))
+one-level (definite f l v c) e = absurd (false≢true e)
+one-level (indefinite f v c) e = absurd (false≢true e)
+
+no-run : (octet : ℕ) (t : Tree) → amount octet t ≡ 0 → firstRun octet t ≡ empty
+unfolding amount firstRun
+no-run octet empty z = refl
+no-run octet (leaf type value after) z = no-run octet after (omega arith)
+no-run octet (branch type inside after) z =
+    cases (is octet type)
+    (λ t. let k : 1 + amount octet after ≡ 0 = rw t at z in absurd (omega arith))
+    (λ t. rw t (no-run octet after (omega arith)))
+
+module _ (s : List ℕ) where
+  -- the octets of the portions
+  portions-at : (octet : ℕ) → (octet ≡ 0) ⊎ (constructed octet ≡ true) → {room : ℕ} {i : Items} → Proper s room i
+      → allPortions (firstRun octet (plain s i)) ≡ true → Codes 1 (portionItems (values (firstRun octet (plain s i)))) (bytesIn s (boundsOf octet i))
+  unfolding values
+  portions-at octet kind {room} {i} p only =
+      cases (eqb (amount octet (plain s i)) 0)
+      (λ t.
+      let z = eqb-true _ 0 t in
+      let bounds : boundsOf octet i ≡ noSpan = there-at s octet p .1 z in
+      let run : firstRun octet (plain s i) ≡ empty = no-run octet (plain s i) z in
+      rw (run, bounds, slice-empty 0 s) nothing)
+      (λ t.
+      let present = eqb-false _ 0 t in
+      one-level (codes-at s octet (constructed-by octet kind (λ z. present (zero-at s p octet z))) p present .0) only)
+
+  -- the octets of the content
+  content-at : (shape : Shape) → WellMade shape → {i : Items} → Proper s (deepest - 1) i
+      → TellsContent s (boundsOf (contentOctet shape (plain s i)) i) (contentOf shape (plain s i))
+  unfolding contentOf contentOctet
+  content-at shape made {i} p =
+      cases (noneOf (shape .pieces) (plain s i))
+      (λ t. rw t (value-at s (shape .content) (made .content) p))
+      (λ t.
+      let present = eqb-false _ 0 t in
+      rw t (codes-at s (shape .pieces) (constructed-by (shape .pieces) (made .pieces) (λ z. present (zero-at s p (shape .pieces) z))) p present))
+
+  abbrev shapeAt : ℕ → Shape
+  shapeAt octet = shapeOf edition1988 (octet ∷ [])
+
+  abbrev itemAt : (octet : ℕ) → Items → TopItem
+  itemAt octet inside = record { type = octet ∷ []; run = plain s inside }
+
+  row-tells : (octet first past : ℕ) (inside : Items) → Proper s (deepest - 1) inside
+      → allPortions (firstRun (shapeAt octet .portions) (bodyOf (shapeAt octet) (plain s inside))) ≡ true
+      → RowTells s (rowOf (shapeAt octet) s first past inside) (itemAt octet inside) (saysIn edition1988 (itemAt octet inside))
   unfolding rowOf elementOf
-  row-tells shape made first past i =
-      let body : plain s (bodyIn shape i) ≡ bodyOf shape (plain s i) = body-at shape made i in
+  row-tells octet first past inside p only =
+      let shape = shapeAt octet in
+      let made = made-1988 octet in
+      let body = bodyIn shape inside in
+      let same : plain s body ≡ bodyOf shape (plain s inside) = body-at s shape made inside in
+      let q = body-proper s shape p .1 in
       record {
         kind = refl;
         object = refl;
-        identifier = value-at (shape .identifier .octet) (made .identifier) (bodyIn shape i) ∙ ap (λ (t : Tree). bytesOf (firstValue (shape .identifier .octet) t)) body;
-        logical = value-at (shape .logical) (made .logical) (bodyIn shape i) ∙ ap (λ (t : Tree). bytesOf (firstValue (shape .logical) t)) body;
-        whole = whole-at shape made i;
+        identifier = subst (λ (t : Tree). TellsValue s (boundsOf (shape .identifier .octet) body) (firstValue (shape .identifier .octet) t)) same
+            (value-at s (shape .identifier .octet) (made .identifier) q);
+        logical = subst (λ (t : Tree). TellsValue s (boundsOf (shape .logical) body) (firstValue (shape .logical) t)) same
+            (value-at s (shape .logical) (made .logical) q);
+        portions = subst (λ (t : Tree). Codes 1 (portionItems (values (firstRun (shape .portions) t))) (bytesIn s (boundsOf (shape .portions) body))) same
+            (portions-at (shape .portions) (made .portions) q (subst (λ (t : Tree). allPortions (firstRun (shape .portions) t) ≡ true) (sym same) only));
+        no-portions = subst (λ (t : Tree). (boundsOf (shape .portions) body ≡ noSpan) ↔ (amount (shape .portions) t ≡ 0)) same (there-at s (shape .portions) q);
+        content = content-at shape made p;
       }
 
--- what the elements of a tree say, whether or not a rule refuses them
-unfoldable elementsOf : Edition → Tree → List Element
-elementsOf edition empty = []
-elementsOf edition (leaf type value after) = elementOf (shapeOf edition type) empty ∷ elementsOf edition after
-elementsOf edition (branch type inside after) = elementOf (shapeOf edition type) inside ∷ elementsOf edition after
+  -- an element stands in the tree as the items inside its own
+  same-top : (octet : ℕ) (value : List ℕ) (inside : Items) (after : Tree) → (constructed octet ≡ false → inside ≡ none)
+      → topItems (formed (constructed octet) (octet ∷ []) value (plain s inside) after) ≡ itemAt octet inside ∷ topItems after
+  same-top octet value inside after n =
+      cases (constructed octet)
+      (λ c. rw c)
+      (λ c. let e : inside ≡ none = n c in rw (c, e))
 
-module _ (edition : Edition) where
-  one-more : (done : List Element) (type : List ℕ) (run : Tree) (next : List Element → Judged) (rest elements : List Element)
-      → ((found : List Element) → next found ≡ accepted elements → elements ≡ found ++ rest)
-      → judgeOne edition done type run next ≡ accepted elements → elements ≡ done ++ (elementOf (shapeOf edition type) run ∷ rest)
-  unfolding judgeOne
-  one-more done type run next rest elements later e =
-      let n = refusalOf edition done type run in
-      let own = elementOf (shapeOf edition type) run in
-      cases (eqb n 0)
-      (λ t. later (done ++ (own ∷ [])) (rw t at e) ∙ append-assoc done (own ∷ []) rest)
-      (λ t. let f : refused n (length done) ≡ accepted elements = rw t at e in let z : _≡_ {A = ℕ} 0 1 = cc in absurd (omega arith))
+  -- a row and an element of the tree are of one item
+  record OfOne (row : Row) (top : TopItem) : Type 0 where
+    octet : ℕ
+    first : ℕ
+    past : ℕ
+    inside : Items
+    inside-proper : Proper s (deepest - 1) inside
+    row-is : rowOf (shapeAt octet) s first past inside ≡ row
+    item-is : itemAt octet inside ≡ top
 
-  from-elements : (done : List Element) (t : Tree) (elements : List Element) → judgeFrom edition done t ≡ accepted elements → elements ≡ done ++ elementsOf edition t
-  unfolding judgeFrom elementsOf
-  from-elements done empty elements e = let f : done ≡ elements = cc in sym f ∙ sym (append-nil done)
-  from-elements done (leaf type value after) elements e =
-      one-more done type empty (λ next. judgeFrom edition next after) (elementsOf edition after) elements (λ next. from-elements next after elements) e
-  from-elements done (branch type inside after) elements e =
-      one-more done type inside (λ next. judgeFrom edition next after) (elementsOf edition after) elements (λ next. from-elements next after elements) e
+  of-one : {i : Items} → Proper s deepest i → (j : ℕ) (row : Row) (top : TopItem) → getElem? (rowsOf edition1988 s i) j ≡ some row
+      → getElem? (topItems (plain s i)) j ≡ some top → OfOne row top
+  unfolding rowsOf
+  of-one no-more j row top e f = let z : _≡_ {A = ℕ} 0 1 = cc in absurd (omega arith)
+  of-one (more {at = at} {octet} {start} {past} {inside} {after} there n nothing-in codes p q) zero row top e f =
+      let tops = same-top octet (slice start past s) inside (plain s after) nothing-in in
+      let g : some (itemAt octet inside) ≡ some top = sym (ap (λ (ts : List TopItem). getElem? ts 0) tops) ∙ f in
+      let item-is : itemAt octet inside ≡ top = cc in
+      let row-is : rowOf (shapeAt octet) s at (startOf (length s) after) inside ≡ row = cc in
+      record { octet = octet; first = at; past = startOf (length s) after; inside = inside; inside-proper = p; row-is = row-is; item-is = item-is }
+  of-one (more {octet = octet} {start} {past} {inside} {after} there n nothing-in codes p q) (suc j) row top e f =
+      let tops = same-top octet (slice start past s) inside (plain s after) nothing-in in
+      of-one q j row top e (sym (ap (λ (ts : List TopItem). getElem? ts (suc j)) tops) ∙ f)
 
-  accepted-elements : (t : Tree) (elements : List Element) → judge edition t ≡ accepted elements → elements ≡ elementsOf edition t
-  unfolding judge
-  accepted-elements empty elements e = let z : _≡_ {A = ℕ} 0 1 = cc in absurd (omega arith)
-  accepted-elements (leaf type value after) elements e = from-elements [] (leaf type value after) elements e
-  accepted-elements (branch type inside after) elements e = from-elements [] (branch type inside after) elements e
+  -- as many rows as elements
+  rows-count : {i : Items} → Proper s deepest i → length (rowsOf edition1988 s i) ≡ length (topItems (plain s i))
+  unfolding rowsOf
+  rows-count no-more = refl
+  rows-count (more {octet = octet} {start} {past} {inside} {after} there n nothing-in codes p q) =
+      ap suc (rows-count q) ∙ sym (ap length (same-top octet (slice start past s) inside (plain s after) nothing-in))
 
--- an element is said by the items inside its own
-same-element : (s : List ℕ) (octet : ℕ) (value : List ℕ) (inside : Items) (after : Tree) → (constructed octet ≡ false → inside ≡ none)
-    → elementsOf edition1988 (formed (constructed octet) (octet ∷ []) value (plain s inside) after)
-    ≡ elementOf (shapeOf edition1988 (octet ∷ [])) (plain s inside) ∷ elementsOf edition1988 after
-unfolding elementsOf
-same-element s octet value inside after n =
-    cases (constructed octet)
-    (λ c. rw c)
-    (λ c. let e : inside ≡ none = n c in rw (c, e))
+said-at : (tops : List TopItem) (j : ℕ) (top : TopItem) → getElem? tops j ≡ some top → getElem? (map (saysIn edition1988) tops) j ≡ some (saysIn edition1988 top)
+said-at [] j top e = let z : _≡_ {A = ℕ} 0 1 = cc in absurd (omega arith)
+said-at (x ∷ tops) zero top e = let p : x ≡ top = cc in ap (λ (y : TopItem). some (saysIn edition1988 y)) p
+said-at (x ∷ tops) (suc j) top e = said-at tops j top e
 
-rows-tell-by : (s : List ℕ) {i : Items} → Proper i → (j : ℕ) (row : Row) (element : Element) → getElem? (rowsOf edition1988 s i) j ≡ some row
-    → getElem? (elementsOf edition1988 (plain s i)) j ≡ some element → Tells s row element
-unfolding rowsOf elementsOf
-rows-tell-by s nothing j row element e f = let z : _≡_ {A = ℕ} 0 1 = cc in absurd (omega arith)
-rows-tell-by s (more {at} {octet} {start} {past} {inside} {after} n p) zero row element e f =
-    let shape = shapeOf edition1988 (octet ∷ []) in
-    let g : getElem? (elementOf shape (plain s inside) ∷ elementsOf edition1988 (plain s after)) 0 ≡ some element =
-    ap (λ (es : List Element). getElem? es 0) (sym (same-element s octet (slice start past s) inside (plain s after) n)) ∙ f in
-    let r : rowOf shape s at (startOf (length s) after) inside ≡ row = cc in
-    let x : elementOf shape (plain s inside) ≡ element = cc in
-    subst (Tells s row) x (subst (λ (o : Row). Tells s o (elementOf shape (plain s inside))) r (row-tells s shape (made-1988 octet) at (startOf (length s) after) inside))
-rows-tell-by s (more {at} {octet} {start} {past} {inside} {after} n p) (suc j) row element e f =
-    let g : getElem? (elementsOf edition1988 (plain s after)) j ≡ some element =
-    ap (λ (es : List Element). getElem? es (suc j)) (sym (same-element s octet (slice start past s) inside (plain s after) n)) ∙ f in
-    rows-tell-by s p j row element e g
+-- of a list of tests that all hold, each does
+all-at : (tests : List Bool) → all tests ≡ true → (k : ℕ) (test : Bool) → getElem? tests k ≡ some test → test ≡ true
+all-at [] e k test f = let z : _≡_ {A = ℕ} 0 1 = cc in absurd (omega arith)
+all-at (t ∷ tests) e zero test f = let p : t ≡ test = cc in sym p ∙ both t (all tests) e .0
+all-at (t ∷ tests) e (suc k) test f = all-at tests (both t (all tests) e .1) k test f
 
--- as many rows as elements
-rows-count : (s : List ℕ) {i : Items} → Proper i → length (rowsOf edition1988 s i) ≡ length (elementsOf edition1988 (plain s i))
-unfolding rowsOf elementsOf
-rows-count s nothing = refl
-rows-count s (more {at} {octet} {start} {past} {inside} {after} n p) =
-    ap suc (rows-count s p) ∙ ap length (sym (same-element s octet (slice start past s) inside (plain s after) n))
+-- contents as tabled: the portions are items 12
+tabled-portions : (shape : Shape) (run : Tree) → asTabled shape run ≡ true → allPortions (firstRun (shape .portions) (bodyOf shape run)) ≡ true
+unfolding asTabled
+tabled-portions shape run e =
+    let body = bodyOf shape run in
+    all-at (ordered shape run
+    ∷ piecesAlone (contentOf shape run)
+    ∷ not (shape .identifier .needed && noneOf (shape .identifier .octet) body)
+    ∷ atMostOne (shape .identifier .octet) body
+    ∷ atMostOne (shape .logical) body
+    ∷ atMostOne (shape .portions) body
+    ∷ noneOf (shape .never) body
+    ∷ noneOf (shape .neither) body
+    ∷ allPortions (firstRun (shape .portions) body)
+    ∷ []) e 8 (allPortions (firstRun (shape .portions) body)) refl
 
-module _ (s : List ℕ) {i : Items} (p : Proper i) (elements : List Element) (judged : judge edition1988 (plain s i) ≡ accepted elements) where
+module _ (s : List ℕ) {i : Items} (p : Proper s deepest i) (elements : List Element) (judged : judge edition1988 (plain s i) ≡ accepted elements) where
+  pub tops-counted : length (topItems (plain s i)) ≡ length elements
+  tops-counted = sym (length-map (topItems (plain s i)) (saysIn edition1988)) ∙ ap length (sym (accepted-elements edition1988 (plain s i) elements judged))
+
   pub rows-counted : length (rowsOf edition1988 s i) ≡ length elements
-  rows-counted = rows-count s p ∙ ap length (sym (accepted-elements edition1988 (plain s i) elements judged))
+  rows-counted = rows-count s p ∙ tops-counted
 
-  pub rows-tell : (j : ℕ) (row : Row) (element : Element) → getElem? (rowsOf edition1988 s i) j ≡ some row → getElem? elements j ≡ some element
-      → Tells s row element
-  rows-tell j row element e f =
-      rows-tell-by s p j row element e (ap (λ (es : List Element). getElem? es j) (sym (accepted-elements edition1988 (plain s i) elements judged)) ∙ f)
+  as-tabled : (j : ℕ) (top : TopItem) → getElem? (topItems (plain s i)) j ≡ some top → asTabled (shapeOf edition1988 (top .type)) (top .run) ≡ true
+  as-tabled j top there =
+      cases (asTabled (shapeOf edition1988 (top .type)) (top .run))
+      (λ t. t)
+      (λ t. absurd (accepted-pass edition1988 (plain s i) elements judged j top there 12 (misshapen t)))
+
+  pub rows-tell : (j : ℕ) (row : Row) (top : TopItem) (element : Element) → getElem? (rowsOf edition1988 s i) j ≡ some row
+      → getElem? (topItems (plain s i)) j ≡ some top → getElem? elements j ≡ some element → RowTells s row top element
+  rows-tell j row top element e there f =
+      let o = of-one s p j row top e there in
+      let g : some (saysIn edition1988 top) ≡ some element =
+      sym (said-at (topItems (plain s i)) j top there)
+      ∙ ap (λ (es : List Element). getElem? es j) (sym (accepted-elements edition1988 (plain s i) elements judged)) ∙ f in
+      let x : saysIn edition1988 top ≡ element = cc in
+      let tabled = subst (λ (y : TopItem). asTabled (shapeOf edition1988 (y .type)) (y .run) ≡ true) (sym (o .item-is)) (as-tabled j top there) in
+      let told = row-tells s (o .octet) (o .first) (o .past) (o .inside) (o .inside-proper) (tabled-portions _ _ tabled) in
+      let at-item = subst (λ (y : TopItem). RowTells s (rowOf (shapeAt s (o .octet)) s (o .first) (o .past) (o .inside)) y (saysIn edition1988 y)) (o .item-is) told in
+      subst (λ (r : Row). RowTells s r top element) (o .row-is)
+      (subst (RowTells s (rowOf (shapeAt s (o .octet)) s (o .first) (o .past) (o .inside)) top) x at-item)

@@ -1,19 +1,20 @@
 -- The wrong programs that document 01 names meet no contract: each is held to the contract at a stream where it is wrong, and what the contract
 -- says there is computed. Assumes nothing.
 use mathlib.Core.Path.{_≡_, refl, ap, sym, _∙_}
-use mathlib.Core.Bool.{xor}
+use mathlib.Core.Bool.{false, xor}
 use mathlib.Core.List.{List, [], _∷_}
 use mathlib.Core.Option.{some}
-use Prim.Native.Nat.{ℕ}
+use Prim.Native.Nat.{ℕ, _≤_}
 use native.Mathlib.Omega.{arith}
 use lib.ListN.{length, getD, getElem?, replicate}
 use Rattle.headers.specs.Head.{permits, formAllowed, bigEndianFrom, misfits, definiteAt, indefiniteAt, longAt, byFirst, lengthAt, itemAt, closingAt, headAt}
-use Rattle.octets.specs.Walk.{runFor, run, walkOf}
-use Rattle.tree.specs.Tree.{Tree, empty, leaf, branch}
+use Rattle.octets.specs.Walk.{streamLimit, deepest, runFor, run, walkOf}
+use Rattle.octets.proofs.RulesHold.{derives}
+use Rattle.tree.specs.Tree.{Tree, empty, leaf, branch, treeOf}
 use Rattle.names.specs.Names.{isDigit, grouped, isIdentifier, allDigits, isPortion, same}
 use Rattle.normal.specs.Normal.{numberOctets, normalOf}
 use Rattle.index.specs.Rows.{nameSpaceOf}
-use Rattle.contents.specs.Search.{absent, amount, firstValue, firstRun, boundsOf, itemsIn, inOrder}
+use Rattle.contents.specs.Search.{absent, amount, firstValue, firstRun, boundsOf, itemsIn as insideOf, inOrder}
 use Rattle.pieces.specs.Pieces.{onlyPieces, joined}
 use Rattle.portions.specs.Portions.{allPortions, values, wellSpelt, among, repeats}
 use Rattle.elements.specs.Shape.{shapeOf}
@@ -30,6 +31,9 @@ use Rattle.answers.specs.declared.Written.{Written}
 use Rattle.answers.specs.declared.Listed.{Listed}
 use Rattle.answers.specs.declared.Copied.{Copied}
 use Rattle.answers.specs.Answers.{letterIn, rowsIn, onto, checked, CheckOutcome, written, writtenOutput, NormalOutcome, listed, listedList, ListOutcome, fetched, joinedIn, copied, copiedOutput, JoinedOutcome}
+use Rattle.demands.specs.Demands.{itemCount}
+use Rattle.demands.proofs.Demand1.{demand1}
+use Rattle.demands.proofs.Telling.{count-tree}
 
 -- programs: what they answer, and what they leave in what they were lent
 abbrev Checker : Type 0
@@ -167,7 +171,7 @@ piecedRow = record {
 }
 
 row-of-pieces : getElem? (rowsIn pieced) 1 ≡ some piecedRow
-unfolding permits formAllowed bigEndianFrom misfits definiteAt indefiniteAt longAt byFirst lengthAt itemAt closingAt headAt runFor run walkOf amount firstValue firstRun inOrder allPortions values wellSpelt among repeats isDigit grouped isIdentifier allDigits isPortion same nameSpaceOf shapeOf bodyOf contentOf elementOf ordered asTabled namesFit clash twice refusalOf judgeOne judgeFrom judge placeOf letterOf onlyPieces bodyIn contentOctet boundsOf itemsIn rowOf rowsOf xor
+unfolding permits formAllowed bigEndianFrom misfits definiteAt indefiniteAt longAt byFirst lengthAt itemAt closingAt headAt runFor run walkOf amount firstValue firstRun inOrder allPortions values wellSpelt among repeats isDigit grouped isIdentifier allDigits isPortion same nameSpaceOf shapeOf bodyOf contentOf elementOf ordered asTabled namesFit clash twice refusalOf judgeOne judgeFrom judge placeOf letterOf onlyPieces bodyIn contentOctet boundsOf insideOf rowOf rowsOf xor
 row-of-pieces = refl
 
 -- no checker refuses every stream,
@@ -182,9 +186,15 @@ fixed-answer f meets fixed wrong =
     let b : fixed .number ≡ 11 = ap (λ (x : Checked). x .number) (sym (wrong [] table) ∙ meets [] table .answered) ∙ refuses-nothing in
     omega arith
 
--- none makes the header count up from the stream's length;
-pub made-up-headers : (f : Checker) → Checks f → (made-up : ℕ → ℕ) → ((s rows : List ℕ) → f s rows .0 .headers ≡ made-up (length s)) → ⊥
-made-up-headers f meets made-up wrong =
+-- none makes a header count up: a count that on one stream within the limit is not that of the tree's items breaks the contract,
+pub made-up-headers : (f : Checker) → Checks f → (s rows : List ℕ) → length s ≤ streamLimit → (f s rows .0 .headers ≡ itemCount (treeOf s) → ⊥) → ⊥
+made-up-headers f meets s rows within wrong =
+    wrong (ap (λ (x : Checked). x .headers) (meets s rows .answered) ∙ demand1 .headers s rows within
+    ∙ count-tree (derives deepest s 0 (length s) false (omega arith)))
+
+-- and so does one that is told from the stream's length;
+pub headers-by-length : (f : Checker) → Checks f → (made-up : ℕ → ℕ) → ((s rows : List ℕ) → f s rows .0 .headers ≡ made-up (length s)) → ⊥
+headers-by-length f meets made-up wrong =
     let a : made-up 4 ≡ 1 = sym (wrong marked table) ∙ ap (λ (x : Checked). x .headers) (meets marked table .answered) ∙ one-header in
     let b : made-up 4 ≡ 2 = sym (wrong two table) ∙ ap (λ (x : Checked). x .headers) (meets two table .answered) ∙ two-headers in
     omega arith

@@ -5,24 +5,26 @@ use mathlib.Core.Logic.{_⊎_, _↔_}
 use mathlib.Core.Bool.{true}
 use mathlib.Core.List.{List, [], _∷_}
 use mathlib.Core.Option.{some}
-use Prim.Native.Nat.{ℕ, suc, _+_, _/_, _<_, _≤_}
+use Prim.Native.Nat.{ℕ, suc, _+_, _-_, _/_, _<_, _≤_}
 use lib.ListN.{length, getElem?}
 use Rattle.headers.specs.Head.{isIn}
 use Rattle.octets.specs.Walk.{count, streamLimit, deepest}
 use Rattle.tree.specs.Tree.{Tree, empty, leaf, branch, treeOf, Codes}
 use Rattle.normal.specs.Normal.{normalForm}
 use Rattle.index.specs.Rows.{rowWidth}
-use Rattle.contents.specs.Search.{Value}
-use Rattle.elements.specs.Rows.{bytesIn}
+use Rattle.contents.specs.declared.Span.{Span}
+use Rattle.contents.specs.Search.{Value, absent, octets, amount}
+use Rattle.elements.specs.Rows.{noSpan, bytesIn}
 use Rattle.elements.specs.declared.Row.{Row}
-use Rattle.elements.specs.Shape.{edition1988}
-use Rattle.elements.specs.Judge.{bytesOf, Content, single, inPieces, joinedContent, Element, accepted, judge}
-use Rattle.letters.specs.Letter.{letter, itemsOfStream, EndToEnd, PairsWithin}
+use Rattle.elements.specs.Shape.{edition1988, shapeOf}
+use Rattle.elements.specs.Judge.{bytesOf, Content, single, inPieces, joinedContent, Element, bodyOf, accepted, judge}
+use Rattle.letters.specs.Letter.{letter, refusal, itemsOfStream, EndToEnd, PairsWithin}
 use Rattle.reading.specs.declared.Match.{Match}
 use Rattle.reading.specs.declared.Side.{Side}
 use Rattle.reading.specs.Match.{unitKind, matches, IsMatch, Before}
 use Rattle.answers.specs.Answers.{letterIn, rowsIn, onto, tableOf, checked, checkedTable, written, writtenOutput, listed, listedTable, matchesIn, listedList}
 use Rattle.answers.specs.Answers.{handed, fetched, joinedIn, copied, copiedOutput}
+use Rattle.demands.specs.Refusals.{TopItem, topItems, RefusedWith}
 
 -- A number that a question may give, and its place: 0, one of 1 to 15, or one of the question's own, "where the question can give it". The
 -- place lies in the stream; it is 0 with 0 and from 16 on.
@@ -79,33 +81,37 @@ pub record IsLetterOf (s : List ℕ) (headers : ℕ) (elements : List Element) :
 
 -- the levels that are left for pieces: an element stands at level 1, the 24 at level 2, and "level 16 is the deepest"
 abbrev pub pieceLevels : ℕ
-pieceLevels = 14
+pieceLevels = deepest - 2
 
--- the octets that the content fields of a row bound are the value of one item; or, if the content is in pieces, octets that code the pieces
-abbrev pub TellsContent : List ℕ → Content → Type 0
-TellsContent bytes (single value) = bytes ≡ bytesOf value
-TellsContent bytes (inPieces run) = Codes pieceLevels run bytes
+-- a pair of a row tells a value: "Absent is 0 and 0"; any other bounds its octets, and ends past 0
+abbrev pub TellsValue : List ℕ → Span → Value → Type 0
+TellsValue s pair absent = pair ≡ noSpan
+TellsValue s pair (octets bytes) = (bytesIn s pair ≡ bytes) × (0 < pair .past)
+
+-- the content fields bound the value of one item; or, if the content is in pieces, octets that code the pieces
+abbrev pub TellsContent : List ℕ → Span → Content → Type 0
+TellsContent s pair (single value) = TellsValue s pair value
+TellsContent s pair (inPieces run) = Codes pieceLevels run (bytesIn s pair) × (0 < pair .past)
+
+-- "portions, every item in it 12": the items of a list of portions
+abbrev pub portionItems : List (List ℕ) → Tree
+portionItems [] = empty
+portionItems (portion ∷ portions) = leaf (0x12 ∷ []) portion (portionItems portions)
+
+-- an element has no item for portions, which is more than that it lists none
+abbrev pub NoPortions : TopItem → Type 0
+NoPortions item = let shape = shapeOf edition1988 (item .type) in amount (shape .portions) (bodyOf shape (item .run)) ≡ 0
 
 -- a row tells what its element says: its kind and object type, and octets of the stream
-pub record RowTells (s : List ℕ) (row : Row) (element : Element) : Type 0 where
+pub record RowTells (s : List ℕ) (row : Row) (item : TopItem) (element : Element) : Type 0 where
   pub kind : row .kind ≡ element .kind
   pub object : row .object ≡ element .object
-  pub identifier : bytesIn s (row .identifier) ≡ bytesOf (element .identifier)
-  pub logical : bytesIn s (row .logical) ≡ bytesOf (element .logical)
-  pub content : TellsContent (bytesIn s (row .content)) (element .content)
-
--- two contents of one element, in two streams: the same octets; or, if it is in pieces, octets that code the same pieces
-abbrev pub SameContent : Content → (bytes other : List ℕ) → Type 0
-SameContent (single value) bytes other = bytes ≡ other
-SameContent (inPieces run) bytes other = Codes pieceLevels run bytes × Codes pieceLevels run other
-
--- two rows of two streams, for one element, with the same kind, type, identifiers and content
-pub record SameRow (element : Element) (s : List ℕ) (row : Row) (t : List ℕ) (other : Row) : Type 0 where
-  pub kind : row .kind ≡ other .kind
-  pub object : row .object ≡ other .object
-  pub identifier : bytesIn s (row .identifier) ≡ bytesIn t (other .identifier)
-  pub logical : bytesIn s (row .logical) ≡ bytesIn t (other .logical)
-  pub content : SameContent (element .content) (bytesIn s (row .content)) (bytesIn t (other .content))
+  pub identifier : TellsValue s (row .identifier) (element .identifier)
+  pub logical : TellsValue s (row .logical) (element .logical)
+  -- "the portions' value": one item 12 after another, of which each has a portion number
+  pub portions : Codes 1 (portionItems (element .portions)) (bytesIn s (row .portions))
+  pub no-portions : (row .portions ≡ noSpan) ↔ NoPortions item
+  pub content : TellsContent s (row .content) (element .content)
 
 -- element j is a text unit
 pub record UnitAt (elements : List Element) (j : ℕ) (unit : Element) : Type 0 where
@@ -129,7 +135,8 @@ pub record OfLetter (s : List ℕ) (headers : ℕ) (elements : List Element) : T
   pub end-to-end : EndToEnd 0 (length s) (rowsIn s)
   pub pairs-within : (j : ℕ) (row : Row) → getElem? (rowsIn s) j ≡ some row → PairsWithin row
   pub rows-counted : length (rowsIn s) ≡ length elements
-  pub rows-tell : (j : ℕ) (row : Row) (element : Element) → getElem? (rowsIn s) j ≡ some row → getElem? elements j ≡ some element → RowTells s row element
+  pub rows-tell : (j : ℕ) (row : Row) (item : TopItem) (element : Element) → getElem? (rowsIn s) j ≡ some row
+      → getElem? (topItems (treeOf s)) j ≡ some item → getElem? elements j ≡ some element → RowTells s row item element
   -- "The part question still serves 04": the part is what the 04 says; it is refused by 20 of what is no text unit, and by 21 of pieces
   pub content : (j : ℕ) (unit : Element) → UnitAt elements j unit → (value : Value) → unit .content ≡ single value → fetched s j ≡ handed (bytesOf value)
   pub content-20 : (j : ℕ) → (fetched s j .number ≡ 20) ↔ ((unit : Element) → UnitAt elements j unit → ⊥)
@@ -150,19 +157,16 @@ pub record OfLetter (s : List ℕ) (headers : ℕ) (elements : List Element) : T
       → (written s out ≡ record { number = 0; place = 0; length = length (normalForm s) }) × (writtenOutput s out ≡ onto (normalForm s) out)
   pub writes-17 : (out : List ℕ) → (written s out .number ≡ 17) ↔ (streamLimit < length (normalForm s))
   pub writes-18 : (out : List ℕ) → (written s out .number ≡ 18) ↔ ((length (normalForm s) ≤ streamLimit) × (length out < length (normalForm s)))
-  -- and it is accepted by every rule, with the same header count and the same elements, the same tree, and row by row the same kinds,
-  -- types, identifiers and content
+  -- and it is accepted by every rule, with the same header count, elements and tree, so that its rows tell the same of the same elements
+  -- (specs/Kept says it row by row)
   pub normal-accepted : length (normalForm s) ≤ streamLimit → letterIn (normalForm s) ≡ letter headers elements
-  pub normal-tree : length (normalForm s) ≤ streamLimit → treeOf (normalForm s) ≡ treeOf s
-  pub normal-rows : length (normalForm s) ≤ streamLimit → (j : ℕ) (element : Element) (row other : Row) → getElem? elements j ≡ some element
-      → getElem? (rowsIn s) j ≡ some row → getElem? (rowsIn (normalForm s)) j ≡ some other → SameRow element s row (normalForm s) other
-  -- "Normal form keeps the pieces": unit by unit its joined content is the same
-  pub normal-joined : length (normalForm s) ≤ streamLimit → (j : ℕ) → joinedIn (normalForm s) j ≡ joinedIn s j
-  pub normal-again : length (normalForm s) ≤ streamLimit → normalForm (normalForm s) ≡ normalForm s
+  pub normal-tree : treeOf (normalForm s) ≡ treeOf s
 
--- Demand 2: accepted is what X.209 and the shapes say, and what is accepted is kept by the normal form.
+-- Demand 2: accepted is what X.209 and the shapes say, and what is accepted is kept by the normal form. What is refused is refused by the
+-- first of 1 to 15 whose condition holds.
 pub record Demand2 : Type 0 where
   pub accepted-is : (s : List ℕ) (headers : ℕ) (elements : List Element) → (letterIn s ≡ letter headers elements) ↔ IsLetterOf s headers elements
+  pub refused-is : (s : List ℕ) (number place : ℕ) → ((headers : ℕ) × (letterIn s ≡ refusal number place headers)) ↔ RefusedWith edition1988 s number place
   pub of-letter : (s : List ℕ) (headers : ℕ) (elements : List Element) → letterIn s ≡ letter headers elements → OfLetter s headers elements
 
 -- a record stands somewhere in a list
@@ -184,8 +188,6 @@ pub record ListOf (side : Side) (s : List ℕ) (elements : List Element) : Type 
       → (listed side s table room .number ≡ 19) ↔ ((length elements ≤ length table / rowWidth) × (room < length (matchesIn side s)))
   pub lists-else : (table : List ℕ) (room : ℕ) → (listed side s table room .number ≡ 16 → ⊥) → (listed side s table room .number ≡ 19 → ⊥)
       → listed side s table room .number ≡ 0
-  -- and the normal form has the same list
-  pub normal-list : length (normalForm s) ≤ streamLimit → matchesIn side (normalForm s) ≡ matchesIn side s
 
 -- Demand 3: the reading list of either side.
 pub record Demand3 : Type 0 where

@@ -1,3 +1,6 @@
--- Demands: what is promised. Examples: the starred examples of document 01.
+-- Demands: what is promised. Refusals: when each of 1 to 15 is given. Kept: what the normal form keeps, row by row. Examples: the starred
+-- examples of document 01.
+pub mod Refusals
 pub mod Demands
+pub mod Kept
 pub mod Examples

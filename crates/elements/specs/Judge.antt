@@ -9,7 +9,7 @@ use lib.ListN.{length}
 use Rattle.tree.specs.Tree.{empty, Tree, leaf, branch}
 use Rattle.names.specs.Names.{isIdentifier, same}
 use Rattle.index.specs.Rows.{nameSpaceOf}
-use Rattle.contents.specs.Search.{Value, firstRun, absent, octets, amount, firstValue, inOrder, is}
+use Rattle.contents.specs.Search.{Value, absent, octets, amount, firstRun, firstValue, inOrder, is}
 use Rattle.pieces.specs.Pieces.{joined, onlyPieces}
 use Rattle.portions.specs.Portions.{all, allPortions, values, wellSpelt, any, repeats}
 use Rattle.elements.specs.declared.Shape.{Shape}

@@ -1,5 +1,5 @@
 -- Grow: one row more in the scratch. State: the state of the judge. Meetings: what is inside a primitive item. Nested, Apart, Table: the table.
--- Standing: where element j stands. Fetching: where its content does. Coding: what the content fields of content in pieces bound.
+-- Standing: where element j stands. Fetching: where its content does.
 pub mod Grow
 pub mod State
 pub mod Meetings
@@ -8,4 +8,3 @@ pub mod Apart
 pub mod Table
 pub mod Standing
 pub mod Fetching
-pub mod Coding

@@ -28,16 +28,16 @@ wider from to from' to' low high (item at octet first past inside after) w =
     (omega (arith, w .0), w .1, omega (arith, w .2), wider from to from' to' low high inside (w .3), wider from to from' to' low high after (w .4))
 
 -- a run from `at` that ended: its items lie before next, and a closing mark is two octets
-record Stays (marked : Bool) (at next : ℕ) (i : Items) : Type 0 where
-  order : at ≤ next
-  mark : marked ≡ true → at + 2 ≤ next
-  nested : Nested at next i
+pub record Stays (marked : Bool) (at next : ℕ) (i : Items) : Type 0 where
+  pub order : at ≤ next
+  pub mark : marked ≡ true → at + 2 ≤ next
+  pub nested : Nested at next i
 
-past-between : (m : Bool) (start next : ℕ) → start ≤ next → (m ≡ true → start + 2 ≤ next) → (start ≤ pastOf m next) × (pastOf m next ≤ next)
+pub past-between : (m : Bool) (start next : ℕ) → start ≤ next → (m ≡ true → start + 2 ≤ next) → (start ≤ pastOf m next) × (pastOf m next ≤ next)
 past-between true start next l mark = let k = mark refl in (omega arith, omega arith)
 past-between false start next l mark = (l, omega arith)
 
-stays : {s : List ℕ} {room at limit : ℕ} {marked : Bool} {i : Items} {e : End} → Runs s room at limit marked i e → (end : ℕ) → e ≡ ends end
+pub stays : {s : List ℕ} {room at limit : ℕ} {marked : Bool} {i : Items} {e : End} → Runs s room at limit marked i e → (end : ℕ) → e ≡ ends end
     → Stays marked at end i
 stays (at-limit {room} {at} {limit} p) end e =
     let q : limit ≡ end = cc in record { order = omega arith; mark = λ m. absurd (false≢true m); nested = tt }

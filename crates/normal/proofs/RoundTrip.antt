@@ -6,30 +6,33 @@ use Prim.Native.Nat.{ℕ, _≤_}
 use native.Mathlib.Omega.{arith}
 use lib.ListN.{length}
 use Rattle.octets.specs.Walk.{streamLimit}
-use Rattle.tree.specs.Tree.{Tree, Codes, nothing, primitive, definite, indefinite}
+use Rattle.tree.specs.Tree.{Tree, treeOf, Codes, nothing, primitive, definite, indefinite}
 use Rattle.tree.specs.Accepts.{Accepts}
-use Rattle.tree.proofs.Meaning.{means, accepts}
+use Rattle.tree.proofs.Meaning.{means, coded-walk, accepts}
 use Rattle.normal.specs.Normal.{normalOf, normalForm}
 use Rattle.normal.specs.Forms.{Shortest}
-use Rattle.normal.proofs.Normals.{normal-codes}
+use Rattle.normal.proofs.Normals.{normal-codes, small}
 
 -- The normal form of an accepted stream, if within the limit, is accepted, with the same tree.
 pub round-trip : (s : List ℕ) (t : Tree) → Accepts s t → length (normalOf t) ≤ streamLimit → Accepts (normalOf t) t
 round-trip s t a l = accepts (normalOf t) t (normal-codes (means s t a .0) (omega arith)) l
 
--- The normal form of a normal form is itself.
-pub again : (s : List ℕ) (t : Tree) → Accepts s t → length (normalForm s) ≤ streamLimit → normalForm (normalForm s) ≡ normalForm s
-again s t a l =
-    let e : normalForm s ≡ normalOf t = ap normalOf (a .tree) in
-    let b = round-trip s t a (rw e at l) in
-    rw e (ap normalOf (b .tree))
+-- Over the limit too its octets stand for the same tree, as it is at most three times as long as the stream: no length takes five octets.
+pub form-tree : (s : List ℕ) (t : Tree) → Accepts s t → treeOf (normalOf t) ≡ t
+form-tree s t a =
+    let (c, l) = means s t a in
+    let few = small c in
+    coded-walk (normalOf t) t (normal-codes c (omega arith)) .1
 
--- Two accepted streams have the same tree exactly when they have the same normal form.
-pub same-form : (s r : List ℕ) (t u : Tree) → Accepts s t → Accepts r u → length (normalOf t) ≤ streamLimit → normalOf t ≡ normalOf u → t ≡ u
-same-form s r t u a b l e =
-    let x = round-trip s t a l .tree in
-    let y = round-trip r u b (rw e at l) .tree in
-    sym x ∙ rw e y
+-- The normal form of a normal form is itself.
+pub again : (s : List ℕ) (t : Tree) → Accepts s t → normalForm (normalForm s) ≡ normalForm s
+again s t a =
+    let e : normalForm s ≡ normalOf t = ap normalOf (a .tree) in
+    rw e (ap normalOf (form-tree s t a))
+
+-- Two accepted streams with the same normal form have the same tree.
+pub same-form : (s r : List ℕ) (t u : Tree) → Accepts s t → Accepts r u → normalOf t ≡ normalOf u → t ≡ u
+same-form s r t u a b e = sym (form-tree s t a) ∙ ap treeOf e ∙ form-tree r u b
 
 -- Octets whose items are all definite with the fewest length octets are the normal form.
 pub own-form : {room : ℕ} {t : Tree} {xs : List ℕ} (c : Codes room t xs) → Shortest c → normalOf t ≡ xs

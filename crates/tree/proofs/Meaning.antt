@@ -50,8 +50,8 @@ means s t a =
     let (l, w) = whole-of s (a .at) (a .headers) (a .ended) in
     (subst (λ (u : Tree). Codes deepest u s) (a .tree) (whole-codes s (top s .how) refl w), l)
 
--- the walk of octets that code t
-coded-walk : (s : List ℕ) (t : Tree) → Codes deepest t s → (top s .how ≡ ends (length s)) × (treeOf s ≡ t)
+-- the walk of octets that code t, however many they are: the limit of a stream is no part of it
+pub coded-walk : (s : List ℕ) (t : Tree) → Codes deepest t s → (top s .how ≡ ends (length s)) × (treeOf s ≡ t)
 coded-walk s t c =
     let z : 0 + length s ≡ length s = omega arith in
     let o = complete c s 0 (length s) false ([], sym (append-nil s)) (omega arith) none (ends (length s)) (at-limit z) in

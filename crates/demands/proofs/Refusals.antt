@@ -1,0 +1,368 @@
+-- A stream is refused by the first of 1 to 15 whose condition holds: of one element the first of its rules that refuses counts, and the
+-- judge goes over the elements in order. So it finds a refusal of the first element that has one, and there is only one such refusal.
+-- Assumes nothing.
+use mathlib.Core.Path.{_≡_, refl, ap, sym, _∙_, subst}
+use mathlib.Core.Logic.{_↔_}
+use mathlib.Core.Bool.{Bool, true, false, not, xor, true≢false, false≢true}
+use mathlib.Core.List.{List, [], _∷_, _++_, map, map-append}
+use mathlib.Core.Option.{some}
+use Prim.Native.Nat.{ℕ, zero, suc, _<_, _≤_}
+use native.Mathlib.Omega.{arith}
+use lib.Dec.{eqb, leb}
+use lib.ListN.{length, take, drop, getElem?, length-map}
+use borrow.Author.Tests.{eqb-true, eqb-false, eq-eqb, ne-eqb, le-leb, lt-leb, leb-true, leb-false, not-true}
+use borrow.Table.Steps.{cases}
+use Rattle.octets.specs.declared.Outcome.the-variants.{Ended, Refused}
+use Rattle.octets.specs.Walk.{count, streamLimit, deepest, End, ends, stops, Walked, run, answer, walkOf}
+use Rattle.octets.specs.Rules.{Runs}
+use Rattle.octets.proofs.RulesHold.{derived, derives}
+use Rattle.tree.specs.Tree.{Tree, empty, leaf, branch, treeOf}
+use Rattle.contents.specs.Search.{is, firstValue}
+use Rattle.elements.specs.Shape.{Edition, shapeOf}
+use Rattle.elements.specs.Judge.{Element, asTabled, typeFits, namesFit, mostElements, profile, twice, Rule, _when_, firstOf, refusalOf, Judged, accepted, refused, judgeOne, judgeFrom, judge}
+use Rattle.elements.specs.Rows.{placeOf}
+use Rattle.letters.specs.Letter.{refusal, itemsOfStream, afterWalk, byWalk, letterOf}
+use Rattle.judging.proofs.Lists.{below-length}
+use Rattle.answers.proofs.Letters.{refused-walk, refused-element}
+use Rattle.demands.specs.Refusals.{TopItem, topItems, saysIn, Refuses, too-many, unknown, no-profile, later-profile, misshapen, mistyped, misspelt, repeated, RefusedAt, RefusedBy, no-element, at-element, RefusedWith, too-long, at-fault, by-element}
+
+-- a rule of a list refuses
+data Fires : List Rule → ℕ → Type 0 where
+  here : {r : Rule} {rs : List Rule} → r .refuses ≡ true → Fires (r ∷ rs) (r .number)
+  later : {r : Rule} {rs : List Rule} {n : ℕ} → Fires rs n → Fires (r ∷ rs) n
+
+-- the numbers of a list rise, from above k
+abbrev Rises : ℕ → List Rule → Type 0
+Rises k [] = Unit {0}
+Rises k (r ∷ rs) = (k < r .number) × Rises (r .number) rs
+
+fires-above : (k : ℕ) (rs : List Rule) → Rises k rs → (n : ℕ) → Fires rs n → k < n
+fires-above k (r ∷ rs) (l, up) n (here t) = l
+fires-above k (r ∷ rs) (l, up) n (later f) = let m = fires-above (r .number) rs up n f in omega arith
+
+-- a number is 0 and no rule refuses, or it is that of the first which does
+data FirstIs (rs : List Rule) : ℕ → Type 0 where
+  none-fires : ((n : ℕ) → Fires rs n → ⊥) → FirstIs rs 0
+  first-fires : {number : ℕ} → 0 < number → Fires rs number → ((n : ℕ) → n < number → Fires rs n → ⊥) → FirstIs rs number
+
+no-rule : (rs : List Rule) → rs ≡ [] → (n : ℕ) → Fires rs n → ⊥
+no-rule (r ∷ rs) e n f = let z : _≡_ {A = ℕ} 0 1 = cc in omega arith
+
+lowest : (r : Rule) (rs : List Rule) → Rises (r .number) rs → (n : ℕ) → n < r .number → Fires (r ∷ rs) n → ⊥
+lowest r rs up n l (here t) = omega arith
+lowest r rs up n l (later f) = let m = fires-above (r .number) rs up n f in omega arith
+
+skips : (r : Rule) (rs : List Rule) → r .refuses ≡ false → (n : ℕ) → Fires (r ∷ rs) n → Fires rs n
+skips r rs e n (here t) = absurd (true≢false (sym t ∙ e))
+skips r rs e n (later f) = f
+
+skipped : (r : Rule) (rs : List Rule) → r .refuses ≡ false → {number : ℕ} → FirstIs rs number → FirstIs (r ∷ rs) number
+skipped r rs e (none-fires never) = none-fires (λ n f. never n (skips r rs e n f))
+skipped r rs e (first-fires above f earlier) = first-fires above (later f) (λ n l g. earlier n l (skips r rs e n g))
+
+first-is : (k : ℕ) (rs : List Rule) → Rises k rs → FirstIs rs (firstOf rs)
+first-is k [] up = none-fires (no-rule [] refl)
+first-is k (r ∷ rs) (l, up) =
+    cases (r .refuses)
+    (λ t.
+    let e : firstOf (r ∷ rs) ≡ r .number = rw t in
+    subst (FirstIs (r ∷ rs)) (sym e) (first-fires {number = r .number} (omega arith) (here t) (lowest r rs up)))
+    (λ t. let e : firstOf (r ∷ rs) ≡ firstOf rs = rw t in subst (FirstIs (r ∷ rs)) (sym e) (skipped r rs t (first-is (r .number) rs up)))
+
+xor-true : (a b : Bool) → xor a b ≡ true → a ≡ not b
+unfolding xor
+xor-true true true e = absurd (false≢true e)
+xor-true true false e = refl
+xor-true false true e = refl
+xor-true false false e = absurd (false≢true e)
+
+module _ (edition : Edition) (before : List TopItem) (item : TopItem) where
+  abbrev done : List Element
+  done = map (saysIn edition) before
+
+  counted : length done ≡ length before
+  counted = length-map before (saysIn edition)
+
+  -- the rules of an element, as the judge has them
+  abbrev rules : List Rule
+  rules =
+      let shape = shapeOf edition (item .type) in
+      (9 when leb mostElements (length done))
+      ∷ (10 when not (is (shape .octet) (item .type)))
+      ∷ (11 when xor (eqb (length done) 0) (is profile (item .type)))
+      ∷ (12 when not (asTabled shape (item .run)))
+      ∷ (13 when not (typeFits (shape .types) (firstValue (shape .object) (item .run))))
+      ∷ (14 when not (namesFit (saysIn edition item)))
+      ∷ (15 when twice done (saysIn edition item))
+      ∷ []
+
+  no-or-later : xor (eqb (length done) 0) (is profile (item .type)) ≡ true → Refuses edition before item 11
+  no-or-later t =
+      let e = xor-true (eqb (length done) 0) (is profile (item .type)) t in
+      cases (is profile (item .type))
+      (λ p. let q : eqb (length done) 0 ≡ false = e ∙ ap not p in let nonzero = eqb-false (length done) 0 q in later-profile (omega (arith, counted)) p)
+      (λ p. let q : eqb (length done) 0 ≡ true = e ∙ ap not p in no-profile (sym counted ∙ eqb-true (length done) 0 q) p)
+
+  fires-refuses : (n : ℕ) → Fires rules n → Refuses edition before item n
+  fires-refuses n (here t) = too-many (let l = leb-true mostElements (length done) t in omega (arith, counted))
+  fires-refuses n (later (here t)) = unknown (not-true _ t)
+  fires-refuses n (later (later (here t))) = no-or-later t
+  fires-refuses n (later (later (later (here t)))) = misshapen (not-true _ t)
+  fires-refuses n (later (later (later (later (here t))))) = mistyped (not-true _ t)
+  fires-refuses n (later (later (later (later (later (here t)))))) = misspelt (not-true _ t)
+  fires-refuses n (later (later (later (later (later (later (here t))))))) = repeated t
+  fires-refuses n (later (later (later (later (later (later (later f))))))) = absurd (no-rule [] refl n f)
+
+  refuses-fires : (n : ℕ) → Refuses edition before item n → Fires rules n
+  unfolding xor
+  refuses-fires n (too-many l) = here (le-leb mostElements (length done) (omega (arith, counted)))
+  refuses-fires n (unknown e) = later (here (ap not e))
+  refuses-fires n (no-profile z e) =
+      let f : xor (eqb (length done) 0) (is profile (item .type)) ≡ true = rw (eq-eqb (length done) 0 (counted ∙ z), e) in
+      later (later (here f))
+  refuses-fires n (later-profile l e) =
+      let nonzero : length done ≡ 0 → ⊥ = λ z. omega (arith, counted) in
+      let f : xor (eqb (length done) 0) (is profile (item .type)) ≡ true = rw (ne-eqb (length done) 0 nonzero, e) in
+      later (later (here f))
+  refuses-fires n (misshapen e) = later (later (later (here (ap not e))))
+  refuses-fires n (mistyped e) = later (later (later (later (here (ap not e)))))
+  refuses-fires n (misspelt e) = later (later (later (later (later (here (ap not e))))))
+  refuses-fires n (repeated t) = later (later (later (later (later (later (here t))))))
+
+  abbrev number : ℕ
+  number = refusalOf edition done (item .type) (item .run)
+
+  number-is : FirstIs rules number
+  unfolding refusalOf
+  number-is = first-is 0 rules (omega arith, (omega arith, (omega arith, (omega arith, (omega arith, (omega arith, (omega arith, tt)))))))
+
+  -- no rule refuses the element
+  abbrev Passes : Type 0
+  Passes = (n : ℕ) → Refuses edition before item n → ⊥
+
+  -- a rule does, and none before it
+  abbrev First : ℕ → Type 0
+  First m = Refuses edition before item m × ((n : ℕ) → n < m → Refuses edition before item n → ⊥)
+
+  passes-by : {m : ℕ} → FirstIs rules m → m ≡ 0 → Passes
+  passes-by (none-fires never) z n r = never n (refuses-fires n r)
+  passes-by (first-fires above f earlier) z n r = omega arith
+
+  first-by : {m : ℕ} → FirstIs rules m → (m ≡ 0 → ⊥) → First m
+  first-by (none-fires never) nonzero = absurd (nonzero refl)
+  first-by {m} (first-fires above f earlier) nonzero = (fires-refuses m f, λ n l r. earlier n l (refuses-fires n r))
+
+-- what stands at k of a list
+module _ {A : Type 0} where
+  record Stands (items : List A) (k : ℕ) (item : A) (rest : List A) : Type 0 where
+    there : getElem? items k ≡ some item
+    counted : length (take k items) ≡ k
+    taken : take (suc k) items ≡ take k items ++ (item ∷ [])
+    dropped : drop (suc k) items ≡ rest
+
+  stands : (items : List A) (k : ℕ) (item : A) (rest : List A) → drop k items ≡ item ∷ rest → Stands items k item rest
+  stands [] zero item rest e = let z : _≡_ {A = ℕ} 0 1 = cc in absurd (omega arith)
+  stands [] (suc k) item rest e = let z : _≡_ {A = ℕ} 0 1 = cc in absurd (omega arith)
+  stands (x ∷ items) zero item rest e =
+      let p : x ≡ item = cc in
+      let q : items ≡ rest = cc in
+      record { there = ap some p; counted = refl; taken = ap (λ (y : A). y ∷ []) p; dropped = q }
+  stands (x ∷ items) (suc k) item rest e =
+      let o = stands items k item rest e in
+      record { there = o .there; counted = ap suc (o .counted); taken = ap (λ (ys : List A). x ∷ ys) (o .taken); dropped = o .dropped }
+
+  all-taken : (items : List A) (k : ℕ) → drop k items ≡ [] → (take k items ≡ items) × (length items ≤ k)
+  all-taken [] zero e = (refl, omega arith)
+  all-taken [] (suc k) e = (refl, omega arith)
+  all-taken (x ∷ items) zero e = let z : _≡_ {A = ℕ} 0 1 = cc in absurd (omega arith)
+  all-taken (x ∷ items) (suc k) e = let o = all-taken items k e in (ap (λ (ys : List A). x ∷ ys) (o .0), omega (arith, o .1))
+
+module _ (edition : Edition) (items : List TopItem) where
+  -- the elements before k pass
+  abbrev PassBefore : ℕ → Type 0
+  PassBefore k = (i : ℕ) (other : TopItem) → i < k → getElem? items i ≡ some other → Passes edition (take i items) other
+
+  -- what the judge says of the elements
+  abbrev Describes : Judged → Type 0
+  Describes (accepted elements) = (elements ≡ map (saysIn edition) items) × PassBefore (length items)
+  Describes (refused number j) = RefusedAt edition items number j
+
+  one-more : (k : ℕ) (item : TopItem) → getElem? items k ≡ some item → PassBefore k → Passes edition (take k items) item → PassBefore (suc k)
+  one-more k item there earlier passes i other l at =
+      cases (eqb i k)
+      (λ t.
+      let e = eqb-true i k t in
+      let p : some item ≡ some other = sym there ∙ ap (getElem? items) (sym e) ∙ at in
+      let q : item ≡ other = cc in
+      subst (λ (n : ℕ). Passes edition (take n items) other) (sym e) (subst (Passes edition (take k items)) q passes))
+      (λ t. let n = eqb-false i k t in earlier i other (omega arith) at)
+
+  -- one element, and what is said of those after it
+  step : (k : ℕ) (item : TopItem) (rest : List TopItem) (more : List Element → Judged) → drop k items ≡ item ∷ rest → PassBefore k
+      → (PassBefore (suc k) → drop (suc k) items ≡ rest → Describes (more (map (saysIn edition) (take (suc k) items))))
+      → Describes (judgeOne edition (map (saysIn edition) (take k items)) (item .type) (item .run) more)
+  unfolding judgeOne
+  step k item rest more e earlier after =
+      let o = stands items k item rest e in
+      let before = take k items in
+      let is = number-is edition before item in
+      let one-longer : map (saysIn edition) (take (suc k) items) ≡ done edition before item ++ (saysIn edition item ∷ []) =
+      ap (map (saysIn edition)) (o .taken) ∙ map-append (saysIn edition) before (item ∷ []) in
+      cases (eqb (number edition before item) 0)
+      (λ t.
+      let passes = passes-by edition before item is (eqb-true _ 0 t) in
+      rw t (subst (λ (es : List Element). Describes (more es)) one-longer (after (one-more k item (o .there) earlier passes) (o .dropped))))
+      (λ t.
+      let first = first-by edition before item is (eqb-false _ 0 t) in
+      let at : length (done edition before item) ≡ k = counted edition before item ∙ o .counted in
+      rw (t, at) (record { item = item; there = o .there; refuses = first .0; no-earlier = first .1; all-before = earlier }))
+
+  describes-from : (k : ℕ) (t : Tree) → drop k items ≡ topItems t → PassBefore k → Describes (judgeFrom edition (map (saysIn edition) (take k items)) t)
+  unfolding judgeFrom
+  describes-from k empty e earlier =
+      let o = all-taken items k e in
+      (ap (map (saysIn edition)) (o .0), λ i other l at. let m = below-length items i other at in earlier i other (omega (arith, o .1)) at)
+  describes-from k (leaf type value after) e earlier =
+      step k (record { type = type; run = empty }) (topItems after) (λ more. judgeFrom edition more after) e earlier
+      (λ longer d. describes-from (suc k) after d longer)
+  describes-from k (branch type inside after) e earlier =
+      step k (record { type = type; run = inside }) (topItems after) (λ more. judgeFrom edition more after) e earlier
+      (λ longer d. describes-from (suc k) after d longer)
+
+  -- there is one refusal
+  same-place : {n j m k : ℕ} → RefusedAt edition items n j → RefusedAt edition items m k → j ≡ k
+  same-place {n} {j} {m} {k} a b =
+      let not-below : j < k → ⊥ = λ l. b .all-before j (a .item) l (a .there) n (a .refuses) in
+      let not-above : k < j → ⊥ = λ l. a .all-before k (b .item) l (b .there) m (b .refuses) in
+      omega arith
+
+  same-number : {n m j : ℕ} → RefusedAt edition items n j → RefusedAt edition items m j → n ≡ m
+  same-number {n} {m} {j} a b =
+      let p : some (a .item) ≡ some (b .item) = sym (a .there) ∙ b .there in
+      let q : a .item ≡ b .item = cc in
+      let not-below : n < m → ⊥ = λ l. b .no-earlier n l (subst (λ (x : TopItem). Refuses edition (take j items) x n) q (a .refuses)) in
+      let not-above : m < n → ⊥ = λ l. a .no-earlier m l (subst (λ (x : TopItem). Refuses edition (take j items) x m) (sym q) (b .refuses)) in
+      omega arith
+
+module _ (edition : Edition) where
+  -- what the judge says of a tree
+  abbrev Tells : Tree → Judged → Type 0
+  Tells t (accepted elements) = (elements ≡ map (saysIn edition) (topItems t)) × PassBefore edition (topItems t) (length (topItems t)) × (t ≡ empty → ⊥)
+  Tells t (refused number j) = RefusedBy edition t number j
+
+  from-items : (t : Tree) → (t ≡ empty → ⊥) → (j : Judged) → Describes edition (topItems t) j → Tells t j
+  from-items t items-there (accepted elements) (e, all) = (e, all, items-there)
+  from-items t items-there (refused number j) at = at-element at
+
+  from-first : (t : Tree) → Describes edition (topItems t) (judgeFrom edition [] t)
+  from-first t = describes-from edition (topItems t) 0 t refl (λ i other l at. absurd (omega arith))
+
+  judge-tells : (t : Tree) → Tells t (judge edition t)
+  unfolding judge
+  judge-tells empty = no-element refl
+  judge-tells (leaf type value after) =
+      let t = leaf type value after in from-items t (λ e. let z : _≡_ {A = ℕ} 0 1 = cc in omega arith) (judgeFrom edition [] t) (from-first t)
+  judge-tells (branch type inside after) =
+      let t = branch type inside after in from-items t (λ e. let z : _≡_ {A = ℕ} 0 1 = cc in omega arith) (judgeFrom edition [] t) (from-first t)
+
+  none-there : (t : Tree) → t ≡ empty → {n j : ℕ} → RefusedAt edition (topItems t) n j → ⊥
+  none-there t e {n} {j} at =
+      let p : getElem? [] j ≡ some (at .item) = sym (ap (λ (x : Tree). getElem? (topItems x) j) e) ∙ at .there in
+      let z : _≡_ {A = ℕ} 0 1 = cc in
+      omega arith
+
+  only-one : (t : Tree) (n j m k : ℕ) → RefusedBy edition t n j → RefusedBy edition t m k → (n ≡ m) × (j ≡ k)
+  only-one t n j m k (no-element e) (no-element f) = (refl, refl)
+  only-one t n j m k (no-element e) (at-element b) = absurd (none-there t e b)
+  only-one t n j m k (at-element a) (no-element f) = absurd (none-there t f a)
+  only-one t n j m k (at-element a) (at-element b) =
+      let p : j ≡ k = same-place edition (topItems t) a b in
+      (same-number edition (topItems t) (subst (RefusedAt edition (topItems t) n) p a) b, p)
+
+  not-both : (t : Tree) (elements : List Element) → Tells t (accepted elements) → (n j : ℕ) → RefusedBy edition t n j → ⊥
+  not-both t elements (e, all, items-there) n j (no-element f) = items-there f
+  not-both t elements (e, all, items-there) n j (at-element a) =
+      all j (a .item) (below-length (topItems t) j (a .item) (a .there)) (a .there) n (a .refuses)
+
+  -- what the elements of an accepted tree say
+  pub accepted-elements : (t : Tree) (elements : List Element) → judge edition t ≡ accepted elements → elements ≡ map (saysIn edition) (topItems t)
+  accepted-elements t elements e = subst (Tells t) e (judge-tells t) .0
+
+  -- and no rule refuses one of them
+  pub accepted-pass : (t : Tree) (elements : List Element) → judge edition t ≡ accepted elements → (i : ℕ) (item : TopItem)
+      → getElem? (topItems t) i ≡ some item → (n : ℕ) → Refuses edition (take i (topItems t)) item n → ⊥
+  accepted-pass t elements e i item there = subst (Tells t) e (judge-tells t) .1 i item (below-length (topItems t) i item there) there
+
+  refused-by : (t : Tree) (n j : ℕ) → judge edition t ≡ refused n j → RefusedBy edition t n j
+  refused-by t n j e = subst (Tells t) e (judge-tells t)
+
+  by-refused : (t : Tree) (n j : ℕ) → RefusedBy edition t n j → (found : Judged) → judge edition t ≡ found → found ≡ refused n j
+  by-refused t n j r (accepted elements) e = absurd (not-both t elements (subst (Tells t) e (judge-tells t)) n j r)
+  by-refused t n j r (refused m k) e =
+      let (p, q) = only-one t m k n j (subst (Tells t) e (judge-tells t)) r in rw (p, q)
+
+-- the stream
+module _ (edition : Edition) (s : List ℕ) where
+  abbrev top : Walked
+  top = run deepest s 0 (length s) false
+
+  rules-hold : Runs s deepest 0 (length s) false (top .items) (top .how)
+  rules-hold = derives deepest s 0 (length s) false (omega arith)
+
+  walked-over : streamLimit < length s → walkOf s ≡ Refused 1 0 0
+  unfolding walkOf
+  walked-over l = rw (lt-leb (length s) streamLimit l)
+
+  walked-within : length s ≤ streamLimit → walkOf s ≡ answer top
+  unfolding walkOf
+  walked-within l = rw (le-leb (length s) streamLimit l)
+
+  abbrev IsRefused : (number place : ℕ) → Type 0
+  IsRefused number place = (headers : ℕ) × (letterOf edition s ≡ refusal number place headers)
+
+  is-refused : {number place : ℕ} → RefusedWith edition s number place → IsRefused number place
+  is-refused (too-long l) = (0, refused-walk edition s 1 0 0 (walked-over l))
+  is-refused (at-fault {number} {place} {items} l runs) =
+      let e : walkOf s ≡ Refused number place (count items) = walked-within l ∙ ap answer (sym (derived runs)) in
+      (count items, refused-walk edition s number place (count items) e)
+  is-refused (by-element {number} {j} {end} {items} l runs r) =
+      let e : walkOf s ≡ Ended end (count items) = walked-within l ∙ ap answer (sym (derived runs)) in
+      (count items, refused-element edition s end (count items) number j e (by-refused edition (treeOf s) number j r (judge edition (treeOf s)) refl))
+
+  -- the other way: by how the walk ended, and by what the judge says
+  judged-refused : (number place headers count : ℕ) → length s ≤ streamLimit → (end : ℕ) → top .how ≡ ends end → (found : Judged)
+      → judge edition (treeOf s) ≡ found → afterWalk (itemsOfStream s) count found ≡ refusal number place headers → RefusedWith edition s number place
+  judged-refused number place headers count l end h (accepted elements) j e = let z : _≡_ {A = ℕ} 0 1 = cc in absurd (omega arith)
+  judged-refused number place headers count l end h (refused n k) j e =
+      let p : n ≡ number = cc in
+      let q : placeOf k (itemsOfStream s) ≡ place = cc in
+      let r : RefusedWith edition s n (placeOf k (itemsOfStream s)) =
+      by-element l (subst (Runs s deepest 0 (length s) false (top .items)) h rules-hold) (refused-by edition (treeOf s) n k j) in
+      subst (RefusedWith edition s number) q (subst (λ (m : ℕ). RefusedWith edition s m (placeOf k (itemsOfStream s))) p r)
+
+  walked-refused : (number place headers : ℕ) → length s ≤ streamLimit → (how : End) → top .how ≡ how
+      → byWalk edition s (answer (record { items = top .items; how = how })) ≡ refusal number place headers → RefusedWith edition s number place
+  walked-refused number place headers l (ends end) h e =
+      judged-refused number place headers (count (top .items)) l end h (judge edition (treeOf s)) refl e
+  walked-refused number place headers l (stops n k) h e =
+      let p : n ≡ number = cc in
+      let q : k ≡ place = cc in
+      let r : RefusedWith edition s n k = at-fault l (subst (Runs s deepest 0 (length s) false (top .items)) h rules-hold) in
+      subst (RefusedWith edition s number) q (subst (λ (m : ℕ). RefusedWith edition s m k) p r)
+
+  refused-with : (number place headers : ℕ) → letterOf edition s ≡ refusal number place headers → RefusedWith edition s number place
+  unfolding letterOf
+  refused-with number place headers e =
+      cases (leb (length s) streamLimit)
+      (λ t.
+      let l = leb-true (length s) streamLimit t in
+      walked-refused number place headers l (top .how) refl (sym (ap (byWalk edition s) (walked-within l)) ∙ e))
+      (λ t.
+      let l : streamLimit < length s = leb-false (length s) streamLimit t in
+      let f : refusal 1 0 0 ≡ refusal number place headers = sym (ap (byWalk edition s) (walked-over l)) ∙ e in
+      let p : 1 ≡ number = cc in
+      let q : 0 ≡ place = cc in
+      subst (RefusedWith edition s number) q (subst (λ (m : ℕ). RefusedWith edition s m 0) p (too-long l)))
+
+  pub refused-is : (number place : ℕ) → IsRefused number place ↔ RefusedWith edition s number place
+  refused-is number place = (λ r. refused-with number place (r .0) (r .1), is-refused)
