@@ -92,7 +92,7 @@ module _ (s : List ℕ) (headers : ℕ) (elements : List Element) (e : letterIn 
   abbrev size : ℕ
   size = length (normalForm s)
 
-  writes : (out : List ℕ) → size ≤ streamLimit → size ≤ length out
+  pub writes : (out : List ℕ) → size ≤ streamLimit → size ≤ length out
       → (written s out ≡ record { number = 0; place = 0; length = size }) × (writtenOutput s out ≡ onto (normalForm s) out)
   unfolding written writtenOutput
   writes out within room =

@@ -13,6 +13,7 @@ use Rattle.headers.proofs.Lengths.{be-snoc}
 use Rattle.headers.proofs.Lies.{cond-holds}
 use Rattle.tree.specs.Tree.{Tree, TypeField, oneOctet, Length, short, long, Codes, nothing, primitive, definite, indefinite}
 use Rattle.normal.specs.Normal.{furtherOctets, numberOctets, lengthBy, lengthOctets, coded, normalOf}
+use Rattle.normal.specs.Forms.{Definite}
 use Rattle.normal.proofs.Lengths.{length-digits, length-length, further-le}
 
 digits-say : (k n : ℕ) → n < 256 ^ k → bigEndian (numberOctets k n) ≡ n
@@ -43,19 +44,28 @@ shortest n l =
 pub coded-length : (type value after : List ℕ) → length (coded type value after) ≡ length type + (1 + furtherOctets (length value)) + length value + length after
 coded-length type value after = simp length-append (omega (arith, length-length (length value)))
 
--- The normal form codes the same tree.
-pub normal-codes : {room : ℕ} {t : Tree} {xs : List ℕ} → Codes room t xs → length (normalOf t) < 256 ^ 4 → Codes room t (normalOf t)
+-- The normal form codes the same tree, and no item of it is indefinite.
+pub normal-definite : {room : ℕ} {t : Tree} {xs : List ℕ} → Codes room t xs → length (normalOf t) < 256 ^ 4
+    → (form : Codes room t (normalOf t)) × Definite form
 unfolding normalOf
-normal-codes nothing l = nothing
-normal-codes (primitive {type = type} {value = value} {after = after} g m _ c) l =
+normal-definite nothing l = (nothing, tt)
+normal-definite (primitive {type = type} {value = value} {after = after} g m _ c) l =
     let e = coded-length type value (normalOf after) in
-    primitive g m (shortest (length value) (omega arith)) (normal-codes c (omega arith))
-normal-codes (definite {type = type} {inside = inside} {after = after} g _ i c) l =
+    let (rest, d) = normal-definite c (omega arith) in
+    (primitive g m (shortest (length value) (omega arith)) rest, d)
+normal-definite (definite {type = type} {inside = inside} {after = after} g _ i c) l =
     let e = coded-length type (normalOf inside) (normalOf after) in
-    definite g (shortest (length (normalOf inside)) (omega arith)) (normal-codes i (omega arith)) (normal-codes c (omega arith))
-normal-codes (indefinite {type = type} {inside = inside} {after = after} g i c) l =
+    let (run, f) = normal-definite i (omega arith) in
+    let (rest, d) = normal-definite c (omega arith) in
+    (definite g (shortest (length (normalOf inside)) (omega arith)) run rest, (f, d))
+normal-definite (indefinite {type = type} {inside = inside} {after = after} g i c) l =
     let e = coded-length type (normalOf inside) (normalOf after) in
-    definite g (shortest (length (normalOf inside)) (omega arith)) (normal-codes i (omega arith)) (normal-codes c (omega arith))
+    let (run, f) = normal-definite i (omega arith) in
+    let (rest, d) = normal-definite c (omega arith) in
+    (definite g (shortest (length (normalOf inside)) (omega arith)) run rest, (f, d))
+
+pub normal-codes : {room : ℕ} {t : Tree} {xs : List ℕ} → Codes room t xs → length (normalOf t) < 256 ^ 4 → Codes room t (normalOf t)
+normal-codes c l = normal-definite c l .0
 
 -- A normal form is never more than three times as long as what codes the same tree.
 some-type : {type : List ℕ} {form : Bool} → TypeField type form → 1 ≤ length type

@@ -5,24 +5,28 @@ use mathlib.Core.List.{List}
 use Prim.Native.Nat.{ℕ, _≤_}
 use native.Mathlib.Omega.{arith}
 use lib.ListN.{length}
-use Rattle.octets.specs.Walk.{streamLimit}
+use Rattle.octets.specs.Walk.{streamLimit, deepest}
 use Rattle.tree.specs.Tree.{Tree, treeOf, Codes, nothing, primitive, definite, indefinite}
 use Rattle.tree.specs.Accepts.{Accepts}
 use Rattle.tree.proofs.Meaning.{means, coded-walk, accepts}
 use Rattle.normal.specs.Normal.{normalOf, normalForm}
-use Rattle.normal.specs.Forms.{Shortest}
-use Rattle.normal.proofs.Normals.{normal-codes, small}
+use Rattle.normal.specs.Forms.{Definite, Shortest}
+use Rattle.normal.proofs.Normals.{normal-definite, normal-codes, small}
 
 -- The normal form of an accepted stream, if within the limit, is accepted, with the same tree.
 pub round-trip : (s : List ℕ) (t : Tree) → Accepts s t → length (normalOf t) ≤ streamLimit → Accepts (normalOf t) t
 round-trip s t a l = accepts (normalOf t) t (normal-codes (means s t a .0) (omega arith)) l
 
--- Over the limit too its octets stand for the same tree, as it is at most three times as long as the stream: no length takes five octets.
-pub form-tree : (s : List ℕ) (t : Tree) → Accepts s t → treeOf (normalOf t) ≡ t
-form-tree s t a =
+-- It codes the tree with definite items alone, and over the limit too: it is at most three times as long as the stream, so that no length
+-- takes five octets.
+pub form-definite : (s : List ℕ) (t : Tree) → Accepts s t → (form : Codes deepest t (normalOf t)) × Definite form
+form-definite s t a =
     let (c, l) = means s t a in
     let few = small c in
-    coded-walk (normalOf t) t (normal-codes c (omega arith)) .1
+    normal-definite c (omega arith)
+
+pub form-tree : (s : List ℕ) (t : Tree) → Accepts s t → treeOf (normalOf t) ≡ t
+form-tree s t a = coded-walk (normalOf t) t (form-definite s t a .0) .1
 
 -- The normal form of a normal form is itself.
 pub again : (s : List ℕ) (t : Tree) → Accepts s t → normalForm (normalForm s) ≡ normalForm s

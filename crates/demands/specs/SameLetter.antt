@@ -1,0 +1,55 @@
+-- When two files are the same letter (W-211): "The duplicate finder compares normal forms byte by byte, and I want to know that it may."
+-- `same-letter` (proofs/SameLetter) is a value of the record below. Definitions only: assumes nothing.
+use mathlib.Core.Path.{_≡_}
+use mathlib.Core.Logic.{_↔_}
+use mathlib.Core.List.{List, [], _∷_}
+use Prim.Native.Nat.{ℕ, _≤_}
+use lib.ListN.{length, take}
+use Rattle.octets.specs.Walk.{deepest}
+use Rattle.tree.specs.Tree.{treeOf, Codes}
+use Rattle.normal.specs.Normal.{Octets, normalForm}
+use Rattle.normal.specs.Forms.{Definite}
+use Rattle.elements.specs.Judge.{Element}
+use Rattle.letters.specs.Letter.{letter}
+use Rattle.answers.specs.Answers.{letterIn, written, writtenOutput}
+
+-- a stream that is accepted by rules 1 to 15
+pub record IsAccepted (s : List ℕ) : Type 0 where
+  pub headers : ℕ
+  pub elements : List Element
+  pub judged : letterIn s ≡ letter headers elements
+
+-- what the writer has written of a stream, to an output that is lent
+abbrev pub formWritten : (s out : List ℕ) → List ℕ
+formWritten s out = take (written s out .length) (writtenOutput s out)
+
+-- Trees of items, normal forms and what the writer writes. None asks that a normal form is within the limit: where one is over it, 17, there
+-- is none to compare, and the first three hold all the same.
+pub record SameLetter : Type 0 where
+  -- "two have equal trees of items exactly when their normal forms are equal"
+  pub same : (s r : List ℕ) → IsAccepted s → IsAccepted r → (treeOf s ≡ treeOf r) ↔ (normalForm s ≡ normalForm r)
+  -- "making the normal form twice gives the same as once"
+  pub twice : (s : List ℕ) → IsAccepted s → normalForm (normalForm s) ≡ normalForm s
+  -- "and no stream with the same tree, all of whose constructed lengths are definite, is shorter"; the normal form is one such stream
+  pub shortest : (s : List ℕ) → IsAccepted s → (r : List ℕ) (coded : Codes deepest (treeOf s) r) → Definite coded → Octets r
+      → length (normalForm s) ≤ length r
+  pub definite : (s : List ℕ) → IsAccepted s → (coded : Codes deepest (treeOf s) (normalForm s)) × Definite coded
+  -- the same of two outputs that the writer has written: the finder may compare them octet by octet, and a form that it has written it would
+  -- write again
+  pub found : (s r out other : List ℕ) → written s out .number ≡ 0 → written r other .number ≡ 0
+      → (treeOf s ≡ treeOf r) ↔ (formWritten s out ≡ formWritten r other)
+  pub again : (s out other : List ℕ) → written s out .number ≡ 0 → length (formWritten s out) ≤ length other
+      → (written (formWritten s out) other .number ≡ 0) × (formWritten (formWritten s out) other ≡ formWritten s out)
+
+-- "The order of items in a set counts as part of the tree.": two letters whose profiles hold the same two items in a set, 31, in two orders
+abbrev pub oneOrder : List ℕ
+oneOrder = 0xA0 ∷ 0x06 ∷ 0x31 ∷ 0x04 ∷ 0x80 ∷ 0x00 ∷ 0x81 ∷ 0x00 ∷ []
+
+abbrev pub otherOrder : List ℕ
+otherOrder = 0xA0 ∷ 0x06 ∷ 0x31 ∷ 0x04 ∷ 0x81 ∷ 0x00 ∷ 0x80 ∷ 0x00 ∷ []
+
+pub record OrderCounts : Type 0 where
+  pub one : IsAccepted oneOrder
+  pub other : IsAccepted otherOrder
+  pub trees-differ : treeOf oneOrder ≡ treeOf otherOrder → ⊥
+  pub forms-differ : normalForm oneOrder ≡ normalForm otherOrder → ⊥
