@@ -36,17 +36,17 @@ never small (inl e) = omega arith
 never small (inr l) = omega arith
 
 -- a refusal by 1 to 15
-told-small : {s : List ℕ} {number place headers : ℕ} (own : List ℕ) → Small s number place headers → Answered s own number place
+pub told-small : {s : List ℕ} {number place headers : ℕ} (own : List ℕ) → Small s number place headers → Answered s own number place
 told-small own small = record { one-of = inl (small .high); inside = small .inside; at-start = λ o. absurd (never small o) }
 
 -- accepted, or a refusal of the question's own
-told-own : (s own : List ℕ) (number : ℕ) → isIn number own ≡ true → Answered s own number 0
+pub told-own : (s own : List ℕ) (number : ℕ) → isIn number own ≡ true → Answered s own number 0
 told-own s own number i = record { one-of = inr i; inside = omega arith; at-start = λ o. refl }
 
-told-zero : (s own : List ℕ) → Answered s own 0 0
+pub told-zero : (s own : List ℕ) → Answered s own 0 0
 told-zero s own = record { one-of = inl (omega arith); inside = omega arith; at-start = λ o. refl }
 
-small-in : (s : List ℕ) (number place headers : ℕ) → letterIn s ≡ refusal number place headers → Small s number place headers
+pub small-in : (s : List ℕ) (number place headers : ℕ) → letterIn s ≡ refusal number place headers → Small s number place headers
 small-in s number place headers e = refusal-small edition1988 s number place headers e
 
 module _ (s : List ℕ) where

@@ -12,13 +12,19 @@ use lib.ListN.{length, getElem?}
 use borrow.Author.Tests.{le-ltb, ltb-true, ltb-false}
 use borrow.Table.Steps.{cases}
 use Rattle.index.specs.Rows.{rowWidth}
+use Rattle.tree.specs.Tree.{treeOf}
+use Rattle.elements.specs.Shape.{edition1988}
 use Rattle.elements.specs.Judge.{Element}
 use Rattle.letters.specs.Letter.{letter}
+use Rattle.letters.specs.Apart.{Apart}
+use Rattle.letters.proofs.Apart.{accepted-apart}
 use Rattle.reading.specs.declared.Match.{Match}
 use Rattle.reading.specs.declared.Side.{Side}
-use Rattle.reading.specs.Match.{matches, IsMatch, Before}
+use Rattle.reading.specs.Match.{matches, IsMatch, Before, units, portionsOn}
 use Rattle.reading.proofs.Lists.{Sorted}
 use Rattle.reading.proofs.Matches.{matches-are, matches-all, matches-sorted}
+use Rattle.reading.proofs.Single.{no-more-than-portions, no-more-than-units}
+use Rattle.answers.proofs.Letters.{letter-found}
 use Rattle.answers.specs.Answers.{letterIn, onto, tableOf, listed, listedTable, matchesIn, listedList}
 use Rattle.demands.specs.Demands.{In, Demand3}
 
@@ -108,6 +114,19 @@ module _ (side : Side) (s : List ℕ) (headers : ℕ) (elements : List Element) 
       (λ u. rw (e, t, u) (λ n m. absurd (m refl)))
       (λ u. rw (e, t, u) (λ n m. refl)))
 
+  -- how many there are at most
+  elements-apart : Apart elements
+  elements-apart = accepted-apart edition1988 (treeOf s) elements (letter-found edition1988 s headers elements e .judged)
+
+  at-most-units : length (matchesIn side s) ≤ units elements
+  at-most-units = rw the-list (no-more-than-units elements elements-apart side)
+
+  at-most-portions : length (matchesIn side s) ≤ portionsOn side elements
+  at-most-portions = rw the-list (no-more-than-portions elements elements-apart side)
+
+  units-enough : (table : List ℕ) (room : ℕ) → units elements ≤ room → listed side s table room .number ≡ 19 → ⊥
+  units-enough table room enough z = let (rows, short) = lists-19 table room .0 z in omega (arith, at-most-units)
+
 pub demand3 : Demand3
 demand3 = record {
   of-letter = λ side s headers elements e. record {
@@ -118,5 +137,8 @@ demand3 = record {
     lists-16 = lists-16 side s headers elements e;
     lists-19 = lists-19 side s headers elements e;
     lists-else = lists-else side s headers elements e;
+    at-most-units = at-most-units side s headers elements e;
+    at-most-portions = at-most-portions side s headers elements e;
+    units-enough = units-enough side s headers elements e;
   };
 }

@@ -10,6 +10,7 @@ use Rattle.answers.specs.declared.Listed.{Listed}
 use Rattle.answers.specs.declared.Reason.{Reason}
 use Rattle.answers.specs.declared.Found.{Found}
 use Rattle.answers.specs.declared.Copied.{Copied}
+use Rattle.answers.specs.Short.{ShortOutcome}
 use Rattle.answers.specs.Answers.{CheckOutcome, NormalOutcome, ListOutcome, fetched, whyNot, Fetches, JoinedOutcome}
 
 pub check-determined : {s table : List ℕ} {a b : Checked} {t u : List ℕ} → CheckOutcome s table a t → CheckOutcome s table b u → (a ≡ b) × (t ≡ u)
@@ -17,6 +18,9 @@ check-determined x y = (x .answered ∙ sym (y .answered), x .tabled ∙ sym (y 
 
 pub normal-determined : {s out : List ℕ} {a b : Written} {t u : List ℕ} → NormalOutcome s out a t → NormalOutcome s out b u → (a ≡ b) × (t ≡ u)
 normal-determined x y = (x .answered ∙ sym (y .answered), x .put ∙ sym (y .put))
+
+pub short-determined : {s out : List ℕ} {a b : Written} {t u : List ℕ} → ShortOutcome s out a t → ShortOutcome s out b u → (a ≡ b) × (t ≡ u)
+short-determined x y = (x .answered ∙ sym (y .answered), x .put ∙ sym (y .put))
 
 pub list-determined : {side : Side} {s table : List ℕ} {list : List Match} {a b : Listed} {t u : List ℕ} {m n : List Match}
     → ListOutcome side s table list a t m → ListOutcome side s table list b u n → (a ≡ b) × (t ≡ u) × (m ≡ n)

@@ -32,7 +32,7 @@ use Rattle.demands.specs.SameLetter.{IsAccepted, formWritten, SameLetter
 use Rattle.demands.proofs.Demand2.{writes, normal-accepted}
 
 -- a letter is accepted with its tree
-accepts-letter : (s : List ℕ) → IsAccepted s → Accepts s (treeOf s)
+pub accepts-letter : (s : List ℕ) → IsAccepted s → Accepts s (treeOf s)
 accepts-letter s i = accepts-walked (letter-found edition1988 s (i .headers) (i .elements) (i .judged) .walked)
 
 -- what was written of a stream that was not refused: of a letter its normal form, which is within the limit

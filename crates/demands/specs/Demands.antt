@@ -21,7 +21,7 @@ use Rattle.elements.specs.Judge.{bytesOf, Content, single, inPieces, joinedCont
 use Rattle.letters.specs.Letter.{letter, refusal, itemsOfStream, EndToEnd, PairsWithin}
 use Rattle.reading.specs.declared.Match.{Match}
 use Rattle.reading.specs.declared.Side.{Side}
-use Rattle.reading.specs.Match.{unitKind, matches, IsMatch, Before}
+use Rattle.reading.specs.Match.{unitKind, matches, IsMatch, Before, units, portionsOn}
 use Rattle.answers.specs.Answers.{letterIn, rowsIn, onto, tableOf, checked, checkedTable, written, writtenOutput, listed, listedTable, matchesIn, listedList}
 use Rattle.answers.specs.Answers.{handed, fetched, joinedIn, copied, copiedOutput}
 use Rattle.demands.specs.Refusals.{TopItem, topItems, RefusedWith}
@@ -188,6 +188,11 @@ pub record ListOf (side : Side) (s : List ℕ) (elements : List Element) : Type 
       → (listed side s table room .number ≡ 19) ↔ ((length elements ≤ length table / rowWidth) × (room < length (matchesIn side s)))
   pub lists-else : (table : List ℕ) (room : ℕ) → (listed side s table room .number ≡ 16 → ⊥) → (listed side s table room .number ≡ 19 → ⊥)
       → listed side s table room .number ≡ 0
+  -- "the matches on a side never exceed the text units, nor the portions listed on that side, so a list of as many records as there are
+  -- units never meets 19" (W-212)
+  pub at-most-units : length (matchesIn side s) ≤ units elements
+  pub at-most-portions : length (matchesIn side s) ≤ portionsOn side elements
+  pub units-enough : (table : List ℕ) (room : ℕ) → units elements ≤ room → listed side s table room .number ≡ 19 → ⊥
 
 -- Demand 3: the reading list of either side.
 pub record Demand3 : Type 0 where

@@ -3,3 +3,4 @@ pub mod Forms
 pub mod Passes
 pub mod Writes
 pub mod Examples
+pub mod Short

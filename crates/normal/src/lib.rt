@@ -16,6 +16,10 @@ ghost use Rattle.normal.specs.Normal.{furtherOctets, numberOctets, lengt
 ghost use Rattle.normal.specs.Passes.{RunEnds, ValueEnds, normalFrom, normalIn, aheadAt, headerSize, RunMeasures, ValueMeasures, PutsOctets};
 ghost use Rattle.normal.specs.Writes.{answerOf, answerFor, GivesAnswer};
 
+mod mailroom; // mailroom.rt: the writer of the mailroom box
+
+pub use mailroom::write_short;
+
 // What a pass over a run that was walked to its end meets at a place: an item, or the end of the run, with the place past it.
 enum Ahead {
     Item(Header),

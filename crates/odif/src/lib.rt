@@ -15,6 +15,12 @@ pub use reading::Match;
 pub use reading::Side;
 ghost use mathlib.Core.Path.{_≡_};
 ghost use Rattle.answers.specs.Answers.{CheckOutcome, NormalOutcome, ListOutcome, fetched, whyNot, Fetches, JoinedOutcome};
+ghost use Rattle.answers.specs.Short.{reasonOf, ShortOutcome};
+
+// The most octets of a stream that the mailroom box asks about.
+const SHORT_LIMIT: usize = 65535;
+
+const TOO_LONG: u32 = 1;
 
 // Checks a stream and fills the element table, twelve numbers a row. The viewer asks this first.
 pub fn check(stream: &[u8], table: &mut [u32]) -> Checked
@@ -146,6 +152,56 @@ pub fn joined(stream: &[u8], element: usize, out: &mut [u8]) -> Copied
     }
 }
 
+// Why rules 1 to 15 refuse a stream: 0 at 0 if they don't.
+fn refused_by(stream: &[u8]) -> Reason
+    ensures { λ r. ⌜ r ≡ reasonOf (now (stream .entry)) ⌝ }
+{
+    match scratch::judge(stream) {
+        Verdict::Refused { number, place } => Reason {
+            number: number as u32,
+            place: place as u32,
+        },
+        Verdict::Accepted { count: _ } => Reason {
+            number: 0,
+            place: 0,
+        },
+    }
+}
+
+// Writes the normal form of a stream of at most 65,535 octets, which is never longer than the stream. The mailroom box asks this: an output
+// as long as the stream is always enough.
+pub fn normal_short(stream: &[u8], out: &mut [u8]) -> Written
+    ensures { λ r. ⌜ ShortOutcome (now (stream .entry)) (now (out .entry)) r (now (out .exit)) ⌝ }
+{
+    if SHORT_LIMIT < stream.len() {
+        return Written {
+            number: TOO_LONG,
+            place: 0,
+            length: 0,
+        };
+    }
+    let refused = refused_by(stream);
+    if refused.number != 0 {
+        return Written {
+            number: refused.number,
+            place: refused.place,
+            length: 0,
+        };
+    }
+    match normal::write_short(stream, out) {
+        Answer::Written { length } => Written {
+            number: 0,
+            place: 0,
+            length: length as u32,
+        },
+        Answer::Refused { number, place } => Written {
+            number: number as u32,
+            place: place as u32,
+            length: 0,
+        },
+    }
+}
+
 // The same questions for C, as include/odif.h declares them: a slice is a pointer and a length, and a null pointer with length 0 is fine.
 #[no_mangle]
 pub extern "C" fn odif_check(stream: &[u8], table: &mut [u32]) -> Checked
@@ -187,4 +243,11 @@ pub extern "C" fn odif_joined(stream: &[u8], element: u32, out: &mut [u8]) -> Co
     ensures { λ r. ⌜ JoinedOutcome (now (stream .entry)) element (now (out .entry)) r (now (out .exit)) ⌝ }
 {
     joined(stream, element as usize, out)
+}
+
+#[no_mangle]
+pub extern "C" fn odif_normal_short(stream: &[u8], out: &mut [u8]) -> Written
+    ensures { λ r. ⌜ ShortOutcome (now (stream .entry)) (now (out .entry)) r (now (out .exit)) ⌝ }
+{
+    normal_short(stream, out)
 }

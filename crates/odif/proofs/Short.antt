@@ -1,0 +1,111 @@
+-- The mailroom's question, case by case: 1, the rules, and the answer of the crate that writes. Assumes nothing.
+use mathlib.Core.Path.{_≡_, refl, ap, sym, _∙_}
+use mathlib.Core.Bool.{true, false}
+use mathlib.Core.List.{List}
+use Prim.Native.Nat.{ℕ, _<_, _≤_}
+use native.Mathlib.Omega.{arith}
+use lib.Dec.{eqb, leb, ltb}
+use lib.ListN.{length}
+use borrow.Author.Tests.{ne-eqb, leb-true, leb-false, lt-ltb, le-ltb}
+use borrow.Table.Steps.{cases}
+use Rattle.octets.specs.Walk.{streamLimit, deepest, run}
+use Rattle.tree.specs.Tree.{treeOf}
+use Rattle.tree.specs.Accepts.{Whole}
+use Rattle.tree.proofs.Meaning.{means, whole-of}
+use Rattle.normal.specs.declared.Answer.{Answer}
+use Rattle.normal.specs.Normal.{normalForm}
+use Rattle.normal.specs.Writes.{outputOf}
+use Rattle.normal.specs.Short.{shortLimit, answerShort}
+use Rattle.normal.proofs.Normals.{small}
+use Rattle.elements.specs.Shape.{edition1988}
+use Rattle.elements.specs.Judge.{Element}
+use Rattle.letters.specs.Letter.{Letter, letter, refusal}
+use Rattle.answers.specs.declared.Reason.{Reason}
+use Rattle.answers.specs.Answers.{letterIn}
+use Rattle.answers.specs.Short.{reasonBy, reasonOf, writtenShort, writtenShortOutput, ShortOutcome}
+use Rattle.answers.proofs.Small.{refusal-small}
+use Rattle.answers.proofs.Letters.{letter-found}
+use Rattle.answers.proofs.Judging.{accepts-walked}
+use Rattle.odif.proofs.Writing.{toldAs, Fits}
+
+module _ (s : List ℕ) where
+  -- what the rules say of a stream, as a number and a place
+  pub reason-refusal : (number place headers : ℕ) → letterIn s ≡ refusal number place headers → record { number = number; place = place } ≡ reasonOf s
+  unfolding reasonOf
+  reason-refusal number place headers e = rw e
+
+  pub reason-none : (headers : ℕ) (elements : List Element) → letterIn s ≡ letter headers elements → record { number = 0; place = 0 } ≡ reasonOf s
+  unfolding reasonOf
+  reason-none headers elements e = rw e
+
+  -- and back
+  pub record Refused (number place : ℕ) : Type 0 where
+    pub headers : ℕ
+    pub judged : letterIn s ≡ refusal number place headers
+
+  pub record Passed : Type 0 where
+    pub headers : ℕ
+    pub elements : List Element
+    pub judged : letterIn s ≡ letter headers elements
+
+  refused-from : (l : Letter) → letterIn s ≡ l → (reasonBy l .number ≡ 0 → ⊥) → Refused (reasonBy l .number) (reasonBy l .place)
+  refused-from (refusal number place headers) e n = record { headers = headers; judged = e }
+  refused-from (letter headers elements) e n = absurd (n refl)
+
+  passed-from : (l : Letter) → letterIn s ≡ l → reasonBy l .number ≡ 0 → Passed
+  passed-from (refusal number place headers) e z = absurd (omega (arith, refusal-small edition1988 s number place headers e .low))
+  passed-from (letter headers elements) e z = record { headers = headers; elements = elements; judged = e }
+
+  pub refused : (r : Reason) → r ≡ reasonOf s → (r .number ≡ 0 → ⊥) → Refused (r .number) (r .place)
+  unfolding reasonOf
+  refused r e n = rw e (refused-from (letterIn s) refl (λ z. n (ap (λ (x : Reason). x .number) e ∙ z)))
+
+  pub passed : (r : Reason) → r ≡ reasonOf s → r .number ≡ 0 → Passed
+  unfolding reasonOf
+  passed r e z = passed-from (letterIn s) refl (sym (ap (λ (x : Reason). x .number) e) ∙ z)
+
+  pub passed-whole : Passed → Whole (run deepest s 0 (length s) false .how)
+  passed-whole p =
+      let f = letter-found edition1988 s (p .headers) (p .elements) (p .judged) in
+      whole-of s (f .at) (p .headers) (f .walked) .1
+
+  -- a normal form is at most three times as long as its stream
+  form-fits : Passed → length s ≤ shortLimit → length (normalForm s) ≤ streamLimit
+  form-fits p l =
+      let f = letter-found edition1988 s (p .headers) (p .elements) (p .judged) in
+      let few = small (means s (treeOf s) (accepts-walked (f .walked)) .0) in
+      omega arith
+
+  module _ (out : List ℕ) where
+    pub short-over : shortLimit < length s → ShortOutcome s out (record { number = 1; place = 0; length = 0 }) out
+    unfolding writtenShort writtenShortOutput
+    short-over l = let t = lt-ltb shortLimit (length s) l in record { answered = rw t; put = rw t }
+
+    module _ (l : length s ≤ shortLimit) where
+      within : ltb shortLimit (length s) ≡ false
+      within = le-ltb shortLimit (length s) l
+
+      pub short-refused : (number place : ℕ) → Refused number place → ShortOutcome s out (record { number = number; place = place; length = 0 }) out
+      unfolding writtenShort writtenShortOutput
+      short-refused number place r =
+          let low = refusal-small edition1988 s number place (r .headers) (r .judged) .low in
+          let some : eqb number 0 ≡ false = ne-eqb number 0 (λ z. omega arith) in
+          record { answered = rw (within, r .judged); put = rw (within, r .judged, some) }
+
+      -- the answer of the crate that writes, of a letter
+      abbrev expected : Answer
+      expected = answerShort (normalForm s) out
+
+      pub short-letter : Passed → ShortOutcome s out (toldAs expected) (outputOf expected (normalForm s) out) × Fits (toldAs expected)
+      unfolding writtenShort writtenShortOutput answerShort
+      short-letter p =
+          let form = normalForm s in
+          let fits = form-fits p l in
+          let e = p .judged in
+          cases (leb (length form) (length out))
+          (λ room.
+          let b : ltb (length out) (length form) ≡ false = le-ltb (length out) (length form) (leb-true _ _ room) in
+          (record { answered = rw (within, e, b, room); put = rw (within, e, b, room) }, rw room (record { low-number = omega arith; low-place = omega arith; short = fits })))
+          (λ room.
+          let b : ltb (length out) (length form) ≡ true = lt-ltb (length out) (length form) (leb-false _ _ room) in
+          (record { answered = rw (within, e, b, room); put = rw (within, e, b, room) }, rw room (record { low-number = omega arith; low-place = omega arith; short = omega arith })))
