@@ -1,5 +1,5 @@
 -- `judging::may_be_bare` meets its contract: the rules are computed for each of the octets that it lets through. Assumes nothing.
-use mathlib.Core.Path.{_≡_, refl, sym, subst}
+use mathlib.Core.Path.{_≡_, refl}
 use mathlib.Core.Bool.{false≢true}
 use mathlib.Core.Logic.{_⊎_, inl, inr}
 use Prim.Native.Nat.{ℕ}
@@ -11,15 +11,14 @@ use Rattle.judging.specs.Judges.{MayBeBare}
 use Rattle.judging.proofs.may_be_bare.Statement.{statement}
 use Rattle.judging.proofs.may_be_bare.Tie as tie
 
--- what is so of three octets is so of one that is among them
-among : {a b c octet : ℕ} → MayBeBare a → MayBeBare b → MayBeBare c → (octet ≡ a) ⊎ ((octet ≡ b) ⊎ (octet ≡ c)) → MayBeBare octet
-among one two three (inl e) = subst MayBeBare (sym e) one
-among one two three (inr (inl e)) = subst MayBeBare (sym e) two
-among one two three (inr (inr e)) = subst MayBeBare (sym e) three
+may : (octet : ℕ) → (octet ≡ 0xA0) ⊎ ((octet ≡ 0xA2) ⊎ (octet ≡ 0xA6)) → MayBeBare octet
+unfolding shapeOf shapeRefusal asTabled ordered elementOf contentOf bodyOf namesFit amount firstValue firstRun inOrder allPortions values wellSpelt
+may octet (inl e) = rw e (record { known = refl; fits = refl })
+may octet (inr (inl e)) = rw e (record { known = refl; fits = refl })
+may octet (inr (inr e)) = rw e (record { known = refl; fits = refl })
 
 returns : tie.Need-returns
-unfolding shapeOf shapeRefusal asTabled ordered elementOf contentOf bodyOf namesFit amount firstValue firstRun inOrder allPortions values wellSpelt
-returns c = λ e. among (record { known = refl; fits = refl }) (record { known = refl; fits = refl }) (record { known = refl; fits = refl }) (c .match .keys1)
+returns c = λ e. may _ (c .match .keys1)
 
 returns-2 : tie.Need-returns-2
 returns-2 c = λ e. absurd (false≢true e)
