@@ -1,10 +1,15 @@
--- What reading the input hands on, and what is printed of it. No contract can say which bytes are read: these say that reading stands where
--- some text leads, and `Prints` that what is then printed is that text's output.
+-- What is made of what was read, and what is printed of it. No contract can say which bytes `read` puts into a block: `TakesIn` says that of each
+-- block exactly the bytes that it tells of are read on, `Heard` that reading stands where some text leads, and `Prints` that what is then
+-- printed is that text's output.
 use mathlib.Core.Path.{_≡_}
-use mathlib.Core.Bool.{Bool, true, false}
+use mathlib.Core.Bool.{Bool, true, false, cond, _||_}
 use mathlib.Core.List.{List, _++_}
 use Prim.Native.Nat.{ℕ}
 use lib.ListN.{length, take}
+use lib.Dec.{eqb}
+use lib.IntN.{ℤ}
+use lib.Signed.{nonNeg}
+use Rattle.io.specs.Counts.{clamped}
 use Rattle.text.specs.Lines.{unreadable}
 use Rattle.hex.specs.declared.State.{State}
 use Rattle.hex.specs.declared.State.the-variants.{Pairs, Half, Stopped}
@@ -14,6 +19,8 @@ use Rattle.hex.specs.Lines.{inputLimit}
 use Rattle.hex.specs.Blocks.{standing, started, fed, finished}
 use Rattle.hexlister.specs.declared.Input.{Input}
 use Rattle.hexlister.specs.declared.Input.the-variants.{Ended, Failed}
+use Rattle.hexlister.specs.declared.Turn.{Turn}
+use Rattle.hexlister.specs.declared.Turn.the-variants.{More, Over, Broken}
 use Rattle.hexlister.specs.Output.{streamLines, output}
 
 -- a text leads to a state, over the array that was lent and what it holds then
@@ -25,6 +32,29 @@ abbrev pub isStopped : State → Bool
 isStopped (Pairs count line) = false
 isStopped (Half count line first) = false
 isStopped (Stopped line) = true
+
+-- whether reading is over after a block of n bytes: none came, or a line could not be read
+abbrev pub over : ℕ → State → Bool
+over n state = eqb n 0 || isStopped state
+
+-- how many bytes `read` gave: none where it failed
+abbrev pub given : ℤ → List ℕ → ℕ
+given got block = clamped got (length block)
+
+-- the state that a turn hands on
+abbrev pub stateAfter : State → Turn → State
+stateAfter state (More next) = next
+stateAfter state (Over next) = next
+stateAfter state Broken = state
+
+-- whether reading goes on, is over or failed, by what `read` answered
+abbrev pub turnOf : ℤ → ℕ → State → Turn
+turnOf got n next = cond (nonNeg got) (cond (over n next) (Over next) (More next)) Broken
+
+-- what is made of an answer of `read` and of the block then: reading stands where exactly the bytes that `read` gave lead on from where it stood
+pub record TakesIn (state : State) (octets : List ℕ) (got : ℤ) (block : List ℕ) (turn : Turn) (after : List ℕ) : Type 0 where
+  pub leads : standing (stateAfter state turn) after ≡ fed (standing state octets) (take (given got block) block)
+  pub told : turn ≡ turnOf got (given got block) (stateAfter state turn)
 
 -- what was read
 pub record Heard (lent : List ℕ) (state : State) (octets : List ℕ) : Type 0 where

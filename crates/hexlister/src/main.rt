@@ -1,7 +1,7 @@
 // The hex lister: reads standard input, lines of hexadecimal pairs, to its end, and prints what the stream is, one element a line.
 //
-// What is read and written no contract can say. So `read_input` hands on where reading stands after some bytes, whatever they are, and
-// `page::put_output` makes of that the whole output, which is written at once.
+// What `read` puts into a block no contract says. `take_in` has all that is made of its answer and of the block; the loop that calls the two
+// adds nothing, and hands on where reading stands after some bytes. `page::put_output` makes of that the whole output, which is written at once.
 mod page;
 
 use hex::INPUT_LIMIT;
@@ -11,7 +11,14 @@ use libc::STDIN_FILENO;
 use libc::STDOUT_FILENO;
 use page::PAGE_ROOM;
 ghost use mathlib.Core.Path.{_≡_};
-ghost use Rattle.hexlister.specs.Inputs.{isStopped, HeardIn};
+ghost use Rattle.hexlister.specs.Inputs.{isStopped, over, TakesIn, HeardIn};
+
+// What one answer of `read` leads to: reading goes on, or it is over, or it failed.
+enum Turn {
+    More(State),
+    Over(State),
+    Broken,
+}
 
 // What reading to the end gave.
 enum Input {
@@ -34,6 +41,32 @@ fn is_stopped(state: State) -> bool
     }
 }
 
+// Whether reading is over after a block of n bytes: none came, or a line could not be read.
+fn is_over(n: usize, state: State) -> bool
+    ensures { λ r. ⌜ r ≡ over n state ⌝ }
+{
+    if n == 0 {
+        return true;
+    }
+    is_stopped(state)
+}
+
+// What is made of an answer of `read` and of the block that it was lent: as many bytes as it gave, the block's first, are read on from where
+// reading stood.
+fn take_in(state: State, got: isize, block: &[u8], octets: &mut [u8; INPUT_LIMIT]) -> Turn
+    ensures { λ r. ⌜ TakesIn state (now (octets .entry)) got (now (block .entry)) r (now (octets .exit)) ⌝ }
+{
+    if got < 0 {
+        return Turn::Broken;
+    }
+    let n = io::count(got, block);
+    let next = hex::feed(state, &block[..n], octets);
+    if is_over(n, next) {
+        return Turn::Over(next);
+    }
+    Turn::More(next)
+}
+
 // Reads until the input ends or a line cannot be read. A proved loop has to end, and nothing says that the input does: so it counts its
 // turns down, from a number that no run uses up.
 fn read_input(octets: &mut [u8; INPUT_LIMIT]) -> Input
@@ -45,16 +78,12 @@ fn read_input(octets: &mut [u8; INPUT_LIMIT]) -> Input
     while 0 < turns {
         turns -= 1;
         let got = libc::read(STDIN_FILENO, &mut block);
-        if got < 0 {
-            return Input::Failed;
-        }
-        let n = io::count(got, &block);
-        if n == 0 {
-            return Input::Ended(state);
-        }
-        state = hex::feed(state, &block[..n], octets);
-        if is_stopped(state) {
-            return Input::Ended(state);
+        match take_in(state, got, &block, octets) {
+            Turn::More(next) => {
+                state = next;
+            }
+            Turn::Over(last) => return Input::Ended(last),
+            Turn::Broken => return Input::Failed,
         }
     }
     Input::Failed

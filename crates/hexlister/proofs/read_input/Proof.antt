@@ -4,7 +4,7 @@ use lib.ListN.{length}
 use mathlib.Core.Path.{_≡_}
 use borrow.Author.Needs.{needs}
 use Rattle.hexlister.specs.Inputs.{Heard}
-use Rattle.hexlister.proofs.Inputs.{heard-nothing, heard-more}
+use Rattle.hexlister.proofs.Inputs.{heard-nothing, heard-on, heard-last}
 use Rattle.hexlister.proofs.read_input.Statement.{statement}
 use Rattle.hexlister.proofs.read_input.Tie as tie
 
@@ -32,41 +32,41 @@ slice-aggregate-read c = search needs
 read-requires : tie.Need-read-requires Inv-loop μ-loop
 read-requires c κs = search needs
 
-returns : tie.Need-returns Inv-loop μ-loop
-returns c = search needs
+slice-aggregate-take-in : tie.Need-slice-aggregate-take-in Inv-loop μ-loop
+slice-aggregate-take-in c = search needs
 
-slice-aggregate-count : tie.Need-slice-aggregate-count Inv-loop μ-loop
-slice-aggregate-count c = search needs
+take-in-requires : tie.Need-take-in-requires Inv-loop μ-loop
+take-in-requires c κs = search needs
 
-count-requires : tie.Need-count-requires Inv-loop μ-loop
-count-requires c κs = search needs
-
-returns-2 : tie.Need-returns-2 Inv-loop μ-loop
-returns-2 c = search needs
-
-array-share-prefix-block : tie.Need-array-share-prefix-block Inv-loop μ-loop
-array-share-prefix-block c = search needs
-
-slice-aggregate-feed : tie.Need-slice-aggregate-feed Inv-loop μ-loop
-slice-aggregate-feed c = search needs
-
-feed-requires : tie.Need-feed-requires Inv-loop μ-loop
-feed-requires c κs = search needs
-
-is-stopped-requires : tie.Need-is-stopped-requires Inv-loop μ-loop
-is-stopped-requires c κs = search needs
-
-returns-3 : tie.Need-returns-3 Inv-loop μ-loop
-returns-3 c = heard-more _ (c .before .before .before .before .before .before .before .before .before .before .before .before .before .loop .inv .1) (c .before .before .feed .ensures)
+enum-known-next : tie.Need-enum-known-next Inv-loop μ-loop
+enum-known-next c = search needs
 
 loop-less : tie.Need-loop-less Inv-loop μ-loop
 loop-less c = search needs
 
 loop-again : tie.Need-loop-again Inv-loop μ-loop
-loop-again c = (search needs, heard-more _ (c .before .before .before .before .before .before .before .before .before .before .before .before .before .loop .inv .1) (c .before .before .feed .ensures))
+loop-again c =
+    let at-take = c .before .before .before in
+    let at-loop = at-take .before .before .before .before .before .before .before in
+    (search needs, heard-on (at-loop .loop .inv .1) (at-take .take-in .ensures) (c .before .next .given .1))
 
-returns-4 : tie.Need-returns-4 Inv-loop μ-loop
-returns-4 c = search needs
+enum-known-last : tie.Need-enum-known-last Inv-loop μ-loop
+enum-known-last c = search needs
+
+returns : tie.Need-returns Inv-loop μ-loop
+returns c =
+    let at-take = c .before .before .before in
+    let at-loop = at-take .before .before .before .before .before .before .before in
+    heard-last (at-loop .loop .inv .1) (at-take .take-in .ensures) (c .before .last .given .1)
+
+enum-told : tie.Need-enum-told Inv-loop μ-loop
+enum-told c = search needs
+
+returns-2 : tie.Need-returns-2 Inv-loop μ-loop
+returns-2 c = search needs
+
+returns-3 : tie.Need-returns-3 Inv-loop μ-loop
+returns-3 c = search needs
 
 pub read-input-spec : {M : Type 1} → statement M
 read-input-spec =
@@ -80,15 +80,13 @@ read-input-spec =
     sub-turns
     slice-aggregate-read
     read-requires
-    returns
-    slice-aggregate-count
-    count-requires
-    returns-2
-    array-share-prefix-block
-    slice-aggregate-feed
-    feed-requires
-    is-stopped-requires
-    returns-3
+    slice-aggregate-take-in
+    take-in-requires
+    enum-known-next
     loop-less
     loop-again
-    returns-4)
+    enum-known-last
+    returns
+    enum-told
+    returns-2
+    returns-3)
