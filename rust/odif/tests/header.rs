@@ -38,6 +38,28 @@ short 16 0 11 0
     assert_eq!(String::from_utf8_lossy(&output.stdout), wanted);
 }
 
+/// The header tells C that lent parts do not overlap, and gcc warns where it sees that they do. C++ has no such word.
+#[test]
+fn a_call_whose_parts_overlap_is_warned_of() {
+    let compile = |language: &str, out: &str| {
+        let source = format!(
+            "#include \"odif.h\"\nuint8_t stream[8], other[8];\n\
+             int main() {{ return (int)odif_normal(stream, 8, {out}, 8).number; }}\n"
+        );
+        let file = Path::new(env!("CARGO_TARGET_TMPDIR")).join(format!("overlap-{out}.{language}"));
+        std::fs::write(&file, source).unwrap();
+        let include = Path::new(env!("CARGO_MANIFEST_DIR")).join("../../include");
+        let mut gcc = Command::new("gcc");
+        gcc.args(["-Wall", "-fsyntax-only", "-I"]).arg(include).arg(file).output().expect("gcc")
+    };
+    for (language, out, warns) in [("c", "stream", true), ("c", "other", false), ("cpp", "stream", false)] {
+        let output = compile(language, out);
+        let said = String::from_utf8_lossy(&output.stderr);
+        assert!(output.status.success(), "{said}");
+        assert_eq!(said.contains("[-Wrestrict]"), warns, "{language}, {out}: {said}");
+    }
+}
+
 #[test]
 fn no_more_stack_than_the_header_says() {
     let output = run("stack", "-std=gnu99");
