@@ -1,5 +1,5 @@
-/* Shows the text of a letter in reading order: letter < FILE. It ends with status 1 if the letter is refused, and with 2
-   if it cannot be read. */
+/* Shows the text of a letter in reading order: letter < FILE. It ends with status 1 if the letter is refused, and with
+   2 if it cannot be read. */
 #include <stdio.h>
 #include "odif.h"
 
@@ -14,7 +14,7 @@ int main(void) {
     if (found.number == 0 && found.matches == 0) /* a letter with its logical side alone */
         found = odif_logical(stream, length, table, numbers, list, ODIF_MOST_ELEMENTS);
     if (found.number != 0) {
-        fprintf(stderr, "refused by number %u at octet %u\n", found.number, found.place);
+        fprintf(stderr, "refused, number %u at octet %u: %s\n", found.number, found.place, odif_sentence(found.number));
         return 1;
     }
     for (uint32_t i = 0; i < found.matches; i++) {

@@ -71,6 +71,9 @@ extern "C" {
 #define ODIF_APART
 #endif
 
+#define ODIF_VERSION        "0.1.0"
+#define ODIF_VERSION_NUMBER 100    /* 10,000 times the first number, 100 times the second, and the third */
+
 #define ODIF_STREAM_LIMIT  1048576 /* the most octets of a stream, and of a normal form */
 #define ODIF_MOST_ELEMENTS 4096    /* so many rows are always enough */
 #define ODIF_ROW_WIDTH     12      /* the numbers of a row */
@@ -164,6 +167,11 @@ odif_found odif_content(const uint8_t *stream, size_t stream_len, uint32_t eleme
    out past it stay. As many octets as the row's content has are always enough. */
 odif_copied odif_joined(const uint8_t *ODIF_APART stream, size_t stream_len, uint32_t element,
                         uint8_t *ODIF_APART out, size_t out_len);
+
+/* The sentence of a number of the list above, without a full stop; 0 and numbers past the list have one too. It is no
+   part of the proved archive: compile odif_sentence.c, which stands beside this header, with your program, or link with
+   an installed library. */
+const char *odif_sentence(uint32_t number);
 
 #ifdef __cplusplus
 }
