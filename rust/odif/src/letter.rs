@@ -278,6 +278,12 @@ impl<'a> Letter<'a> {
         Ok(widened.collect())
     }
 
+    /// The text of a side: the content of each unit of its reading list, in that order.
+    pub fn text(&self, side: Side) -> Result<Vec<Cow<'a, [u8]>>, Refusal> {
+        let list = self.reading_list(side)?;
+        Ok(list.into_iter().filter_map(|found| self.content(found.unit)).collect())
+    }
+
     /// Makes the normal form.
     pub fn normal_form(&self) -> Result<Vec<u8>, Refusal> {
         normal_form(self.stream)

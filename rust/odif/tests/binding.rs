@@ -100,6 +100,28 @@ fn the_reading_lists() {
     assert_eq!(letter.reading_list(Side::Logical).unwrap(), []);
 }
 
+/// Two blocks, the units of the second one first in the stream; one unit in pieces, one that belongs to no block.
+#[test]
+fn the_text_of_a_side() {
+    let block = |name: &str| [b"\xA2\x0A\x31\x08\x41\x01", name.as_bytes(), b"\xA1\x03\x12\x010"].concat();
+    let unit = |name: &str, content: &[u8]| {
+        let named = [b"\x31\x05\x40\x03", name.as_bytes(), content].concat();
+        [&[0xA3, named.len() as u8], &named[..]].concat()
+    };
+    let stream = [
+        b"\xA0\x00".to_vec(),
+        unit("2 0", b"\x04\x05world"),
+        unit("1 0", b"\x24\x0A\x04\x03Hel\x04\x03lo "),
+        unit("3 0", b"\x04\x01!"),
+        block("1"),
+        block("2"),
+    ]
+    .concat();
+    let letter = Letter::read(&stream).unwrap();
+    assert_eq!(letter.text(Side::Layout).unwrap(), [&b"Hello "[..], b"world"]);
+    assert!(letter.text(Side::Logical).unwrap().is_empty());
+}
+
 #[test]
 fn refusals_with_number_place_and_sentence() {
     let refusal = refused(b"\xA0\x00\xA4\x00");
