@@ -44,10 +44,10 @@ $(out)/libodif.so: $(proved) $(out)/odif_sentence.o
 $(out)/odif.pc: packaging/odif.pc.in | $(out)
 	sed -e 's|@PREFIX@|$(PREFIX)|' -e 's|@VERSION@|$(version)|' $< > $@
 
-# cargo knows what has changed, and the page has the command's own help in it
+# rust/packages, if it is there, makes the crates ready that the command uses; cargo knows what has changed
 .PHONY: $(out)/odif
 $(out)/odif: $(proved) | $(out)
-	cd rust && cargo build --release --locked --workspace --bin odif
+	cd rust && { [ ! -x packages ] || ./packages; } && cargo build --release --locked --workspace --bin odif
 	cp rust/target/release/odif $@
 
 $(out)/odif.1: $(out)/odif packaging/odif.1.in packaging/manual
