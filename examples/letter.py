@@ -61,8 +61,8 @@ def content(odif, stream, unit):
 
 
 def main():
-    odif = library()
     try:
+        odif = library()
         with open(sys.argv[1], "rb") if len(sys.argv) > 1 else sys.stdin.buffer as file:
             stream = file.read(STREAM_LIMIT + 1)
         matches = reading_list(odif, odif.odif_layout, stream) or reading_list(odif, odif.odif_logical, stream)
