@@ -1,10 +1,10 @@
 /* The proved library beside the plain C reader and beside OpenSSL's bare walk, on the same files:
      bench all ROUNDS FILE..      bench check ROUNDS FILE..
-   The two that are compared are measured in turn, ROUNDS times each, in processor time, and the best of each counts. A
-   line for each file: its octets, the time of the library's check in microseconds, then ratios, the library's time over
-   the other's. With `check` that is one, over the plain reader's check; with `all` the layout list, the logical list, the
-   normal form and the content follow, and the check over OpenSSL's walk, if it is compiled WITH_OPENSSL. Before it
-   measures, it holds the answers of both to each other, and ends with 1 where they differ. */
+   The two that are compared are measured in turn, ROUNDS times each or for a second, in processor time, and the best of
+   each counts. A line for each file: its octets, the time of the library's check in microseconds, then ratios, the
+   library's time over the other's. With `check` that is one, over the plain reader's check; with `all` the layout list,
+   the logical list, the normal form and the content follow, and the check over OpenSSL's walk, if it is compiled
+   WITH_OPENSSL. Before it measures, it holds the answers of both to each other, and ends with 1 where they differ. */
 #define _POSIX_C_SOURCE 199309L
 #include <stdio.h>
 #include <stdlib.h>
@@ -127,10 +127,12 @@ static int times_for(question ask) {
     return times;
 }
 
+/* So many rounds, or as many as a second has, if that is less. */
 static void measure(int rounds, size_t pair, double best[2]) {
     int ours = times_for(pairs[pair].ours), theirs = times_for(pairs[pair].theirs);
+    double until = now() + 1;
     best[0] = best[1] = 1e9;
-    for (int i = 0; i < rounds; i++) {
+    for (int i = 0; i < rounds && (i < 2 || now() < until); i++) {
         double a = time_of(pairs[pair].ours, ours), b = time_of(pairs[pair].theirs, theirs);
         if (a < best[0]) best[0] = a;
         if (b < best[1]) best[1] = b;
