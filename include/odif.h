@@ -1,7 +1,17 @@
 /* odif.h: a reader of ODIF letters (CCITT T.415, ISO 8613-5, 1988), proved to its contracts.
 
-   Link with target/staticlib/libodif.a. The functions keep no state, allocate nothing and may be called from any
-   number of threads at once. They take any octets whatever and read no octet outside the stream that is lent.
+   Link with target/staticlib/libodif.a: an ELF archive for Linux on x86-64, and for no other machine. The functions
+   keep no state, allocate nothing and may be called from any number of threads at once. They take any octets whatever
+   and read no octet outside the stream that is lent.
+
+   What is lent is valid for the length that comes with it, aligned as its type asks, and no two lent parts overlap.
+   The proof rests on that, and nothing checks it: odif_normal with the stream itself as its output answers 0 with
+   wrong octets. A length of 0 may come with a null pointer.
+
+   Every question judges the whole stream anew, so each costs what odif_check costs, and the contents of n text units
+   cost n checks. Where that is too much, ask about each unit alone: the octets A0 00 and behind them the unit, from
+   ODIF_FIRST to ODIF_PAST of its row, are a letter no longer than the one it stands in, and the content of its element
+   1 is the same. odif_normal measures an item before it writes it, so one at level 16 is passed over 16 times.
 
    Their scratch memory is on the stack: a question takes up to 256 KiB of it, the two lists up to 304 KiB, whatever
    the stream. Of that it clears 31 kB for a stream of up to 512 elements and 246 kB for a longer one, the lists
@@ -53,6 +63,16 @@
 #ifdef __cplusplus
 extern "C" {
 #endif
+
+/* Lent parts do not overlap. C compilers from 1999 on are told so, and some warn of a call that they see is wrong. */
+#if !defined __cplusplus && defined __STDC_VERSION__ && __STDC_VERSION__ >= 199901L
+#define ODIF_APART restrict
+#else
+#define ODIF_APART
+#endif
+
+#define ODIF_VERSION        "0.1.0"
+#define ODIF_VERSION_NUMBER 100    /* 10,000 times the first number, 100 times the second, and the third */
 
 #define ODIF_STREAM_LIMIT  1048576 /* the most octets of a stream, and of a normal form */
 #define ODIF_MOST_ELEMENTS 4096    /* so many rows are always enough */
@@ -121,27 +141,37 @@ typedef struct {
 
 /* Checks a stream and fills one row an element. table_len counts numbers; numbers past the last row filled stay, and
    an incomplete last row is not used. */
-odif_checked odif_check(const uint8_t *stream, size_t stream_len, uint32_t *table, size_t table_len);
+odif_checked odif_check(const uint8_t *ODIF_APART stream, size_t stream_len,
+                        uint32_t *ODIF_APART table, size_t table_len);
 
 /* Writes the normal form: the same items in the same order, each length definite and as short as can be. Octets of out
    past it stay. */
-odif_written odif_normal(const uint8_t *stream, size_t stream_len, uint8_t *out, size_t out_len);
+odif_written odif_normal(const uint8_t *ODIF_APART stream, size_t stream_len,
+                         uint8_t *ODIF_APART out, size_t out_len);
 
 /* Fills the table and the reading list of the layout side: every match, in stream order of the elements and then in
    the order of their portions. list_len counts records; records past the last one filled stay. */
-odif_listed odif_layout(const uint8_t *stream, size_t stream_len, uint32_t *table, size_t table_len,
-                        odif_match *list, size_t list_len);
+odif_listed odif_layout(const uint8_t *ODIF_APART stream, size_t stream_len,
+                        uint32_t *ODIF_APART table, size_t table_len,
+                        odif_match *ODIF_APART list, size_t list_len);
 
 /* The same for the logical side. */
-odif_listed odif_logical(const uint8_t *stream, size_t stream_len, uint32_t *table, size_t table_len,
-                         odif_match *list, size_t list_len);
+odif_listed odif_logical(const uint8_t *ODIF_APART stream, size_t stream_len,
+                         uint32_t *ODIF_APART table, size_t table_len,
+                         odif_match *ODIF_APART list, size_t list_len);
 
 /* Finds the content of the text unit in row `element`, which may be any number. Content in pieces is refused by 21. */
 odif_found odif_content(const uint8_t *stream, size_t stream_len, uint32_t element);
 
 /* Copies the content of the text unit in row `element`, which may be any number: its pieces joined in order. Octets of
    out past it stay. As many octets as the row's content has are always enough. */
-odif_copied odif_joined(const uint8_t *stream, size_t stream_len, uint32_t element, uint8_t *out, size_t out_len);
+odif_copied odif_joined(const uint8_t *ODIF_APART stream, size_t stream_len, uint32_t element,
+                        uint8_t *ODIF_APART out, size_t out_len);
+
+/* The sentence of a number of the list above, without a full stop; 0 and numbers past the list have one too. It is no
+   part of the proved archive: compile odif_sentence.c, which stands beside this header, with your program, or link with
+   an installed library. */
+const char *odif_sentence(uint32_t number);
 
 #ifdef __cplusplus
 }

@@ -1,23 +1,26 @@
-//! Finds the proved library `libodif.a`: in `ODIF_LIB_DIR`, else where `rt staticlib odif` leaves it.
+//! Finds the proved library `libodif.a`: in `ODIF_LIB_DIR`, else where `rt staticlib odif` leaves it in this tree.
+//!
+//! The archive is copied to cargo's own folder and linked from there. What cargo keeps of this script's words then names
+//! nothing but that folder, which goes along if the tree is copied or moved: a tree never links another one's library.
 
-use std::env;
-use std::path::{Path, PathBuf};
+use std::path::PathBuf;
+use std::{env, fs};
 
 fn main() {
     println!("cargo::rerun-if-changed=build.rs");
     println!("cargo::rerun-if-env-changed=ODIF_LIB_DIR");
-    let folder = match env::var_os("ODIF_LIB_DIR") {
-        Some(folder) => PathBuf::from(folder),
-        None => Path::new(env!("CARGO_MANIFEST_DIR")).join("../../target/staticlib"),
-    };
+    let folder = PathBuf::from(env::var_os("ODIF_LIB_DIR").unwrap_or("../../target/staticlib".into()));
     let archive = folder.join("libodif.a");
+    // Cargo takes this path, if it is relative, from the package's folder, and so does this script.
     println!("cargo::rerun-if-changed={}", archive.display());
-    if !archive.is_file() {
-        println!("cargo::error=the proved library {} is missing", archive.display());
+    let out = PathBuf::from(env::var_os("OUT_DIR").expect("cargo's folder for this script"));
+    if let Err(error) = fs::copy(&archive, out.join("libodif.a")) {
+        let archive = std::path::absolute(&archive).unwrap_or(archive);
+        println!("cargo::error=the proved library {} cannot be taken: {error}", archive.display());
         println!("cargo::error=run `rt staticlib odif` at the repository's root, or name its folder in ODIF_LIB_DIR");
         return;
     }
-    println!("cargo::rustc-link-search=native={}", folder.display());
+    println!("cargo::rustc-link-search=native={}", out.display());
     println!("cargo::rustc-link-lib=static=odif");
-    println!("cargo::rustc-env=ODIF_ARCHIVE={}", archive.display());
+    println!("cargo::rustc-env=ODIF_ARCHIVE={}", out.join("libodif.a").display());
 }

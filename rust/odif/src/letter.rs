@@ -46,10 +46,13 @@ pub enum Kind {
     PresentationStyle,
     /// A8
     LayoutStyle,
+    /// Another number: the library is newer than this crate.
+    #[non_exhaustive]
+    Unknown(u32),
 }
 
 impl Kind {
-    /// The kind of a number of the table, 0 to 8.
+    /// The kind of a number of the table, 0 to 8, if there is one.
     pub fn from_number(number: u32) -> Option<Kind> {
         Some(match number {
             0 => Kind::DocumentProfile,
@@ -75,6 +78,7 @@ impl Kind {
             Kind::LogicalObject => "logical object",
             Kind::PresentationStyle => "presentation style",
             Kind::LayoutStyle => "layout style",
+            Kind::Unknown(_) => "element of an unknown kind",
         }
     }
 }
@@ -87,6 +91,7 @@ impl fmt::Display for Kind {
 
 /// One element: a row of the table. The ranges are of the stream; all but the element's own bound a value.
 #[derive(Clone, Debug, PartialEq, Eq)]
+#[non_exhaustive]
 pub struct Element {
     /// What it is.
     pub kind: Kind,
@@ -110,7 +115,7 @@ impl Element {
         let range = |at: usize| row[at] as usize..row[at + 1] as usize;
         let value = |at: usize| (row[at + 1] != 0).then(|| range(at));
         Element {
-            kind: Kind::from_number(row[0]).expect("a kind of the table"),
+            kind: Kind::from_number(row[0]).unwrap_or(Kind::Unknown(row[0])),
             object_type: u8::try_from(row[1]).ok().filter(|&number| number != u8::MAX),
             place: range(2),
             identifier: value(4),
@@ -123,6 +128,7 @@ impl Element {
 
 /// One record of a reading list, all numbers from 0.
 #[derive(Clone, Copy, Debug, PartialEq, Eq)]
+#[non_exhaustive]
 pub struct Match {
     /// The class or object.
     pub element: usize,
@@ -134,6 +140,7 @@ pub struct Match {
 
 /// The outcome of a check. The header count comes with a refusal too.
 #[derive(Clone, Copy, Debug, PartialEq, Eq)]
+#[non_exhaustive]
 pub struct Checked {
     /// How many items passed the octet rules, 2 to 8.
     pub headers: usize,
@@ -269,6 +276,12 @@ impl<'a> Letter<'a> {
             unit: found.unit as usize,
         });
         Ok(widened.collect())
+    }
+
+    /// The text of a side: the content of each unit of its reading list, in that order.
+    pub fn text(&self, side: Side) -> Result<Vec<Cow<'a, [u8]>>, Refusal> {
+        let list = self.reading_list(side)?;
+        Ok(list.into_iter().filter_map(|found| self.content(found.unit)).collect())
     }
 
     /// Makes the normal form.

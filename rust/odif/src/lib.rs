@@ -1,7 +1,7 @@
 //! A safe binding of the proved reader of ODIF letters.
 //!
-//! [`Letter::read`] checks a stream and keeps its table; the letter then gives its elements, the reading list of either
-//! side, the content of its text units, and its normal form. Content is a part of the caller's own stream, or, where it
+//! [`Letter::read`] checks a stream and keeps its table; the letter then gives its elements, the reading list and the text
+//! of either side, the content of its text units, and its normal form. Content is a part of the caller's own stream, or, where it
 //! was saved in pieces, those joined. What is refused comes back as a [`Refusal`], with the rule, its number, a sentence
 //! and the place.
 //!
@@ -11,6 +11,7 @@
 //!     \xA2\x11\x02\x01\x04\x31\x0C\x41\x051 0 2\xA1\x03\x12\x010\
 //!     \xA3\x0F\x31\x09\x40\x071 0 2 0\x04\x02Hi";
 //! let letter = odif::Letter::read(stream)?;
+//! assert_eq!(letter.text(odif::Side::Layout)?.concat(), b"Hi");
 //! for found in letter.reading_list(odif::Side::Layout)? {
 //!     assert_eq!(letter.content(found.unit).as_deref(), Some(&b"Hi"[..]));
 //! }

@@ -5,6 +5,7 @@ use std::fmt;
 
 /// A refusal: which rule, and where in the stream.
 #[derive(Clone, Copy, Debug, PartialEq, Eq)]
+#[non_exhaustive]
 pub struct Refusal {
     /// The rule that refuses.
     pub rule: Rule,
@@ -13,7 +14,7 @@ pub struct Refusal {
 }
 
 impl Refusal {
-    /// The number of the rule, 1 to 22.
+    /// The number of the rule, from 1.
     pub fn number(&self) -> u32 {
         self.rule.number()
     }
@@ -23,7 +24,8 @@ impl Refusal {
         match number {
             0 => Ok(()),
             _ => {
-                Err(Refusal { rule: Rule::from_number(number).expect("a number of the table"), place: place as usize })
+                let rule = Rule::from_number(number).unwrap_or(Rule::Unknown(number));
+                Err(Refusal { rule, place: place as usize })
             }
         }
     }
@@ -40,10 +42,9 @@ impl Error for Refusal {}
 /// The rules that can refuse a stream or a question, in the order of their numbers.
 #[derive(Clone, Copy, Debug, PartialEq, Eq, PartialOrd, Ord, Hash)]
 #[non_exhaustive]
-#[repr(u8)]
 pub enum Rule {
     /// 1
-    StreamTooLong = 1,
+    StreamTooLong,
     /// 2
     MisplacedZero,
     /// 3
@@ -86,10 +87,13 @@ pub enum Rule {
     InPieces,
     /// 22
     CopyTooShort,
+    /// Another number: the library is newer than this crate.
+    #[non_exhaustive]
+    Unknown(u32),
 }
 
 impl Rule {
-    /// Every rule, in the order of the numbers.
+    /// Every rule that this crate knows, in the order of the numbers, which begin with 1.
     pub const ALL: [Rule; 22] = [
         Rule::StreamTooLong,
         Rule::MisplacedZero,
@@ -117,12 +121,16 @@ impl Rule {
 
     /// The number of the rule.
     pub fn number(self) -> u32 {
-        self as u32
+        match self {
+            Rule::Unknown(number) => number,
+            known => (1..).zip(Rule::ALL).find(|&(_, rule)| rule == known).expect("one of all").0,
+        }
     }
 
-    /// The rule of a number.
+    /// The rule of a number, if this crate knows it.
     pub fn from_number(number: u32) -> Option<Rule> {
-        Rule::ALL.into_iter().find(|rule| rule.number() == number)
+        let before = number.checked_sub(1)?;
+        Rule::ALL.get(before as usize).copied()
     }
 
     /// The rule as a sentence.
@@ -154,6 +162,7 @@ impl Rule {
             Rule::NoTextUnit => "the asked element is no text unit or does not exist",
             Rule::InPieces => "the content is in pieces, and no one part of the stream",
             Rule::CopyTooShort => "the output is shorter than the joined content",
+            Rule::Unknown(_) => "a rule that is newer than this program",
         }
     }
 }
@@ -170,11 +179,23 @@ mod tests {
 
     #[test]
     fn numbers_and_rules_agree() {
-        for number in 1..=22 {
-            assert_eq!(Rule::from_number(number).map(Rule::number), Some(number));
+        for (number, rule) in (1..).zip(Rule::ALL) {
+            assert_eq!((rule.number(), Rule::from_number(number)), (number, Some(rule)));
+            assert_eq!(Refusal::unless_accepted(number, 7), Err(Refusal { rule, place: 7 }));
+        }
+        assert_eq!(Rule::ALL.last().map(|rule| rule.number()), Some(22));
+        assert_eq!(Refusal::unless_accepted(0, 0), Ok(()));
+    }
+
+    /// The library of today gives no such number, so this is asked of what reads its answers.
+    #[test]
+    fn a_number_of_a_newer_library_is_a_refusal_too() {
+        for number in [23, 255, u32::MAX] {
+            let refusal = Refusal::unless_accepted(number, 5).unwrap_err();
+            assert_eq!((refusal.number(), refusal.place), (number, 5));
+            assert_eq!(refusal.to_string(), format!("number {number} at 5: a rule that is newer than this program"));
+            assert_eq!(Rule::from_number(number), None);
         }
         assert_eq!(Rule::from_number(0), None);
-        assert_eq!(Rule::from_number(23), None);
-        assert_eq!(Refusal::unless_accepted(0, 0), Ok(()));
     }
 }

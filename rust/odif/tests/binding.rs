@@ -13,6 +13,11 @@ fn refused(stream: &[u8]) -> Refusal {
     Letter::read(stream).expect_err("a refusal")
 }
 
+/// What a refusal says: the rule and the place.
+fn told<T>(answer: Result<T, Refusal>) -> Option<(Rule, usize)> {
+    answer.err().map(|refusal| (refusal.rule, refusal.place))
+}
+
 #[test]
 fn the_elements_of_a_letter() {
     let letter = Letter::read(LETTER).unwrap();
@@ -39,7 +44,7 @@ fn contents_are_parts_of_the_caller_s_own_stream() {
     }
     assert_eq!((letter.content(1), letter.content(3)), (None, None));
     for element in [0, 1, 3, 4_096, usize::MAX] {
-        assert_eq!(odif::content(LETTER, element), Err(Refusal { rule: Rule::NoTextUnit, place: 0 }), "{element}");
+        assert_eq!(told(odif::content(LETTER, element)), Some((Rule::NoTextUnit, 0)), "{element}");
     }
 }
 
@@ -69,8 +74,8 @@ fn contents_in_pieces_are_joined() {
         letter.elements()[2].content.as_ref().map(|value| &stream[value.clone()]),
         Some(&b"\x04\x01H\x04\x01i"[..])
     );
-    assert_eq!(odif::content(&stream, 6), Err(Refusal { rule: Rule::NoTextUnit, place: 0 }));
-    assert_eq!(refused(&letter_of(&[b"\x24\x02\x05\x00"])), Refusal { rule: Rule::Contents, place: 2 });
+    assert_eq!(told(odif::content(&stream, 6)), Some((Rule::NoTextUnit, 0)));
+    assert_eq!(told(Letter::read(&letter_of(&[b"\x24\x02\x05\x00"]))), Some((Rule::Contents, 2)));
 }
 
 #[test]
@@ -91,8 +96,30 @@ fn the_questions_behind_content() {
 fn the_reading_lists() {
     let letter = Letter::read(LETTER).unwrap();
     let list = letter.reading_list(Side::Layout).unwrap();
-    assert_eq!(list, [odif::Match { element: 1, portion: 0, unit: 2 }]);
+    assert_eq!(list.iter().map(|found| (found.element, found.portion, found.unit)).collect::<Vec<_>>(), [(1, 0, 2)]);
     assert_eq!(letter.reading_list(Side::Logical).unwrap(), []);
+}
+
+/// Two blocks, the units of the second one first in the stream; one unit in pieces, one that belongs to no block.
+#[test]
+fn the_text_of_a_side() {
+    let block = |name: &str| [b"\xA2\x0A\x31\x08\x41\x01", name.as_bytes(), b"\xA1\x03\x12\x010"].concat();
+    let unit = |name: &str, content: &[u8]| {
+        let named = [b"\x31\x05\x40\x03", name.as_bytes(), content].concat();
+        [&[0xA3, named.len() as u8], &named[..]].concat()
+    };
+    let stream = [
+        b"\xA0\x00".to_vec(),
+        unit("2 0", b"\x04\x05world"),
+        unit("1 0", b"\x24\x0A\x04\x03Hel\x04\x03lo "),
+        unit("3 0", b"\x04\x01!"),
+        block("1"),
+        block("2"),
+    ]
+    .concat();
+    let letter = Letter::read(&stream).unwrap();
+    assert_eq!(letter.text(Side::Layout).unwrap(), [&b"Hello "[..], b"world"]);
+    assert!(letter.text(Side::Logical).unwrap().is_empty());
 }
 
 #[test]
@@ -110,7 +137,7 @@ fn refusals_with_number_place_and_sentence() {
 fn the_header_count_comes_with_a_refusal_too() {
     let checked = odif::check(b"\xA0\x02\x01\x00");
     assert_eq!(checked.headers, 1);
-    assert_eq!(checked.verdict, Err(Refusal { rule: Rule::WrongLength, place: 2 }));
+    assert_eq!(told(checked.verdict), Some((Rule::WrongLength, 2)));
     assert_eq!(odif::check(LETTER).verdict, Ok(3));
 }
 
@@ -141,5 +168,5 @@ fn letters_of_all_lengths_need_no_thought_about_memory() {
         assert_eq!(Letter::read(&stream).unwrap().elements().len(), elements);
     }
     let stream = [&[0xA0, 0x00][..], &[0xA2, 0x00].repeat(4_096)].concat();
-    assert_eq!(refused(&stream), Refusal { rule: Rule::TooManyElements, place: 8_192 });
+    assert_eq!(told(Letter::read(&stream)), Some((Rule::TooManyElements, 8_192)));
 }

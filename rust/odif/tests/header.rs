@@ -4,26 +4,30 @@
 use std::path::Path;
 use std::process::{Command, Output};
 
-/// Compiles a C program of this folder with the header and the archive, and runs it.
-fn run(name: &str, standard: &str) -> Output {
+use odif::Rule;
+
+/// Compiles a C program of this folder with the header, its sentences and the archive, and runs it with these words.
+fn run(name: &str, standard: &str, words: &[String]) -> Output {
     let folder = Path::new(env!("CARGO_MANIFEST_DIR"));
+    let include = folder.join("../../include");
     let program = Path::new(env!("CARGO_TARGET_TMPDIR")).join(name);
     let compiled = Command::new("cc")
         .args([standard, "-Wall", "-Wextra", "-pedantic", "-Werror", "-I"])
-        .arg(folder.join("../../include"))
+        .arg(&include)
         .arg(folder.join("tests").join(name).with_extension("c"))
+        .arg(include.join("odif_sentence.c"))
         .arg(env!("ODIF_ARCHIVE"))
         .arg("-o")
         .arg(&program)
         .output()
         .expect("a C compiler");
     assert!(compiled.status.success(), "{}", String::from_utf8_lossy(&compiled.stderr));
-    Command::new(&program).output().unwrap()
+    Command::new(&program).args(words).output().unwrap()
 }
 
 #[test]
 fn a_c_program_over_the_header() {
-    let output = run("header", "-std=c99");
+    let output = run("header", "-std=c99", &[]);
     let wanted = "check 0 0 11 3
 0 255 0 2 0 0 0 0 0 0 0 0 2 4 2 21 11 16 0 0 18 21 0 0 3 255 21 38 27 34 0 0 0 0 36 38 4008636142 
 layout 0 0 3 1: 1 0 2
@@ -39,8 +43,46 @@ short 16 0 11 0
 }
 
 #[test]
+fn the_sentences_and_the_version_are_those_of_this_crate() {
+    let numbers = 0..=Rule::ALL.len() as u32 + 1;
+    let output = run("sentences", "-std=c99", &numbers.map(|number| number.to_string()).collect::<Vec<_>>());
+    let text = String::from_utf8(output.stdout).unwrap();
+    let mut lines = text.lines();
+    let parts = env!("CARGO_PKG_VERSION").split('.').map(|part| part.parse::<u32>().unwrap());
+    let number = parts.fold(0, |number, part| 100 * number + part);
+    assert_eq!(lines.next().unwrap(), format!("{} {number}", env!("CARGO_PKG_VERSION")));
+    assert_eq!(lines.next(), Some("accepted"));
+    for rule in Rule::ALL {
+        assert_eq!(lines.next(), Some(rule.sentence()), "{}", rule.number());
+    }
+    assert_eq!(lines.collect::<Vec<_>>(), ["a rule that is newer than this program"]);
+}
+
+/// The header tells C that lent parts do not overlap, and gcc warns where it sees that they do. C++ has no such word.
+#[test]
+fn a_call_whose_parts_overlap_is_warned_of() {
+    let compile = |language: &str, out: &str| {
+        let source = format!(
+            "#include \"odif.h\"\nuint8_t stream[8], other[8];\n\
+             int main() {{ return (int)odif_normal(stream, 8, {out}, 8).number; }}\n"
+        );
+        let file = Path::new(env!("CARGO_TARGET_TMPDIR")).join(format!("overlap-{out}.{language}"));
+        std::fs::write(&file, source).unwrap();
+        let include = Path::new(env!("CARGO_MANIFEST_DIR")).join("../../include");
+        let mut gcc = Command::new("gcc");
+        gcc.args(["-Wall", "-fsyntax-only", "-I"]).arg(include).arg(file).output().expect("gcc")
+    };
+    for (language, out, warns) in [("c", "stream", true), ("c", "other", false), ("cpp", "stream", false)] {
+        let output = compile(language, out);
+        let said = String::from_utf8_lossy(&output.stderr);
+        assert!(output.status.success(), "{said}");
+        assert_eq!(said.contains("[-Wrestrict]"), warns, "{language}, {out}: {said}");
+    }
+}
+
+#[test]
 fn no_more_stack_than_the_header_says() {
-    let output = run("stack", "-std=gnu99");
+    let output = run("stack", "-std=gnu99", &[]);
     let told = String::from_utf8_lossy(&output.stdout);
     assert!(output.status.success(), "{told}");
     assert_eq!(told.lines().count(), 6, "{told}");

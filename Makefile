@@ -1,0 +1,77 @@
+# Builds and installs the library, the command and their pages. `make` needs rt (for the proved library), gcc and cargo.
+#
+#   make                                      build all under target/install
+#   make install PREFIX=/usr DESTDIR=/tmp/p   header, archive, shared library, odif.pc, command, manual pages
+#   make uninstall                            take away what install put there
+#
+# The archive is the proved one with odif_sentence beside it; the shared library is made of the same two.
+
+PREFIX  ?= /usr/local
+DESTDIR ?=
+CC      ?= cc
+CFLAGS  ?= -O2 -Wall -Wextra
+INSTALL ?= install
+
+version := $(shell sed -n 's/^\#define ODIF_VERSION  *"\(.*\)"/\1/p' include/odif.h)
+# before 1.0.0 the second number changes with what callers are compiled against
+series  := $(shell echo $(version) | cut -d. -f1,2)
+proved  := target/staticlib/libodif.a
+out     := target/install
+to      := $(DESTDIR)$(PREFIX)
+
+.PHONY: all install uninstall clean
+all: $(out)/libodif.a $(out)/libodif.so $(out)/odif.pc $(out)/odif.1 $(out)/odif.3
+
+$(proved):
+	rt staticlib odif
+
+$(out):
+	mkdir -p $@
+
+$(out)/odif_sentence.o: include/odif_sentence.c include/odif.h | $(out)
+	$(CC) $(CFLAGS) -fPIC -Iinclude -c $< -o $@
+
+$(out)/libodif.a: $(proved) $(out)/odif_sentence.o
+	cp $(proved) $@
+	$(AR) rs $@ $(out)/odif_sentence.o
+
+$(out)/libodif.so: $(proved) $(out)/odif_sentence.o
+	$(CC) -shared -Wl,-soname,libodif.so.$(series) -Wl,-z,defs -Wl,-z,text -Wl,-z,relro -Wl,-z,now \
+	    $(out)/odif_sentence.o -Wl,--whole-archive $(proved) -Wl,--no-whole-archive -o $@
+
+# PREFIX may differ from the last time, so this one is made anew each time
+.PHONY: $(out)/odif.pc
+$(out)/odif.pc: packaging/odif.pc.in | $(out)
+	sed -e 's|@PREFIX@|$(PREFIX)|' -e 's|@VERSION@|$(version)|' $< > $@
+
+# rust/packages, if it is there, makes the crates ready that the command uses; cargo knows what has changed
+.PHONY: $(out)/odif
+$(out)/odif: $(proved) | $(out)
+	cd rust && { [ ! -x packages ] || ./packages; } && cargo build --release --locked --workspace --bin odif
+	cp rust/target/release/odif $@
+
+$(out)/odif.1: $(out)/odif packaging/odif.1.in packaging/manual
+	packaging/manual $(version) $(out)/odif > $@
+
+$(out)/odif.3: include/odif.h packaging/odif.3.in packaging/manual | $(out)
+	packaging/manual $(version) > $@
+
+install: all
+	$(INSTALL) -d $(to)/include $(to)/lib/pkgconfig $(to)/bin $(to)/share/man/man1 $(to)/share/man/man3
+	$(INSTALL) -m 644 include/odif.h $(to)/include/odif.h
+	$(INSTALL) -m 644 $(out)/libodif.a $(to)/lib/libodif.a
+	$(INSTALL) -m 755 $(out)/libodif.so $(to)/lib/libodif.so.$(version)
+	ln -sf libodif.so.$(version) $(to)/lib/libodif.so.$(series)
+	ln -sf libodif.so.$(series) $(to)/lib/libodif.so
+	$(INSTALL) -m 644 $(out)/odif.pc $(to)/lib/pkgconfig/odif.pc
+	$(INSTALL) -m 755 -s $(out)/odif $(to)/bin/odif
+	$(INSTALL) -m 644 $(out)/odif.1 $(to)/share/man/man1/odif.1
+	$(INSTALL) -m 644 $(out)/odif.3 $(to)/share/man/man3/odif.3
+
+uninstall:
+	rm -f $(to)/include/odif.h $(to)/lib/libodif.a $(to)/lib/libodif.so $(to)/lib/libodif.so.$(series) \
+	    $(to)/lib/libodif.so.$(version) $(to)/lib/pkgconfig/odif.pc $(to)/bin/odif \
+	    $(to)/share/man/man1/odif.1 $(to)/share/man/man3/odif.3
+
+clean:
+	rm -rf $(out)

@@ -1,0 +1,33 @@
+/* odif_sentence, which odif.h declares: compile it with your program. Installed libraries have it in them. */
+#include "odif.h"
+
+static const char *const sentences[] = {
+    [0] = "accepted",
+    [1] = "the stream is over 1,048,576 octets",
+    [2] = "a 00 stands where no indefinite item is innermost, or is followed by another octet than 00",
+    [3] = "an item stands at level 17; level 16 is the deepest",
+    [4] = "the number bits of an item are 11111",
+    [5] = "a universal number stands in a form that it never has",
+    [6] = "the first length octet is 85 to FF, or 80 on a primitive item",
+    [7] = "a header, a value or a closing mark passes its limit, or an indefinite item reaches it unclosed",
+    [8] = "a boolean is not one octet, a null is not empty, or an integer is empty",
+    [9] = "there are more than 4,096 elements",
+    [10] = "no element begins with this octet",
+    [11] = "the document profile is not first, stands again later, or the stream is empty",
+    [12] = "the contents of an element are not as tabled",
+    [13] = "an object type is outside its range or not one octet",
+    [14] = "an identifier or a portion number is misspelt, or there is a 65th portion",
+    [15] = "an identifier or a portion number stands twice",
+    [16] = "the table has fewer rows than there are elements",
+    [17] = "the normal form is over 1,048,576 octets",
+    [18] = "the output is shorter than the normal form",
+    [19] = "the list is shorter than the matches",
+    [20] = "the asked element is no text unit or does not exist",
+    [21] = "the content is in pieces, and no one part of the stream",
+    [22] = "the output is shorter than the joined content",
+};
+
+const char *odif_sentence(uint32_t number) {
+    const char *known = number < sizeof sentences / sizeof *sentences ? sentences[number] : NULL;
+    return known ? known : "a rule that is newer than this program";
+}
