@@ -26,8 +26,10 @@ use Rattle.judging.proofs.Rows.{RowOf, row-of}
 use Rattle.letters.proofs.Fetching.{part-joined}
 use Rattle.reading.specs.Match.{unitKind}
 use Rattle.answers.specs.declared.ContentFound.{ContentFound}
+use Rattle.answers.specs.declared.Found.{Found}
+use Rattle.answers.specs.declared.Reason.{Reason}
 use Rattle.answers.specs.declared.ContentFound.the-variants.{Refused as Not, NoUnit, Content as Part, Pieces}
-use Rattle.answers.specs.Answers.{letterIn, rowsIn, Fetched, handed, withheld, fetchedBy, partOf, fetched, located, allOf, joinedIn}
+use Rattle.answers.specs.Answers.{letterIn, rowsIn, Fetched, handed, withheld, fetchedBy, partOf, fetched, whyNot, located, allOf, joinedIn}
 use Rattle.answers.proofs.Small.{refusal-small}
 use Rattle.answers.proofs.Judging.{Accepting}
 use Rattle.answers.specs.Asking.{ContentAt, otherKind, heldWhole, heldInPieces, FindsContent}
@@ -48,6 +50,11 @@ pub one-piece : (v : Value) → joinedContent (single v) ≡ bytesOf v
 one-piece absent = refl
 one-piece (octets bytes) = refl
 
+-- why, from where: number and place of both are those of the fetch
+pub why-located : (s : List ℕ) (asked : ℕ) {told : Found} → told ≡ located s asked → record { number = told .number; place = told .place } ≡ whyNot s asked
+unfolding located
+why-located s asked e = ap (λ (t : Found). record { number = t .number; place = t .place }) e
+
 module _ (s : List ℕ) (asked : ℕ) where
   -- 1 to 15
   pub finds-refused : (number place headers : ℕ) → letterIn s ≡ refusal number place headers → FindsContent s asked (Not number place)
@@ -56,7 +63,7 @@ module _ (s : List ℕ) (asked : ℕ) where
       let small = refusal-small edition1988 s number place headers e in
       let some-number : eqb number 0 ≡ false = ne-eqb number 0 (λ z. omega arith) in
       record {
-        fetches = record { answered = rw (e, some-number); number = rw e; place = rw e; part = rw e; order = omega arith; inside = omega arith };
+        fetches = record { answered = rw (e, some-number); stands = record { part = rw e; order = omega arith; inside = omega arith } };
         joins = rw e;
         known = small .low;
         low-number = omega arith;
@@ -76,7 +83,7 @@ module _ (s : List ℕ) (asked : ℕ) where
   no-unit e =
       let f : fetched s asked ≡ withheld 20 0 = e partOf in
       record {
-        fetches = record { answered = rw f; number = rw f; place = rw f; part = rw f; order = omega arith; inside = omega arith };
+        fetches = record { answered = rw f; stands = record { part = rw f; order = omega arith; inside = omega arith } };
         joins = e allOf;
         known = tt;
         low-number = omega arith;
@@ -111,7 +118,7 @@ module _ (s : List ℕ) (asked : ℕ) where
           let (order, inside) = bounded s (record { first = first; past = past }) (h .value) (subst (λ (v : Span). Bounds s v (h .value)) pair (h .bounds)) in
           let size = length-slice first past s inside in
           record {
-            fetches = record { answered = rw (f, stands, pair); number = rw f; place = rw f; part = part ∙ rw f; order = order; inside = inside };
+            fetches = record { answered = rw (f, stands, pair); stands = record { part = part ∙ rw f; order = order; inside = inside } };
             joins = of-unit (l .judged) there kind allOf ∙ ap handed (sym all);
             known = tt;
             low-number = omega arith;
@@ -127,7 +134,7 @@ module _ (s : List ℕ) (asked : ℕ) where
           let size = joined-fits (h .fine) in
           let f : fetched s asked ≡ withheld 21 0 = of-unit (l .judged) there kind partOf ∙ ap partOf (h .content-is) in
           record {
-            fetches = record { answered = rw f; number = rw f; place = rw f; part = rw f; order = omega arith; inside = omega arith };
+            fetches = record { answered = rw f; stands = record { part = rw f; order = omega arith; inside = omega arith } };
             joins = of-unit (l .judged) there kind allOf ∙ ap allOf (h .content-is);
             known = h .fine;
             low-number = omega arith;

@@ -28,7 +28,7 @@ use Rattle.judging.proofs.Rows.{saying-length, cell-at}
 use Rattle.letters.proofs.Apart.{accepted-apart}
 use Rattle.letters.proofs.Fetching.{filled-row-in}
 use Rattle.answers.specs.Answers.{letterIn, rowsIn}
-use Rattle.answers.specs.Asking.{JudgedIn, Decides}
+use Rattle.answers.specs.Asking.{JudgedIn}
 use Rattle.answers.proofs.Letters.{refused-element, accepted-letter}
 use Rattle.answers.proofs.Small.{Small, refusal-small}
 
@@ -92,12 +92,6 @@ module _ {s rows : List ℕ} {verdict : Verdict} {at headers : ℕ} (walked : wa
 -- what was judged, whatever the indexes hold
 pub judged-in : (s rows head next head2 next2 : List ℕ) (verdict : Verdict) → GivesVerdict s rows head next head2 next2 verdict → JudgedIn s rows verdict
 judged-in s rows head next head2 next2 verdict gives = record { head = head; next = next; head2 = head2; next2 = next2; gives = gives }
-
--- the verdict is that of rules 1 to 15
-pub decides : {s rows : List ℕ} {at headers : ℕ} → walkOf s ≡ Ended at headers → (verdict : Verdict) → JudgedIn s rows verdict → Decides s verdict
-decides {headers = headers} w (Accepted count) j =
-    let l = accepted-judged w j refl in record { headers = headers; elements = l .elements; judged = l .judged }
-decides {headers = headers} w (Refused number place) j = let r = refused-judged w j refl in record { headers = headers; judged = r .judged }
 
 -- a walk that ended accepts the stream with its own tree
 pub accepts-walked : {s : List ℕ} {at headers : ℕ} → walkOf s ≡ Ended at headers → Accepts s (treeOf s)

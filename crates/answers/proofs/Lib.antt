@@ -1,5 +1,5 @@
 -- Small: the numbers and places of refusals. Letters: what a stream is, by its walk and its judge. Judging: what a verdict tells of it.
--- Checks, Fetching, Copying, Listing: what the check, the fetch, the copy and the list say, case by case.
+-- Checks, Fetching, Copying, Listing: what the check, the fetch, the copy and the list say, case by case. Working: what the work of any leaves.
 pub mod Small
 pub mod Letters
 pub mod Judging
@@ -7,3 +7,4 @@ pub mod Checks
 pub mod Fetching
 pub mod Copying
 pub mod Listing
+pub mod Working

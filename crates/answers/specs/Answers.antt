@@ -50,6 +50,14 @@ tableOf s table = onto (numbers (rowsIn s)) table
 abbrev pub tooFewRows : (table : List ℕ) → List Element → Bool
 tooFewRows table elements = ltb (length table / rowWidth) (length elements)
 
+-- The rules alone, for a question that wants no more: the number and place of a refusal by 1 to 15, 0 and 0 of a letter.
+abbrev pub ruledBy : Letter → Reason
+ruledBy (refusal number place headers) = record { number = number; place = place }
+ruledBy (letter headers elements) = record { number = 0; place = 0 }
+
+unfoldable pub ruled : (s : List ℕ) → Reason
+ruled s = ruledBy (letterIn s)
+
 -- The check: "With every answer of the check comes a header count"; "With a refusal these are 0".
 abbrev pub refusedCheck : (number place headers : ℕ) → Checked
 refusedCheck number place headers = record { number = number; place = place; headers = headers; elements = 0 }
@@ -172,13 +180,14 @@ unfoldable pub located : (s : List ℕ) → (asked : ℕ) → Found
 located s asked = locatedAt (fetched s asked) (cond (eqb (fetched s asked .number) 0) (contentIn (getElem? (rowsIn s) asked)) noSpan)
 
 -- They are where the content stands that the question in its other form hands back: in the stream, and nothing is left open.
+pub record Stands (s : List ℕ) (asked first past : ℕ) : Type 0 where
+  pub part : slice first past s ≡ fetched s asked .part
+  pub order : first ≤ past
+  pub inside : past ≤ length s
+
 pub record Fetches (s : List ℕ) (asked : ℕ) (told : Found) : Type 0 where
   pub answered : told ≡ located s asked
-  pub number : told .number ≡ fetched s asked .number
-  pub place : told .place ≡ fetched s asked .place
-  pub part : slice (told .first) (told .past) s ≡ fetched s asked .part
-  pub order : told .first ≤ told .past
-  pub inside : told .past ≤ length s
+  pub stands : Stands s asked (told .first) (told .past)
 
 -- The joined content: "The content is the pieces joined in order", "a 04 being one piece".
 abbrev pub allOf : Content → Fetched

@@ -40,22 +40,6 @@ pub record JudgedIn (s rows : List ℕ) (verdict : Verdict) : Type 0 where
   pub next2 : List ℕ
   pub gives : GivesVerdict s rows head next head2 next2 verdict
 
--- a stream is accepted by rules 1 to 15
-pub record IsLetter (s : List ℕ) : Type 0 where
-  pub headers : ℕ
-  pub elements : List Element
-  pub judged : letterIn s ≡ letter headers elements
-
--- a stream is refused by one of them
-pub record IsRefused (s : List ℕ) (number place : ℕ) : Type 0 where
-  pub headers : ℕ
-  pub judged : letterIn s ≡ refusal number place headers
-
--- the verdict of all of them
-abbrev pub Decides : (s : List ℕ) → Verdict → Type 0
-Decides s (Accepted count) = IsLetter s
-Decides s (Refused number place) = IsRefused s number place
-
 -- what is found of the element in row j: no text unit, or where its content stands
 pub data ContentAt (s rows : List ℕ) (j : ℕ) : ContentFound → Type 0 where
   otherKind : (kindAt rows j ≡ unitKind → ⊥) → ContentAt s rows j NoUnit

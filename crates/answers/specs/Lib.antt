@@ -1,5 +1,6 @@
 -- Answers: what each question answers. Short: the mailroom's normal form question. Asking: what the work behind them
--- learns.
+-- learns. Questions: what the work of any of them leaves.
 pub mod Answers
 pub mod Short
 pub mod Asking
+pub mod Questions

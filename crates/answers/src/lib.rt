@@ -1,36 +1,35 @@
 // The work behind the questions: what each does with a stream that was judged.
 // Nothing that was lent to a question is written before all that can refuse it is known.
 use index::ROW_WIDTH;
-use letters::Held;
 use letters::Verdict;
 use octets::Outcome;
 use reading::Side;
 use runs::Run;
 ghost use mathlib.Core.Path.{_≡_};
-ghost use Prim.Native.Nat.{_*_, _/_, _<_, _≤_};
+ghost use Prim.Native.Nat.{_*_, _≤_};
 ghost use lib.ListN.{length};
-ghost use lib.Seq.{slice};
 ghost use Rattle.octets.specs.Walk.{walkOf};
 ghost use Rattle.tree.specs.Tree.{treeOf};
 ghost use Rattle.tree.specs.Accepts.{Accepts};
-ghost use Rattle.runs.specs.Runs.{wholeStream, treeIn, Fine};
-ghost use Rattle.pieces.specs.Pieces.{joined};
 ghost use Rattle.letters.specs.Lent.{rowsNeeded};
 ghost use Rattle.letters.specs.Scratch.{GivesVerdict};
-ghost use Rattle.letters.specs.Content.{RowIn};
-ghost use Rattle.answers.specs.Answers.{refusedCheck, CheckOutcome};
-ghost use Rattle.answers.specs.Asking.{JudgedIn, ContentAt, FindsContent, Copies, ListsFlat};
+ghost use Rattle.answers.specs.Answers.{ruled, refusedCheck, CheckOutcome};
+ghost use Rattle.answers.specs.Asking.{JudgedIn, ListsFlat};
+ghost use Rattle.answers.specs.Questions.{reasonTold, checkTold, locatedTold, copiedTold, listedTold, listedOf, refusedTold, Leaves, Roomy};
 
-const TEXT_UNIT: u32 = 3;
+mod content; // content.rt: the content of one element, as a part or copied
 
-// The refusal numbers of the questions themselves, of the table, the list, the content and its copy; 17 and 18 are crate normal's.
+pub use content::join_judged;
+pub use content::locate_judged;
+
+// The numbers of refusals that come after rules 1 to 15, those of the questions themselves; 17 and 18 are crate normal's.
 const TOO_FEW_ROWS: u32 = 16;
 
 const LIST_TOO_SHORT: u32 = 19;
 
-pub const NO_UNIT: u32 = 20;
+const NO_UNIT: u32 = 20;
 
-pub const IN_PIECES: u32 = 21;
+const IN_PIECES: u32 = 21;
 
 const COPY_TOO_SHORT: u32 = 22;
 
@@ -84,6 +83,27 @@ pub struct Copied {
     pub length: u32,
 }
 
+// A question that is put to a stream. Those that want a list say how many records it has room for.
+pub enum Question {
+    Rules,
+    Check,
+    Content { element: usize },
+    Joined { element: usize },
+    List { side: Side, room: usize },
+}
+
+// What the work of any question tells. What the question does not ask for is 0.
+pub struct Told {
+    pub number: u32,
+    pub place: u32,
+    pub headers: u32,
+    pub elements: u32,
+    pub listed: u32,
+    pub length: u32,
+    pub first: u32,
+    pub past: u32,
+}
+
 // What a fetch of content finds: a part of the stream, or pieces.
 pub enum ContentFound {
     Refused { number: usize, place: usize },
@@ -104,8 +124,26 @@ pub fn refused_check(number: u32, place: u32, headers: u32) -> Checked
     }
 }
 
+// What rules 1 to 15 say of a stream that was judged: 0 at 0 if it is a letter.
+fn rule_judged(stream: &[u8], rows: &[u32], verdict: Verdict) -> Reason
+    requires { ⌜ Accepts (now stream) (treeOf (now stream)) ⌝ }
+    requires { ⌜ JudgedIn (now stream) (now rows) verdict ⌝ }
+    ensures { λ r. ⌜ r ≡ ruled (now (stream .entry)) ⌝ }
+{
+    match verdict {
+        Verdict::Refused { number, place } => Reason {
+            number: number as u32,
+            place: place as u32,
+        },
+        Verdict::Accepted { count: _ } => Reason {
+            number: 0,
+            place: 0,
+        },
+    }
+}
+
 // The check of a stream that was judged: 16, or the table.
-pub fn check_judged(
+fn check_judged(
     stream: &[u8],
     headers: u32,
     rows: &[u32],
@@ -133,80 +171,8 @@ pub fn check_judged(
     }
 }
 
-// The content of the element whose row is given, if it is a text unit.
-fn content_at(stream: &[u8], rows: &[u32], element: usize) -> ContentFound
-    requires { ⌜ Fine (now stream) (wholeStream (now stream)) ⌝ }
-    requires { ⌜ (element < 4096) × RowIn (now stream) (now rows) element ⌝ }
-    ensures { λ r. ⌜ ContentAt (now (stream .entry)) (now (rows .entry)) element r ⌝ }
-{
-    if rows[element * ROW_WIDTH] != TEXT_UNIT {
-        return ContentFound::NoUnit;
-    }
-    match letters::content_of(stream, rows, element) {
-        Held::Part { first, past } => ContentFound::Content { first, past },
-        Held::Pieces { run } => ContentFound::Pieces { run },
-    }
-}
-
-// The content of an element of a stream that was judged: 20, or where it stands.
-pub fn fetch_judged(stream: &[u8], element: usize, rows: &[u32], verdict: Verdict) -> ContentFound
-    requires { ⌜ Accepts (now stream) (treeOf (now stream)) ⌝ }
-    requires { ⌜ JudgedIn (now stream) (now rows) verdict ⌝ }
-    ensures { λ r. ⌜ FindsContent (now (stream .entry)) element r ⌝ }
-{
-    match verdict {
-        Verdict::Refused { number, place } => ContentFound::Refused { number, place },
-        Verdict::Accepted { count } => {
-            if element < count {
-                return content_at(stream, rows, element);
-            }
-            ContentFound::NoUnit
-        }
-    }
-}
-
-// Copies a part of the stream to a lent buffer, unless that is too short.
-pub fn copy_part(stream: &[u8], first: usize, past: usize, out: &mut [u8]) -> Copied
-    requires { ⌜ (first ≤ past) × (past ≤ length (now stream)) × (past ≤ 1048576) ⌝ }
-    ensures { λ r. ⌜ Copies (slice first past (now (stream .entry))) (now (out .entry)) r (now (out .exit)) ⌝ }
-{
-    if out.len() < past - first {
-        return Copied {
-            number: COPY_TOO_SHORT,
-            place: 0,
-            length: 0,
-        };
-    }
-    let length = bytes::copy(&stream[first..past], out);
-    Copied {
-        number: 0,
-        place: 0,
-        length: length as u32,
-    }
-}
-
-// Copies the pieces of a run, joined in order, to a lent buffer, unless that is too short: they are measured before any is written.
-pub fn copy_pieces(stream: &[u8], run: Run, out: &mut [u8]) -> Copied
-    requires { ⌜ Fine (now stream) run × (length (joined (treeIn (now stream) run)) ≤ 1048576) ⌝ }
-    ensures { λ r. ⌜ Copies (joined (treeIn (now (stream .entry)) run)) (now (out .entry)) r (now (out .exit)) ⌝ }
-{
-    if out.len() < pieces::joined_length(stream, run) {
-        return Copied {
-            number: COPY_TOO_SHORT,
-            place: 0,
-            length: 0,
-        };
-    }
-    let length = pieces::put_joined(stream, run, out);
-    Copied {
-        number: 0,
-        place: 0,
-        length: length as u32,
-    }
-}
-
 // The reading list of a stream that was judged, as numbers: 16, then the table, then 19.
-pub fn list_judged(
+fn list_judged(
     stream: &[u8],
     side: Side,
     room: usize,
@@ -267,5 +233,158 @@ pub fn list_judged(
                 matches: matches as u32,
             }
         }
+    }
+}
+
+// Each answer as the work tells it.
+fn tell_reason(r: Reason) -> Told
+    ensures { λ told. ⌜ told ≡ reasonTold r ⌝ }
+{
+    Told {
+        number: r.number,
+        place: r.place,
+        headers: 0,
+        elements: 0,
+        listed: 0,
+        length: 0,
+        first: 0,
+        past: 0,
+    }
+}
+
+fn tell_checked(r: Checked) -> Told
+    ensures { λ told. ⌜ told ≡ checkTold r ⌝ }
+{
+    Told {
+        number: r.number,
+        place: r.place,
+        headers: r.headers,
+        elements: r.elements,
+        listed: 0,
+        length: 0,
+        first: 0,
+        past: 0,
+    }
+}
+
+fn tell_located(r: Found) -> Told
+    ensures { λ told. ⌜ told ≡ locatedTold r ⌝ }
+{
+    Told {
+        number: r.number,
+        place: r.place,
+        headers: 0,
+        elements: 0,
+        listed: 0,
+        length: 0,
+        first: r.first,
+        past: r.past,
+    }
+}
+
+fn tell_copied(r: Copied) -> Told
+    ensures { λ told. ⌜ told ≡ copiedTold r ⌝ }
+{
+    Told {
+        number: r.number,
+        place: r.place,
+        headers: 0,
+        elements: 0,
+        listed: 0,
+        length: r.length,
+        first: 0,
+        past: 0,
+    }
+}
+
+fn tell_listed(r: Listed) -> Told
+    ensures { λ told. ⌜ told ≡ listedTold r ⌝ }
+{
+    Told {
+        number: r.number,
+        place: r.place,
+        headers: 0,
+        elements: r.elements,
+        listed: r.matches,
+        length: 0,
+        first: 0,
+        past: 0,
+    }
+}
+
+// The list's answer, of what was told.
+pub fn listed_of(told: Told) -> Listed
+    ensures { λ r. ⌜ r ≡ listedOf told ⌝ }
+{
+    Listed {
+        number: told.number,
+        place: told.place,
+        elements: told.elements,
+        matches: told.listed,
+    }
+}
+
+// What the walk refused, as the work of any question tells it: the check alone is told how many headers were read.
+pub fn tell_refused(question: Question, number: u32, place: u32, headers: u32) -> Told
+    ensures { λ told. ⌜ told ≡ refusedTold question number place headers ⌝ }
+{
+    match question {
+        Question::Check => tell_checked(refused_check(number, place, headers)),
+        Question::Rules => tell_reason(Reason { number, place }),
+        Question::Content { element: _ } => tell_reason(Reason { number, place }),
+        Question::Joined { element: _ } => tell_reason(Reason { number, place }),
+        Question::List { side: _, room: _ } => tell_reason(Reason { number, place }),
+    }
+}
+
+// The work of a question, of a stream that was judged. The rows and their indexes are what the judge left in its scratch.
+pub fn work(
+    stream: &[u8],
+    headers: u32,
+    question: Question,
+    rows: &[u32],
+    head: &[u16],
+    next: &[u16],
+    head2: &[u16],
+    next2: &[u16],
+    verdict: Verdict,
+    table: &mut [u32],
+    flat: &mut [u32],
+    out: &mut [u8],
+) -> Told
+    requires { ⌜ walkOf (now stream) ≡ Outcome.Ended (length (now stream)) headers ⌝ }
+    requires { ⌜ GivesVerdict (now stream) (now rows) (now head) (now next) (now head2) (now next2) verdict ⌝ }
+    requires { ⌜ Roomy question (now stream) (length (now flat)) ⌝ }
+    ensures { λ r. ⌜ Leaves question (now (stream .entry)) (now (table .entry)) (now (out .entry)) r (now (table .exit)) (now (flat .exit)) (now (out .exit)) ⌝ }
+{
+    match question {
+        Question::Rules => tell_reason(rule_judged(stream, rows, verdict)),
+        Question::Check => tell_checked(check_judged(stream, headers, rows, verdict, table)),
+        Question::Content { element } => tell_located(locate_judged(
+            stream,
+            element,
+            rows,
+            verdict,
+        )),
+        Question::Joined { element } => tell_copied(join_judged(
+            stream,
+            element,
+            rows,
+            verdict,
+            out,
+        )),
+        Question::List { side, room } => tell_listed(list_judged(
+            stream,
+            side,
+            room,
+            rows,
+            head,
+            next,
+            head2,
+            next2,
+            verdict,
+            table,
+            flat,
+        )),
     }
 }

@@ -1,5 +1,5 @@
 -- The writer's answer and output, case by case: the tests are those of the crate that writes, in other words. Assumes nothing.
-use mathlib.Core.Path.{_≡_}
+use mathlib.Core.Path.{_≡_, sym, subst}
 use mathlib.Core.Bool.{true, false}
 use mathlib.Core.List.{List}
 use Prim.Native.Nat.{ℕ, _≤_}
@@ -17,8 +17,11 @@ use Rattle.elements.specs.Shape.{edition1988}
 use Rattle.elements.specs.Judge.{Element}
 use Rattle.letters.specs.Letter.{letter, refusal}
 use Rattle.answers.specs.declared.Written.{Written}
-use Rattle.answers.specs.Answers.{letterIn, written, writtenOutput, NormalOutcome}
+use Rattle.answers.specs.declared.Told.{Told}
+use Rattle.answers.specs.Answers.{letterIn, ruled, written, writtenOutput, NormalOutcome}
+use Rattle.answers.specs.Questions.{reasonTold}
 use Rattle.answers.proofs.Small.{refusal-small}
+use Rattle.answers.proofs.Working.{is-refused}
 
 -- the number, place and length of each answer
 abbrev pub toldAs : Answer → Written
@@ -39,6 +42,13 @@ module _ (s out : List ℕ) where
       let low = refusal-small edition1988 s number place headers e .low in
       let some : eqb number 0 ≡ false = ne-eqb number 0 (λ z. omega arith) in
       record { answered = rw e; put = rw (e, some) }
+
+  -- the same, of what the rules told
+  pub writes-told : {told : Told} → told ≡ reasonTold (ruled s) → (told .number ≡ 0 → ⊥)
+      → NormalOutcome s out (record { number = told .number; place = told .place; length = 0 }) out
+  writes-told e =
+      subst (λ (t : Told). (t .number ≡ 0 → ⊥) → NormalOutcome s out (record { number = t .number; place = t .place; length = 0 }) out) (sym e)
+      (λ some. let d = is-refused s some in writes-refused (ruled s .number) (ruled s .place) (d .headers) (d .judged))
 
   -- the answer of the crate that writes, of a letter
   abbrev expected : Answer

@@ -1,16 +1,12 @@
 // The public questions, and nothing else. None has a `requires`: any caller may ask, of any octets, with any buffers.
 pub use answers::Checked;
-use answers::ContentFound;
 pub use answers::Copied;
 pub use answers::Found;
-use answers::IN_PIECES;
 pub use answers::Listed;
-use answers::NO_UNIT;
+use answers::Question;
 pub use answers::Reason;
 pub use answers::Written;
-use letters::Verdict;
 use normal::Answer;
-use octets::Outcome;
 pub use reading::Match;
 pub use reading::Side;
 ghost use mathlib.Core.Path.{_≡_};
@@ -26,13 +22,14 @@ const TOO_LONG: u32 = 1;
 pub fn check(stream: &[u8], table: &mut [u32]) -> Checked
     ensures { λ r. ⌜ CheckOutcome (now (stream .entry)) (now (table .entry)) r (now (table .exit)) ⌝ }
 {
-    match octets::walk(stream) {
-        Outcome::Ended { at: _, count } => scratch::check_walked(stream, count as u32, table),
-        Outcome::Refused {
-            number,
-            place,
-            count,
-        } => answers::refused_check(number as u32, place as u32, count as u32),
+    let mut numbers = [0u32; 0];
+    let mut octets = [0u8; 0];
+    let told = scratch::ask(stream, Question::Check, table, &mut numbers, &mut octets);
+    Checked {
+        number: told.number,
+        place: told.place,
+        headers: told.headers,
+        elements: told.elements,
     }
 }
 
@@ -40,23 +37,33 @@ pub fn check(stream: &[u8], table: &mut [u32]) -> Checked
 pub fn normal(stream: &[u8], out: &mut [u8]) -> Written
     ensures { λ r. ⌜ NormalOutcome (now (stream .entry)) (now (out .entry)) r (now (out .exit)) ⌝ }
 {
-    match scratch::judge(stream) {
-        Verdict::Refused { number, place } => Written {
+    let mut rows = [0u32; 0];
+    let mut numbers = [0u32; 0];
+    let mut octets = [0u8; 0];
+    let told = scratch::ask(
+        stream,
+        Question::Rules,
+        &mut rows,
+        &mut numbers,
+        &mut octets,
+    );
+    if told.number != 0 {
+        return Written {
+            number: told.number,
+            place: told.place,
+            length: 0,
+        };
+    }
+    match normal::write(stream, out) {
+        Answer::Written { length } => Written {
+            number: 0,
+            place: 0,
+            length: length as u32,
+        },
+        Answer::Refused { number, place } => Written {
             number: number as u32,
             place: place as u32,
             length: 0,
-        },
-        Verdict::Accepted { count: _ } => match normal::write(stream, out) {
-            Answer::Written { length } => Written {
-                number: 0,
-                place: 0,
-                length: length as u32,
-            },
-            Answer::Refused { number, place } => Written {
-                number: number as u32,
-                place: place as u32,
-                length: 0,
-            },
         },
     }
 }
@@ -77,15 +84,10 @@ pub fn list(stream: &[u8], side: Side, table: &mut [u32], list: &mut [Match]) ->
 pub fn content<'a>(stream: &'a [u8], element: usize) -> &'a [u8]
     ensures { λ r. ⌜ now r ≡ fetched (now (stream .entry)) element .part ⌝ }
 {
-    match scratch::fetch(stream, element) {
-        ContentFound::Content { first, past } => &stream[first..past],
-        ContentFound::Refused {
-            number: _,
-            place: _,
-        } => &stream[..0],
-        ContentFound::NoUnit => &stream[..0],
-        ContentFound::Pieces { run: _ } => &stream[..0],
-    }
+    let located = locate(stream, element);
+    let first = located.first as usize;
+    let past = located.past as usize;
+    &stream[first..past]
 }
 
 // Why the content of an element was refused: 0 at 0 if it was not.
@@ -103,31 +105,21 @@ pub fn why(stream: &[u8], element: usize) -> Reason
 fn locate(stream: &[u8], element: usize) -> Found
     ensures { λ r. ⌜ Fetches (now (stream .entry)) element r ⌝ }
 {
-    match scratch::fetch(stream, element) {
-        ContentFound::Content { first, past } => Found {
-            number: 0,
-            place: 0,
-            first: first as u32,
-            past: past as u32,
-        },
-        ContentFound::Refused { number, place } => Found {
-            number: number as u32,
-            place: place as u32,
-            first: 0,
-            past: 0,
-        },
-        ContentFound::NoUnit => Found {
-            number: NO_UNIT,
-            place: 0,
-            first: 0,
-            past: 0,
-        },
-        ContentFound::Pieces { run: _ } => Found {
-            number: IN_PIECES,
-            place: 0,
-            first: 0,
-            past: 0,
-        },
+    let mut rows = [0u32; 0];
+    let mut numbers = [0u32; 0];
+    let mut octets = [0u8; 0];
+    let told = scratch::ask(
+        stream,
+        Question::Content { element },
+        &mut rows,
+        &mut numbers,
+        &mut octets,
+    );
+    Found {
+        number: told.number,
+        place: told.place,
+        first: told.first,
+        past: told.past,
     }
 }
 
@@ -136,19 +128,19 @@ fn locate(stream: &[u8], element: usize) -> Found
 pub fn joined(stream: &[u8], element: usize, out: &mut [u8]) -> Copied
     ensures { λ r. ⌜ JoinedOutcome (now (stream .entry)) element (now (out .entry)) r (now (out .exit)) ⌝ }
 {
-    match scratch::fetch(stream, element) {
-        ContentFound::Content { first, past } => answers::copy_part(stream, first, past, out),
-        ContentFound::Pieces { run } => answers::copy_pieces(stream, run, out),
-        ContentFound::Refused { number, place } => Copied {
-            number: number as u32,
-            place: place as u32,
-            length: 0,
-        },
-        ContentFound::NoUnit => Copied {
-            number: NO_UNIT,
-            place: 0,
-            length: 0,
-        },
+    let mut rows = [0u32; 0];
+    let mut numbers = [0u32; 0];
+    let told = scratch::ask(
+        stream,
+        Question::Joined { element },
+        &mut rows,
+        &mut numbers,
+        out,
+    );
+    Copied {
+        number: told.number,
+        place: told.place,
+        length: told.length,
     }
 }
 

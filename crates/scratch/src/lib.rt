@@ -1,5 +1,7 @@
-// Each question judges its stream in scratch of its own, and leaves the rest to `answers`. Scratch has two sizes, for few elements and for as
-// many as a letter may have, since every letter pays for clearing it.
+// A stream is walked, its size told, and the question put in a frame of that size: there it is judged, and the rest left to `answers`. Frames have
+// two sizes, for few elements and for as many as a letter may have, since every letter pays for clearing one.
+use answers::Question;
+use answers::Told;
 use octets::Outcome;
 ghost use mathlib.Core.Path.{_≡_};
 ghost use mathlib.Core.Bool.{true, cond};
@@ -8,17 +10,13 @@ ghost use lib.ListN.{length};
 ghost use Rattle.octets.specs.Walk.{walkOf};
 ghost use Rattle.letters.specs.Lent.{rowsNeeded};
 ghost use Rattle.answers.specs.Asking.{Sized};
+ghost use Rattle.answers.specs.Questions.{Leaves, Roomy};
 
-mod check; // check.rt: the check of a stream
-mod content; // content.rt: the content of one element
+mod frames; // frames.rt: the arrays of either size
 mod list; // list.rt: the reading list of a side
-mod rules; // rules.rt: the rules alone
 
-pub use check::check_walked;
-pub use content::fetch;
 pub use list::list_few;
 pub use list::list_many;
-pub use rules::judge;
 
 // Scratch for so many elements is soon cleared, and most letters have no more.
 const FEW: usize = 512;
@@ -54,5 +52,31 @@ pub fn needs_few(stream: &[u8], walked: Outcome) -> bool
             place: _,
             count: _,
         } => true,
+    }
+}
+
+// Puts a question to a stream. What it does not ask for may be lent with no room; a reading list is made by those of its size.
+pub fn ask(
+    stream: &[u8],
+    question: Question,
+    table: &mut [u32],
+    flat: &mut [u32],
+    out: &mut [u8],
+) -> Told
+    requires { ⌜ Roomy question (now stream) (length (now flat)) ⌝ }
+    ensures { λ r. ⌜ Leaves question (now (stream .entry)) (now (table .entry)) (now (out .entry)) r (now (table .exit)) (now (flat .exit)) (now (out .exit)) ⌝ }
+{
+    match octets::walk(stream) {
+        Outcome::Ended { at: _, count } => {
+            if is_few(stream, count) {
+                return frames::few(stream, count as u32, question, table, flat, out);
+            }
+            frames::many(stream, count as u32, question, table, flat, out)
+        }
+        Outcome::Refused {
+            number,
+            place,
+            count,
+        } => answers::tell_refused(question, number as u32, place as u32, count as u32),
     }
 }

@@ -1,14 +1,13 @@
 // The reading list of a side. It is made as numbers, in scratch too, before it is known whether the lent list has room for it.
 use super::FEW;
+use super::frames;
 use answers::Listed;
+use answers::Question;
 use octets::Outcome;
 use reading::Match;
 use reading::Side;
-ghost use Prim.Native.Nat.{_*_, _/_, _≤_};
+ghost use Prim.Native.Nat.{_/_};
 ghost use lib.ListN.{length};
-ghost use Rattle.tree.specs.Tree.{treeOf};
-ghost use Rattle.tree.specs.Accepts.{Accepts};
-ghost use Rattle.letters.specs.Lent.{rowsNeeded};
 ghost use Rattle.answers.specs.Answers.{ListOutcome};
 ghost use Rattle.answers.specs.Asking.{Sized, ListsFlat};
 
@@ -62,12 +61,21 @@ pub fn list_flat(
     requires { ⌜ Sized (now stream) walked (length (now flat) / 3) ⌝ }
     ensures { λ r. ⌜ ListsFlat side (now (stream .entry)) (now (table .entry)) room r (now (table .exit)) (now (flat .exit)) ⌝ }
 {
+    let mut none = [0u8; 0];
     match walked {
-        Outcome::Ended { at: _, count: _ } => {
+        Outcome::Ended { at: _, count } => {
+            let question = Question::List { side, room };
             if flat.len() / 3 <= FEW {
-                return flat_few(stream, side, room, table, flat);
+                return answers::listed_of(frames::few(
+                    stream,
+                    count as u32,
+                    question,
+                    table,
+                    flat,
+                    &mut none,
+                ));
             }
-            flat_many(stream, side, room, table, flat)
+            answers::listed_of(frames::many(stream, count as u32, question, table, flat, &mut none))
         }
         Outcome::Refused {
             number,
@@ -80,75 +88,4 @@ pub fn list_flat(
             matches: 0,
         },
     }
-}
-
-fn flat_few(stream: &[u8], side: Side, room: usize, table: &mut [u32], flat: &mut [u32]) -> Listed
-    requires { ⌜ Accepts (now stream) (treeOf (now stream)) ⌝ }
-    requires { ⌜ rowsNeeded (now stream) ≤ 512 ⌝ }
-    requires { ⌜ 3 * rowsNeeded (now stream) ≤ length (now flat) ⌝ }
-    ensures { λ r. ⌜ ListsFlat side (now (stream .entry)) (now (table .entry)) room r (now (table .exit)) (now (flat .exit)) ⌝ }
-{
-    let mut rows = [0u32; 6144];
-    let mut head = [0u16; 1024];
-    let mut next = [0u16; 512];
-    let mut head2 = [0u16; 1024];
-    let mut next2 = [0u16; 512];
-    let mut bounds = [0u32; 128];
-    let verdict = letters::judge_stream(
-        stream,
-        &mut rows,
-        &mut head,
-        &mut next,
-        &mut head2,
-        &mut next2,
-        &mut bounds,
-    );
-    answers::list_judged(
-        stream,
-        side,
-        room,
-        &rows,
-        &head,
-        &next,
-        &head2,
-        &next2,
-        verdict,
-        table,
-        flat,
-    )
-}
-
-fn flat_many(stream: &[u8], side: Side, room: usize, table: &mut [u32], flat: &mut [u32]) -> Listed
-    requires { ⌜ Accepts (now stream) (treeOf (now stream)) ⌝ }
-    requires { ⌜ 3 * rowsNeeded (now stream) ≤ length (now flat) ⌝ }
-    ensures { λ r. ⌜ ListsFlat side (now (stream .entry)) (now (table .entry)) room r (now (table .exit)) (now (flat .exit)) ⌝ }
-{
-    let mut rows = [0u32; 49152];
-    let mut head = [0u16; 8192];
-    let mut next = [0u16; 4096];
-    let mut head2 = [0u16; 8192];
-    let mut next2 = [0u16; 4096];
-    let mut bounds = [0u32; 128];
-    let verdict = letters::judge_stream(
-        stream,
-        &mut rows,
-        &mut head,
-        &mut next,
-        &mut head2,
-        &mut next2,
-        &mut bounds,
-    );
-    answers::list_judged(
-        stream,
-        side,
-        room,
-        &rows,
-        &head,
-        &next,
-        &head2,
-        &next2,
-        verdict,
-        table,
-        flat,
-    )
 }

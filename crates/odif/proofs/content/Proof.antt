@@ -1,95 +1,43 @@
--- `odif::content` meets its contract: the part is what was fetched, and empty if that was refused. Assumes nothing.
-use mathlib.Core.Path.{_∙_, subst}
+-- `odif::content` meets its contract: the part is what the bounds bound, and empty if they are 0 and 0. Assumes nothing.
+use mathlib.Core.Path.{_∙_}
 use borrow.Author.Needs.{needs}
 use native.Mathlib.Omega.{arith}
 use denote.Ref.{now}
 use Rattle.pieces.proofs.Putting.{part-slice}
-use Rattle.answers.specs.Asking.{FindsContent}
 use Rattle.odif.proofs.content.Statement.{statement}
 use Rattle.odif.proofs.content.Tie as tie
 
-fetch-requires : tie.Need-fetch-requires
-fetch-requires c κs = search needs
+locate-requires : tie.Need-locate-requires
+locate-requires c κs = search needs
 
-enum-known-first : tie.Need-enum-known-first
-enum-known-first c = search needs
+cast-first : tie.Need-cast-first
+cast-first c = search needs
+
+cast-past : tie.Need-cast-past
+cast-past c = search needs
 
 sub-result : tie.Need-sub-result
-sub-result c =
-    let a = c .before .before .before .before .before .args in
-    let f = subst (FindsContent (now (a .stream)) (a .element)) (c .before .first .given .1) (c .before .before .before .fetch .ensures) in
-    omega arith
+sub-result c = let f = c .before .before .locate .ensures .stands in omega (arith, f .order)
 
 part-result-start : tie.Need-part-result-start
-part-result-start c =
-    let a = c .before .before .before .before .before .args in
-    let f = subst (FindsContent (now (a .stream)) (a .element)) (c .before .first .given .1) (c .before .before .before .fetch .ensures) in
-    omega (arith, f .fetches .order)
+part-result-start c = let f = c .before .before .locate .ensures .stands in omega (arith, f .order)
 
 part-result-end : tie.Need-part-result-end
-part-result-end c =
-    let a = c .before .before .before .before .before .args in
-    let f = subst (FindsContent (now (a .stream)) (a .element)) (c .before .first .given .1) (c .before .before .before .fetch .ensures) in
-    omega (arith, f .fetches .order, f .fetches .inside)
-
-enum-told : tie.Need-enum-told
-enum-told c = search needs
-
-slice-aggregate-result : tie.Need-slice-aggregate-result
-slice-aggregate-result c = search needs
-
-enum-told-2 : tie.Need-enum-told-2
-enum-told-2 c = search needs
-
-slice-aggregate-result-2 : tie.Need-slice-aggregate-result-2
-slice-aggregate-result-2 c = search needs
-
-enum-told-3 : tie.Need-enum-told-3
-enum-told-3 c = search needs
-
-slice-aggregate-result-3 : tie.Need-slice-aggregate-result-3
-slice-aggregate-result-3 c = search needs
+part-result-end c = let f = c .before .before .locate .ensures .stands in omega (arith, f .order, f .inside)
 
 returns : tie.Need-returns
 returns c =
-    let a = c .before .before .before .before .before .before .args in
-    let f = subst (FindsContent (now (a .stream)) (a .element)) (c .before .before .first .given .1) (c .before .before .before .before .fetch .ensures) in
-    part-slice _ _ (now (a .stream)) (f .fetches .order) ∙ f .fetches .part
-
-returns-2 : tie.Need-returns-2
-returns-2 c =
-    let a = c .before .before .before .before .before .args in
-    let f = subst (FindsContent (now (a .stream)) (a .element)) (c .before .enum-told .given .1) (c .before .before .before .fetch .ensures) in
-    f .fetches .part
-
-returns-3 : tie.Need-returns-3
-returns-3 c =
-    let a = c .before .before .before .before .before .args in
-    let f = subst (FindsContent (now (a .stream)) (a .element)) (c .before .enum-told2 .given .1) (c .before .before .before .fetch .ensures) in
-    f .fetches .part
-
-returns-4 : tie.Need-returns-4
-returns-4 c =
-    let a = c .before .before .before .before .before .args in
-    let f = subst (FindsContent (now (a .stream)) (a .element)) (c .before .enum-told3 .given .1) (c .before .before .before .fetch .ensures) in
-    f .fetches .part
+    let f = c .before .before .before .locate .ensures .stands in
+    part-slice _ _ (now (c .before .before .before .before .before .args .stream)) (f .order) ∙ f .part
 
 pub content-spec : {M : Type 1} → statement M
 content-spec =
     tie.close
     (tie.spec
-    fetch-requires
-    enum-known-first
+    locate-requires
+    cast-first
+    cast-past
     sub-result
     part-result-start
     part-result-end
-    enum-told
-    slice-aggregate-result
-    enum-told-2
-    slice-aggregate-result-2
-    enum-told-3
-    slice-aggregate-result-3
-    returns
-    returns-2
-    returns-3
-    returns-4)
+    returns)

@@ -1,98 +1,30 @@
--- `odif::joined` meets its contract: a part or the pieces that were fetched are copied, and what is refused is refused. Assumes nothing.
-use mathlib.Core.Path.{subst}
+-- `odif::joined` meets its contract: it is what the question's work left. Assumes nothing.
 use borrow.Author.Needs.{needs}
-use native.Mathlib.Omega.{arith}
-use denote.Ref.{now}
-use Rattle.answers.specs.Asking.{FindsContent}
-use Rattle.answers.proofs.Copying.{joins-unit, joins-none}
+use Rattle.answers.proofs.Working.{joined-left}
 use Rattle.odif.proofs.joined.Statement.{statement}
 use Rattle.odif.proofs.joined.Tie as tie
 
-fetch-requires : tie.Need-fetch-requires
-fetch-requires c κs = search needs
+slice-aggregate-ask : tie.Need-slice-aggregate-ask
+slice-aggregate-ask c = search needs
 
-enum-known-first : tie.Need-enum-known-first
-enum-known-first c = search needs
+slice-aggregate-ask-2 : tie.Need-slice-aggregate-ask-2
+slice-aggregate-ask-2 c = search needs
 
-copy-part-requires : tie.Need-copy-part-requires
-copy-part-requires c κs =
-    let a = c .before .before .before .before .before .before .before .args in
-    let f = subst (FindsContent (now (a .stream)) (a .element)) (c .before .before .first .given .1) (c .before .before .before .before .fetch .ensures) in
-    (f .fetches .order, f .fetches .inside, f .near-past)
-
-enum-known-run : tie.Need-enum-known-run
-enum-known-run c = search needs
-
-copy-pieces-requires : tie.Need-copy-pieces-requires
-copy-pieces-requires c κs =
-    let a = c .before .before .before .before .before .before .before .args in
-    let f = subst (FindsContent (now (a .stream)) (a .element)) (c .before .before .run .given .1) (c .before .before .before .before .fetch .ensures) in
-    (f .known, f .short)
-
-enum-known-number : tie.Need-enum-known-number
-enum-known-number c = search needs
-
-cast-t15 : tie.Need-cast-t15
-cast-t15 c =
-    let a = c .before .before .before .before .before .before .args in
-    let f = subst (FindsContent (now (a .stream)) (a .element)) (c .before .number .given .1) (c .before .before .before .fetch .ensures) in
-    omega arith
-
-cast-t16 : tie.Need-cast-t16
-cast-t16 c =
-    let a = c .before .before .before .before .before .before .args in
-    let f = subst (FindsContent (now (a .stream)) (a .element)) (c .before .number .given .1) (c .before .before .before .fetch .ensures) in
-    omega arith
-
-enum-told : tie.Need-enum-told
-enum-told c = search needs
+ask-requires : tie.Need-ask-requires
+ask-requires c κs = tt
 
 same-length : tie.Need-same-length
 same-length c = search needs
 
 returns : tie.Need-returns
-returns c =
-    let a = c .before .before .before .before .before .before .before .before .before .before .args in
-    let f = subst (FindsContent (now (a .stream)) (a .element)) (c .before .before .before .before .before .first .given .1) (c .before .before .before .before .before .before .before .fetch .ensures) in
-    joins-unit (now (a .stream)) (a .element) (now (a .out)) (f .joins) (c .before .before .copy-part .ensures)
-
-same-length-2 : tie.Need-same-length-2
-same-length-2 c = search needs
-
-returns-2 : tie.Need-returns-2
-returns-2 c =
-    let a = c .before .before .before .before .before .before .before .before .before .before .args in
-    let f = subst (FindsContent (now (a .stream)) (a .element)) (c .before .before .before .before .before .run .given .1) (c .before .before .before .before .before .before .before .fetch .ensures) in
-    joins-unit (now (a .stream)) (a .element) (now (a .out)) (f .joins) (c .before .before .copy-pieces .ensures)
-
-returns-3 : tie.Need-returns-3
-returns-3 c =
-    let a = c .before .before .before .before .before .before .args in
-    let f = subst (FindsContent (now (a .stream)) (a .element)) (c .before .number .given .1) (c .before .before .before .fetch .ensures) in
-    joins-none (now (a .stream)) (a .element) (now (a .out)) _ _ (λ z. omega (arith, f .known)) (f .joins)
-
-returns-4 : tie.Need-returns-4
-returns-4 c =
-    let a = c .before .before .before .before .before .args in
-    let f = subst (FindsContent (now (a .stream)) (a .element)) (c .enum-told .given .1) (c .before .before .fetch .ensures) in
-    joins-none (now (a .stream)) (a .element) (now (a .out)) 20 0 (λ z. omega arith) (f .joins)
+returns c = joined-left (c .before .before .before .before .ask .ensures)
 
 pub joined-spec : {M : Type 1} → statement M
 joined-spec =
     tie.close
     (tie.spec
-    fetch-requires
-    enum-known-first
-    copy-part-requires
-    enum-known-run
-    copy-pieces-requires
-    enum-known-number
-    cast-t15
-    cast-t16
-    enum-told
+    slice-aggregate-ask
+    slice-aggregate-ask-2
+    ask-requires
     same-length
-    returns
-    same-length-2
-    returns-2
-    returns-3
-    returns-4)
+    returns)

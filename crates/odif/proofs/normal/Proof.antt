@@ -6,92 +6,76 @@ use denote.Ref.{now}
 use Rattle.tree.proofs.Meaning.{whole-of}
 use Rattle.normal.specs.declared.Answer.{Answer}
 use Rattle.elements.specs.Shape.{edition1988}
-use Rattle.answers.specs.Asking.{Decides}
-use Rattle.answers.proofs.Small.{refusal-small}
 use Rattle.answers.proofs.Letters.{letter-found}
-use Rattle.odif.proofs.Writing.{toldAs, Fits, writes-refused, writes-letter}
+use Rattle.answers.proofs.Working.{letter-told}
+use Rattle.odif.proofs.Writing.{toldAs, Fits, writes-told, writes-letter}
 use Rattle.odif.proofs.normal.Statement.{statement}
 use Rattle.odif.proofs.normal.Tie as tie
 
-judge-requires : tie.Need-judge-requires
-judge-requires c κs = search needs
+slice-aggregate-ask : tie.Need-slice-aggregate-ask
+slice-aggregate-ask c = search needs
 
-enum-known-number : tie.Need-enum-known-number
-enum-known-number c = search needs
+slice-aggregate-ask-2 : tie.Need-slice-aggregate-ask-2
+slice-aggregate-ask-2 c = search needs
 
-cast-t10 : tie.Need-cast-t10
-cast-t10 c =
-    let a = c .before .before .before .before .before .before .args in
-    let d = subst (Decides (now (a .stream))) (c .before .number .given .1) (c .before .before .before .judge .ensures) in
-    let small = refusal-small edition1988 _ _ _ _ (d .judged) in
-    omega arith
+slice-aggregate-ask-3 : tie.Need-slice-aggregate-ask-3
+slice-aggregate-ask-3 c = search needs
 
-cast-t11 : tie.Need-cast-t11
-cast-t11 c =
-    let a = c .before .before .before .before .before .before .args in
-    let d = subst (Decides (now (a .stream))) (c .before .number .given .1) (c .before .before .before .judge .ensures) in
-    let small = refusal-small edition1988 _ _ _ _ (d .judged) in
-    omega arith
+ask-requires : tie.Need-ask-requires
+ask-requires c κs = tt
 
-enum-told : tie.Need-enum-told
-enum-told c = search needs
+returns : tie.Need-returns
+returns c =
+    let a = c .before .before .before .before .before .before .before .before .before .before .before .args in
+    writes-told (now (a .stream)) (now (a .out)) (c .before .before .before .before .before .ask .ensures .answered) (c .if1 .taken)
 
 write-requires : tie.Need-write-requires
 write-requires c κs =
-    let a = c .before .before .before .before .before .before .args in
-    let d = subst (Decides (now (a .stream))) (c .before .enum-told .given .1) (c .before .before .before .judge .ensures) in
-    let f = letter-found edition1988 (now (a .stream)) (d .headers) (d .elements) (d .judged) in
-    whole-of (now (a .stream)) (f .at) (d .headers) (f .walked)
+    let s = now (c .before .before .before .before .before .before .before .before .before .before .before .before .args .stream) in
+    let d = letter-told (c .before .before .before .before .before .before .ask .ensures .answered) (c .before .if1 .left) in
+    let f = letter-found edition1988 s (d .headers) (d .elements) (d .judged) in
+    whole-of s (f .at) (d .headers) (f .walked)
 
 enum-known-length : tie.Need-enum-known-length
 enum-known-length c = search needs
 
-cast-t16 : tie.Need-cast-t16
-cast-t16 c =
-    let a = c .before .before .before .before .before .before .before .before .before .before .before .before .args in
-    let d = subst (Decides (now (a .stream))) (c .before .before .before .before .before .before .before .enum-told .given .1) (c .before .before .before .before .before .before .before .before .before .judge .ensures) in
-    let g = c .before .before .before .before .before .write .ensures in
+cast-t22 : tie.Need-cast-t22
+cast-t22 c =
+    let a = c .before .before .before .before .before .before .before .before .before .before .before .before .before .before .before .before .before .before .args in
+    let d = letter-told (c .before .before .before .before .before .before .before .before .before .before .before .before .ask .ensures .answered) (c .before .before .before .before .before .before .before .if1 .left) in
     let w = writes-letter (now (a .stream)) (now (a .out)) (d .headers) (d .elements) (d .judged) in
-    let told = sym (c .before .length .given .1) ∙ g .answered in
+    let told = sym (c .before .length .given .1) ∙ c .before .before .before .before .before .write .ensures .answered in
     let fits = subst (λ (x : Answer). Fits (toldAs x)) (sym told) (w .1) in
     omega arith
 
-enum-known-number-2 : tie.Need-enum-known-number-2
-enum-known-number-2 c = search needs
+enum-known-number : tie.Need-enum-known-number
+enum-known-number c = search needs
 
-cast-t17 : tie.Need-cast-t17
-cast-t17 c =
-    let a = c .before .before .before .before .before .before .before .before .before .before .before .before .args in
-    let d = subst (Decides (now (a .stream))) (c .before .before .before .before .before .before .before .enum-told .given .1) (c .before .before .before .before .before .before .before .before .before .judge .ensures) in
-    let g = c .before .before .before .before .before .write .ensures in
+cast-t23 : tie.Need-cast-t23
+cast-t23 c =
+    let a = c .before .before .before .before .before .before .before .before .before .before .before .before .before .before .before .before .before .before .args in
+    let d = letter-told (c .before .before .before .before .before .before .before .before .before .before .before .before .ask .ensures .answered) (c .before .before .before .before .before .before .before .if1 .left) in
     let w = writes-letter (now (a .stream)) (now (a .out)) (d .headers) (d .elements) (d .judged) in
-    let told = sym (c .before .number2 .given .1) ∙ g .answered in
+    let told = sym (c .before .number .given .1) ∙ c .before .before .before .before .before .write .ensures .answered in
     let fits = subst (λ (x : Answer). Fits (toldAs x)) (sym told) (w .1) in
     omega arith
 
-cast-t18 : tie.Need-cast-t18
-cast-t18 c =
-    let a = c .before .before .before .before .before .before .before .before .before .before .before .before .args in
-    let d = subst (Decides (now (a .stream))) (c .before .before .before .before .before .before .before .enum-told .given .1) (c .before .before .before .before .before .before .before .before .before .judge .ensures) in
-    let g = c .before .before .before .before .before .write .ensures in
+cast-t24 : tie.Need-cast-t24
+cast-t24 c =
+    let a = c .before .before .before .before .before .before .before .before .before .before .before .before .before .before .before .before .before .before .args in
+    let d = letter-told (c .before .before .before .before .before .before .before .before .before .before .before .before .ask .ensures .answered) (c .before .before .before .before .before .before .before .if1 .left) in
     let w = writes-letter (now (a .stream)) (now (a .out)) (d .headers) (d .elements) (d .judged) in
-    let told = sym (c .before .number2 .given .1) ∙ g .answered in
+    let told = sym (c .before .number .given .1) ∙ c .before .before .before .before .before .write .ensures .answered in
     let fits = subst (λ (x : Answer). Fits (toldAs x)) (sym told) (w .1) in
     omega arith
-
-returns : tie.Need-returns
-returns c =
-    let a = c .before .before .before .before .before .before .args in
-    let d = subst (Decides (now (a .stream))) (c .before .number .given .1) (c .before .before .before .judge .ensures) in
-    writes-refused (now (a .stream)) (now (a .out)) _ _ _ (d .judged)
 
 same-length : tie.Need-same-length
 same-length c = search needs
 
 returns-2 : tie.Need-returns-2
 returns-2 c =
-    let a = c .before .before .before .before .before .before .before .before .before .before .before .before .args in
-    let d = subst (Decides (now (a .stream))) (c .before .before .before .before .before .before .before .enum-told .given .1) (c .before .before .before .before .before .before .before .before .before .judge .ensures) in
+    let a = c .before .before .before .before .before .before .before .before .before .before .before .before .before .before .before .before .before .before .args in
+    let d = letter-told (c .before .before .before .before .before .before .before .before .before .before .before .before .ask .ensures .answered) (c .before .before .before .before .before .before .before .if1 .left) in
     let g = c .before .before .before .before .before .write .ensures in
     let w = writes-letter (now (a .stream)) (now (a .out)) (d .headers) (d .elements) (d .judged) in
     let told = sym (c .before .length .given .1) ∙ g .answered in
@@ -102,29 +86,28 @@ same-length-2 c = search needs
 
 returns-3 : tie.Need-returns-3
 returns-3 c =
-    let a = c .before .before .before .before .before .before .before .before .before .before .before .before .args in
-    let d = subst (Decides (now (a .stream))) (c .before .before .before .before .before .before .before .enum-told .given .1) (c .before .before .before .before .before .before .before .before .before .judge .ensures) in
+    let a = c .before .before .before .before .before .before .before .before .before .before .before .before .before .before .before .before .before .before .args in
+    let d = letter-told (c .before .before .before .before .before .before .before .before .before .before .before .before .ask .ensures .answered) (c .before .before .before .before .before .before .before .if1 .left) in
     let g = c .before .before .before .before .before .write .ensures in
     let w = writes-letter (now (a .stream)) (now (a .out)) (d .headers) (d .elements) (d .judged) in
-    let told = sym (c .before .number2 .given .1) ∙ g .answered in
+    let told = sym (c .before .number .given .1) ∙ g .answered in
     record { answered = ap toldAs told ∙ w .0 .answered; put = g .output ∙ w .0 .put }
 
 pub normal-spec : {M : Type 1} → statement M
 normal-spec =
     tie.close
     (tie.spec
-    judge-requires
-    enum-known-number
-    cast-t10
-    cast-t11
-    enum-told
+    slice-aggregate-ask
+    slice-aggregate-ask-2
+    slice-aggregate-ask-3
+    ask-requires
+    returns
     write-requires
     enum-known-length
-    cast-t16
-    enum-known-number-2
-    cast-t17
-    cast-t18
-    returns
+    cast-t22
+    enum-known-number
+    cast-t23
+    cast-t24
     same-length
     returns-2
     same-length-2

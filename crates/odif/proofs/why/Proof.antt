@@ -1,5 +1,6 @@
 -- `odif::why` meets its contract: number and place are those of the fetch. Assumes nothing.
 use borrow.Author.Needs.{needs}
+use Rattle.answers.proofs.Fetching.{why-located}
 use Rattle.odif.proofs.why.Statement.{statement}
 use Rattle.odif.proofs.why.Tie as tie
 
@@ -7,10 +8,11 @@ locate-requires : tie.Need-locate-requires
 locate-requires c κs = search needs
 
 returns : tie.Need-returns
-returns c =
-    let number = c .locate .ensures .number in
-    let place = c .locate .ensures .place in
-    cc
+returns c = why-located _ _ (c .locate .ensures .answered)
 
 pub why-spec : {M : Type 1} → statement M
-why-spec = tie.close (tie.spec locate-requires returns)
+why-spec =
+    tie.close
+    (tie.spec
+    locate-requires
+    returns)

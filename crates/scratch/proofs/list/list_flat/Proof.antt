@@ -1,30 +1,46 @@
--- `scratch::list::list_flat` meets its contract: what the walk refused is refused, and what it passed is judged in scratch for as many elements as
+-- `scratch::list::list_flat` meets its contract: what the walk refused is refused, and what it passed is put in a frame for as many elements as
 -- the numbers have room for records. Assumes nothing.
 use mathlib.Core.Path.{_∙_, subst}
-use Prim.Native.Nat.{_/_, _≤_}
+use Prim.Native.Nat.{_*_, _/_, _≤_}
 use borrow.Author.Needs.{needs}
 use native.Mathlib.Omega.{arith}
 use lib.ListN.{length}
 use denote.Ref.{now}
 use Rattle.octets.specs.declared.Outcome.{Outcome}
 use Rattle.elements.specs.Shape.{edition1988}
+use Rattle.letters.specs.Lent.{rowsNeeded}
 use Rattle.answers.specs.Asking.{rowsAfter}
-use Rattle.answers.proofs.Small.{walk-small}
+use Rattle.answers.proofs.Small.{walk-small, headers-small}
 use Rattle.answers.proofs.Letters.{refused-walk}
-use Rattle.answers.proofs.Judging.{accepts-walked}
 use Rattle.answers.proofs.Listing.{lists-refused}
+use Rattle.answers.proofs.Working.{lists-told}
+use Rattle.scratch.proofs.Arrays.{walked-whole}
 use Rattle.scratch.proofs.list.list_flat.Statement.{statement}
 use Rattle.scratch.proofs.list.list_flat.Tie as tie
 
-enum-told : tie.Need-enum-told
-enum-told c = search needs
+enum-known-walked : tie.Need-enum-known-walked
+enum-known-walked c = search needs
 
-flat-few-requires : tie.Need-flat-few-requires
-flat-few-requires c κs =
-    let a = c .before .before .before .before .before .before .before .before in
-    let ended = c .before .before .before .enum-told .given .1 in
-    let room = subst (λ (o : Outcome). rowsAfter o (now (a .args .stream)) ≤ length (now (a .args .flat)) / 3) ended (a .pre .enough) in
-    (accepts-walked (a .pre .outcome ∙ ended), (omega arith, omega arith))
+cast-few : tie.Need-cast-few
+cast-few c =
+    let a = c .before .before .before .before .before .before .before in
+    let h = headers-small _ _ _ (a .pre .outcome ∙ c .before .before .walked .given .1) in
+    omega arith
+
+slice-aggregate-few : tie.Need-slice-aggregate-few
+slice-aggregate-few c = search needs
+
+few-requires : tie.Need-few-requires
+few-requires c κs =
+    let a = c .before .before .before .before .before .before .before .before .before .before in
+    let s = now (a .args .stream) in
+    let ended = c .before .before .before .before .before .walked .given .1 in
+    let few = subst (λ (o : Outcome). rowsAfter o s ≤ length (now (a .args .flat)) / 3) ended (a .pre .enough) in
+    let room : 3 * rowsNeeded s ≤ length (now (a .args .flat)) = omega arith in
+    (walked-whole _ _ _ (a .pre .outcome ∙ ended), (omega arith, room))
+
+listed-of-requires : tie.Need-listed-of-requires
+listed-of-requires c κs = search needs
 
 same-length : tie.Need-same-length
 same-length c = search needs
@@ -33,26 +49,40 @@ same-length-2 : tie.Need-same-length-2
 same-length-2 c = search needs
 
 returns : tie.Need-returns
-returns c = search needs
+returns c = lists-told (c .listed-of .ensures) (c .before .before .before .before .before .before .few .ensures)
 
-flat-many-requires : tie.Need-flat-many-requires
-flat-many-requires c κs =
-    let a = c .before .before .before .before .before .before .before .before in
-    let ended = c .before .before .before .enum-told .given .1 in
-    let room = subst (λ (o : Outcome). rowsAfter o (now (a .args .stream)) ≤ length (now (a .args .flat)) / 3) ended (a .pre .enough) in
-    (accepts-walked (a .pre .outcome ∙ ended), omega arith)
-
-enum-known-walked : tie.Need-enum-known-walked
-enum-known-walked c = search needs
-
-cast-t21 : tie.Need-cast-t21
-cast-t21 c =
-    let r = walk-small _ _ _ _ (c .before .before .before .before .before .before .pre .outcome ∙ c .before .walked .given .1) in
+cast-many : tie.Need-cast-many
+cast-many c =
+    let a = c .before .before .before .before .before .before .before in
+    let h = headers-small _ _ _ (a .pre .outcome ∙ c .before .before .walked .given .1) in
     omega arith
 
-cast-t22 : tie.Need-cast-t22
-cast-t22 c =
-    let r = walk-small _ _ _ _ (c .before .before .before .before .before .before .pre .outcome ∙ c .before .walked .given .1) in
+slice-aggregate-many : tie.Need-slice-aggregate-many
+slice-aggregate-many c = search needs
+
+many-requires : tie.Need-many-requires
+many-requires c κs =
+    let a = c .before .before .before .before .before .before .before .before .before .before in
+    let s = now (a .args .stream) in
+    let ended = c .before .before .before .before .before .walked .given .1 in
+    let few = subst (λ (o : Outcome). rowsAfter o s ≤ length (now (a .args .flat)) / 3) ended (a .pre .enough) in
+    let room : 3 * rowsNeeded s ≤ length (now (a .args .flat)) = omega arith in
+    (walked-whole _ _ _ (a .pre .outcome ∙ ended), room)
+
+listed-of-requires-2 : tie.Need-listed-of-requires-2
+listed-of-requires-2 c κs = search needs
+
+enum-known-walked-2 : tie.Need-enum-known-walked-2
+enum-known-walked-2 c = search needs
+
+cast-t32 : tie.Need-cast-t32
+cast-t32 c =
+    let r = walk-small _ _ _ _ (c .before .before .before .before .before .before .pre .outcome ∙ c .before .walked2 .given .1) in
+    omega arith
+
+cast-t33 : tie.Need-cast-t33
+cast-t33 c =
+    let r = walk-small _ _ _ _ (c .before .before .before .before .before .before .pre .outcome ∙ c .before .walked2 .given .1) in
     omega arith
 
 same-length-3 : tie.Need-same-length-3
@@ -62,27 +92,34 @@ same-length-4 : tie.Need-same-length-4
 same-length-4 c = search needs
 
 returns-2 : tie.Need-returns-2
-returns-2 c = search needs
+returns-2 c = lists-told (c .listed-of2 .ensures) (c .before .before .before .before .before .before .many .ensures)
 
 returns-3 : tie.Need-returns-3
 returns-3 c =
     let a = c .before .before .before .before .before .before in
     let x = a .args in
-    lists-refused (x .side) (now (x .stream)) (now (x .table)) (now (x .flat)) (x .room) _ _ _ (refused-walk edition1988 _ _ _ _ (a .pre .outcome ∙ c .before .walked .given .1))
+    let e = refused-walk edition1988 _ _ _ _ (a .pre .outcome ∙ c .before .walked2 .given .1) in
+    lists-refused (x .side) (now (x .stream)) (now (x .table)) (now (x .flat)) (x .room) _ _ _ e
 
 pub list-flat-spec : {M : Type 1} → statement M
 list-flat-spec =
     tie.close
     (tie.spec
-    enum-told
-    flat-few-requires
+    enum-known-walked
+    cast-few
+    slice-aggregate-few
+    few-requires
+    listed-of-requires
     same-length
     same-length-2
     returns
-    flat-many-requires
-    enum-known-walked
-    cast-t21
-    cast-t22
+    cast-many
+    slice-aggregate-many
+    many-requires
+    listed-of-requires-2
+    enum-known-walked-2
+    cast-t32
+    cast-t33
     same-length-3
     same-length-4
     returns-2

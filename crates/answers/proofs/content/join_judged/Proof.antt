@@ -1,0 +1,98 @@
+-- `answers::content::join_judged` meets its contract: a part or the pieces that were fetched are copied, and what is refused is refused. Assumes nothing.
+use mathlib.Core.Path.{subst}
+use borrow.Author.Needs.{needs}
+use native.Mathlib.Omega.{arith}
+use denote.Ref.{now}
+use Rattle.answers.specs.Asking.{FindsContent}
+use Rattle.answers.proofs.Copying.{joins-unit, joins-none}
+use Rattle.answers.proofs.content.join_judged.Statement.{statement}
+use Rattle.answers.proofs.content.join_judged.Tie as tie
+
+fetch-judged-requires : tie.Need-fetch-judged-requires
+fetch-judged-requires c κs = search needs
+
+enum-known-first : tie.Need-enum-known-first
+enum-known-first c = search needs
+
+copy-part-requires : tie.Need-copy-part-requires
+copy-part-requires c κs =
+    let a = c .before .before .before .before .before .before .before .before .args in
+    let f = subst (FindsContent (now (a .stream)) (a .element)) (c .before .before .first .given .1) (c .before .before .before .before .fetch-judged .ensures) in
+    (f .fetches .stands .order, f .fetches .stands .inside, f .near-past)
+
+enum-known-run : tie.Need-enum-known-run
+enum-known-run c = search needs
+
+copy-pieces-requires : tie.Need-copy-pieces-requires
+copy-pieces-requires c κs =
+    let a = c .before .before .before .before .before .before .before .before .args in
+    let f = subst (FindsContent (now (a .stream)) (a .element)) (c .before .before .run .given .1) (c .before .before .before .before .fetch-judged .ensures) in
+    (f .known, f .short)
+
+enum-known-number : tie.Need-enum-known-number
+enum-known-number c = search needs
+
+cast-t17 : tie.Need-cast-t17
+cast-t17 c =
+    let a = c .before .before .before .before .before .before .before .args in
+    let f = subst (FindsContent (now (a .stream)) (a .element)) (c .before .number .given .1) (c .before .before .before .fetch-judged .ensures) in
+    omega arith
+
+cast-t18 : tie.Need-cast-t18
+cast-t18 c =
+    let a = c .before .before .before .before .before .before .before .args in
+    let f = subst (FindsContent (now (a .stream)) (a .element)) (c .before .number .given .1) (c .before .before .before .fetch-judged .ensures) in
+    omega arith
+
+enum-told : tie.Need-enum-told
+enum-told c = search needs
+
+same-length : tie.Need-same-length
+same-length c = search needs
+
+returns : tie.Need-returns
+returns c =
+    let a = c .before .before .before .before .before .before .before .before .before .before .before .args in
+    let f = subst (FindsContent (now (a .stream)) (a .element)) (c .before .before .before .before .before .first .given .1) (c .before .before .before .before .before .before .before .fetch-judged .ensures) in
+    joins-unit (now (a .stream)) (a .element) (now (a .out)) (f .joins) (c .before .before .copy-part .ensures)
+
+same-length-2 : tie.Need-same-length-2
+same-length-2 c = search needs
+
+returns-2 : tie.Need-returns-2
+returns-2 c =
+    let a = c .before .before .before .before .before .before .before .before .before .before .before .args in
+    let f = subst (FindsContent (now (a .stream)) (a .element)) (c .before .before .before .before .before .run .given .1) (c .before .before .before .before .before .before .before .fetch-judged .ensures) in
+    joins-unit (now (a .stream)) (a .element) (now (a .out)) (f .joins) (c .before .before .copy-pieces .ensures)
+
+returns-3 : tie.Need-returns-3
+returns-3 c =
+    let a = c .before .before .before .before .before .before .before .args in
+    let f = subst (FindsContent (now (a .stream)) (a .element)) (c .before .number .given .1) (c .before .before .before .fetch-judged .ensures) in
+    joins-none (now (a .stream)) (a .element) (now (a .out)) _ _ (λ z. omega (arith, f .known)) (f .joins)
+
+returns-4 : tie.Need-returns-4
+returns-4 c =
+    let a = c .before .before .before .before .before .before .args in
+    let f = subst (FindsContent (now (a .stream)) (a .element)) (c .enum-told .given .1) (c .before .before .fetch-judged .ensures) in
+    joins-none (now (a .stream)) (a .element) (now (a .out)) 20 0 (λ z. omega arith) (f .joins)
+
+pub join-judged-spec : {M : Type 1} → statement M
+join-judged-spec =
+    tie.close
+    (tie.spec
+    fetch-judged-requires
+    enum-known-first
+    copy-part-requires
+    enum-known-run
+    copy-pieces-requires
+    enum-known-number
+    cast-t17
+    cast-t18
+    enum-told
+    same-length
+    returns
+    same-length-2
+    returns-2
+    returns-3
+    returns-4)

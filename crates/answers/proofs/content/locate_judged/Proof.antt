@@ -1,0 +1,89 @@
+-- `answers::content::locate_judged` meets its contract: each case of a fetch has the numbers that document 01 gives it, and they fit. Assumes nothing.
+use mathlib.Core.Path.{subst}
+use borrow.Author.Needs.{needs}
+use native.Mathlib.Omega.{arith}
+use denote.Ref.{now}
+use Rattle.answers.specs.Asking.{FindsContent}
+use Rattle.answers.proofs.content.locate_judged.Statement.{statement}
+use Rattle.answers.proofs.content.locate_judged.Tie as tie
+
+fetch-judged-requires : tie.Need-fetch-judged-requires
+fetch-judged-requires c κs = search needs
+
+enum-known-first : tie.Need-enum-known-first
+enum-known-first c = search needs
+
+cast-t11 : tie.Need-cast-t11
+cast-t11 c =
+    let a = c .before .before .before .before .before .before .args in
+    let f = subst (FindsContent (now (a .stream)) (a .element)) (c .before .first .given .1) (c .before .before .before .fetch-judged .ensures) in
+    omega arith
+
+cast-t12 : tie.Need-cast-t12
+cast-t12 c =
+    let a = c .before .before .before .before .before .before .args in
+    let f = subst (FindsContent (now (a .stream)) (a .element)) (c .before .first .given .1) (c .before .before .before .fetch-judged .ensures) in
+    omega arith
+
+enum-known-number : tie.Need-enum-known-number
+enum-known-number c = search needs
+
+cast-t13 : tie.Need-cast-t13
+cast-t13 c =
+    let a = c .before .before .before .before .before .before .args in
+    let f = subst (FindsContent (now (a .stream)) (a .element)) (c .before .number .given .1) (c .before .before .before .fetch-judged .ensures) in
+    omega arith
+
+cast-t14 : tie.Need-cast-t14
+cast-t14 c =
+    let a = c .before .before .before .before .before .before .args in
+    let f = subst (FindsContent (now (a .stream)) (a .element)) (c .before .number .given .1) (c .before .before .before .fetch-judged .ensures) in
+    omega arith
+
+enum-told : tie.Need-enum-told
+enum-told c = search needs
+
+enum-told-2 : tie.Need-enum-told-2
+enum-told-2 c = search needs
+
+returns : tie.Need-returns
+returns c =
+    let a = c .before .before .before .before .before .before .args in
+    let f = subst (FindsContent (now (a .stream)) (a .element)) (c .before .first .given .1) (c .before .before .before .fetch-judged .ensures) in
+    f .fetches
+
+returns-2 : tie.Need-returns-2
+returns-2 c =
+    let a = c .before .before .before .before .before .before .args in
+    let f = subst (FindsContent (now (a .stream)) (a .element)) (c .before .number .given .1) (c .before .before .before .fetch-judged .ensures) in
+    f .fetches
+
+returns-3 : tie.Need-returns-3
+returns-3 c =
+    let a = c .before .before .before .before .before .args in
+    let f = subst (FindsContent (now (a .stream)) (a .element)) (c .enum-told .given .1) (c .before .before .fetch-judged .ensures) in
+    f .fetches
+
+returns-4 : tie.Need-returns-4
+returns-4 c =
+    let a = c .before .before .before .before .before .args in
+    let f = subst (FindsContent (now (a .stream)) (a .element)) (c .enum-told2 .given .1) (c .before .before .fetch-judged .ensures) in
+    f .fetches
+
+pub locate-judged-spec : {M : Type 1} → statement M
+locate-judged-spec =
+    tie.close
+    (tie.spec
+    fetch-judged-requires
+    enum-known-first
+    cast-t11
+    cast-t12
+    enum-known-number
+    cast-t13
+    cast-t14
+    enum-told
+    enum-told-2
+    returns
+    returns-2
+    returns-3
+    returns-4)

@@ -1,0 +1,125 @@
+-- `answers::work` meets its contract: what each question's own work says. Assumes nothing.
+use mathlib.Core.Path.{subst}
+use borrow.Author.Needs.{needs}
+use lib.ListN.{length}
+use denote.Ref.{now}
+use Rattle.answers.specs.declared.Question.{Question}
+use Rattle.answers.specs.Questions.{Roomy}
+use Rattle.answers.proofs.Judging.{accepts-walked}
+use Rattle.answers.proofs.Working.{as-asked, leaves-rules, leaves-check, leaves-content, leaves-joined, leaves-list}
+use Rattle.answers.proofs.work.Statement.{statement}
+use Rattle.answers.proofs.work.Tie as tie
+
+enum-told : tie.Need-enum-told
+enum-told c = search needs
+
+rule-judged-requires : tie.Need-rule-judged-requires
+rule-judged-requires c κs = search needs
+
+tell-reason-requires : tie.Need-tell-reason-requires
+tell-reason-requires c κs = search needs
+
+enum-told-2 : tie.Need-enum-told-2
+enum-told-2 c = search needs
+
+check-judged-requires : tie.Need-check-judged-requires
+check-judged-requires c κs = search needs
+
+tell-checked-requires : tie.Need-tell-checked-requires
+tell-checked-requires c κs = search needs
+
+enum-known-question : tie.Need-enum-known-question
+enum-known-question c = search needs
+
+locate-judged-requires : tie.Need-locate-judged-requires
+locate-judged-requires c κs = search needs
+
+tell-located-requires : tie.Need-tell-located-requires
+tell-located-requires c κs = search needs
+
+enum-known-question-2 : tie.Need-enum-known-question-2
+enum-known-question-2 c = search needs
+
+join-judged-requires : tie.Need-join-judged-requires
+join-judged-requires c κs = search needs
+
+tell-copied-requires : tie.Need-tell-copied-requires
+tell-copied-requires c κs = search needs
+
+enum-known-question-3 : tie.Need-enum-known-question-3
+enum-known-question-3 c = search needs
+
+list-judged-requires : tie.Need-list-judged-requires
+list-judged-requires c κs =
+    let a = c .before .before .before .before .before .before .before .before .before .before .before .before .before .before in
+    let room = subst (λ (q : Question). Roomy q (now (a .args .stream)) (length (now (a .args .flat)))) (c .before .before .before .question3 .given .1) (a .pre .1 .1) in
+    (accepts-walked (a .pre .0), (a .pre .1 .0, room))
+
+tell-listed-requires : tie.Need-tell-listed-requires
+tell-listed-requires c κs = search needs
+
+returns : tie.Need-returns
+returns c =
+    let a = c .before .before .before .before .before .before .before .before .before .before .before .before .before in
+    as-asked (c .before .before .enum-told .given .1) (c .tell-reason .ensures) (leaves-rules (now (a .args .stream)) (now (a .args .table)) (now (a .args .flat)) (now (a .args .out)) (c .before .rule-judged .ensures))
+
+same-length : tie.Need-same-length
+same-length c = search needs
+
+returns-2 : tie.Need-returns-2
+returns-2 c =
+    let a = c .before .before .before .before .before .before .before .before .before .before .before .before .before .before .before .before in
+    as-asked (c .before .before .before .before .before .enum-told2 .given .1) (c .tell-checked .ensures) (leaves-check (now (a .args .stream)) (now (a .args .table)) (now (a .args .flat)) (now (a .args .out)) (c .before .before .before .check-judged .ensures))
+
+returns-3 : tie.Need-returns-3
+returns-3 c =
+    let a = c .before .before .before .before .before .before .before .before .before .before .before .before .before .before in
+    as-asked (c .before .before .before .question .given .1) (c .tell-located .ensures) (leaves-content (now (a .args .stream)) (now (a .args .table)) (now (a .args .flat)) (now (a .args .out)) (c .before .locate-judged .ensures))
+
+same-length-2 : tie.Need-same-length-2
+same-length-2 c = search needs
+
+returns-4 : tie.Need-returns-4
+returns-4 c =
+    let a = c .before .before .before .before .before .before .before .before .before .before .before .before .before .before .before .before .before in
+    as-asked (c .before .before .before .before .before .before .question2 .given .1) (c .tell-copied .ensures) (leaves-joined (now (a .args .stream)) (now (a .args .table)) (now (a .args .flat)) (now (a .args .out)) (c .before .before .before .join-judged .ensures))
+
+same-length-3 : tie.Need-same-length-3
+same-length-3 c = search needs
+
+same-length-4 : tie.Need-same-length-4
+same-length-4 c = search needs
+
+returns-5 : tie.Need-returns-5
+returns-5 c =
+    let a = c .before .before .before .before .before .before .before .before .before .before .before .before .before .before .before .before .before .before .before .before in
+    as-asked (c .before .before .before .before .before .before .before .before .before .question3 .given .1) (c .tell-listed .ensures) (leaves-list (now (a .args .stream)) (now (a .args .table)) _ (now (a .args .out)) (c .before .before .before .before .before .list-judged .ensures))
+
+pub work-spec : {M : Type 1} → statement M
+work-spec =
+    tie.close
+    (tie.spec
+    enum-told
+    rule-judged-requires
+    tell-reason-requires
+    enum-told-2
+    check-judged-requires
+    tell-checked-requires
+    enum-known-question
+    locate-judged-requires
+    tell-located-requires
+    enum-known-question-2
+    join-judged-requires
+    tell-copied-requires
+    enum-known-question-3
+    list-judged-requires
+    tell-listed-requires
+    returns
+    same-length
+    returns-2
+    returns-3
+    same-length-2
+    returns-4
+    same-length-3
+    same-length-4
+    returns-5)

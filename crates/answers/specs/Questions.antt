@@ -1,0 +1,110 @@
+-- What the work of each question must leave, once its stream is walked and judged: what is told, and what was lent at exit. A question that is
+-- added later adds a case to each of these. Definitions only: assumes nothing.
+use mathlib.Core.Path.{_≡_}
+use mathlib.Core.Bool.{cond}
+use mathlib.Core.List.{List, []}
+use Prim.Native.Nat.{ℕ, _*_, _≤_}
+use lib.Dec.{eqb}
+use lib.ListN.{length}
+use Rattle.letters.specs.Lent.{rowsNeeded}
+use Rattle.reading.specs.declared.Side.{Side}
+use Rattle.reading.specs.Records.{records}
+use Rattle.answers.specs.declared.Checked.{Checked}
+use Rattle.answers.specs.declared.Listed.{Listed}
+use Rattle.answers.specs.declared.Reason.{Reason}
+use Rattle.answers.specs.declared.Found.{Found}
+use Rattle.answers.specs.declared.Copied.{Copied}
+use Rattle.answers.specs.declared.Told.{Told}
+use Rattle.answers.specs.declared.Question.{Question}
+use Rattle.answers.specs.declared.Question.the-variants.{Rules, Check, Content, Joined, List as Reading}
+use Rattle.answers.specs.Answers.{checked, checkedTable, listed, listedTable, matchesIn, ruled, refusedCheck, located, Stands, copied, copiedOutput}
+
+-- each answer in the one form in which the work tells it: what a question does not ask for is 0
+abbrev pub reasonTold : Reason → Told
+reasonTold r = record { number = r .number; place = r .place; headers = 0; elements = 0; listed = 0; length = 0; first = 0; past = 0 }
+
+abbrev pub checkTold : Checked → Told
+checkTold r = record { number = r .number; place = r .place; headers = r .headers; elements = r .elements; listed = 0; length = 0; first = 0; past = 0 }
+
+abbrev pub locatedTold : Found → Told
+locatedTold r = record { number = r .number; place = r .place; headers = 0; elements = 0; listed = 0; length = 0; first = r .first; past = r .past }
+
+abbrev pub copiedTold : Copied → Told
+copiedTold r = record { number = r .number; place = r .place; headers = 0; elements = 0; listed = 0; length = r .length; first = 0; past = 0 }
+
+abbrev pub listedTold : Listed → Told
+listedTold r = record { number = r .number; place = r .place; headers = 0; elements = r .elements; listed = r .matches; length = 0; first = 0; past = 0 }
+
+-- and the answer again, of what was told
+abbrev pub checkOf : Told → Checked
+checkOf t = record { number = t .number; place = t .place; headers = t .headers; elements = t .elements }
+
+abbrev pub locatedOf : Told → Found
+locatedOf t = record { number = t .number; place = t .place; first = t .first; past = t .past }
+
+abbrev pub copiedOf : Told → Copied
+copiedOf t = record { number = t .number; place = t .place; length = t .length }
+
+abbrev pub listedOf : Told → Listed
+listedOf t = record { number = t .number; place = t .place; elements = t .elements; matches = t .listed }
+
+-- what is told of a stream, with this table and this buffer lent
+abbrev pub toldTo : Question → (s table out : List ℕ) → Told
+toldTo Rules s table out = reasonTold (ruled s)
+toldTo Check s table out = checkTold (checked s table)
+toldTo (Content element) s table out = locatedTold (located s element)
+toldTo (Joined element) s table out = copiedTold (copied s element out)
+toldTo (Reading side room) s table out = listedTold (listed side s table room)
+
+-- what is told of a stream that the walk refuses: the check alone is told how many headers were read
+abbrev pub refusedTold : Question → (number place headers : ℕ) → Told
+refusedTold Rules number place headers = reasonTold (record { number = number; place = place })
+refusedTold Check number place headers = checkTold (refusedCheck number place headers)
+refusedTold (Content element) number place headers = reasonTold (record { number = number; place = place })
+refusedTold (Joined element) number place headers = reasonTold (record { number = number; place = place })
+refusedTold (Reading side room) number place headers = reasonTold (record { number = number; place = place })
+
+-- the table at exit
+abbrev pub tableLeft : Question → (s table : List ℕ) → List ℕ
+tableLeft Rules s table = table
+tableLeft Check s table = checkedTable s table
+tableLeft (Content element) s table = table
+tableLeft (Joined element) s table = table
+tableLeft (Reading side room) s table = listedTable side s table room
+
+-- the buffer at exit
+abbrev pub outLeft : Question → (s out : List ℕ) → List ℕ
+outLeft Rules s out = out
+outLeft Check s out = out
+outLeft (Content element) s out = out
+outLeft (Joined element) s out = copiedOutput s element out
+outLeft (Reading side room) s out = out
+
+-- the reading list as numbers, three a record: as many as are told, all matches if the number is 0
+pub record Numbered (side : Side) (s : List ℕ) (room number count : ℕ) (flat : List ℕ) : Type 0 where
+  pub stored : records flat count ≡ cond (eqb number 0) (matchesIn side s) []
+  pub fits : 3 * count ≤ length flat
+  pub enough : count ≤ room
+
+-- what else a question leaves: of a list, its numbers
+abbrev pub Beside : Question → (s : List ℕ) → Told → (flat : List ℕ) → Type 0
+Beside Rules s told flat = Unit {0}
+Beside Check s told flat = Unit {0}
+Beside (Content element) s told flat = Stands s element (told .first) (told .past)
+Beside (Joined element) s told flat = Unit {0}
+Beside (Reading side room) s told flat = Numbered side s room (told .number) (told .listed) flat
+
+-- the contract of the work, and of all that leads to it
+pub record Leaves (question : Question) (s table out : List ℕ) (told : Told) (tableAfter flat outAfter : List ℕ) : Type 0 where
+  pub answered : told ≡ toldTo question s table out
+  pub tabled : tableAfter ≡ tableLeft question s table
+  pub put : outAfter ≡ outLeft question s out
+  pub beside : Beside question s told flat
+
+-- a reading list is made as numbers, so there is room for a record of each element
+abbrev pub Roomy : Question → (s : List ℕ) → (numbers : ℕ) → Type 0
+Roomy Rules s numbers = Unit {0}
+Roomy Check s numbers = Unit {0}
+Roomy (Content element) s numbers = Unit {0}
+Roomy (Joined element) s numbers = Unit {0}
+Roomy (Reading side room) s numbers = 3 * rowsNeeded s ≤ numbers

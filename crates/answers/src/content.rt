@@ -1,0 +1,157 @@
+// The content of one element of a stream that was judged: where it stands, or copied to a lent buffer.
+use super::COPY_TOO_SHORT;
+use super::ContentFound;
+use super::Copied;
+use super::Found;
+use super::IN_PIECES;
+use super::NO_UNIT;
+use super::ROW_WIDTH;
+use letters::Held;
+use letters::Verdict;
+use runs::Run;
+ghost use Prim.Native.Nat.{_<_, _≤_};
+ghost use lib.ListN.{length};
+ghost use lib.Seq.{slice};
+ghost use Rattle.tree.specs.Tree.{treeOf};
+ghost use Rattle.tree.specs.Accepts.{Accepts};
+ghost use Rattle.runs.specs.Runs.{wholeStream, treeIn, Fine};
+ghost use Rattle.pieces.specs.Pieces.{joined};
+ghost use Rattle.letters.specs.Content.{RowIn};
+ghost use Rattle.answers.specs.Answers.{Fetches, JoinedOutcome};
+ghost use Rattle.answers.specs.Asking.{JudgedIn, ContentAt, FindsContent, Copies};
+
+const TEXT_UNIT: u32 = 3;
+
+// The content of the element whose row is given, if it is a text unit.
+fn content_at(stream: &[u8], rows: &[u32], element: usize) -> ContentFound
+    requires { ⌜ Fine (now stream) (wholeStream (now stream)) ⌝ }
+    requires { ⌜ (element < 4096) × RowIn (now stream) (now rows) element ⌝ }
+    ensures { λ r. ⌜ ContentAt (now (stream .entry)) (now (rows .entry)) element r ⌝ }
+{
+    if rows[element * ROW_WIDTH] != TEXT_UNIT {
+        return ContentFound::NoUnit;
+    }
+    match letters::content_of(stream, rows, element) {
+        Held::Part { first, past } => ContentFound::Content { first, past },
+        Held::Pieces { run } => ContentFound::Pieces { run },
+    }
+}
+
+// The content of an element of a stream that was judged: 20, or where it stands.
+fn fetch_judged(stream: &[u8], element: usize, rows: &[u32], verdict: Verdict) -> ContentFound
+    requires { ⌜ Accepts (now stream) (treeOf (now stream)) ⌝ }
+    requires { ⌜ JudgedIn (now stream) (now rows) verdict ⌝ }
+    ensures { λ r. ⌜ FindsContent (now (stream .entry)) element r ⌝ }
+{
+    match verdict {
+        Verdict::Refused { number, place } => ContentFound::Refused { number, place },
+        Verdict::Accepted { count } => {
+            if element < count {
+                return content_at(stream, rows, element);
+            }
+            ContentFound::NoUnit
+        }
+    }
+}
+
+// Where the content of an element stands, with the number and place of a refusal.
+pub fn locate_judged(stream: &[u8], element: usize, rows: &[u32], verdict: Verdict) -> Found
+    requires { ⌜ Accepts (now stream) (treeOf (now stream)) ⌝ }
+    requires { ⌜ JudgedIn (now stream) (now rows) verdict ⌝ }
+    ensures { λ r. ⌜ Fetches (now (stream .entry)) element r ⌝ }
+{
+    match fetch_judged(stream, element, rows, verdict) {
+        ContentFound::Content { first, past } => Found {
+            number: 0,
+            place: 0,
+            first: first as u32,
+            past: past as u32,
+        },
+        ContentFound::Refused { number, place } => Found {
+            number: number as u32,
+            place: place as u32,
+            first: 0,
+            past: 0,
+        },
+        ContentFound::NoUnit => Found {
+            number: NO_UNIT,
+            place: 0,
+            first: 0,
+            past: 0,
+        },
+        ContentFound::Pieces { run: _ } => Found {
+            number: IN_PIECES,
+            place: 0,
+            first: 0,
+            past: 0,
+        },
+    }
+}
+
+// Copies the content of an element, its pieces joined in order, to a lent buffer.
+pub fn join_judged(
+    stream: &[u8],
+    element: usize,
+    rows: &[u32],
+    verdict: Verdict,
+    out: &mut [u8],
+) -> Copied
+    requires { ⌜ Accepts (now stream) (treeOf (now stream)) ⌝ }
+    requires { ⌜ JudgedIn (now stream) (now rows) verdict ⌝ }
+    ensures { λ r. ⌜ JoinedOutcome (now (stream .entry)) element (now (out .entry)) r (now (out .exit)) ⌝ }
+{
+    match fetch_judged(stream, element, rows, verdict) {
+        ContentFound::Content { first, past } => copy_part(stream, first, past, out),
+        ContentFound::Pieces { run } => copy_pieces(stream, run, out),
+        ContentFound::Refused { number, place } => Copied {
+            number: number as u32,
+            place: place as u32,
+            length: 0,
+        },
+        ContentFound::NoUnit => Copied {
+            number: NO_UNIT,
+            place: 0,
+            length: 0,
+        },
+    }
+}
+
+// Copies a part of the stream to a lent buffer, unless that is too short.
+fn copy_part(stream: &[u8], first: usize, past: usize, out: &mut [u8]) -> Copied
+    requires { ⌜ (first ≤ past) × (past ≤ length (now stream)) × (past ≤ 1048576) ⌝ }
+    ensures { λ r. ⌜ Copies (slice first past (now (stream .entry))) (now (out .entry)) r (now (out .exit)) ⌝ }
+{
+    if out.len() < past - first {
+        return Copied {
+            number: COPY_TOO_SHORT,
+            place: 0,
+            length: 0,
+        };
+    }
+    let length = bytes::copy(&stream[first..past], out);
+    Copied {
+        number: 0,
+        place: 0,
+        length: length as u32,
+    }
+}
+
+// Copies the pieces of a run, joined in order, to a lent buffer, unless that is too short: they are measured before any is written.
+fn copy_pieces(stream: &[u8], run: Run, out: &mut [u8]) -> Copied
+    requires { ⌜ Fine (now stream) run × (length (joined (treeIn (now stream) run)) ≤ 1048576) ⌝ }
+    ensures { λ r. ⌜ Copies (joined (treeIn (now (stream .entry)) run)) (now (out .entry)) r (now (out .exit)) ⌝ }
+{
+    if out.len() < pieces::joined_length(stream, run) {
+        return Copied {
+            number: COPY_TOO_SHORT,
+            place: 0,
+            length: 0,
+        };
+    }
+    let length = pieces::put_joined(stream, run, out);
+    Copied {
+        number: 0,
+        place: 0,
+        length: length as u32,
+    }
+}

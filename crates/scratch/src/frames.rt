@@ -1,0 +1,98 @@
+// The frames: arrays in which a stream is judged, and then the work of any question done. One for few elements, which are soon cleared, and one
+// for as many as a letter may have. A question that is added later has these arrays too.
+use answers::Question;
+use answers::Told;
+use octets::Outcome;
+ghost use mathlib.Core.Path.{_≡_};
+ghost use Prim.Native.Nat.{_≤_};
+ghost use lib.ListN.{length};
+ghost use Rattle.octets.specs.Walk.{walkOf};
+ghost use Rattle.letters.specs.Lent.{rowsNeeded};
+ghost use Rattle.answers.specs.Questions.{Leaves, Roomy};
+
+pub fn few(
+    stream: &[u8],
+    headers: u32,
+    question: Question,
+    table: &mut [u32],
+    flat: &mut [u32],
+    out: &mut [u8],
+) -> Told
+    requires { ⌜ walkOf (now stream) ≡ Outcome.Ended (length (now stream)) headers ⌝ }
+    requires { ⌜ rowsNeeded (now stream) ≤ 512 ⌝ }
+    requires { ⌜ Roomy question (now stream) (length (now flat)) ⌝ }
+    ensures { λ r. ⌜ Leaves question (now (stream .entry)) (now (table .entry)) (now (out .entry)) r (now (table .exit)) (now (flat .exit)) (now (out .exit)) ⌝ }
+{
+    let mut rows = [0u32; 6144];
+    let mut head = [0u16; 1024];
+    let mut next = [0u16; 512];
+    let mut head2 = [0u16; 1024];
+    let mut next2 = [0u16; 512];
+    let mut bounds = [0u32; 128];
+    let verdict = letters::judge_stream(
+        stream,
+        &mut rows,
+        &mut head,
+        &mut next,
+        &mut head2,
+        &mut next2,
+        &mut bounds,
+    );
+    answers::work(
+        stream,
+        headers,
+        question,
+        &rows,
+        &head,
+        &next,
+        &head2,
+        &next2,
+        verdict,
+        table,
+        flat,
+        out,
+    )
+}
+
+pub fn many(
+    stream: &[u8],
+    headers: u32,
+    question: Question,
+    table: &mut [u32],
+    flat: &mut [u32],
+    out: &mut [u8],
+) -> Told
+    requires { ⌜ walkOf (now stream) ≡ Outcome.Ended (length (now stream)) headers ⌝ }
+    requires { ⌜ Roomy question (now stream) (length (now flat)) ⌝ }
+    ensures { λ r. ⌜ Leaves question (now (stream .entry)) (now (table .entry)) (now (out .entry)) r (now (table .exit)) (now (flat .exit)) (now (out .exit)) ⌝ }
+{
+    let mut rows = [0u32; 49152];
+    let mut head = [0u16; 8192];
+    let mut next = [0u16; 4096];
+    let mut head2 = [0u16; 8192];
+    let mut next2 = [0u16; 4096];
+    let mut bounds = [0u32; 128];
+    let verdict = letters::judge_stream(
+        stream,
+        &mut rows,
+        &mut head,
+        &mut next,
+        &mut head2,
+        &mut next2,
+        &mut bounds,
+    );
+    answers::work(
+        stream,
+        headers,
+        question,
+        &rows,
+        &head,
+        &next,
+        &head2,
+        &next2,
+        verdict,
+        table,
+        flat,
+        out,
+    )
+}
