@@ -28,11 +28,11 @@ use Rattle.reading.specs.Match.{unitKind}
 use Rattle.answers.specs.declared.ContentFound.{ContentFound}
 use Rattle.answers.specs.declared.Found.{Found}
 use Rattle.answers.specs.declared.Reason.{Reason}
-use Rattle.answers.specs.declared.ContentFound.the-variants.{Refused as Not, NoUnit, Content as Part, Pieces}
-use Rattle.answers.specs.Answers.{letterIn, rowsIn, Fetched, handed, withheld, fetchedBy, partOf, fetched, whyNot, located, allOf, joinedIn}
+use Rattle.answers.specs.declared.ContentFound.the-variants.{NoUnit, Content as Part, Pieces}
+use Rattle.answers.specs.Answers.{letterIn, rowsIn, Fetched, handed, withheld, fetchedBy, partOf, fetched, whyNot, located, Fetches, allOf, joinedIn}
 use Rattle.answers.proofs.Small.{refusal-small}
 use Rattle.answers.proofs.Judging.{Accepting}
-use Rattle.answers.specs.Asking.{ContentAt, otherKind, heldWhole, heldInPieces, FindsContent}
+use Rattle.answers.specs.Asking.{ContentAt, otherKind, heldWhole, heldInPieces, nowhere, FindsContent}
 
 -- past the end of a list there is nothing
 nothing-past : {A : Type 0} (xs : List A) (k : ℕ) → length xs ≤ k → getElem? xs k ≡ none
@@ -57,20 +57,17 @@ why-located s asked e = ap (λ (t : Found). record { number = t .number; place =
 
 module _ (s : List ℕ) (asked : ℕ) where
   -- 1 to 15
-  pub finds-refused : (number place headers : ℕ) → letterIn s ≡ refusal number place headers → FindsContent s asked (Not number place)
-  unfolding fetched located joinedIn
-  finds-refused number place headers e =
-      let small = refusal-small edition1988 s number place headers e in
-      let some-number : eqb number 0 ≡ false = ne-eqb number 0 (λ z. omega arith) in
-      record {
-        fetches = record { answered = rw (e, some-number); stands = record { part = rw e; order = omega arith; inside = omega arith } };
-        joins = rw e;
-        known = small .low;
-        low-number = omega arith;
-        near-place = small .near;
-        near-past = omega arith;
-        short = omega arith;
-      }
+  module _ (number place headers : ℕ) (e : letterIn s ≡ refusal number place headers) where
+    pub fetches-refused : Fetches s asked (nowhere number place)
+    unfolding fetched located
+    fetches-refused =
+        let low = refusal-small edition1988 s number place headers e .low in
+        let some-number : eqb number 0 ≡ false = ne-eqb number 0 (λ z. omega arith) in
+        record { answered = rw (e, some-number); stands = record { part = rw e; order = omega arith; inside = omega arith } }
+
+    pub joins-refused : joinedIn s asked ≡ withheld number place
+    unfolding joinedIn
+    joins-refused = rw e
 
   -- of a text unit, what is wanted of its content
   pub of-unit : {headers : ℕ} {elements : List Element} {unit : Element} → letterIn s ≡ letter headers elements → getElem? elements asked ≡ some unit
@@ -86,8 +83,6 @@ module _ (s : List ℕ) (asked : ℕ) where
         fetches = record { answered = rw f; stands = record { part = rw f; order = omega arith; inside = omega arith } };
         joins = e allOf;
         known = tt;
-        low-number = omega arith;
-        near-place = omega arith;
         near-past = omega arith;
         short = omega arith;
       }
@@ -121,8 +116,6 @@ module _ (s : List ℕ) (asked : ℕ) where
             fetches = record { answered = rw (f, stands, pair); stands = record { part = part ∙ rw f; order = order; inside = inside } };
             joins = of-unit (l .judged) there kind allOf ∙ ap handed (sym all);
             known = tt;
-            low-number = omega arith;
-            near-place = omega arith;
             near-past = omega arith;
             short = omega arith;
           }
@@ -137,8 +130,6 @@ module _ (s : List ℕ) (asked : ℕ) where
             fetches = record { answered = rw f; stands = record { part = rw f; order = omega arith; inside = omega arith } };
             joins = of-unit (l .judged) there kind allOf ∙ ap allOf (h .content-is);
             known = h .fine;
-            low-number = omega arith;
-            near-place = omega arith;
             near-past = omega arith;
             short = omega arith;
           }

@@ -16,12 +16,10 @@ use Rattle.elements.specs.Shape.{edition1988}
 use Rattle.elements.specs.Judge.{Element, mostElements, accepted, judge}
 use Rattle.elements.specs.declared.Row.{Row}
 use Rattle.elements.specs.Rows.{cells, rowsOf, numbers}
-use Rattle.letters.specs.declared.Verdict.{Verdict}
-use Rattle.letters.specs.declared.Verdict.the-variants.{Accepted, Refused}
 use Rattle.letters.specs.Letter.{itemsOfStream, letter, refusal}
 use Rattle.letters.specs.Lent.{rowsNeeded}
 use Rattle.judging.specs.Done.{Saying}
-use Rattle.letters.specs.Scratch.{Filled, Stopped, GivesVerdict}
+use Rattle.letters.specs.Scratch.{Filled, Stopped}
 use Rattle.letters.specs.Apart.{Apart}
 use Rattle.letters.specs.Content.{RowIn}
 use Rattle.judging.proofs.Rows.{saying-length, cell-at}
@@ -59,39 +57,38 @@ pub record Accepting (s rows : List ℕ) (count headers : ℕ) : Type 0 where
   pub row-in : (j : ℕ) → j < count → RowIn s rows j
   pub cells-at : (j : ℕ) (row : Row) → getElem? (rowsIn s) j ≡ some row → (c : ℕ) → c < rowWidth → getD rows (j * rowWidth + c) 0 ≡ getD (cells row) c 0
 
-module _ {s rows : List ℕ} {verdict : Verdict} {at headers : ℕ} (walked : walkOf s ≡ Ended at headers) (j : JudgedIn s rows verdict) where
-  pub refused-judged : {number place : ℕ} → verdict ≡ Refused number place → Refusing s number place headers
-  refused-judged {number} {place} e =
-      let stopped : Stopped s number place = subst (JudgedIn s rows) e j .gives in
-      let told : letterIn s ≡ refusal number place headers =
-      refused-element edition1988 s at headers number (stopped .element) walked (stopped .judged) ∙ rw (sym (stopped .placed)) in
-      record { judged = told; small = refusal-small edition1988 s number place headers told }
+-- rules 9 to 15 refused it
+pub refused-stopped : {s : List ℕ} {at headers number place : ℕ} → walkOf s ≡ Ended at headers → Stopped s number place → Refusing s number place headers
+refused-stopped {s} {at} {headers} {number} {place} walked stopped =
+    let told : letterIn s ≡ refusal number place headers =
+    refused-element edition1988 s at headers number (stopped .element) walked (stopped .judged) ∙ rw (sym (stopped .placed)) in
+    record { judged = told; small = refusal-small edition1988 s number place headers told }
 
-  pub accepted-judged : {count : ℕ} → verdict ≡ Accepted count → Accepting s rows count headers
-  accepted-judged {count} e =
-      let k = subst (JudgedIn s rows) e j in
-      let filled : Filled s rows (k .head) (k .next) (k .head2) (k .next2) count = k .gives in
-      let holds = filled .holds in
-      let few : count ≤ mostElements = subst (λ (n : ℕ). n ≤ mostElements) (holds .counted) (accepted-apart edition1988 (treeOf s) (filled .elements) (filled .judged) .few) in
-      record {
-        elements = filled .elements;
-        judged = accepted-letter edition1988 s at headers (filled .elements) walked (filled .judged);
-        judge-accepted = filled .judged;
-        apart = accepted-apart edition1988 (treeOf s) (filled .elements) (filled .judged);
-        counted = holds .counted;
-        few = few;
-        needed = omega (arith, few, rows-tops s (itemsOfStream s), saying-length (holds .saying), holds .counted);
-        within-limit = stream-within s at headers walked;
-        within = holds .indexes .identifiers .in-table;
-        written = holds .written;
-        saying = holds .saying;
-        row-in = filled-row-in filled;
-        cells-at = λ j row stands c l. cell-at holds j row stands c l;
-      }
+-- none of them did
+pub accepted-judged : {s rows : List ℕ} {count at headers : ℕ} → walkOf s ≡ Ended at headers → JudgedIn s rows count → Accepting s rows count headers
+accepted-judged {s} {rows} {count} {at} {headers} walked k =
+    let filled = k .filled in
+    let holds = filled .holds in
+    let few : count ≤ mostElements = subst (λ (n : ℕ). n ≤ mostElements) (holds .counted) (accepted-apart edition1988 (treeOf s) (filled .elements) (filled .judged) .few) in
+    record {
+      elements = filled .elements;
+      judged = accepted-letter edition1988 s at headers (filled .elements) walked (filled .judged);
+      judge-accepted = filled .judged;
+      apart = accepted-apart edition1988 (treeOf s) (filled .elements) (filled .judged);
+      counted = holds .counted;
+      few = few;
+      needed = omega (arith, few, rows-tops s (itemsOfStream s), saying-length (holds .saying), holds .counted);
+      within-limit = stream-within s at headers walked;
+      within = holds .indexes .identifiers .in-table;
+      written = holds .written;
+      saying = holds .saying;
+      row-in = filled-row-in filled;
+      cells-at = λ j row stands c l. cell-at holds j row stands c l;
+    }
 
 -- what was judged, whatever the indexes hold
-pub judged-in : (s rows head next head2 next2 : List ℕ) (verdict : Verdict) → GivesVerdict s rows head next head2 next2 verdict → JudgedIn s rows verdict
-judged-in s rows head next head2 next2 verdict gives = record { head = head; next = next; head2 = head2; next2 = next2; gives = gives }
+pub judged-in : {s rows head next head2 next2 : List ℕ} {count : ℕ} → Filled s rows head next head2 next2 count → JudgedIn s rows count
+judged-in {head = head} {next = next} {head2 = head2} {next2 = next2} filled = record { head = head; next = next; head2 = head2; next2 = next2; filled = filled }
 
 -- a walk that ended accepts the stream with its own tree
 pub accepts-walked : {s : List ℕ} {at headers : ℕ} → walkOf s ≡ Ended at headers → Accepts s (treeOf s)

@@ -20,7 +20,7 @@ use Rattle.answers.specs.Asking.{ListsFlat}
 use Rattle.answers.specs.Questions.{reasonTold, checkTold, locatedTold, copiedTold, listedTold, checkOf, locatedOf, copiedOf, listedOf, refusedTold, Leaves}
 use Rattle.answers.proofs.Small.{refusal-small}
 use Rattle.answers.proofs.Checks.{checks-refused}
-use Rattle.answers.proofs.Fetching.{finds-refused}
+use Rattle.answers.proofs.Fetching.{fetches-refused, joins-refused}
 use Rattle.answers.proofs.Copying.{joins-none}
 use Rattle.answers.proofs.Listing.{lists-refused}
 
@@ -107,10 +107,10 @@ module _ (s table flat out : List ℕ) where
       → Leaves question s table out (refusedTold question number place headers) table flat out
   leaves-refused Rules number place headers e = let r = ruled-refused s e in record { answered = rw r; tabled = refl; put = refl; beside = tt }
   leaves-refused Check number place headers e = leaves-check (checks-refused s table number place headers e)
-  leaves-refused (Content element) number place headers e = leaves-content (finds-refused s element number place headers e .fetches)
+  leaves-refused (Content element) number place headers e = leaves-content (fetches-refused s element number place headers e)
   leaves-refused (Joined element) number place headers e =
-      let found = finds-refused s element number place headers e in
-      leaves-joined (joins-none s element out number place (λ z. omega (arith, found .known)) (found .joins))
+      let low = refusal-small edition1988 s number place headers e .low in
+      leaves-joined (joins-none s element out number place (λ z. omega arith) (joins-refused s element number place headers e))
   leaves-refused (Reading side room) number place headers e = leaves-list (lists-refused side s table flat room number place headers e)
 
 -- what each question answers, from what its work left

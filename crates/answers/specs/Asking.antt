@@ -14,13 +14,9 @@ use Rattle.runs.specs.declared.Run.{Run}
 use Rattle.runs.specs.Runs.{treeIn, Fine}
 use Rattle.index.specs.Columns.{kindAt}
 use Rattle.pieces.specs.Pieces.{joined}
-use Rattle.elements.specs.Judge.{Element}
 use Rattle.letters.specs.declared.Held.the-variants.{Part, Pieces as PiecesIn}
-use Rattle.letters.specs.declared.Verdict.{Verdict}
-use Rattle.letters.specs.declared.Verdict.the-variants.{Accepted, Refused}
-use Rattle.letters.specs.Letter.{letter, refusal}
 use Rattle.letters.specs.Lent.{rowsNeeded}
-use Rattle.letters.specs.Scratch.{GivesVerdict}
+use Rattle.letters.specs.Scratch.{Filled}
 use Rattle.letters.specs.Content.{HoldsElement}
 use Rattle.reading.specs.declared.Side.{Side}
 use Rattle.reading.specs.Match.{unitKind}
@@ -29,16 +25,16 @@ use Rattle.answers.specs.declared.Copied.{Copied}
 use Rattle.answers.specs.declared.Listed.{Listed}
 use Rattle.answers.specs.declared.Found.{Found}
 use Rattle.answers.specs.declared.ContentFound.{ContentFound}
-use Rattle.answers.specs.declared.ContentFound.the-variants.{Refused as Not, NoUnit, Content, Pieces}
-use Rattle.answers.specs.Answers.{letterIn, listed, listedTable, matchesIn, onto, Fetched, handed, withheld, Fetches, joinedIn, copiedFrom}
+use Rattle.answers.specs.declared.ContentFound.the-variants.{NoUnit, Content, Pieces}
+use Rattle.answers.specs.Answers.{listed, listedTable, matchesIn, onto, Fetched, handed, withheld, Fetches, joinedIn, copiedFrom}
 
--- a stream was judged with this verdict, and these are its rows in scratch, whatever the indexes hold
-pub record JudgedIn (s rows : List ℕ) (verdict : Verdict) : Type 0 where
+-- a stream was judged and accepted, and these are its rows in scratch, whatever the indexes hold
+pub record JudgedIn (s rows : List ℕ) (count : ℕ) : Type 0 where
   pub head : List ℕ
   pub next : List ℕ
   pub head2 : List ℕ
   pub next2 : List ℕ
-  pub gives : GivesVerdict s rows head next head2 next2 verdict
+  pub filled : Filled s rows head next head2 next2 count
 
 -- what is found of the element in row j: no text unit, or where its content stands
 pub data ContentAt (s rows : List ℕ) (j : ℕ) : ContentFound → Type 0 where
@@ -52,21 +48,18 @@ nowhere number place = record { number = number; place = place; first = 0; past 
 
 -- the number, place and bounds that document 01 gives each case of a fetch
 abbrev pub toldOf : ContentFound → Found
-toldOf (Not number place) = nowhere number place
 toldOf NoUnit = nowhere 20 0
 toldOf (Content first past) = record { number = 0; place = 0; first = first; past = past }
 toldOf (Pieces run) = nowhere 21 0
 
 -- the joined content in each case, before it is known whether there is room for it
 abbrev pub joinedOf : (s : List ℕ) → ContentFound → Fetched
-joinedOf s (Not number place) = withheld number place
 joinedOf s NoUnit = withheld 20 0
 joinedOf s (Content first past) = handed (slice first past s)
 joinedOf s (Pieces run) = handed (joined (treeIn s run))
 
--- what else is known in each case: a refusal has a number, and pieces can be met one after another
+-- what else is known in each case: pieces can be met one after another
 abbrev pub Known : (s : List ℕ) → ContentFound → Type 0
-Known s (Not number place) = 1 ≤ number
 Known s NoUnit = Unit {0}
 Known s (Content first past) = Unit {0}
 Known s (Pieces run) = Fine s run
@@ -76,8 +69,6 @@ pub record FindsContent (s : List ℕ) (asked : ℕ) (found : ContentFound) : Ty
   pub fetches : Fetches s asked (toldOf found)
   pub joins : joinedIn s asked ≡ joinedOf s found
   pub known : Known s found
-  pub low-number : toldOf found .number ≤ 21
-  pub near-place : toldOf found .place ≤ streamLimit
   pub near-past : toldOf found .past ≤ streamLimit
   pub short : length (joinedOf s found .part) ≤ streamLimit
 

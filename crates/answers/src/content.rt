@@ -1,4 +1,4 @@
-// The content of one element of a stream that was judged: where it stands, or copied to a lent buffer.
+// The content of one element of a letter: where it stands, or copied to a lent buffer.
 use super::COPY_TOO_SHORT;
 use super::ContentFound;
 use super::Copied;
@@ -7,7 +7,6 @@ use super::IN_PIECES;
 use super::NO_UNIT;
 use super::ROW_WIDTH;
 use letters::Held;
-use letters::Verdict;
 use runs::Run;
 ghost use Prim.Native.Nat.{_<_, _≤_};
 ghost use lib.ListN.{length};
@@ -37,41 +36,30 @@ fn content_at(stream: &[u8], rows: &[u32], element: usize) -> ContentFound
     }
 }
 
-// The content of an element of a stream that was judged: 20, or where it stands.
-fn fetch_judged(stream: &[u8], element: usize, rows: &[u32], verdict: Verdict) -> ContentFound
+// The content of an element: 20, or where it stands.
+fn fetch_judged(stream: &[u8], element: usize, rows: &[u32], count: usize) -> ContentFound
     requires { ⌜ Accepts (now stream) (treeOf (now stream)) ⌝ }
-    requires { ⌜ JudgedIn (now stream) (now rows) verdict ⌝ }
+    requires { ⌜ JudgedIn (now stream) (now rows) count ⌝ }
     ensures { λ r. ⌜ FindsContent (now (stream .entry)) element r ⌝ }
 {
-    match verdict {
-        Verdict::Refused { number, place } => ContentFound::Refused { number, place },
-        Verdict::Accepted { count } => {
-            if element < count {
-                return content_at(stream, rows, element);
-            }
-            ContentFound::NoUnit
-        }
+    if element < count {
+        return content_at(stream, rows, element);
     }
+    ContentFound::NoUnit
 }
 
-// Where the content of an element stands, with the number and place of a refusal.
-pub fn locate_judged(stream: &[u8], element: usize, rows: &[u32], verdict: Verdict) -> Found
+// Where the content of an element stands, or the number of a refusal.
+pub fn locate_judged(stream: &[u8], element: usize, rows: &[u32], count: usize) -> Found
     requires { ⌜ Accepts (now stream) (treeOf (now stream)) ⌝ }
-    requires { ⌜ JudgedIn (now stream) (now rows) verdict ⌝ }
+    requires { ⌜ JudgedIn (now stream) (now rows) count ⌝ }
     ensures { λ r. ⌜ Fetches (now (stream .entry)) element r ⌝ }
 {
-    match fetch_judged(stream, element, rows, verdict) {
+    match fetch_judged(stream, element, rows, count) {
         ContentFound::Content { first, past } => Found {
             number: 0,
             place: 0,
             first: first as u32,
             past: past as u32,
-        },
-        ContentFound::Refused { number, place } => Found {
-            number: number as u32,
-            place: place as u32,
-            first: 0,
-            past: 0,
         },
         ContentFound::NoUnit => Found {
             number: NO_UNIT,
@@ -93,21 +81,16 @@ pub fn join_judged(
     stream: &[u8],
     element: usize,
     rows: &[u32],
-    verdict: Verdict,
+    count: usize,
     out: &mut [u8],
 ) -> Copied
     requires { ⌜ Accepts (now stream) (treeOf (now stream)) ⌝ }
-    requires { ⌜ JudgedIn (now stream) (now rows) verdict ⌝ }
+    requires { ⌜ JudgedIn (now stream) (now rows) count ⌝ }
     ensures { λ r. ⌜ JoinedOutcome (now (stream .entry)) element (now (out .entry)) r (now (out .exit)) ⌝ }
 {
-    match fetch_judged(stream, element, rows, verdict) {
+    match fetch_judged(stream, element, rows, count) {
         ContentFound::Content { first, past } => copy_part(stream, first, past, out),
         ContentFound::Pieces { run } => copy_pieces(stream, run, out),
-        ContentFound::Refused { number, place } => Copied {
-            number: number as u32,
-            place: place as u32,
-            length: 0,
-        },
         ContentFound::NoUnit => Copied {
             number: NO_UNIT,
             place: 0,

@@ -1,7 +1,6 @@
 // The work behind the questions: what each does with a stream that was judged.
 // Nothing that was lent to a question is written before all that can refuse it is known.
 use index::ROW_WIDTH;
-use letters::Verdict;
 use octets::Outcome;
 use reading::Side;
 use runs::Run;
@@ -12,8 +11,8 @@ ghost use Rattle.octets.specs.Walk.{walkOf};
 ghost use Rattle.tree.specs.Tree.{treeOf};
 ghost use Rattle.tree.specs.Accepts.{Accepts};
 ghost use Rattle.letters.specs.Lent.{rowsNeeded};
-ghost use Rattle.letters.specs.Scratch.{GivesVerdict};
-ghost use Rattle.answers.specs.Answers.{ruled, refusedCheck, CheckOutcome};
+ghost use Rattle.letters.specs.Scratch.{Filled};
+ghost use Rattle.answers.specs.Answers.{refusedCheck, CheckOutcome};
 ghost use Rattle.answers.specs.Asking.{JudgedIn, ListsFlat};
 ghost use Rattle.answers.specs.Questions.{reasonTold, checkTold, locatedTold, copiedTold, listedTold, listedOf, refusedTold, Leaves, Roomy};
 
@@ -104,9 +103,8 @@ pub struct Told {
     pub past: u32,
 }
 
-// What a fetch of content finds: a part of the stream, or pieces.
+// What a fetch of content finds in a letter: a part of the stream, or pieces.
 pub enum ContentFound {
-    Refused { number: usize, place: usize },
     NoUnit,
     Content { first: usize, past: usize },
     Pieces { run: Run },
@@ -124,54 +122,31 @@ pub fn refused_check(number: u32, place: u32, headers: u32) -> Checked
     }
 }
 
-// What rules 1 to 15 say of a stream that was judged: 0 at 0 if it is a letter.
-fn rule_judged(stream: &[u8], rows: &[u32], verdict: Verdict) -> Reason
-    requires { ⌜ Accepts (now stream) (treeOf (now stream)) ⌝ }
-    requires { ⌜ JudgedIn (now stream) (now rows) verdict ⌝ }
-    ensures { λ r. ⌜ r ≡ ruled (now (stream .entry)) ⌝ }
-{
-    match verdict {
-        Verdict::Refused { number, place } => Reason {
-            number: number as u32,
-            place: place as u32,
-        },
-        Verdict::Accepted { count: _ } => Reason {
-            number: 0,
-            place: 0,
-        },
-    }
-}
-
-// The check of a stream that was judged: 16, or the table.
+// The check of a letter: 16, or the table.
 fn check_judged(
     stream: &[u8],
     headers: u32,
     rows: &[u32],
-    verdict: Verdict,
+    count: usize,
     table: &mut [u32],
 ) -> Checked
     requires { ⌜ walkOf (now stream) ≡ Outcome.Ended (length (now stream)) headers ⌝ }
-    requires { ⌜ JudgedIn (now stream) (now rows) verdict ⌝ }
+    requires { ⌜ JudgedIn (now stream) (now rows) count ⌝ }
     ensures { λ r. ⌜ CheckOutcome (now (stream .entry)) (now (table .entry)) r (now (table .exit)) ⌝ }
 {
-    match verdict {
-        Verdict::Refused { number, place } => refused_check(number as u32, place as u32, headers),
-        Verdict::Accepted { count: elements } => {
-            if table.len() / ROW_WIDTH < elements {
-                return refused_check(TOO_FEW_ROWS, 0, headers);
-            }
-            letters::put_table(rows, elements, table);
-            Checked {
-                number: 0,
-                place: 0,
-                headers,
-                elements: elements as u32,
-            }
-        }
+    if table.len() / ROW_WIDTH < count {
+        return refused_check(TOO_FEW_ROWS, 0, headers);
+    }
+    letters::put_table(rows, count, table);
+    Checked {
+        number: 0,
+        place: 0,
+        headers,
+        elements: count as u32,
     }
 }
 
-// The reading list of a stream that was judged, as numbers: 16, then the table, then 19.
+// The reading list of a letter, as numbers: 16, then the table, then 19.
 fn list_judged(
     stream: &[u8],
     side: Side,
@@ -181,58 +156,38 @@ fn list_judged(
     next: &[u16],
     head2: &[u16],
     next2: &[u16],
-    verdict: Verdict,
+    count: usize,
     table: &mut [u32],
     flat: &mut [u32],
 ) -> Listed
     requires { ⌜ Accepts (now stream) (treeOf (now stream)) ⌝ }
-    requires { ⌜ GivesVerdict (now stream) (now rows) (now head) (now next) (now head2) (now next2) verdict ⌝ }
+    requires { ⌜ Filled (now stream) (now rows) (now head) (now next) (now head2) (now next2) count ⌝ }
     requires { ⌜ 3 * rowsNeeded (now stream) ≤ length (now flat) ⌝ }
     ensures { λ r. ⌜ ListsFlat side (now (stream .entry)) (now (table .entry)) room r (now (table .exit)) (now (flat .exit)) ⌝ }
 {
-    match verdict {
-        Verdict::Refused { number, place } => Listed {
-            number: number as u32,
-            place: place as u32,
+    if table.len() / ROW_WIDTH < count {
+        return Listed {
+            number: TOO_FEW_ROWS,
+            place: 0,
             elements: 0,
             matches: 0,
-        },
-        Verdict::Accepted { count } => {
-            if table.len() / ROW_WIDTH < count {
-                return Listed {
-                    number: TOO_FEW_ROWS,
-                    place: 0,
-                    elements: 0,
-                    matches: 0,
-                };
-            }
-            letters::put_table(rows, count, table);
-            let matches = reading::list_matches(
-                stream,
-                rows,
-                head,
-                next,
-                head2,
-                next2,
-                count,
-                side,
-                flat,
-            );
-            if room < matches {
-                return Listed {
-                    number: LIST_TOO_SHORT,
-                    place: 0,
-                    elements: count as u32,
-                    matches: 0,
-                };
-            }
-            Listed {
-                number: 0,
-                place: 0,
-                elements: count as u32,
-                matches: matches as u32,
-            }
-        }
+        };
+    }
+    letters::put_table(rows, count, table);
+    let matches = reading::list_matches(stream, rows, head, next, head2, next2, count, side, flat);
+    if room < matches {
+        return Listed {
+            number: LIST_TOO_SHORT,
+            place: 0,
+            elements: count as u32,
+            matches: 0,
+        };
+    }
+    Listed {
+        number: 0,
+        place: 0,
+        elements: count as u32,
+        matches: matches as u32,
     }
 }
 
@@ -324,7 +279,7 @@ pub fn listed_of(told: Told) -> Listed
     }
 }
 
-// What the walk refused, as the work of any question tells it: the check alone is told how many headers were read.
+// What rules 1 to 15 refuse, as the work of any question tells it: the check alone is told how many headers were read.
 pub fn tell_refused(question: Question, number: u32, place: u32, headers: u32) -> Told
     ensures { λ told. ⌜ told ≡ refusedTold question number place headers ⌝ }
 {
@@ -337,7 +292,7 @@ pub fn tell_refused(question: Question, number: u32, place: u32, headers: u32) -
     }
 }
 
-// The work of a question, of a stream that was judged. The rows and their indexes are what the judge left in its scratch.
+// The work of a question, of a letter. The rows and their indexes are what the judge left in its scratch.
 pub fn work(
     stream: &[u8],
     headers: u32,
@@ -347,32 +302,24 @@ pub fn work(
     next: &[u16],
     head2: &[u16],
     next2: &[u16],
-    verdict: Verdict,
+    count: usize,
     table: &mut [u32],
     flat: &mut [u32],
     out: &mut [u8],
 ) -> Told
     requires { ⌜ walkOf (now stream) ≡ Outcome.Ended (length (now stream)) headers ⌝ }
-    requires { ⌜ GivesVerdict (now stream) (now rows) (now head) (now next) (now head2) (now next2) verdict ⌝ }
+    requires { ⌜ Filled (now stream) (now rows) (now head) (now next) (now head2) (now next2) count ⌝ }
     requires { ⌜ Roomy question (now stream) (length (now flat)) ⌝ }
     ensures { λ r. ⌜ Leaves question (now (stream .entry)) (now (table .entry)) (now (out .entry)) r (now (table .exit)) (now (flat .exit)) (now (out .exit)) ⌝ }
 {
     match question {
-        Question::Rules => tell_reason(rule_judged(stream, rows, verdict)),
-        Question::Check => tell_checked(check_judged(stream, headers, rows, verdict, table)),
-        Question::Content { element } => tell_located(locate_judged(
-            stream,
-            element,
-            rows,
-            verdict,
-        )),
-        Question::Joined { element } => tell_copied(join_judged(
-            stream,
-            element,
-            rows,
-            verdict,
-            out,
-        )),
+        Question::Rules => tell_reason(Reason {
+            number: 0,
+            place: 0,
+        }),
+        Question::Check => tell_checked(check_judged(stream, headers, rows, count, table)),
+        Question::Content { element } => tell_located(locate_judged(stream, element, rows, count)),
+        Question::Joined { element } => tell_copied(join_judged(stream, element, rows, count, out)),
         Question::List { side, room } => tell_listed(list_judged(
             stream,
             side,
@@ -382,7 +329,7 @@ pub fn work(
             next,
             head2,
             next2,
-            verdict,
+            count,
             table,
             flat,
         )),

@@ -148,15 +148,19 @@ pub fn joined(stream: &[u8], element: usize, out: &mut [u8]) -> Copied
 fn refused_by(stream: &[u8]) -> Reason
     ensures { λ r. ⌜ r ≡ reasonOf (now (stream .entry)) ⌝ }
 {
-    match scratch::judge(stream) {
-        Verdict::Refused { number, place } => Reason {
-            number: number as u32,
-            place: place as u32,
-        },
-        Verdict::Accepted { count: _ } => Reason {
-            number: 0,
-            place: 0,
-        },
+    let mut rows = [0u32; 0];
+    let mut numbers = [0u32; 0];
+    let mut octets = [0u8; 0];
+    let told = scratch::ask(
+        stream,
+        Question::Rules,
+        &mut rows,
+        &mut numbers,
+        &mut octets,
+    );
+    Reason {
+        number: told.number,
+        place: told.place,
     }
 }
 

@@ -2,6 +2,7 @@
 // for as many as a letter may have. A question that is added later has these arrays too.
 use answers::Question;
 use answers::Told;
+use letters::Verdict;
 use octets::Outcome;
 ghost use mathlib.Core.Path.{_≡_};
 ghost use Prim.Native.Nat.{_≤_};
@@ -29,7 +30,7 @@ pub fn few(
     let mut head2 = [0u16; 1024];
     let mut next2 = [0u16; 512];
     let mut bounds = [0u32; 128];
-    let verdict = letters::judge_stream(
+    match letters::judge_stream(
         stream,
         &mut rows,
         &mut head,
@@ -37,21 +38,28 @@ pub fn few(
         &mut head2,
         &mut next2,
         &mut bounds,
-    );
-    answers::work(
-        stream,
-        headers,
-        question,
-        &rows,
-        &head,
-        &next,
-        &head2,
-        &next2,
-        verdict,
-        table,
-        flat,
-        out,
-    )
+    ) {
+        Verdict::Refused { number, place } => answers::tell_refused(
+            question,
+            number as u32,
+            place as u32,
+            headers,
+        ),
+        Verdict::Accepted { count } => answers::work(
+            stream,
+            headers,
+            question,
+            &rows,
+            &head,
+            &next,
+            &head2,
+            &next2,
+            count,
+            table,
+            flat,
+            out,
+        ),
+    }
 }
 
 pub fn many(
@@ -72,7 +80,7 @@ pub fn many(
     let mut head2 = [0u16; 8192];
     let mut next2 = [0u16; 4096];
     let mut bounds = [0u32; 128];
-    let verdict = letters::judge_stream(
+    match letters::judge_stream(
         stream,
         &mut rows,
         &mut head,
@@ -80,19 +88,26 @@ pub fn many(
         &mut head2,
         &mut next2,
         &mut bounds,
-    );
-    answers::work(
-        stream,
-        headers,
-        question,
-        &rows,
-        &head,
-        &next,
-        &head2,
-        &next2,
-        verdict,
-        table,
-        flat,
-        out,
-    )
+    ) {
+        Verdict::Refused { number, place } => answers::tell_refused(
+            question,
+            number as u32,
+            place as u32,
+            headers,
+        ),
+        Verdict::Accepted { count } => answers::work(
+            stream,
+            headers,
+            question,
+            &rows,
+            &head,
+            &next,
+            &head2,
+            &next2,
+            count,
+            table,
+            flat,
+            out,
+        ),
+    }
 }

@@ -1,20 +1,17 @@
 -- `answers::work` meets its contract: what each question's own work says. Assumes nothing.
-use mathlib.Core.Path.{subst}
+use mathlib.Core.Path.{sym, subst}
 use borrow.Author.Needs.{needs}
 use lib.ListN.{length}
 use denote.Ref.{now}
 use Rattle.answers.specs.declared.Question.{Question}
 use Rattle.answers.specs.Questions.{Roomy}
-use Rattle.answers.proofs.Judging.{accepts-walked}
-use Rattle.answers.proofs.Working.{as-asked, leaves-rules, leaves-check, leaves-content, leaves-joined, leaves-list}
+use Rattle.answers.proofs.Judging.{accepts-walked, judged-in, accepted-judged}
+use Rattle.answers.proofs.Working.{as-asked, ruled-letter, leaves-rules, leaves-check, leaves-content, leaves-joined, leaves-list}
 use Rattle.answers.proofs.work.Statement.{statement}
 use Rattle.answers.proofs.work.Tie as tie
 
 enum-told : tie.Need-enum-told
 enum-told c = search needs
-
-rule-judged-requires : tie.Need-rule-judged-requires
-rule-judged-requires c κs = search needs
 
 tell-reason-requires : tie.Need-tell-reason-requires
 tell-reason-requires c κs = search needs
@@ -60,8 +57,11 @@ tell-listed-requires c κs = search needs
 
 returns : tie.Need-returns
 returns c =
-    let a = c .before .before .before .before .before .before .before .before .before .before .before .before .before in
-    as-asked (c .before .before .enum-told .given .1) (c .tell-reason .ensures) (leaves-rules (now (a .args .stream)) (now (a .args .table)) (now (a .args .flat)) (now (a .args .out)) (c .before .rule-judged .ensures))
+    let a = c .before .before .before .before .before .before .before .before .before .before .before .before in
+    let s = now (a .args .stream) in
+    let l = accepted-judged (a .pre .0) (judged-in (a .pre .1 .0)) in
+    as-asked (c .before .enum-told .given .1) (c .tell-reason .ensures)
+    (leaves-rules s (now (a .args .table)) (now (a .args .flat)) (now (a .args .out)) (sym (ruled-letter s (l .judged))))
 
 same-length : tie.Need-same-length
 same-length c = search needs
@@ -100,7 +100,6 @@ work-spec =
     tie.close
     (tie.spec
     enum-told
-    rule-judged-requires
     tell-reason-requires
     enum-told-2
     check-judged-requires

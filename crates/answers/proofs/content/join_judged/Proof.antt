@@ -1,4 +1,5 @@
--- `answers::content::join_judged` meets its contract: a part or the pieces that were fetched are copied, and what is refused is refused. Assumes nothing.
+-- `answers::content::join_judged` meets its contract: a part or the pieces that were fetched are copied, and what is no text unit is refused.
+-- Assumes nothing.
 use mathlib.Core.Path.{subst}
 use borrow.Author.Needs.{needs}
 use native.Mathlib.Omega.{arith}
@@ -29,21 +30,6 @@ copy-pieces-requires c κs =
     let f = subst (FindsContent (now (a .stream)) (a .element)) (c .before .before .run .given .1) (c .before .before .before .before .fetch-judged .ensures) in
     (f .known, f .short)
 
-enum-known-number : tie.Need-enum-known-number
-enum-known-number c = search needs
-
-cast-t17 : tie.Need-cast-t17
-cast-t17 c =
-    let a = c .before .before .before .before .before .before .before .args in
-    let f = subst (FindsContent (now (a .stream)) (a .element)) (c .before .number .given .1) (c .before .before .before .fetch-judged .ensures) in
-    omega arith
-
-cast-t18 : tie.Need-cast-t18
-cast-t18 c =
-    let a = c .before .before .before .before .before .before .before .args in
-    let f = subst (FindsContent (now (a .stream)) (a .element)) (c .before .number .given .1) (c .before .before .before .fetch-judged .ensures) in
-    omega arith
-
 enum-told : tie.Need-enum-told
 enum-told c = search needs
 
@@ -67,12 +53,6 @@ returns-2 c =
 
 returns-3 : tie.Need-returns-3
 returns-3 c =
-    let a = c .before .before .before .before .before .before .before .args in
-    let f = subst (FindsContent (now (a .stream)) (a .element)) (c .before .number .given .1) (c .before .before .before .fetch-judged .ensures) in
-    joins-none (now (a .stream)) (a .element) (now (a .out)) _ _ (λ z. omega (arith, f .known)) (f .joins)
-
-returns-4 : tie.Need-returns-4
-returns-4 c =
     let a = c .before .before .before .before .before .before .args in
     let f = subst (FindsContent (now (a .stream)) (a .element)) (c .enum-told .given .1) (c .before .before .fetch-judged .ensures) in
     joins-none (now (a .stream)) (a .element) (now (a .out)) 20 0 (λ z. omega arith) (f .joins)
@@ -86,13 +66,9 @@ join-judged-spec =
     copy-part-requires
     enum-known-run
     copy-pieces-requires
-    enum-known-number
-    cast-t17
-    cast-t18
     enum-told
     same-length
     returns
     same-length-2
     returns-2
-    returns-3
-    returns-4)
+    returns-3)

@@ -13,31 +13,16 @@ fetch-judged-requires c κs = search needs
 enum-known-first : tie.Need-enum-known-first
 enum-known-first c = search needs
 
-cast-t11 : tie.Need-cast-t11
-cast-t11 c =
+cast-t9 : tie.Need-cast-t9
+cast-t9 c =
     let a = c .before .before .before .before .before .before .args in
     let f = subst (FindsContent (now (a .stream)) (a .element)) (c .before .first .given .1) (c .before .before .before .fetch-judged .ensures) in
     omega arith
 
-cast-t12 : tie.Need-cast-t12
-cast-t12 c =
+cast-t10 : tie.Need-cast-t10
+cast-t10 c =
     let a = c .before .before .before .before .before .before .args in
     let f = subst (FindsContent (now (a .stream)) (a .element)) (c .before .first .given .1) (c .before .before .before .fetch-judged .ensures) in
-    omega arith
-
-enum-known-number : tie.Need-enum-known-number
-enum-known-number c = search needs
-
-cast-t13 : tie.Need-cast-t13
-cast-t13 c =
-    let a = c .before .before .before .before .before .before .args in
-    let f = subst (FindsContent (now (a .stream)) (a .element)) (c .before .number .given .1) (c .before .before .before .fetch-judged .ensures) in
-    omega arith
-
-cast-t14 : tie.Need-cast-t14
-cast-t14 c =
-    let a = c .before .before .before .before .before .before .args in
-    let f = subst (FindsContent (now (a .stream)) (a .element)) (c .before .number .given .1) (c .before .before .before .fetch-judged .ensures) in
     omega arith
 
 enum-told : tie.Need-enum-told
@@ -54,18 +39,12 @@ returns c =
 
 returns-2 : tie.Need-returns-2
 returns-2 c =
-    let a = c .before .before .before .before .before .before .args in
-    let f = subst (FindsContent (now (a .stream)) (a .element)) (c .before .number .given .1) (c .before .before .before .fetch-judged .ensures) in
-    f .fetches
-
-returns-3 : tie.Need-returns-3
-returns-3 c =
     let a = c .before .before .before .before .before .args in
     let f = subst (FindsContent (now (a .stream)) (a .element)) (c .enum-told .given .1) (c .before .before .fetch-judged .ensures) in
     f .fetches
 
-returns-4 : tie.Need-returns-4
-returns-4 c =
+returns-3 : tie.Need-returns-3
+returns-3 c =
     let a = c .before .before .before .before .before .args in
     let f = subst (FindsContent (now (a .stream)) (a .element)) (c .enum-told2 .given .1) (c .before .before .fetch-judged .ensures) in
     f .fetches
@@ -76,14 +55,10 @@ locate-judged-spec =
     (tie.spec
     fetch-judged-requires
     enum-known-first
-    cast-t11
-    cast-t12
-    enum-known-number
-    cast-t13
-    cast-t14
+    cast-t9
+    cast-t10
     enum-told
     enum-told-2
     returns
     returns-2
-    returns-3
-    returns-4)
+    returns-3)
