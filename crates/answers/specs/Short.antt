@@ -10,16 +10,7 @@ use Rattle.normal.specs.Normal.{normalForm}
 use Rattle.normal.specs.Short.{shortLimit}
 use Rattle.letters.specs.Letter.{Letter, letter, refusal}
 use Rattle.answers.specs.declared.Written.{Written}
-use Rattle.answers.specs.declared.Reason.{Reason}
 use Rattle.answers.specs.Answers.{letterIn, onto}
-
--- the number and place of a refusal by rules 1 to 15; 0 and 0 of a letter
-abbrev pub reasonBy : Letter → Reason
-reasonBy (refusal number place headers) = record { number = number; place = place }
-reasonBy (letter headers elements) = record { number = 0; place = 0 }
-
-unfoldable pub reasonOf : (s : List ℕ) → Reason
-reasonOf s = reasonBy (letterIn s)
 
 -- "1 in the new question means over 65,535"; the rules 2 to 15 are as ever
 abbrev pub shortLetter : List ℕ → Letter

@@ -21,22 +21,19 @@ use Rattle.elements.specs.Shape.{edition1988}
 use Rattle.elements.specs.Judge.{Element}
 use Rattle.letters.specs.Letter.{Letter, letter, refusal}
 use Rattle.answers.specs.declared.Reason.{Reason}
-use Rattle.answers.specs.Answers.{letterIn}
-use Rattle.answers.specs.Short.{reasonBy, reasonOf, writtenShort, writtenShortOutput, ShortOutcome}
+use Rattle.answers.specs.declared.Told.{Told}
+use Rattle.answers.specs.Answers.{letterIn, ruledBy, ruled}
+use Rattle.answers.specs.Questions.{reasonTold}
+use Rattle.answers.specs.Short.{writtenShort, writtenShortOutput, ShortOutcome}
 use Rattle.answers.proofs.Small.{refusal-small}
 use Rattle.answers.proofs.Letters.{letter-found}
 use Rattle.answers.proofs.Judging.{accepts-walked}
 use Rattle.odif.proofs.Writing.{toldAs, Fits}
 
 module _ (s : List ℕ) where
-  -- what the rules say of a stream, as a number and a place
-  pub reason-refusal : (number place headers : ℕ) → letterIn s ≡ refusal number place headers → record { number = number; place = place } ≡ reasonOf s
-  unfolding reasonOf
-  reason-refusal number place headers e = rw e
-
-  pub reason-none : (headers : ℕ) (elements : List Element) → letterIn s ≡ letter headers elements → record { number = 0; place = 0 } ≡ reasonOf s
-  unfolding reasonOf
-  reason-none headers elements e = rw e
+  -- what the rules say of a stream, as their work tells it
+  pub reason-told : {told : Told} → told ≡ reasonTold (ruled s) → record { number = told .number; place = told .place } ≡ ruled s
+  reason-told e = ap (λ (t : Told). record { number = t .number; place = t .place }) e
 
   -- and back
   pub record Refused (number place : ℕ) : Type 0 where
@@ -48,20 +45,20 @@ module _ (s : List ℕ) where
     pub elements : List Element
     pub judged : letterIn s ≡ letter headers elements
 
-  refused-from : (l : Letter) → letterIn s ≡ l → (reasonBy l .number ≡ 0 → ⊥) → Refused (reasonBy l .number) (reasonBy l .place)
+  refused-from : (l : Letter) → letterIn s ≡ l → (ruledBy l .number ≡ 0 → ⊥) → Refused (ruledBy l .number) (ruledBy l .place)
   refused-from (refusal number place headers) e n = record { headers = headers; judged = e }
   refused-from (letter headers elements) e n = absurd (n refl)
 
-  passed-from : (l : Letter) → letterIn s ≡ l → reasonBy l .number ≡ 0 → Passed
+  passed-from : (l : Letter) → letterIn s ≡ l → ruledBy l .number ≡ 0 → Passed
   passed-from (refusal number place headers) e z = absurd (omega (arith, refusal-small edition1988 s number place headers e .low))
   passed-from (letter headers elements) e z = record { headers = headers; elements = elements; judged = e }
 
-  pub refused : (r : Reason) → r ≡ reasonOf s → (r .number ≡ 0 → ⊥) → Refused (r .number) (r .place)
-  unfolding reasonOf
+  pub refused : (r : Reason) → r ≡ ruled s → (r .number ≡ 0 → ⊥) → Refused (r .number) (r .place)
+  unfolding ruled
   refused r e n = rw e (refused-from (letterIn s) refl (λ z. n (ap (λ (x : Reason). x .number) e ∙ z)))
 
-  pub passed : (r : Reason) → r ≡ reasonOf s → r .number ≡ 0 → Passed
-  unfolding reasonOf
+  pub passed : (r : Reason) → r ≡ ruled s → r .number ≡ 0 → Passed
+  unfolding ruled
   passed r e z = passed-from (letterIn s) refl (sym (ap (λ (x : Reason). x .number) e) ∙ z)
 
   pub passed-whole : Passed → Whole (run deepest s 0 (length s) false .how)

@@ -10,8 +10,8 @@ use normal::Answer;
 pub use reading::Match;
 pub use reading::Side;
 ghost use mathlib.Core.Path.{_≡_};
-ghost use Rattle.answers.specs.Answers.{CheckOutcome, NormalOutcome, ListOutcome, fetched, whyNot, Fetches, JoinedOutcome};
-ghost use Rattle.answers.specs.Short.{reasonOf, ShortOutcome};
+ghost use Rattle.answers.specs.Answers.{ruled, CheckOutcome, NormalOutcome, ListOutcome, fetched, whyNot, Fetches, JoinedOutcome};
+ghost use Rattle.answers.specs.Short.{ShortOutcome};
 
 // The most octets of a stream that the mailroom box asks about.
 const SHORT_LIMIT: usize = 65535;
@@ -146,7 +146,7 @@ pub fn joined(stream: &[u8], element: usize, out: &mut [u8]) -> Copied
 
 // Why rules 1 to 15 refuse a stream: 0 at 0 if they don't.
 fn refused_by(stream: &[u8]) -> Reason
-    ensures { λ r. ⌜ r ≡ reasonOf (now (stream .entry)) ⌝ }
+    ensures { λ r. ⌜ r ≡ ruled (now (stream .entry)) ⌝ }
 {
     let mut rows = [0u32; 0];
     let mut numbers = [0u32; 0];
