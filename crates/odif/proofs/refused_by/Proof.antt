@@ -1,6 +1,5 @@
 -- `odif::refused_by` meets its contract: the rules' work tells number and place. Assumes nothing.
 use borrow.Author.Needs.{needs}
-use denote.Ref.{now}
 use Rattle.odif.proofs.Short.{reason-told}
 use Rattle.odif.proofs.refused_by.Statement.{statement}
 use Rattle.odif.proofs.refused_by.Tie as tie
@@ -18,9 +17,7 @@ ask-requires : tie.Need-ask-requires
 ask-requires c κs = tt
 
 returns : tie.Need-returns
-returns c =
-    let s = now (c .before .before .before .before .before .before .before .before .before .before .args .stream) in
-    reason-told s (c .before .before .before .before .ask .ensures .answered)
+returns c = reason-told _ (c .before .before .before .ask .ensures .answered)
 
 pub refused-by-spec : {M : Type 1} → statement M
 refused-by-spec = tie.close (tie.spec slice-aggregate-ask slice-aggregate-ask-2 slice-aggregate-ask-3 ask-requires returns)
