@@ -9,7 +9,7 @@ use lib.ListN.{length, take, drop}
 use lib.Seq.{length-take-le}
 use borrow.Author.Tests.{ne-eqb, lt-ltb, le-ltb}
 use Rattle.index.specs.Rows.{rowWidth}
-use Rattle.elements.specs.Shape.{edition1988}
+use Rattle.elements.specs.declared.Edition.the-variants.{Of1988}
 use Rattle.elements.specs.Judge.{Element}
 use Rattle.elements.specs.Rows.{numbers}
 use Rattle.letters.specs.Letter.{letter, refusal}
@@ -28,7 +28,7 @@ module _ (s table : List ℕ) where
       → CheckOutcome s table (refusedCheck number place headers) table
   unfolding checked checkedTable
   checks-refused number place headers e =
-      let low = refusal-small edition1988 s number place headers e .low in
+      let low = refusal-small Of1988 s number place headers e .low in
       let some : eqb number 0 ≡ false = ne-eqb number 0 (λ z. omega arith) in
       record { answered = rw e; tabled = rw (e, some) }
 

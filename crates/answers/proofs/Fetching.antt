@@ -16,7 +16,7 @@ use Rattle.index.specs.Columns.{kindAt}
 use Rattle.contents.specs.declared.Span.{Span}
 use Rattle.contents.specs.Search.{Value, absent, octets}
 use Rattle.pieces.proofs.Joined.{joined-fits}
-use Rattle.elements.specs.Shape.{edition1988}
+use Rattle.elements.specs.declared.Edition.the-variants.{Of1988}
 use Rattle.elements.specs.Judge.{bytesOf, Content, single, joinedContent, Element}
 use Rattle.elements.specs.Says.{Bounds}
 use Rattle.letters.specs.Letter.{letter, refusal}
@@ -61,7 +61,7 @@ module _ (s : List ℕ) (asked : ℕ) where
     pub fetches-refused : Fetches s asked (nowhere number place)
     unfolding fetched located
     fetches-refused =
-        let low = refusal-small edition1988 s number place headers e .low in
+        let low = refusal-small Of1988 s number place headers e .low in
         let some-number : eqb number 0 ≡ false = ne-eqb number 0 (λ z. omega arith) in
         record { answered = rw (e, some-number); stands = record { part = rw e; order = omega arith; inside = omega arith } }
 

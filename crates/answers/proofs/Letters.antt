@@ -7,7 +7,7 @@ use Rattle.octets.specs.declared.Outcome.{Outcome}
 use Rattle.octets.specs.declared.Outcome.the-variants.{Ended, Refused}
 use Rattle.octets.specs.Walk.{walkOf}
 use Rattle.tree.specs.Tree.{treeOf}
-use Rattle.elements.specs.Shape.{Edition}
+use Rattle.elements.specs.declared.Edition.{Edition}
 use Rattle.elements.specs.Judge.{Element, Judged, accepted, refused, judge}
 use Rattle.elements.specs.Rows.{placeOf}
 use Rattle.letters.specs.Letter.{letter, refusal, itemsOfStream, afterWalk, byWalk, letterOf}

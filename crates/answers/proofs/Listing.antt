@@ -10,7 +10,7 @@ use lib.ListN.{length, drop}
 use borrow.Author.Tests.{ne-eqb, lt-ltb, le-ltb}
 use borrow.Table.Steps.{cases}
 use Rattle.index.specs.Rows.{rowWidth}
-use Rattle.elements.specs.Shape.{edition1988}
+use Rattle.elements.specs.declared.Edition.the-variants.{Of1988}
 use Rattle.elements.specs.Judge.{Element}
 use Rattle.letters.specs.Letter.{letter, refusal}
 use Rattle.reading.specs.declared.Match.{Match}
@@ -34,7 +34,7 @@ module _ (side : Side) (s table flat : List ℕ) (room : ℕ) where
       → ListsFlat side s table room (record { number = number; place = place; elements = 0; matches = 0 }) table flat
   unfolding listed listedTable
   lists-refused number place headers e =
-      let small = refusal-small edition1988 s number place headers e in
+      let small = refusal-small Of1988 s number place headers e in
       let some : eqb number 0 ≡ false = ne-eqb number 0 (λ z. omega arith) in
       let no-19 : eqb number 19 ≡ false = ne-eqb number 19 (λ z. omega arith) in
       record { answered = rw e; tabled = rw (e, some, no-19); stored = rw some (no-records flat); fits = omega arith; enough = omega arith }

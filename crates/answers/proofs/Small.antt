@@ -19,7 +19,8 @@ use Rattle.octets.proofs.Numbers.{Stops, run-stops, Before, nothing, stands, ru
 use Rattle.tree.specs.Tree.{Tree, empty, leaf, branch, treeOf}
 use Rattle.runs.proofs.Laws.{stream-within, stream-fine, stream-count, count-within}
 use Rattle.contents.specs.Search.{is, firstValue}
-use Rattle.elements.specs.Shape.{Edition, shapeOf}
+use Rattle.elements.specs.declared.Edition.{Edition}
+use Rattle.elements.specs.Shape.{shapeOf}
 use Rattle.elements.specs.Judge.{Element, elementOf, asTabled, typeFits, namesFit, Judged, accepted, refused, mostElements, profile, twice, refusalOf, judgeOne, judgeFrom, judge}
 use Rattle.elements.specs.Rows.{placeOf}
 use Rattle.letters.specs.Letter.{refusal, itemsOfStream, afterWalk, byWalk, letterOf}

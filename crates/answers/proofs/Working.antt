@@ -3,7 +3,7 @@ use mathlib.Core.Path.{_≡_, refl, ap, sym, _∙_, subst}
 use mathlib.Core.List.{List}
 use Prim.Native.Nat.{ℕ}
 use native.Mathlib.Omega.{arith}
-use Rattle.elements.specs.Shape.{edition1988}
+use Rattle.elements.specs.declared.Edition.the-variants.{Of1988}
 use Rattle.elements.specs.Judge.{Element}
 use Rattle.letters.specs.Letter.{Letter, letter, refusal}
 use Rattle.reading.specs.declared.Side.{Side}
@@ -49,7 +49,7 @@ pub record IsRefused (s : List ℕ) (number place : ℕ) : Type 0 where
 module _ (s : List ℕ) where
   letter-if : (l : Letter) → letterIn s ≡ l → ruledBy l .number ≡ 0 → IsLetter s
   letter-if (letter headers elements) e zero = record { headers = headers; elements = elements; judged = e }
-  letter-if (refusal number place headers) e zero = absurd (omega (arith, refusal-small edition1988 s number place headers e .low))
+  letter-if (refusal number place headers) e zero = absurd (omega (arith, refusal-small Of1988 s number place headers e .low))
 
   refused-if : (l : Letter) → letterIn s ≡ l → (ruledBy l .number ≡ 0 → ⊥) → IsRefused s (ruledBy l .number) (ruledBy l .place)
   refused-if (letter headers elements) e some = absurd (some refl)
@@ -109,7 +109,7 @@ module _ (s table flat out : List ℕ) where
   leaves-refused Check number place headers e = leaves-check (checks-refused s table number place headers e)
   leaves-refused (Content element) number place headers e = leaves-content (fetches-refused s element number place headers e)
   leaves-refused (Joined element) number place headers e =
-      let low = refusal-small edition1988 s number place headers e .low in
+      let low = refusal-small Of1988 s number place headers e .low in
       leaves-joined (joins-none s element out number place (λ z. omega arith) (joins-refused s element number place headers e))
   leaves-refused (Reading side room) number place headers e = leaves-list (lists-refused side s table flat room number place headers e)
 

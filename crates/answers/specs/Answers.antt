@@ -15,7 +15,7 @@ use Rattle.normal.specs.Normal.{normalForm}
 use Rattle.index.specs.Rows.{rowWidth}
 use Rattle.contents.specs.declared.Span.{Span}
 use Rattle.elements.specs.declared.Row.{Row}
-use Rattle.elements.specs.Shape.{edition1988}
+use Rattle.elements.specs.declared.Edition.the-variants.{Of1988}
 use Rattle.elements.specs.Judge.{Content, single, inPieces, bytesOf, joinedContent, Element}
 use Rattle.elements.specs.Rows.{numbers, noSpan}
 use Rattle.letters.specs.Letter.{Letter, letter, refusal, letterOf, rowsOfStream}
@@ -31,11 +31,11 @@ use Rattle.answers.specs.declared.Copied.{Copied}
 
 -- what a stream is by rules 1 to 15, in the edition of 1988
 abbrev pub letterIn : List ℕ → Letter
-letterIn s = letterOf edition1988 s
+letterIn s = letterOf Of1988 s
 
 -- its rows, if it is a letter
 abbrev pub rowsIn : List ℕ → List Row
-rowsIn s = rowsOfStream edition1988 s
+rowsIn s = rowsOfStream Of1988 s
 
 -- values in front of what a lent list held: "Rows past the count keep what they had", "Records past the count keep theirs", "Output past it
 -- stays"

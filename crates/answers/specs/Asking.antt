@@ -16,6 +16,7 @@ use Rattle.index.specs.Columns.{kindAt}
 use Rattle.pieces.specs.Pieces.{joined}
 use Rattle.letters.specs.declared.Held.the-variants.{Part, Pieces as PiecesIn}
 use Rattle.letters.specs.Lent.{rowsNeeded}
+use Rattle.elements.specs.declared.Edition.the-variants.{Of1988}
 use Rattle.letters.specs.Scratch.{Filled}
 use Rattle.letters.specs.Content.{HoldsElement}
 use Rattle.reading.specs.declared.Side.{Side}
@@ -34,13 +35,13 @@ pub record JudgedIn (s rows : List ℕ) (count : ℕ) : Type 0 where
   pub next : List ℕ
   pub head2 : List ℕ
   pub next2 : List ℕ
-  pub filled : Filled s rows head next head2 next2 count
+  pub filled : Filled Of1988 s rows head next head2 next2 count
 
 -- what is found of the element in row j: no text unit, or where its content stands
 pub data ContentAt (s rows : List ℕ) (j : ℕ) : ContentFound → Type 0 where
   otherKind : (kindAt rows j ≡ unitKind → ⊥) → ContentAt s rows j NoUnit
-  heldWhole : {first past : ℕ} → kindAt rows j ≡ unitKind → HoldsElement s j (Part first past) → ContentAt s rows j (Content first past)
-  heldInPieces : {run : Run} → kindAt rows j ≡ unitKind → HoldsElement s j (PiecesIn run) → ContentAt s rows j (Pieces run)
+  heldWhole : {first past : ℕ} → kindAt rows j ≡ unitKind → HoldsElement Of1988 s j (Part first past) → ContentAt s rows j (Content first past)
+  heldInPieces : {run : Run} → kindAt rows j ≡ unitKind → HoldsElement Of1988 s j (PiecesIn run) → ContentAt s rows j (Pieces run)
 
 -- the bounds of a refused fetch
 abbrev pub nowhere : (number place : ℕ) → Found

@@ -6,6 +6,7 @@ use super::Found;
 use super::IN_PIECES;
 use super::NO_UNIT;
 use super::ROW_WIDTH;
+use elements::Edition;
 use letters::Held;
 use runs::Run;
 ghost use Prim.Native.Nat.{_<_, _≤_};
@@ -24,13 +25,13 @@ const TEXT_UNIT: u32 = 3;
 // The content of the element whose row is given, if it is a text unit.
 fn content_at(stream: &[u8], rows: &[u32], element: usize) -> ContentFound
     requires { ⌜ Fine (now stream) (wholeStream (now stream)) ⌝ }
-    requires { ⌜ (element < 4096) × RowIn (now stream) (now rows) element ⌝ }
+    requires { ⌜ (element < 4096) × RowIn Edition.Of1988 (now stream) (now rows) element ⌝ }
     ensures { λ r. ⌜ ContentAt (now (stream .entry)) (now (rows .entry)) element r ⌝ }
 {
     if rows[element * ROW_WIDTH] != TEXT_UNIT {
         return ContentFound::NoUnit;
     }
-    match letters::content_of(stream, rows, element) {
+    match letters::content_of(Edition::Of1988, stream, rows, element) {
         Held::Part { first, past } => ContentFound::Content { first, past },
         Held::Pieces { run } => ContentFound::Pieces { run },
     }

@@ -17,7 +17,7 @@ use Rattle.octets.specs.Further.{told}
 use Rattle.headers.proofs.Lies.{cond-holds}
 use Rattle.octets.proofs.Half.{half}
 use Rattle.tree.specs.Tree.{treeOf}
-use Rattle.elements.specs.Shape.{edition1988}
+use Rattle.elements.specs.declared.Edition.the-variants.{Of1988}
 use Rattle.elements.specs.Judge.{Content, single, inPieces, Element, Judged, accepted, refused, judge}
 use Rattle.letters.specs.Letter.{Letter, letter, refusal, itemsOfStream, afterWalk, byWalk, letterOf}
 use Rattle.reading.specs.declared.Side.{Side}
@@ -47,7 +47,7 @@ pub told-zero : (s own : List ℕ) → Answered s own 0 0
 told-zero s own = record { one-of = inl (omega arith); inside = omega arith; at-start = λ o. refl }
 
 pub small-in : (s : List ℕ) (number place headers : ℕ) → letterIn s ≡ refusal number place headers → Small s number place headers
-small-in s number place headers e = refusal-small edition1988 s number place headers e
+small-in s number place headers e = refusal-small Of1988 s number place headers e
 
 module _ (s : List ℕ) where
   check-told-by : (table : List ℕ) (l : Letter) → letterIn s ≡ l → Answered s (16 ∷ []) (checkedBy l table .number) (checkedBy l table .place)
@@ -103,8 +103,8 @@ judged-headers : (s : List ℕ) (headers : ℕ) (j : Judged) → headersOf (afte
 judged-headers s headers (accepted elements) = refl
 judged-headers s headers (refused number element) = refl
 
-walked-headers : (s : List ℕ) (o : Outcome) → headersOf (byWalk edition1988 s o) ≡ told o .headers
-walked-headers s (Ended at headers) = judged-headers s headers (judge edition1988 (treeOf s))
+walked-headers : (s : List ℕ) (o : Outcome) → headersOf (byWalk Of1988 s o) ≡ told o .headers
+walked-headers s (Ended at headers) = judged-headers s headers (judge Of1988 (treeOf s))
 walked-headers s (Refused number place headers) = refl
 
 -- the check's header count is the walk's

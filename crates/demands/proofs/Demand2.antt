@@ -22,7 +22,7 @@ use Rattle.normal.specs.Normal.{normalForm}
 use Rattle.normal.proofs.RoundTrip.{round-trip, form-tree}
 use Rattle.index.specs.Rows.{rowWidth}
 use Rattle.elements.specs.declared.Row.{Row}
-use Rattle.elements.specs.Shape.{edition1988}
+use Rattle.elements.specs.declared.Edition.the-variants.{Of1988}
 use Rattle.elements.specs.Judge.{Element, accepted, judge}
 use Rattle.letters.specs.Letter.{letter, itemsOfStream}
 use Rattle.letters.proofs.Table.{end-to-end, pairs-within}
@@ -44,20 +44,20 @@ headers-tree s at headers w = stream-count s at headers w .1 ∙ count-tree (der
 module _ (s : List ℕ) (headers : ℕ) (elements : List Element) where
   letter-is : letterIn s ≡ letter headers elements → IsLetterOf s headers elements
   letter-is e =
-      let f = letter-found edition1988 s headers elements e in
+      let f = letter-found Of1988 s headers elements e in
       let (c, l) = means s (treeOf s) (accepts-walked (f .walked)) in
       record { tree = treeOf s; coded = c; within = l; shaped = f .judged; counted = headers-tree s (f .at) headers (f .walked) }
 
   is-letter : IsLetterOf s headers elements → letterIn s ≡ letter headers elements
   is-letter i =
       let a = accepts s (i .tree) (i .coded) (i .within) in
-      let j : judge edition1988 (treeOf s) ≡ accepted elements = ap (judge edition1988) (a .tree) ∙ i .shaped in
+      let j : judge Of1988 (treeOf s) ≡ accepted elements = ap (judge Of1988) (a .tree) ∙ i .shaped in
       let h : a .headers ≡ headers = headers-tree s (a .at) (a .headers) (a .ended) ∙ ap itemCount (a .tree) ∙ sym (i .counted) in
-      accepted-letter edition1988 s (a .at) (a .headers) elements (a .ended) j ∙ ap (λ (n : ℕ). letter n elements) h
+      accepted-letter Of1988 s (a .at) (a .headers) elements (a .ended) j ∙ ap (λ (n : ℕ). letter n elements) h
 
 module _ (s : List ℕ) (headers : ℕ) (elements : List Element) (e : letterIn s ≡ letter headers elements) where
-  found : Found edition1988 s headers elements
-  found = letter-found edition1988 s headers elements e
+  found : Found Of1988 s headers elements
+  found = letter-found Of1988 s headers elements e
 
   -- its rows
   items-proper : Proper s deepest (itemsOfStream s)
@@ -143,8 +143,8 @@ of-letter s headers elements e =
     record {
       checks = checks s headers elements e;
       checks-16 = checks-16 s headers elements e;
-      end-to-end = end-to-end edition1988 s fine;
-      pairs-within = pairs-within edition1988 s fine;
+      end-to-end = end-to-end Of1988 s fine;
+      pairs-within = pairs-within Of1988 s fine;
       rows-counted = counted s headers elements e;
       rows-tell = tell s headers elements e;
       content = content s headers elements e;
@@ -167,6 +167,6 @@ of-letter s headers elements e =
 pub demand2 : Demand2
 demand2 = record {
   accepted-is = λ s headers elements. (letter-is s headers elements, is-letter s headers elements);
-  refused-is = λ s. refused-is edition1988 s;
+  refused-is = λ s. refused-is Of1988 s;
   of-letter = of-letter;
 }

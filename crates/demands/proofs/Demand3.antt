@@ -13,7 +13,7 @@ use borrow.Author.Tests.{le-ltb, ltb-true, ltb-false}
 use borrow.Table.Steps.{cases}
 use Rattle.index.specs.Rows.{rowWidth}
 use Rattle.tree.specs.Tree.{treeOf}
-use Rattle.elements.specs.Shape.{edition1988}
+use Rattle.elements.specs.declared.Edition.the-variants.{Of1988}
 use Rattle.elements.specs.Judge.{Element}
 use Rattle.letters.specs.Letter.{letter}
 use Rattle.letters.specs.Apart.{Apart}
@@ -116,7 +116,7 @@ module _ (side : Side) (s : List ℕ) (headers : ℕ) (elements : List Element) 
 
   -- how many there are at most
   elements-apart : Apart elements
-  elements-apart = accepted-apart edition1988 (treeOf s) elements (letter-found edition1988 s headers elements e .judged)
+  elements-apart = accepted-apart Of1988 (treeOf s) elements (letter-found Of1988 s headers elements e .judged)
 
   at-most-units : length (matchesIn side s) ≤ units elements
   at-most-units = rw the-list (no-more-than-units elements elements-apart side)

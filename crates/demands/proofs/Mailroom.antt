@@ -19,7 +19,7 @@ use Rattle.tree.proofs.Meaning.{means}
 use Rattle.normal.specs.Normal.{Octets, normalForm}
 use Rattle.normal.specs.Short.{shortLimit}
 use Rattle.normal.proofs.Shorter.{never-longer}
-use Rattle.elements.specs.Shape.{edition1988}
+use Rattle.elements.specs.declared.Edition.the-variants.{Of1988}
 use Rattle.letters.specs.Letter.{Letter, letter, refusal}
 use Rattle.answers.specs.declared.Written.{Written}
 use Rattle.answers.specs.Answers.{letterIn, writtenBy, written, writtenOutput}
@@ -34,7 +34,7 @@ use Rattle.demands.proofs.Refusals.{refused-is}
 use Rattle.demands.proofs.SameLetter.{accepts-letter}
 
 -- the rules of elements are 9 to 15
-from-9 : {before : List TopItem} {item : TopItem} (n : ℕ) → Refuses edition1988 before item n → 9 ≤ n
+from-9 : {before : List TopItem} {item : TopItem} (n : ℕ) → Refuses Of1988 before item n → 9 ≤ n
 from-9 n (too-many l) = omega arith
 from-9 n (unknown e) = omega arith
 from-9 n (no-profile z e) = omega arith
@@ -44,12 +44,12 @@ from-9 n (mistyped e) = omega arith
 from-9 n (misspelt e) = omega arith
 from-9 n (repeated t) = omega arith
 
-by-9 : {t : Tree} {j : ℕ} (n : ℕ) → RefusedBy edition1988 t n j → 9 ≤ n
+by-9 : {t : Tree} {j : ℕ} (n : ℕ) → RefusedBy Of1988 t n j → 9 ≤ n
 by-9 n (no-element e) = omega arith
 by-9 n (at-element at) = from-9 n (at .refuses)
 
 -- 1 is given to long streams alone
-long-by : (s : List ℕ) (number place : ℕ) → number ≡ 1 → RefusedWith edition1988 s number place → streamLimit < length s
+long-by : (s : List ℕ) (number place : ℕ) → number ≡ 1 → RefusedWith Of1988 s number place → streamLimit < length s
 long-by s number place e (too-long l) = l
 long-by s number place e (at-fault l runs) =
     let stopped = subst (λ (w : Walked). Stops (length s) (w .how)) (sym (derived runs)) (run-stops deepest s 0 (length s) false (omega arith)) in
@@ -57,7 +57,7 @@ long-by s number place e (at-fault l runs) =
 long-by s number place e (by-element l runs r) = absurd (omega (arith, by-9 number r))
 
 never-1 : (s : List ℕ) (place headers : ℕ) → length s ≤ shortLimit → letterIn s ≡ refusal 1 place headers → ⊥
-never-1 s place headers l e = let m = long-by s 1 place refl (refused-is edition1988 s 1 place .0 (headers, e)) in omega arith
+never-1 s place headers l e = let m = long-by s 1 place refl (refused-is Of1988 s 1 place .0 (headers, e)) in omega arith
 
 module _ (s : List ℕ) where
   abbrev size : ℕ
@@ -123,7 +123,7 @@ module _ (s : List ℕ) where
     same o l = ap given (short-is l) ∙ same-by (letterIn s) refl o l
 
     enough-by : (l : Letter) → letterIn s ≡ l → Octets s → length s ≤ shortLimit → length s ≤ length out → given l .number ≡ 18 → ⊥
-    enough-by (refusal number place headers) e o l room z = omega (arith, refusal-small edition1988 s number place headers e .high)
+    enough-by (refusal number place headers) e o l room z = omega (arith, refusal-small Of1988 s number place headers e .high)
     enough-by (letter headers elements) e o l room z =
         let m = no-longer (record { headers = headers; elements = elements; judged = e }) o l in
         let k : _≡_ {A = ℕ} 0 18 = rw (le-ltb (length out) size (omega arith)) at z in

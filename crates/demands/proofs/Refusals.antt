@@ -18,7 +18,8 @@ use Rattle.octets.specs.Rules.{Runs}
 use Rattle.octets.proofs.RulesHold.{derived, derives}
 use Rattle.tree.specs.Tree.{Tree, empty, leaf, branch, treeOf}
 use Rattle.contents.specs.Search.{is, firstValue}
-use Rattle.elements.specs.Shape.{Edition, shapeOf}
+use Rattle.elements.specs.declared.Edition.{Edition}
+use Rattle.elements.specs.Shape.{shapeOf}
 use Rattle.elements.specs.Judge.{Element, asTabled, typeFits, namesFit, mostElements, profile, twice, Rule, _when_, firstOf, refusalOf, Judged, accepted, refused, judgeOne, judgeFrom, judge}
 use Rattle.elements.specs.Rows.{placeOf}
 use Rattle.letters.specs.Letter.{refusal, itemsOfStream, afterWalk, byWalk, letterOf}

@@ -19,7 +19,8 @@ use Rattle.normal.proofs.RoundTrip.{form-definite, again, same-form}
 use Rattle.normal.proofs.Shorter.{none-shorter}
 use Rattle.contents.specs.Search.{absent, amount, firstValue, firstRun}
 use Rattle.portions.specs.Portions.{allPortions, values, wellSpelt, repeats}
-use Rattle.elements.specs.Shape.{edition1988, shapeOf}
+use Rattle.elements.specs.declared.Edition.the-variants.{Of1988}
+use Rattle.elements.specs.Shape.{shapeOf}
 use Rattle.elements.specs.Judge.{single, Element, bodyOf, contentOf, elementOf, ordered, asTabled, namesFit, clash, twice, refusalOf, judgeOne, judgeFrom, judge}
 use Rattle.elements.specs.Rows.{placeOf}
 use Rattle.letters.specs.Letter.{Letter, letter, refusal, letterOf}
@@ -33,7 +34,7 @@ use Rattle.demands.proofs.Demand2.{writes, normal-accepted}
 
 -- a letter is accepted with its tree
 pub accepts-letter : (s : List ℕ) → IsAccepted s → Accepts s (treeOf s)
-accepts-letter s i = accepts-walked (letter-found edition1988 s (i .headers) (i .elements) (i .judged) .walked)
+accepts-letter s i = accepts-walked (letter-found Of1988 s (i .headers) (i .elements) (i .judged) .walked)
 
 -- what was written of a stream that was not refused: of a letter its normal form, which is within the limit
 record Wrote (s out : List ℕ) : Type 0 where
@@ -50,7 +51,7 @@ in-front s out i within room =
     (ap (λ (a : Written). a .number) answered, rw (size, put) (take-append-seam (normalForm s) (drop (length (normalForm s)) out)))
 
 wrote-by : (s out : List ℕ) (l : Letter) → letterIn s ≡ l → writtenBy l (normalForm s) out .number ≡ 0 → Wrote s out
-wrote-by s out (refusal number place headers) e z = absurd (omega (arith, refusal-small edition1988 s number place headers e .low))
+wrote-by s out (refusal number place headers) e z = absurd (omega (arith, refusal-small Of1988 s number place headers e .low))
 wrote-by s out (letter headers elements) e z =
     let size = length (normalForm s) in
     let i : IsAccepted s = record { headers = headers; elements = elements; judged = e } in

@@ -28,10 +28,11 @@ use Rattle.portions.specs.Portions.{allPortions, values, all}
 use Rattle.elements.specs.Rows.{noSpan, bytesIn, bodyIn, contentOctet, rowOf, rowsOf}
 use Rattle.elements.specs.declared.Row.{Row}
 use Rattle.elements.specs.declared.Shape.{Shape}
-use Rattle.elements.specs.Shape.{edition1988, shapeOf}
+use Rattle.elements.specs.declared.Edition.the-variants.{Of1988}
+use Rattle.elements.specs.Shape.{shapeOf}
 use Rattle.elements.specs.Judge.{atMostOne, noneOf, contentOf, piecesAlone, Element, bodyOf, elementOf, ordered, asTabled, accepted, judge}
 use Rattle.elements.specs.WellMade.{WellMade}
-use Rattle.elements.proofs.Made.{made-1988}
+use Rattle.elements.proofs.Made.{made}
 use Rattle.letters.proofs.Nested.{past-between, stays}
 use Rattle.demands.specs.Refusals.{TopItem, topItems, saysIn, misshapen}
 use Rattle.demands.specs.Demands.{itemCount, TellsValue, TellsContent, portionItems, RowTells}
@@ -250,18 +251,18 @@ module _ (s : List ℕ) where
       rw t (codes-at s (shape .pieces) (constructed-by (shape .pieces) (made .pieces) (λ z. present (zero-at s p (shape .pieces) z))) p present))
 
   abbrev shapeAt : ℕ → Shape
-  shapeAt octet = shapeOf edition1988 (octet ∷ [])
+  shapeAt octet = shapeOf Of1988 (octet ∷ [])
 
   abbrev itemAt : (octet : ℕ) → Items → TopItem
   itemAt octet inside = record { type = octet ∷ []; run = plain s inside }
 
   row-tells : (octet first past : ℕ) (inside : Items) → Proper s (deepest - 1) inside
       → allPortions (firstRun (shapeAt octet .portions) (bodyOf (shapeAt octet) (plain s inside))) ≡ true
-      → RowTells s (rowOf (shapeAt octet) s first past inside) (itemAt octet inside) (saysIn edition1988 (itemAt octet inside))
+      → RowTells s (rowOf (shapeAt octet) s first past inside) (itemAt octet inside) (saysIn Of1988 (itemAt octet inside))
   unfolding rowOf elementOf
   row-tells octet first past inside p only =
       let shape = shapeAt octet in
-      let made = made-1988 octet in
+      let made = made Of1988 (octet ∷ []) in
       let body = bodyIn shape inside in
       let same : plain s body ≡ bodyOf shape (plain s inside) = body-at s shape made inside in
       let q = body-proper s shape p .1 in
@@ -296,7 +297,7 @@ module _ (s : List ℕ) where
     row-is : rowOf (shapeAt octet) s first past inside ≡ row
     item-is : itemAt octet inside ≡ top
 
-  of-one : {i : Items} → Proper s deepest i → (j : ℕ) (row : Row) (top : TopItem) → getElem? (rowsOf edition1988 s i) j ≡ some row
+  of-one : {i : Items} → Proper s deepest i → (j : ℕ) (row : Row) (top : TopItem) → getElem? (rowsOf Of1988 s i) j ≡ some row
       → getElem? (topItems (plain s i)) j ≡ some top → OfOne row top
   unfolding rowsOf
   of-one no-more j row top e f = let z : _≡_ {A = ℕ} 0 1 = cc in absurd (omega arith)
@@ -311,15 +312,15 @@ module _ (s : List ℕ) where
       of-one q j row top e (sym (ap (λ (ts : List TopItem). getElem? ts (suc j)) tops) ∙ f)
 
   -- as many rows as elements
-  rows-count : {i : Items} → Proper s deepest i → length (rowsOf edition1988 s i) ≡ length (topItems (plain s i))
+  rows-count : {i : Items} → Proper s deepest i → length (rowsOf Of1988 s i) ≡ length (topItems (plain s i))
   unfolding rowsOf
   rows-count no-more = refl
   rows-count (more {octet = octet} {start} {past} {inside} {after} there n nothing-in codes p q) =
       ap suc (rows-count q) ∙ sym (ap length (same-top octet (slice start past s) inside (plain s after) nothing-in))
 
-said-at : (tops : List TopItem) (j : ℕ) (top : TopItem) → getElem? tops j ≡ some top → getElem? (map (saysIn edition1988) tops) j ≡ some (saysIn edition1988 top)
+said-at : (tops : List TopItem) (j : ℕ) (top : TopItem) → getElem? tops j ≡ some top → getElem? (map (saysIn Of1988) tops) j ≡ some (saysIn Of1988 top)
 said-at [] j top e = let z : _≡_ {A = ℕ} 0 1 = cc in absurd (omega arith)
-said-at (x ∷ tops) zero top e = let p : x ≡ top = cc in ap (λ (y : TopItem). some (saysIn edition1988 y)) p
+said-at (x ∷ tops) zero top e = let p : x ≡ top = cc in ap (λ (y : TopItem). some (saysIn Of1988 y)) p
 said-at (x ∷ tops) (suc j) top e = said-at tops j top e
 
 -- of a list of tests that all hold, each does
@@ -344,29 +345,29 @@ tabled-portions shape run e =
     ∷ allPortions (firstRun (shape .portions) body)
     ∷ []) e 8 (allPortions (firstRun (shape .portions) body)) refl
 
-module _ (s : List ℕ) {i : Items} (p : Proper s deepest i) (elements : List Element) (judged : judge edition1988 (plain s i) ≡ accepted elements) where
+module _ (s : List ℕ) {i : Items} (p : Proper s deepest i) (elements : List Element) (judged : judge Of1988 (plain s i) ≡ accepted elements) where
   pub tops-counted : length (topItems (plain s i)) ≡ length elements
-  tops-counted = sym (length-map (topItems (plain s i)) (saysIn edition1988)) ∙ ap length (sym (accepted-elements edition1988 (plain s i) elements judged))
+  tops-counted = sym (length-map (topItems (plain s i)) (saysIn Of1988)) ∙ ap length (sym (accepted-elements Of1988 (plain s i) elements judged))
 
-  pub rows-counted : length (rowsOf edition1988 s i) ≡ length elements
+  pub rows-counted : length (rowsOf Of1988 s i) ≡ length elements
   rows-counted = rows-count s p ∙ tops-counted
 
-  as-tabled : (j : ℕ) (top : TopItem) → getElem? (topItems (plain s i)) j ≡ some top → asTabled (shapeOf edition1988 (top .type)) (top .run) ≡ true
+  as-tabled : (j : ℕ) (top : TopItem) → getElem? (topItems (plain s i)) j ≡ some top → asTabled (shapeOf Of1988 (top .type)) (top .run) ≡ true
   as-tabled j top there =
-      cases (asTabled (shapeOf edition1988 (top .type)) (top .run))
+      cases (asTabled (shapeOf Of1988 (top .type)) (top .run))
       (λ t. t)
-      (λ t. absurd (accepted-pass edition1988 (plain s i) elements judged j top there 12 (misshapen t)))
+      (λ t. absurd (accepted-pass Of1988 (plain s i) elements judged j top there 12 (misshapen t)))
 
-  pub rows-tell : (j : ℕ) (row : Row) (top : TopItem) (element : Element) → getElem? (rowsOf edition1988 s i) j ≡ some row
+  pub rows-tell : (j : ℕ) (row : Row) (top : TopItem) (element : Element) → getElem? (rowsOf Of1988 s i) j ≡ some row
       → getElem? (topItems (plain s i)) j ≡ some top → getElem? elements j ≡ some element → RowTells s row top element
   rows-tell j row top element e there f =
       let o = of-one s p j row top e there in
-      let g : some (saysIn edition1988 top) ≡ some element =
+      let g : some (saysIn Of1988 top) ≡ some element =
       sym (said-at (topItems (plain s i)) j top there)
-      ∙ ap (λ (es : List Element). getElem? es j) (sym (accepted-elements edition1988 (plain s i) elements judged)) ∙ f in
-      let x : saysIn edition1988 top ≡ element = cc in
-      let tabled = subst (λ (y : TopItem). asTabled (shapeOf edition1988 (y .type)) (y .run) ≡ true) (sym (o .item-is)) (as-tabled j top there) in
+      ∙ ap (λ (es : List Element). getElem? es j) (sym (accepted-elements Of1988 (plain s i) elements judged)) ∙ f in
+      let x : saysIn Of1988 top ≡ element = cc in
+      let tabled = subst (λ (y : TopItem). asTabled (shapeOf Of1988 (y .type)) (y .run) ≡ true) (sym (o .item-is)) (as-tabled j top there) in
       let told = row-tells s (o .octet) (o .first) (o .past) (o .inside) (o .inside-proper) (tabled-portions _ _ tabled) in
-      let at-item = subst (λ (y : TopItem). RowTells s (rowOf (shapeAt s (o .octet)) s (o .first) (o .past) (o .inside)) y (saysIn edition1988 y)) (o .item-is) told in
+      let at-item = subst (λ (y : TopItem). RowTells s (rowOf (shapeAt s (o .octet)) s (o .first) (o .past) (o .inside)) y (saysIn Of1988 y)) (o .item-is) told in
       subst (λ (r : Row). RowTells s r top element) (o .row-is)
       (subst (RowTells s (rowOf (shapeAt s (o .octet)) s (o .first) (o .past) (o .inside)) top) x at-item)

@@ -16,7 +16,8 @@ use Rattle.contents.specs.declared.Span.{Span}
 use Rattle.contents.specs.Search.{Value, absent, octets, amount}
 use Rattle.elements.specs.Rows.{noSpan, bytesIn}
 use Rattle.elements.specs.declared.Row.{Row}
-use Rattle.elements.specs.Shape.{edition1988, shapeOf}
+use Rattle.elements.specs.declared.Edition.the-variants.{Of1988}
+use Rattle.elements.specs.Shape.{shapeOf}
 use Rattle.elements.specs.Judge.{bytesOf, Content, single, inPieces, joinedContent, Element, bodyOf, accepted, judge}
 use Rattle.letters.specs.Letter.{letter, refusal, itemsOfStream, EndToEnd, PairsWithin}
 use Rattle.reading.specs.declared.Match.{Match}
@@ -76,7 +77,7 @@ pub record IsLetterOf (s : List ℕ) (headers : ℕ) (elements : List Element) :
   pub tree : Tree
   pub coded : Codes deepest tree s
   pub within : length s ≤ streamLimit
-  pub shaped : judge edition1988 tree ≡ accepted elements
+  pub shaped : judge Of1988 tree ≡ accepted elements
   pub counted : headers ≡ itemCount tree
 
 -- the levels that are left for pieces: an element stands at level 1, the 24 at level 2, and "level 16 is the deepest"
@@ -100,7 +101,7 @@ portionItems (portion ∷ portions) = leaf (0x12 ∷ []) portion (portionItems p
 
 -- an element has no item for portions, which is more than that it lists none
 abbrev pub NoPortions : TopItem → Type 0
-NoPortions item = let shape = shapeOf edition1988 (item .type) in amount (shape .portions) (bodyOf shape (item .run)) ≡ 0
+NoPortions item = let shape = shapeOf Of1988 (item .type) in amount (shape .portions) (bodyOf shape (item .run)) ≡ 0
 
 -- a row tells what its element says: its kind and object type, and octets of the stream
 pub record RowTells (s : List ℕ) (row : Row) (item : TopItem) (element : Element) : Type 0 where
@@ -166,7 +167,7 @@ pub record OfLetter (s : List ℕ) (headers : ℕ) (elements : List Element) : T
 -- first of 1 to 15 whose condition holds.
 pub record Demand2 : Type 0 where
   pub accepted-is : (s : List ℕ) (headers : ℕ) (elements : List Element) → (letterIn s ≡ letter headers elements) ↔ IsLetterOf s headers elements
-  pub refused-is : (s : List ℕ) (number place : ℕ) → ((headers : ℕ) × (letterIn s ≡ refusal number place headers)) ↔ RefusedWith edition1988 s number place
+  pub refused-is : (s : List ℕ) (number place : ℕ) → ((headers : ℕ) × (letterIn s ≡ refusal number place headers)) ↔ RefusedWith Of1988 s number place
   pub of-letter : (s : List ℕ) (headers : ℕ) (elements : List Element) → letterIn s ≡ letter headers elements → OfLetter s headers elements
 
 -- a record stands somewhere in a list

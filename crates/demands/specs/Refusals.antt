@@ -11,7 +11,8 @@ use Rattle.octets.specs.Walk.{Items, streamLimit, deepest, ends, stops}
 use Rattle.octets.specs.Rules.{Runs}
 use Rattle.tree.specs.Tree.{Tree, empty, leaf, branch, treeOf}
 use Rattle.contents.specs.Search.{is, firstValue}
-use Rattle.elements.specs.Shape.{Edition, shapeOf}
+use Rattle.elements.specs.declared.Edition.{Edition}
+use Rattle.elements.specs.Shape.{shapeOf}
 use Rattle.elements.specs.Judge.{Element, elementOf, asTabled, typeFits, namesFit, mostElements, profile, twice}
 use Rattle.elements.specs.Rows.{placeOf}
 use Rattle.letters.specs.Letter.{itemsOfStream}

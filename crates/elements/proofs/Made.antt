@@ -1,4 +1,4 @@
--- Every shape of 1988 is well made: a test that says so is computed over the list of shapes, and `shapeOf` gives one of them.
+-- Every shape of an edition is well made: a test that says so is computed over the list of shapes, and `shapeOf` gives one of them.
 -- Assumes nothing.
 use mathlib.Core.Path.{_≡_, refl}
 use mathlib.Core.Bool.{Bool, true, false, cond, not, _||_, true≢false, false≢true}
@@ -11,7 +11,9 @@ use Rattle.headers.specs.Head.{constructed}
 use Rattle.contents.specs.Search.{is}
 use Rattle.portions.specs.Portions.{all}
 use Rattle.elements.specs.declared.Shape.{Shape}
-use Rattle.elements.specs.Shape.{Edition, shapeOf, edition1988, noShape}
+use Rattle.elements.specs.declared.Edition.{Edition}
+use Rattle.elements.specs.declared.Edition.the-variants.{Of1988}
+use Rattle.elements.specs.Shape.{Shapes, shapesOf, shapeIn, shapeOf, noShape}
 use Rattle.elements.specs.WellMade.{WellMade}
 
 -- the fields of `WellMade` as tests
@@ -75,16 +77,19 @@ one-of : (b : Bool) (x y : Shape) → WellMade x → WellMade y → WellMade (co
 one-of true x y p q = p
 one-of false x y p q = q
 
--- whether the shapes of an edition pass
-abbrev passed : Edition → List Bool
-passed edition = map (λ shape. all (tests shape)) edition
+-- whether shapes pass
+abbrev passed : Shapes → List Bool
+passed shapes = map (λ shape. all (tests shape)) shapes
 
--- the shape of any type field; where the edition has none, that of no element
-shape-made : (edition : Edition) → Every (passed edition) → (type : List ℕ) → WellMade (shapeOf edition type)
-unfolding shapeOf
+-- the shape of any type field; where there is none, that of no element
+shape-made : (shapes : Shapes) → Every (passed shapes) → (type : List ℕ) → WellMade (shapeIn shapes type)
 shape-made [] m type = well-made noShape refl
 shape-made (shape ∷ shapes) m type =
-    one-of (is (shape .octet) type) shape (shapeOf shapes type) (well-made shape (m .0)) (shape-made shapes (m .1) type)
+    one-of (is (shape .octet) type) shape (shapeIn shapes type) (well-made shape (m .0)) (shape-made shapes (m .1) type)
 
-pub made-1988 : (octet : ℕ) → WellMade (shapeOf edition1988 (octet ∷ []))
-made-1988 octet = shape-made edition1988 (every (passed edition1988) refl) (octet ∷ [])
+all-passed : (edition : Edition) → all (passed (shapesOf edition)) ≡ true
+all-passed Of1988 = refl
+
+pub made : (edition : Edition) (type : List ℕ) → WellMade (shapeOf edition type)
+unfolding shapeOf
+made edition type = shape-made (shapesOf edition) (every (passed (shapesOf edition)) (all-passed edition)) type

@@ -7,7 +7,8 @@ use lib.Dec.{eqb, leb}
 use lib.ListN.{length}
 use Rattle.tree.specs.Tree.{Tree}
 use Rattle.contents.specs.Search.{is, firstValue}
-use Rattle.elements.specs.Shape.{Edition, shapeOf}
+use Rattle.elements.specs.declared.Edition.{Edition}
+use Rattle.elements.specs.Shape.{shapeOf}
 use Rattle.elements.specs.Judge.{Element, elementOf, asTabled, typeFits, namesFit, mostElements, profile, twice, firstOf, _when_, shapeRefusal, refusalOf}
 use Rattle.elements.specs.Sees.{numberOf}
 

@@ -13,7 +13,8 @@ use Rattle.contents.specs.Search.{Value, absent, octets, amount, firstRun, firs
 use Rattle.pieces.specs.Pieces.{joined, onlyPieces}
 use Rattle.portions.specs.Portions.{all, allPortions, values, wellSpelt, any, repeats}
 use Rattle.elements.specs.declared.Shape.{Shape}
-use Rattle.elements.specs.Shape.{Edition, shapeOf}
+use Rattle.elements.specs.declared.Edition.{Edition}
+use Rattle.elements.specs.Shape.{shapeOf}
 
 -- where the items stand that name an element: nowhere, among its own items, or in one of them
 unfoldable pub bodyOf : Shape → Tree → Tree

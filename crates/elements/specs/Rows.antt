@@ -13,7 +13,8 @@ use Rattle.contents.specs.Search.{itemsIn, boundsOf}
 use Rattle.contents.specs.declared.Span.{Span}
 use Rattle.elements.specs.declared.Shape.{Shape}
 use Rattle.elements.specs.declared.Row.{Row}
-use Rattle.elements.specs.Shape.{Edition, shapeOf}
+use Rattle.elements.specs.declared.Edition.{Edition}
+use Rattle.elements.specs.Shape.{shapeOf}
 use Rattle.elements.specs.Judge.{noneOf, elementOf}
 
 -- the pair of what is absent

@@ -1,10 +1,12 @@
--- The element table of document 01, "Element rules", as data: a record for each shape, a list of shapes for an edition.
+-- The element table of document 01, "Element rules", as data: a record for each shape, a list of shapes for each edition.
 -- Definitions only: assumes nothing.
 use Prim.Native.Nat.{ℕ}
-use mathlib.Core.Bool.{true, false, cond}
+use mathlib.Core.Bool.{Bool, true, false, cond}
 use mathlib.Core.List.{List, [], _∷_}
 use Rattle.contents.specs.declared.Slot.{Slot}
 use Rattle.contents.specs.Search.{is}
+use Rattle.elements.specs.declared.Edition.{Edition}
+use Rattle.elements.specs.declared.Edition.the-variants.{Of1988}
 use Rattle.elements.specs.declared.Shape.{Shape}
 
 -- an item that is required, may be missing, or is none at all: no item has octet 0
@@ -13,6 +15,10 @@ required octet = record { octet = octet; needed = true }
 
 abbrev pub optional : ℕ → Slot
 optional octet = record { octet = octet; needed = false }
+
+-- required, or else it may be missing
+abbrev pub slot : (needed : Bool) → ℕ → Slot
+slot needed octet = record { octet = octet; needed = needed }
 
 abbrev pub nothing : Slot
 nothing = optional 0
@@ -38,39 +44,19 @@ profileShape octet = record {
   pieces = 0;
 }
 
--- "A1, A5 layout class, logical class: 02, then 31; 41 required in the 31". "In the 31 of a class or object: at most one 41 (its
--- identifier), at most one A1 (portions, ..), no 61 and no 81."
-abbrev pub classShape : (octet types : ℕ) → Shape
-classShape octet types = record {
+-- A class, of which the items are needed, or an object. "A1, A5 layout class, logical class: 02, then 31; 41 required in the 31". "A2, A6
+-- layout object, logical object: 02 or nothing, then 31 or nothing". "In the 31 of a class or object: at most one 41 (its identifier), at
+-- most one A1 (portions, ..), no 61 and no 81."
+abbrev pub describedShape : (octet : ℕ) (needed : Bool) (types : ℕ) → Shape
+describedShape octet needed types = record {
   octet = octet;
   looked = true;
   free = false;
-  one = required 0x02;
-  two = required 0x31;
-  instead = required 0x31;
+  one = slot needed 0x02;
+  two = slot needed 0x31;
+  instead = slot needed 0x31;
   within = 0x31;
-  identifier = required 0x41;
-  logical = 0;
-  portions = 0xA1;
-  never = 0x61;
-  neither = 0x81;
-  object = 0x02;
-  types = types;
-  content = 0;
-  pieces = 0;
-}
-
--- "A2, A6 layout object, logical object: 02 or nothing, then 31 or nothing"
-abbrev pub objectShape : (octet types : ℕ) → Shape
-objectShape octet types = record {
-  octet = octet;
-  looked = true;
-  free = false;
-  one = optional 0x02;
-  two = optional 0x31;
-  instead = optional 0x31;
-  within = 0x31;
-  identifier = optional 0x41;
+  identifier = slot needed 0x41;
   logical = 0;
   portions = 0xA1;
   never = 0x61;
@@ -128,8 +114,9 @@ styleShape octet = record {
 abbrev pub noShape : Shape
 noShape = profileShape 0
 
-abbrev pub Edition : Type 0
-Edition = List Shape
+-- the shapes of elements, one for each octet that an element may have
+abbrev pub Shapes : Type 0
+Shapes = List Shape
 
 -- "The 02 has one value octet: 0 to 4 for layout, 0 to 2 for logical."
 abbrev pub layoutTypes : ℕ
@@ -139,12 +126,19 @@ abbrev pub logicalTypes : ℕ
 logicalTypes = 3
 
 -- the elements of 1988
-abbrev pub edition1988 : Edition
-edition1988 =
-    profileShape 0xA0 ∷ classShape 0xA1 layoutTypes ∷ objectShape 0xA2 layoutTypes ∷ unitShape 0xA3
-    ∷ classShape 0xA5 logicalTypes ∷ objectShape 0xA6 logicalTypes ∷ styleShape 0xA7 ∷ styleShape 0xA8 ∷ []
+abbrev pub shapes1988 : Shapes
+shapes1988 =
+    profileShape 0xA0 ∷ describedShape 0xA1 true layoutTypes ∷ describedShape 0xA2 false layoutTypes ∷ unitShape 0xA3
+    ∷ describedShape 0xA5 true logicalTypes ∷ describedShape 0xA6 false logicalTypes ∷ styleShape 0xA7 ∷ styleShape 0xA8 ∷ []
 
--- the shape of an element by its type field
+-- the shapes that an edition has
+abbrev pub shapesOf : Edition → Shapes
+shapesOf Of1988 = shapes1988
+
+-- the shape of an element by its type field, among shapes and in an edition
+abbrev pub shapeIn : Shapes → (type : List ℕ) → Shape
+shapeIn [] type = noShape
+shapeIn (shape ∷ shapes) type = cond (is (shape .octet) type) shape (shapeIn shapes type)
+
 unfoldable pub shapeOf : Edition → (type : List ℕ) → Shape
-shapeOf [] type = noShape
-shapeOf (shape ∷ shapes) type = cond (is (shape .octet) type) shape (shapeOf shapes type)
+shapeOf edition type = shapeIn (shapesOf edition) type

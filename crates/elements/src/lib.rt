@@ -19,10 +19,16 @@ ghost use Rattle.elements.specs.Sees.{soughtOf, rowBy, refusedBy, seenBy
 
 mod frames; // frames.rt: the top of an element
 mod rules; // rules.rt: rules 12 to 14, by what was found
-mod shapes; // shapes.rt: the shapes of the edition of 1988
+mod shapes; // shapes.rt: the shapes of an edition
 
 pub use frames::holder_in;
-pub use shapes::shape_1988;
+pub use shapes::shape_of;
+
+// Which edition of the Recommendation a letter is read by. It travels by value from a question to the look-up of a shape, and decides
+// nothing else.
+pub enum Edition {
+    Of1988,
+}
 
 // The object type of an element that has none.
 pub const NO_TYPE: usize = 255;

@@ -1,9 +1,10 @@
 // The shapes of elements, and which octet has which. Made anew at each use: a table would be copied for it.
+use super::Edition;
 use super::Shape;
 use contents::Slot;
 ghost use mathlib.Core.Path.{_≡_};
 ghost use mathlib.Core.List.{[], _∷_};
-ghost use Rattle.elements.specs.Shape.{profileShape, classShape, objectShape, unitShape, styleShape, edition1988, shapeOf};
+ghost use Rattle.elements.specs.Shape.{profileShape, describedShape, unitShape, styleShape, shapes1988, shapeIn, shapeOf};
 
 const NO_ITEM: Slot = Slot {
     octet: 0,
@@ -37,8 +38,9 @@ fn profile_shape(octet: usize) -> Shape
     }
 }
 
-fn class_shape(octet: usize, types: usize) -> Shape
-    ensures { λ r. ⌜ r ≡ classShape octet types ⌝ }
+// A class, of which the items are needed, or an object.
+fn described_shape(octet: usize, needed: bool, types: usize) -> Shape
+    ensures { λ r. ⌜ r ≡ describedShape octet needed types ⌝ }
 {
     Shape {
         octet,
@@ -46,55 +48,20 @@ fn class_shape(octet: usize, types: usize) -> Shape
         free: false,
         one: Slot {
             octet: 0x02,
-            needed: true,
+            needed,
         },
         two: Slot {
             octet: 0x31,
-            needed: true,
+            needed,
         },
         instead: Slot {
             octet: 0x31,
-            needed: true,
+            needed,
         },
         within: 0x31,
         identifier: Slot {
             octet: 0x41,
-            needed: true,
-        },
-        logical: 0,
-        portions: 0xA1,
-        never: 0x61,
-        neither: 0x81,
-        object: 0x02,
-        types,
-        content: 0,
-        pieces: 0,
-    }
-}
-
-fn object_shape(octet: usize, types: usize) -> Shape
-    ensures { λ r. ⌜ r ≡ objectShape octet types ⌝ }
-{
-    Shape {
-        octet,
-        looked: true,
-        free: false,
-        one: Slot {
-            octet: 0x02,
-            needed: false,
-        },
-        two: Slot {
-            octet: 0x31,
-            needed: false,
-        },
-        instead: Slot {
-            octet: 0x31,
-            needed: false,
-        },
-        within: 0x31,
-        identifier: Slot {
-            octet: 0x41,
-            needed: false,
+            needed,
         },
         logical: 0,
         portions: 0xA1,
@@ -168,19 +135,27 @@ fn style_shape(octet: usize) -> Shape
     }
 }
 
-// The shape of an element by its octet, in the edition of 1988.
-pub fn shape_1988(octet: usize) -> Shape
-    ensures { λ r. ⌜ r ≡ shapeOf edition1988 (octet ∷ []) ⌝ }
+fn shape_1988(octet: usize) -> Shape
+    ensures { λ r. ⌜ r ≡ shapeIn shapes1988 (octet ∷ []) ⌝ }
 {
     match octet {
         0xA0 => profile_shape(0xA0),
-        0xA1 => class_shape(0xA1, LAYOUT_TYPES),
-        0xA2 => object_shape(0xA2, LAYOUT_TYPES),
+        0xA1 => described_shape(0xA1, true, LAYOUT_TYPES),
+        0xA2 => described_shape(0xA2, false, LAYOUT_TYPES),
         0xA3 => unit_shape(0xA3),
-        0xA5 => class_shape(0xA5, LOGICAL_TYPES),
-        0xA6 => object_shape(0xA6, LOGICAL_TYPES),
+        0xA5 => described_shape(0xA5, true, LOGICAL_TYPES),
+        0xA6 => described_shape(0xA6, false, LOGICAL_TYPES),
         0xA7 => style_shape(0xA7),
         0xA8 => style_shape(0xA8),
         _ => profile_shape(0),
+    }
+}
+
+// The shape of an element by its octet, in an edition.
+pub fn shape_of(edition: Edition, octet: usize) -> Shape
+    ensures { λ r. ⌜ r ≡ shapeOf edition (octet ∷ []) ⌝ }
+{
+    match edition {
+        Edition::Of1988 => shape_1988(octet),
     }
 }

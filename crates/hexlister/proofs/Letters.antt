@@ -15,7 +15,7 @@ use Rattle.text.specs.Lines.{element, refused}
 use Rattle.index.specs.Rows.{rowWidth}
 use Rattle.index.specs.Columns.{wholeColumn, kindAt, firstAt, pastAt}
 use Rattle.elements.specs.declared.Row.{Row}
-use Rattle.elements.specs.Shape.{edition1988}
+use Rattle.elements.specs.declared.Edition.the-variants.{Of1988}
 use Rattle.elements.specs.Judge.{Element}
 use Rattle.elements.specs.Rows.{cells, numbers}
 use Rattle.letters.specs.Letter.{Letter, letter, refusal}
@@ -53,7 +53,7 @@ module _ (s : List ℕ) where
       record { headers = headers; elements = elements; judged = e; few = omega (arith, ltb-false (length lentTable / rowWidth) (length elements) t) })
 
   by-letter : (l : Letter) → letterIn s ≡ l → checkedBy l lentTable .number ≡ 0 → Accepted s
-  by-letter (refusal number place headers) e n = absurd (omega (arith, refusal-small edition1988 s number place headers e .low))
+  by-letter (refusal number place headers) e n = absurd (omega (arith, refusal-small Of1988 s number place headers e .low))
   by-letter (letter headers elements) e n = by-rows headers elements e n
 
   pub accepted-on : checked s lentTable .number ≡ 0 → Accepted s
@@ -106,9 +106,9 @@ lists-all side s table {answer} {tableAfter} {records} n full o =
     let a = accepted-on s n in
     let e = a .judged in
     let rows : length table / rowWidth ≡ rowsLent = ap (λ (k : ℕ). k / rowWidth) full in
-    let found = letter-found edition1988 s (a .headers) (a .elements) e in
+    let found = letter-found Of1988 s (a .headers) (a .elements) e in
     let same : matchesIn side s ≡ matches side (a .elements) = rw e in
-    let below : length (matchesIn side s) ≤ length (a .elements) = rw same (no-more-than-elements (a .elements) (accepted-apart edition1988 _ _ (found .judged)) side) in
+    let below : length (matchesIn side s) ≤ length (a .elements) = rw same (no-more-than-elements (a .elements) (accepted-apart Of1988 _ _ (found .judged)) side) in
     let room : length lentList ≡ recordsLent = length-replicate recordsLent noRecord in
     let given = demand3 .of-letter side s (a .headers) (a .elements) e .lists table lentList (omega (arith, a .few)) (omega (arith, a .few)) in
     let count : answer .matches ≡ length (matchesIn side s) = ap (λ (r : Listed). r .matches) (o .answered ∙ given .0) in

@@ -17,14 +17,14 @@ use Rattle.names.specs.Hash.{hashFrom}
 use Rattle.contents.specs.Search.{Value, absent, octets, amount, firstValue, firstRun, boundsOf, itemsIn}
 use Rattle.portions.specs.Portions.{allPortions, values, wellSpelt, repeats}
 use Rattle.index.specs.Rows.{nameSpaceOf}
+use Rattle.elements.specs.declared.Edition.{Edition}
 use Rattle.elements.specs.declared.Row.{Row}
 use Rattle.elements.specs.declared.Shape.{Shape}
-use Rattle.elements.specs.Shape.{edition1988}
 use Rattle.elements.specs.Judge.{single, contentOf, Element, noType, bodyOf, elementOf, namesFit, shares, clash, twice, refusalOf}
 use Rattle.elements.specs.Rows.{bodyIn, rowOf, noSpan}
 use Rattle.elements.specs.Says.{portionsRun, Says}
 use Rattle.judging.specs.declared.PlacedItem.{PlacedItem}
-use Rattle.judging.specs.Judges.{earlyRefusal, shape1988, element1988, MayBeBare, Passing}
+use Rattle.judging.specs.Judges.{earlyRefusal, shapeBy, elementBy, MayBeBare, Passing}
 use Rattle.judging.proofs.Lists.{any-false}
 use Rattle.judging.proofs.Steps.{refused-early, refused-last}
 
@@ -103,24 +103,24 @@ row-says s octet first past =
     }
 
 -- rules 9 to 15 of an item in which nothing stands
-module _ (s : List ℕ) (done : List Element) (item : PlacedItem) (may : MayBeBare (item .octet)) (bare : itemsOf s (item .inner) ≡ none) where
+module _ (edition : Edition) (s : List ℕ) (done : List Element) (item : PlacedItem) (may : MayBeBare edition (item .octet)) (bare : itemsOf s (item .inner) ≡ none) where
   abbrev early : ℕ
   early = earlyRefusal (length done) (item .octet) (item .octet)
 
-  pub bare-refused : (n : ℕ) → n ≡ early → (n ≡ 0 → ⊥) → refusalOf edition1988 done (item .octet ∷ []) (plain s (itemsOf s (item .inner))) ≡ n
-  bare-refused n e some = refused-early done (item .octet) (plain s (itemsOf s (item .inner))) n (rw (may .known) e) some
+  pub bare-refused : (n : ℕ) → n ≡ early → (n ≡ 0 → ⊥) → refusalOf edition done (item .octet ∷ []) (plain s (itemsOf s (item .inner))) ≡ n
+  bare-refused n e some = refused-early edition done (item .octet) (plain s (itemsOf s (item .inner))) n (rw (may .known) e) some
 
   module _ (passed : early ≡ 0) (order : item .first ≤ item .past) (inside : item .past ≤ length s) where
-    abbrev its-element : element1988 (item .octet) empty ≡ bareElement (item .octet)
-    its-element = says-nothing (shape1988 (item .octet)) ∙ ap bareElement (may .known)
+    abbrev its-element : elementBy edition (item .octet) empty ≡ bareElement (item .octet)
+    its-element = says-nothing (shapeBy edition (item .octet)) ∙ ap bareElement (may .known)
 
-    pub bare-passes : Passing s done item (bareRow (item .octet) (item .first) (item .past)) (record { identifier = 0; logical = 0 })
+    pub bare-passes : Passing edition s done item (bareRow (item .octet) (item .first) (item .past)) (record { identifier = 0; logical = 0 })
     unfolding hashFrom
     bare-passes =
         record {
           unrefused =
-              rw bare (refused-last done (item .octet) empty (rw (may .known) passed) (may .fits) false (rw its-element (never-twice done (item .octet))));
-          row-is = rw bare (sym (row-of-none (shape1988 (item .octet)) s (item .first) (item .past) ∙ ap (λ (o : ℕ). bareRow o (item .first) (item .past)) (may .known)));
+              rw bare (refused-last edition done (item .octet) empty (rw (may .known) passed) (may .fits) false (rw its-element (never-twice done (item .octet))));
+          row-is = rw bare (sym (row-of-none (shapeBy edition (item .octet)) s (item .first) (item .past) ∙ ap (λ (o : ℕ). bareRow o (item .first) (item .past)) (may .known)));
           says = rw (bare, its-element) (row-says s (item .octet) (item .first) (item .past));
           placed = record {
             kind = omega arith;

@@ -13,38 +13,38 @@ use Rattle.headers.specs.Head.{constructed}
 use Rattle.octets.specs.Walk.{Items, none, item}
 use Rattle.tree.specs.Tree.{Tree, plain}
 use Rattle.runs.specs.Runs.{tops}
-use Rattle.elements.specs.Shape.{edition1988}
+use Rattle.elements.specs.declared.Edition.{Edition}
 use Rattle.elements.specs.Judge.{Element, mostElements, profile, twice, shapeRefusal, refusalOf, refused, judgeOne, judgeFrom, judge}
 use Rattle.elements.proofs.Refusals.{refusal-9, refusal-10, refusal-11, refusal-by-shape}
-use Rattle.judging.specs.Judges.{earlyRefusal, shape1988, element1988}
+use Rattle.judging.specs.Judges.{earlyRefusal, shapeBy, elementBy}
 
 -- of rules that do not refuse the first does not, nor do those after it
 pub passed : (number : ℕ) (refuses : Bool) (others : ℕ) → (number ≡ 0 → ⊥) → cond refuses number others ≡ 0 → (refuses ≡ false) × (others ≡ 0)
 passed number true others some e = absurd (some e)
 passed number false others some e = (refl, e)
 
-module _ (done : List Element) (octet : ℕ) (run : Tree) where
+module _ (edition : Edition) (done : List Element) (octet : ℕ) (run : Tree) where
   abbrev early : ℕ
-  early = earlyRefusal (length done) octet (shape1988 octet .octet)
+  early = earlyRefusal (length done) octet (shapeBy edition octet .octet)
 
   abbrev later : ℕ
-  later = shapeRefusal (shape1988 octet) run
+  later = shapeRefusal (shapeBy edition octet) run
 
   abbrev number : ℕ
-  number = refusalOf edition1988 done (octet ∷ []) run
+  number = refusalOf edition done (octet ∷ []) run
 
-  in-steps : number ≡ cond (eqb early 0) (cond (eqb later 0) (cond (twice done (element1988 octet run)) 15 0) later) early
+  in-steps : number ≡ cond (eqb early 0) (cond (eqb later 0) (cond (twice done (elementBy edition octet run)) 15 0) later) early
   unfolding earlyRefusal
   in-steps =
       let type = octet ∷ [] in
-      cases (leb mostElements (length done)) (λ many. refusal-9 edition1988 done type run many ∙ rw many)
+      cases (leb mostElements (length done)) (λ many. refusal-9 edition done type run many ∙ rw many)
       (λ few.
-      cases (eqb octet (shape1988 octet .octet))
+      cases (eqb octet (shapeBy edition octet .octet))
       (λ known.
       cases (xor (eqb (length done) 0) (eqb octet profile))
-      (λ misplaced. refusal-11 edition1988 done type run few known misplaced ∙ rw (few, known, misplaced))
-      (λ placed. refusal-by-shape edition1988 done type run few known placed ∙ rw (few, known, placed)))
-      (λ unknown. refusal-10 edition1988 done type run few unknown ∙ rw (few, unknown)))
+      (λ misplaced. refusal-11 edition done type run few known misplaced ∙ rw (few, known, misplaced))
+      (λ placed. refusal-by-shape edition done type run few known placed ∙ rw (few, known, placed)))
+      (λ unknown. refusal-10 edition done type run few unknown ∙ rw (few, unknown)))
 
   pub refused-early : (n : ℕ) → n ≡ early → (n ≡ 0 → ⊥) → number ≡ n
   refused-early n e some = in-steps ∙ rw (← e, ne-eqb n 0 some)
@@ -53,7 +53,7 @@ module _ (done : List Element) (octet : ℕ) (run : Tree) where
     pub refused-later : (n : ℕ) → n ≡ later → (n ≡ 0 → ⊥) → number ≡ n
     refused-later n e some = in-steps ∙ rw (first-passed, ← e, ne-eqb n 0 some)
 
-    pub refused-last : later ≡ 0 → (b : Bool) → twice done (element1988 octet run) ≡ b → number ≡ cond b 15 0
+    pub refused-last : later ≡ 0 → (b : Bool) → twice done (elementBy edition octet run) ≡ b → number ≡ cond b 15 0
     refused-last passed b e = in-steps ∙ rw (first-passed, passed, e)
 
   -- an element that no rule refuses has a number below 4,096
@@ -62,25 +62,25 @@ module _ (done : List Element) (octet : ℕ) (run : Tree) where
   unrefused-few e = leb-false mostElements (length done) (passed 9 (leb mostElements (length done)) _ (λ q. absurd (omega arith)) e .0)
 
 -- an item of a run, and then those after it
-module _ (s : List ℕ) (done : List Element) (at octet first past : ℕ) (inside after : Items) (nothing-inside : constructed octet ≡ false → inside ≡ none) where
-  pub judged-one : judgeFrom edition1988 done (plain s (item at octet first past inside after))
-      ≡ judgeOne edition1988 done (octet ∷ []) (plain s inside) (λ more. judgeFrom edition1988 more (plain s after))
+module _ (edition : Edition) (s : List ℕ) (done : List Element) (at octet first past : ℕ) (inside after : Items) (nothing-inside : constructed octet ≡ false → inside ≡ none) where
+  pub judged-one : judgeFrom edition done (plain s (item at octet first past inside after))
+      ≡ judgeOne edition done (octet ∷ []) (plain s inside) (λ more. judgeFrom edition more (plain s after))
   unfolding judgeFrom
   judged-one = cases (constructed octet) (λ t. rw t) (λ t. rw (t, nothing-inside t))
 
-  pub judged-refused : (n : ℕ) → refusalOf edition1988 done (octet ∷ []) (plain s inside) ≡ n → (n ≡ 0 → ⊥)
-      → judgeFrom edition1988 done (plain s (item at octet first past inside after)) ≡ refused n (length done)
+  pub judged-refused : (n : ℕ) → refusalOf edition done (octet ∷ []) (plain s inside) ≡ n → (n ≡ 0 → ⊥)
+      → judgeFrom edition done (plain s (item at octet first past inside after)) ≡ refused n (length done)
   unfolding judgeOne
   judged-refused n e some = judged-one ∙ rw (e, ne-eqb n 0 some)
 
-  pub judged-passed : refusalOf edition1988 done (octet ∷ []) (plain s inside) ≡ 0
-      → judgeFrom edition1988 done (plain s (item at octet first past inside after))
-      ≡ judgeFrom edition1988 (done ++ element1988 octet (plain s inside) ∷ []) (plain s after)
+  pub judged-passed : refusalOf edition done (octet ∷ []) (plain s inside) ≡ 0
+      → judgeFrom edition done (plain s (item at octet first past inside after))
+      ≡ judgeFrom edition (done ++ elementBy edition octet (plain s inside) ∷ []) (plain s after)
   unfolding judgeOne
   judged-passed e = judged-one ∙ rw e
 
 -- a stream with elements is judged from its first
-pub judge-some : (s : List ℕ) (items : Items) → 0 < tops items → judge edition1988 (plain s items) ≡ judgeFrom edition1988 [] (plain s items)
+pub judge-some : (edition : Edition) (s : List ℕ) (items : Items) → 0 < tops items → judge edition (plain s items) ≡ judgeFrom edition [] (plain s items)
 unfolding judge
-judge-some s none some = absurd (omega arith)
-judge-some s (item at octet first past inside after) some = cases (constructed octet) (λ t. rw t) (λ t. rw t)
+judge-some edition s none some = absurd (omega arith)
+judge-some edition s (item at octet first past inside after) some = cases (constructed octet) (λ t. rw t) (λ t. rw t)

@@ -9,9 +9,10 @@ use Rattle.tree.specs.Tree.{Tree, empty}
 use Rattle.runs.specs.Runs.{itemsOf, treeIn}
 use Rattle.names.specs.Hash.{hash}
 use Rattle.index.specs.Index.{Has}
+use Rattle.elements.specs.declared.Edition.{Edition}
 use Rattle.elements.specs.declared.Row.{Row}
 use Rattle.elements.specs.declared.Shape.{Shape}
-use Rattle.elements.specs.Shape.{edition1988, shapeOf}
+use Rattle.elements.specs.Shape.{shapeOf}
 use Rattle.elements.specs.Judge.{Element, elementOf, mostElements, profile, twice, firstOf, _when_, shapeRefusal, refusalOf}
 use Rattle.elements.specs.Rows.{rowOf, bytesIn}
 use Rattle.elements.specs.Says.{Says, RowPlaced}
@@ -38,35 +39,35 @@ Taken s scratch column n nameSpace bytes false = (j : ℕ) → Has s scratch col
 abbrev pub hashesOf : List ℕ → Row → Hashes
 hashesOf s row = record { identifier = hash (bytesIn s (row .identifier)); logical = hash (bytesIn s (row .logical)) }
 
--- the shape of an element of 1988, and what it says
-abbrev pub shape1988 : (octet : ℕ) → Shape
-shape1988 octet = shapeOf edition1988 (octet ∷ [])
+-- the shape of an element by its octet, and what the element says
+abbrev pub shapeBy : Edition → (octet : ℕ) → Shape
+shapeBy edition octet = shapeOf edition (octet ∷ [])
 
-abbrev pub element1988 : (octet : ℕ) → Tree → Element
-element1988 octet run = elementOf (shape1988 octet) run
+abbrev pub elementBy : Edition → (octet : ℕ) → Tree → Element
+elementBy edition octet run = elementOf (shapeBy edition octet) run
 
 -- an element with no items that has this octet is refused by none of 10 and 12 to 14
-pub record MayBeBare (octet : ℕ) : Type 0 where
-  pub known : shape1988 octet .octet ≡ octet
-  pub fits : shapeRefusal (shape1988 octet) empty ≡ 0
+pub record MayBeBare (edition : Edition) (octet : ℕ) : Type 0 where
+  pub known : shapeBy edition octet .octet ≡ octet
+  pub fits : shapeRefusal (shapeBy edition octet) empty ≡ 0
 
 -- an element that is refused by no rule: its row, which says what it says
-pub record Passing (s : List ℕ) (done : List Element) (item : PlacedItem) (row : Row) (hashes : Hashes) : Type 0 where
-  pub unrefused : refusalOf edition1988 done (item .octet ∷ []) (treeIn s (item .inner)) ≡ 0
-  pub row-is : row ≡ rowOf (shape1988 (item .octet)) s (item .first) (item .past) (itemsOf s (item .inner))
-  pub says : Says s row (element1988 (item .octet) (treeIn s (item .inner)))
+pub record Passing (edition : Edition) (s : List ℕ) (done : List Element) (item : PlacedItem) (row : Row) (hashes : Hashes) : Type 0 where
+  pub unrefused : refusalOf edition done (item .octet ∷ []) (treeIn s (item .inner)) ≡ 0
+  pub row-is : row ≡ rowOf (shapeBy edition (item .octet)) s (item .first) (item .past) (itemsOf s (item .inner))
+  pub says : Says s row (elementBy edition (item .octet) (treeIn s (item .inner)))
   pub placed : RowPlaced s row
   pub hashed : hashes ≡ hashesOf s row
 
 -- what rules 9 to 15 make of an item, after the elements that are done
-abbrev pub Judges : (s : List ℕ) (done : List Element) → PlacedItem → Judgement → Type 0
-Judges s done item (Fails number) = (refusalOf edition1988 done (item .octet ∷ []) (treeIn s (item .inner)) ≡ number) × (number ≡ 0 → ⊥)
-Judges s done item (Passes row hashes) = Passing s done item row hashes
+abbrev pub Judges : Edition → (s : List ℕ) (done : List Element) → PlacedItem → Judgement → Type 0
+Judges edition s done item (Fails number) = (refusalOf edition done (item .octet ∷ []) (treeIn s (item .inner)) ≡ number) × (number ≡ 0 → ⊥)
+Judges edition s done item (Passes row hashes) = Passing edition s done item row hashes
 
 -- what is said of an item, whichever elements the scratch holds
-abbrev pub JudgesAfter : (s scratch head next head2 next2 : List ℕ) (n : ℕ) → PlacedItem → Judgement → Type 0
-JudgesAfter s scratch head next head2 next2 n item judgement =
-    (table : List Row) (done : List Element) → Keeps s scratch head next head2 next2 n table done → Judges s done item judgement
+abbrev pub JudgesAfter : Edition → (s scratch head next head2 next2 : List ℕ) (n : ℕ) → PlacedItem → Judgement → Type 0
+JudgesAfter edition s scratch head next head2 next2 n item judgement =
+    (table : List Row) (done : List Element) → Keeps s scratch head next head2 next2 n table done → Judges edition s done item judgement
 
 -- whether rule 15 refuses an element with a row and these portions, whichever elements the scratch holds
 abbrev pub TellsTwice : (s scratch head next head2 next2 : List ℕ) (n : ℕ) → Row → (portions : List (List ℕ)) → Bool → Type 0

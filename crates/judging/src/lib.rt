@@ -1,5 +1,6 @@
 // Rules 9 to 15 for one element, after those that are done.
 use contents::Span;
+use elements::Edition;
 use elements::Row;
 use elements::Seen;
 use index::RowFound;
@@ -165,9 +166,9 @@ fn has_double(
     portions::has_repeats(s, bounds, seen.count)
 }
 
-// Whether an element with the octet may have no items: the profile, and an object.
+// Whether an element with the octet may have no items: the profile, and an object, whichever the edition.
 fn may_be_bare(octet: usize) -> bool
-    ensures { λ b. ⌜ (b ≡ true → MayBeBare octet) ⌝ }
+    ensures { λ b. ⌜ (b ≡ true → (edition : Edition) → MayBeBare edition octet) ⌝ }
 {
     match octet {
         0xA0 | 0xA2 | 0xA6 => true,
@@ -177,8 +178,8 @@ fn may_be_bare(octet: usize) -> bool
 
 // Rules 9 to 15 for element n, in which nothing stands and nothing has to: it has no name, so it shares none.
 fn judge_bare(n: usize, item: PlacedItem) -> Judgement
-    requires { ⌜ MayBeBare (item .octet) × (item .first ≤ item .past) ⌝ }
-    ensures { λ r. ⌜ ((s scratch head next head2 next2 : List ℕ) → itemsOf s (item .inner) ≡ none → item .past ≤ length s → JudgesAfter s scratch head next head2 next2 n item r) ⌝ }
+    requires { ⌜ ((edition : Edition) → MayBeBare edition (item .octet)) × (item .first ≤ item .past) ⌝ }
+    ensures { λ r. ⌜ ((edition : Edition) (s scratch head next head2 next2 : List ℕ) → itemsOf s (item .inner) ≡ none → item .past ≤ length s → JudgesAfter edition s scratch head next head2 next2 n item r) ⌝ }
 {
     let number = early(n, item.octet, item.octet);
     if number != 0 {
@@ -206,6 +207,7 @@ fn judge_bare(n: usize, item: PlacedItem) -> Judgement
 
 // Rules 9 to 15 for element n, whatever stands in it. The bounds lent are for its portions.
 fn judge_any(
+    edition: Edition,
     s: &[u8],
     rows: &[u32],
     head: &[u16],
@@ -218,9 +220,9 @@ fn judge_any(
 ) -> Judgement
     requires { ⌜ Indexes (now s) (now rows) (now head) (now next) (now head2) (now next2) n ⌝ }
     requires { ⌜ Fine (now s) (item .inner) × (length (now s) ≤ streamLimit) × (item .first ≤ item .past) × (item .past ≤ length (now s)) × (2 * mostPortions ≤ length (now bounds)) ⌝ }
-    ensures { λ r. ⌜ JudgesAfter (now (s .entry)) (now (rows .entry)) (now (head .entry)) (now (next .entry)) (now (head2 .entry)) (now (next2 .entry)) n item r ⌝ }
+    ensures { λ r. ⌜ JudgesAfter edition (now (s .entry)) (now (rows .entry)) (now (head .entry)) (now (next .entry)) (now (head2 .entry)) (now (next2 .entry)) n item r ⌝ }
 {
-    let shape = elements::shape_1988(item.octet);
+    let shape = elements::shape_of(edition, item.octet);
     let number = early(n, item.octet, shape.octet);
     if number != 0 {
         return Judgement::Fails { number };
@@ -241,6 +243,7 @@ fn judge_any(
 
 // Rules 9 to 15 for element n. One in which nothing stands is told at once; `judge_any` has the rest.
 pub fn judge_element(
+    edition: Edition,
     s: &[u8],
     rows: &[u32],
     head: &[u16],
@@ -253,12 +256,12 @@ pub fn judge_element(
 ) -> Judgement
     requires { ⌜ Indexes (now s) (now rows) (now head) (now next) (now head2) (now next2) n ⌝ }
     requires { ⌜ Fine (now s) (item .inner) × (length (now s) ≤ streamLimit) × (item .first ≤ item .past) × (item .past ≤ length (now s)) × (2 * mostPortions ≤ length (now bounds)) ⌝ }
-    ensures { λ r. ⌜ JudgesAfter (now (s .entry)) (now (rows .entry)) (now (head .entry)) (now (next .entry)) (now (head2 .entry)) (now (next2 .entry)) n item r ⌝ }
+    ensures { λ r. ⌜ JudgesAfter edition (now (s .entry)) (now (rows .entry)) (now (head .entry)) (now (next .entry)) (now (head2 .entry)) (now (next2 .entry)) n item r ⌝ }
 {
     if runs::is_over(s, item.inner) {
         if may_be_bare(item.octet) {
             return judge_bare(n, item);
         }
     }
-    judge_any(s, rows, head, next, head2, next2, bounds, n, item)
+    judge_any(edition, s, rows, head, next, head2, next2, bounds, n, item)
 }

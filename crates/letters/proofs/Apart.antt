@@ -14,7 +14,8 @@ use Rattle.names.proofs.Same.{same-refl}
 use Rattle.contents.specs.Search.{octets, is, firstValue}
 use Rattle.portions.specs.Portions.{any, repeats}
 use Rattle.index.specs.Rows.{nameSpaceOf}
-use Rattle.elements.specs.Shape.{Edition, shapeOf}
+use Rattle.elements.specs.declared.Edition.{Edition}
+use Rattle.elements.specs.Shape.{shapeOf}
 use Rattle.elements.specs.Judge.{Element, elementOf, asTabled, typeFits, namesFit, mostElements, profile, shares, clash, twice, refusalOf, Judged, accepted, refused, judgeOne, judgeFrom, judge}
 use Rattle.letters.specs.Apart.{Apart}
 use Rattle.judging.proofs.Lists.{Last, before, last, below-length, at-last, any-none}

@@ -12,14 +12,14 @@ use Rattle.runs.specs.Runs.{itemsOf, treeIn, wholeStream, Fine, Meeting}
 use Rattle.contents.specs.declared.Span.{Span}
 use Rattle.contents.specs.Search.{Value, absent, octets}
 use Rattle.index.specs.Columns.{wholeColumn}
+use Rattle.elements.specs.declared.Edition.{Edition}
 use Rattle.elements.specs.declared.Holder.{Holder}
 use Rattle.elements.specs.declared.Row.{Row}
-use Rattle.elements.specs.Shape.{edition1988}
 use Rattle.elements.specs.Judge.{Content, single, inPieces, contentOf, joinedContent, Element, elementOf}
 use Rattle.elements.specs.Rows.{rowOf}
 use Rattle.elements.specs.Says.{Bounds}
 use Rattle.elements.specs.Frames.{HoldsContent, Holding}
-use Rattle.judging.specs.Judges.{shape1988}
+use Rattle.judging.specs.Judges.{shapeBy}
 use Rattle.letters.specs.Letter.{rowsOfStream}
 use Rattle.letters.specs.Scratch.{Filled}
 use Rattle.letters.specs.Content.{RowIn, heldBy, HeldWhole, HeldAs, HoldsElement}
@@ -34,25 +34,25 @@ held-by s holder fields e fine (single value) h =
     rw (h .pieced) (record { fields-are = e; value = value; content-is = refl; bounds = subst (λ (v : Span). Bounds s v value) (sym e) (h .bounds) })
 held-by s holder fields e fine (inPieces run) h = rw (h .pieced) (record { fine = fine; content-is = ap inPieces (sym (h .tree)) })
 
-module _ {s : List ℕ} (fine : Fine s (wholeStream s)) (j : ℕ) (row : Row) (stands : getElem? (rowsOfStream edition1988 s) j ≡ some row)
-    {octet first past : ℕ} {inner rest : Run} (m : Meeting s (restFrom fine j row stands) octet first past inner rest)
-    {holder : Holder} (holding : Holding s (shape1988 octet) inner holder) where
+module _ (edition : Edition) {s : List ℕ} (fine : Fine s (wholeStream s)) (j : ℕ) (row : Row) (stands : getElem? (rowsOfStream edition s) j ≡ some row)
+    {octet first past : ℕ} {inner rest : Run} (m : Meeting s (restFrom edition fine j row stands) octet first past inner rest)
+    {holder : Holder} (holding : Holding s (shapeBy edition octet) inner holder) where
   -- what is met where a row begins holds the content of its element
-  pub holds-element : HoldsElement s j (heldBy holder)
+  pub holds-element : HoldsElement edition s j (heldBy holder)
   unfolding elementOf rowOf
   holds-element elements other element judged other-stands there =
       let same : row ≡ other = cc in
-      let says = element-says fine j row stands octet first past (itemsOf s inner) (itemsOf s rest) (m .tree) elements judged element there in
+      let says = element-says edition fine j row stands octet first past (itemsOf s inner) (itemsOf s rest) (m .tree) elements judged element there in
       let fields : other .content ≡ holder .value = ap (λ (r : Row). r .content) (sym same ∙ says .row-is) ∙ sym (holding .pair) in
       subst (λ (e : Element). HeldAs s (other .content) (e .content) (heldBy holder)) (sym (says .element-is))
-      (held-by s holder (other .content) fields (holding .fine) (contentOf (shape1988 octet) (treeIn s inner)) (holding .held))
+      (held-by s holder (other .content) fields (holding .fine) (contentOf (shapeBy edition octet) (treeIn s inner)) (holding .held))
 
 -- the rows that the judge of a letter left have each of its elements
-pub filled-row-in : {s scratch head next head2 next2 : List ℕ} {count : ℕ} → Filled s scratch head next head2 next2 count
-    → (j : ℕ) → j < count → RowIn s scratch j
-filled-row-in {s} filled j l =
+pub filled-row-in : {edition : Edition} {s scratch head next head2 next2 : List ℕ} {count : ℕ} → Filled edition s scratch head next head2 next2 count
+    → (j : ℕ) → j < count → RowIn edition s scratch j
+filled-row-in {edition} {s} filled j l =
     let holds = filled .holds in
-    let (row, stands) = at-below (rowsOfStream edition1988 s) j (omega (arith, saying-length (holds .saying), holds .counted)) in
+    let (row, stands) = at-below (rowsOfStream edition s) j (omega (arith, saying-length (holds .saying), holds .counted)) in
     record {
       within = omega (arith, holds .indexes .identifiers .in-table);
       row = row;

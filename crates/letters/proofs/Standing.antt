@@ -18,10 +18,11 @@ use Rattle.tree.specs.Accepts.{Whole}
 use Rattle.runs.specs.declared.Run.{Run}
 use Rattle.runs.specs.Runs.{walkIn, itemsOf, wholeStream, tops, definiteRun, Fine}
 use Rattle.elements.specs.declared.Row.{Row}
-use Rattle.elements.specs.Shape.{Edition, edition1988, shapeOf}
+use Rattle.elements.specs.declared.Edition.{Edition}
+use Rattle.elements.specs.Shape.{shapeOf}
 use Rattle.elements.specs.Judge.{Element, elementOf, refusalOf, Judged, accepted, refused, judgeOne, judgeFrom, judge}
 use Rattle.elements.specs.Rows.{rowOf, rowsOf}
-use Rattle.judging.specs.Judges.{shape1988, element1988}
+use Rattle.judging.specs.Judges.{shapeBy, elementBy}
 use Rattle.letters.specs.Letter.{itemsOfStream, rowsOfStream}
 use Rattle.judging.proofs.Lists.{below-length, at-front, at-end}
 use Rattle.judging.proofs.Steps.{judged-one, judge-some}
@@ -92,46 +93,46 @@ hollow (passes l p q v r) = (λ c. absurd (false≢true (sym c ∙ q)), hollow r
 hollow (breaks l p q v) = (λ c. absurd (false≢true (sym c ∙ q)), tt)
 
 -- an element that passes, and what is judged after it
-passes-one : (done : List Element) (type : List ℕ) (run : Tree) (more : List Element → Judged) (elements : List Element)
-    → judgeOne edition1988 done type run more ≡ accepted elements
-    → more (done ++ elementOf (shapeOf edition1988 type) run ∷ []) ≡ accepted elements
+passes-one : (edition : Edition) (done : List Element) (type : List ℕ) (run : Tree) (more : List Element → Judged) (elements : List Element)
+    → judgeOne edition done type run more ≡ accepted elements
+    → more (done ++ elementOf (shapeOf edition type) run ∷ []) ≡ accepted elements
 unfolding judgeOne
-passes-one done type run more elements judged =
-    let n = refusalOf edition1988 done type run in
+passes-one edition done type run more elements judged =
+    let n = refusalOf edition done type run in
     cases (eqb n 0)
     (λ t. rw t at judged)
     (λ t. let q : refused n (length done) ≡ accepted elements = rw t at judged in let z : _≡_ {A = ℕ} 0 1 = cc in absurd (omega arith))
 
-module _ (s : List ℕ) (elements : List Element) where
+module _ (edition : Edition) (s : List ℕ) (elements : List Element) where
   -- what is done stays
-  done-stays : (t : Tree) (done : List Element) → judgeFrom edition1988 done t ≡ accepted elements
+  done-stays : (t : Tree) (done : List Element) → judgeFrom edition done t ≡ accepted elements
       → (k : ℕ) (e : Element) → getElem? done k ≡ some e → getElem? elements k ≡ some e
   unfolding judgeFrom
   done-stays empty done judged k e there = let same : done ≡ elements = cc in subst (λ (es : List Element). getElem? es k ≡ some e) same there
   done-stays (leaf type value after) done judged k e there =
-      let p = passes-one done type empty (λ more. judgeFrom edition1988 more after) elements judged in
-      done-stays after (done ++ elementOf (shapeOf edition1988 type) empty ∷ []) p k e
-      (at-front done (elementOf (shapeOf edition1988 type) empty ∷ []) k e there)
+      let p = passes-one edition done type empty (λ more. judgeFrom edition more after) elements judged in
+      done-stays after (done ++ elementOf (shapeOf edition type) empty ∷ []) p k e
+      (at-front done (elementOf (shapeOf edition type) empty ∷ []) k e there)
   done-stays (branch type inside after) done judged k e there =
-      let p = passes-one done type inside (λ more. judgeFrom edition1988 more after) elements judged in
-      done-stays after (done ++ elementOf (shapeOf edition1988 type) inside ∷ []) p k e
-      (at-front done (elementOf (shapeOf edition1988 type) inside ∷ []) k e there)
+      let p = passes-one edition done type inside (λ more. judgeFrom edition more after) elements judged in
+      done-stays after (done ++ elementOf (shapeOf edition type) inside ∷ []) p k e
+      (at-front done (elementOf (shapeOf edition type) inside ∷ []) k e there)
 
   -- the rest of a run is judged after the n that are done
   record Rest (items : Items) (n : ℕ) : Type 0 where
     done : List Element
     counted : length done ≡ n
-    judged : judgeFrom edition1988 done (plain s items) ≡ accepted elements
+    judged : judgeFrom edition done (plain s items) ≡ accepted elements
     hollow-rest : Hollow items
 
   module _ {at octet first past : ℕ} {inside after : Items} {n : ℕ} (w : Rest (item at octet first past inside after) n) where
     abbrev own : Element
-    own = element1988 octet (plain s inside)
+    own = elementBy edition octet (plain s inside)
 
-    passed : judgeFrom edition1988 (w .done ++ own ∷ []) (plain s after) ≡ accepted elements
+    passed : judgeFrom edition (w .done ++ own ∷ []) (plain s after) ≡ accepted elements
     passed =
-        passes-one (w .done) (octet ∷ []) (plain s inside) (λ more. judgeFrom edition1988 more (plain s after)) elements
-        (sym (judged-one s (w .done) at octet first past inside after (w .hollow-rest .0)) ∙ w .judged)
+        passes-one edition (w .done) (octet ∷ []) (plain s inside) (λ more. judgeFrom edition more (plain s after)) elements
+        (sym (judged-one edition s (w .done) at octet first past inside after (w .hollow-rest .0)) ∙ w .judged)
 
     -- element n is that of the first item that is left
     own-stands : getElem? elements n ≡ some own
@@ -153,14 +154,14 @@ module _ (s : List ℕ) (elements : List Element) where
       let e : n + 1 + j ≡ n + suc j = omega arith in subst (Rest (from j after)) e (rest-from after (n + 1) (one-less w) j (omega arith))
 
 -- a row and an element of an accepted letter are those of an item
-pub record Says (s : List ℕ) (row : Row) (element : Element) (octet : ℕ) (inside : Items) : Type 0 where
+pub record Says (edition : Edition) (s : List ℕ) (row : Row) (element : Element) (octet : ℕ) (inside : Items) : Type 0 where
   pub past : ℕ
-  pub row-is : row ≡ rowOf (shape1988 octet) s (row .whole .first) past inside
-  pub element-is : element ≡ element1988 octet (plain s inside)
+  pub row-is : row ≡ rowOf (shapeBy edition octet) s (row .whole .first) past inside
+  pub element-is : element ≡ elementBy edition octet (plain s inside)
 
-module _ {s : List ℕ} (fine : Fine s (wholeStream s)) (j : ℕ) (row : Row) (stands : getElem? (rowsOfStream edition1988 s) j ≡ some row) where
+module _ (edition : Edition) {s : List ℕ} (fine : Fine s (wholeStream s)) (j : ℕ) (row : Row) (stands : getElem? (rowsOfStream edition s) j ≡ some row) where
   below : j < tops (itemsOfStream s)
-  below = omega (arith, below-length (rowsOfStream edition1988 s) j row stands, rows-length edition1988 s (itemsOfStream s))
+  below = omega (arith, below-length (rowsOfStream edition s) j row stands, rows-length edition s (itemsOfStream s))
 
   abbrev rules : Runs s deepest 0 (length s) false (itemsOfStream s) (walkIn s (wholeStream s) .how)
   rules = derives deepest s 0 (length s) false (fine .order)
@@ -173,7 +174,7 @@ module _ {s : List ℕ} (fine : Fine s (wholeStream s)) (j : ℕ) (row : Row) (s
   restFrom = definiteRun (row .whole .first) (length s) deepest
 
   at-row : here .at ≡ row .whole .first
-  at-row = sym (row-starts edition1988 s (itemsOfStream s) j row stands ∙ here .starts)
+  at-row = sym (row-starts edition s (itemsOfStream s) j row stands ∙ here .starts)
 
   walked : walkIn s restFrom ≡ record { items = from j (itemsOfStream s); how = walkIn s (wholeStream s) .how }
   walked = ap (λ (at : ℕ). run deepest s at (length s) false) (sym at-row) ∙ sym (derived (here .runs))
@@ -193,26 +194,26 @@ module _ {s : List ℕ} (fine : Fine s (wholeStream s)) (j : ℕ) (row : Row) (s
 
   -- what is met there is the element
   module _ (octet first past : ℕ) (inside after : Items) (met : itemsOf s restFrom ≡ item (row .whole .first) octet first past inside after)
-      (elements : List Element) (judged : judge edition1988 (treeOf s) ≡ accepted elements)
+      (elements : List Element) (judged : judge edition (treeOf s) ≡ accepted elements)
       (element : Element) (there : getElem? elements j ≡ some element) where
     item-is : from j (itemsOfStream s) ≡ item (row .whole .first) octet first past inside after
     item-is = sym rest-items ∙ met
 
-    from-first : judgeFrom edition1988 [] (treeOf s) ≡ accepted elements
-    from-first = sym (judge-some s (itemsOfStream s) (omega (arith, below))) ∙ judged
+    from-first : judgeFrom edition [] (treeOf s) ≡ accepted elements
+    from-first = sym (judge-some edition s (itemsOfStream s) (omega (arith, below))) ∙ judged
 
-    last : Rest s elements (item (row .whole .first) octet first past inside after) j
+    last : Rest edition s elements (item (row .whole .first) octet first past inside after) j
     last =
-        let none-done : Rest s elements (itemsOfStream s) 0 = record { done = []; counted = refl; judged = from-first; hollow-rest = hollow rules } in
+        let none-done : Rest edition s elements (itemsOfStream s) 0 = record { done = []; counted = refl; judged = from-first; hollow-rest = hollow rules } in
         let e : 0 + j ≡ j = omega arith in
-        subst (λ (i : Items). Rest s elements i j) item-is
-        (subst (Rest s elements (from j (itemsOfStream s))) e (rest-from s elements (itemsOfStream s) 0 none-done j below))
+        subst (λ (i : Items). Rest edition s elements i j) item-is
+        (subst (Rest edition s elements (from j (itemsOfStream s))) e (rest-from edition s elements (itemsOfStream s) 0 none-done j below))
 
-    pub element-says : Says s row element octet inside
+    pub element-says : Says edition s row element octet inside
     element-says =
         let w = last in
-        let same-row = rows-from edition1988 s (itemsOfStream s) j (row .whole .first) octet first past inside after item-is in
-        let row-is : row ≡ rowOf (shape1988 octet) s (row .whole .first) (startOf (length s) after) inside = cc in
-        let own = own-stands s elements w in
-        let element-is : element ≡ element1988 octet (plain s inside) = cc in
+        let same-row = rows-from edition s (itemsOfStream s) j (row .whole .first) octet first past inside after item-is in
+        let row-is : row ≡ rowOf (shapeBy edition octet) s (row .whole .first) (startOf (length s) after) inside = cc in
+        let own = own-stands edition s elements w in
+        let element-is : element ≡ elementBy edition octet (plain s inside) = cc in
         record { past = startOf (length s) after; row-is = row-is; element-is = element-is }

@@ -18,7 +18,7 @@ use Rattle.names.specs.Hash.{hashes}
 use Rattle.index.specs.Columns.{identifierColumn, logicalColumn}
 use Rattle.index.proofs.Rows.{bounded-none, indexed-none}
 use Rattle.elements.specs.declared.Row.{Row}
-use Rattle.elements.specs.Shape.{edition1988}
+use Rattle.elements.specs.declared.Edition.{Edition}
 use Rattle.elements.specs.Judge.{Element, mostElements, judgeFrom, judge}
 use Rattle.elements.specs.Rows.{rowsOf, numbers, placeOf}
 use Rattle.judging.specs.declared.Hashes.{Hashes}
@@ -28,27 +28,27 @@ use Rattle.letters.specs.Letter.{itemsOfStream, rowsOfStream}
 use Rattle.judging.specs.Done.{none, Keeps}
 use Rattle.letters.specs.Scratch.{Filled, Stopped, GivesVerdict}
 use Rattle.letters.specs.Lent.{rowsNeeded, Lent, endVerdict}
-use Rattle.judging.specs.Judges.{element1988, Passing, Judges}
+use Rattle.judging.specs.Judges.{elementBy, Passing, Judges}
 use Rattle.letters.proofs.Meetings.{nothing-inside}
 use Rattle.judging.proofs.Steps.{unrefused-few, judged-refused, judged-passed, judge-some}
 
-pub record Judging (s scratch head next head2 next2 : List ℕ) (n : ℕ) (cur : Run) : Type 0 where
+pub record Judging (edition : Edition) (s scratch head next head2 next2 : List ℕ) (n : ℕ) (cur : Run) : Type 0 where
   pub fine : Fine s cur
   pub unmarked : cur .marked ≡ false
   pub to-end : cur .limit ≡ length s
   pub table : List Row
   pub done : List Element
   pub holds : Keeps s scratch head next head2 next2 n table done
-  pub judged : judgeFrom edition1988 [] (treeOf s) ≡ judgeFrom edition1988 done (treeIn s cur)
-  pub tabled : rowsOfStream edition1988 s ≡ table ++ rowsOf edition1988 s (itemsOf s cur)
+  pub judged : judgeFrom edition [] (treeOf s) ≡ judgeFrom edition done (treeIn s cur)
+  pub tabled : rowsOfStream edition s ≡ table ++ rowsOf edition s (itemsOf s cur)
   pub counted : tops (itemsOfStream s) ≡ n + tops (itemsOf s cur)
   pub placed : (k : ℕ) → placeOf (n + k) (itemsOfStream s) ≡ placeOf k (itemsOf s cur)
 
 -- nothing is done
-pub judging-none : (s scratch head next head2 next2 bounds : List ℕ) → Lent s scratch head next head2 next2 bounds → Fine s (wholeStream s)
-    → Judging s scratch head next head2 next2 0 (wholeStream s)
+pub judging-none : (edition : Edition) (s scratch head next head2 next2 bounds : List ℕ) → Lent s scratch head next head2 next2 bounds → Fine s (wholeStream s)
+    → Judging edition s scratch head next head2 next2 0 (wholeStream s)
 unfolding numbers
-judging-none s scratch head next head2 next2 bounds lent fine = record {
+judging-none edition s scratch head next head2 next2 bounds lent fine = record {
   fine = fine;
   unmarked = refl;
   to-end = refl;
@@ -71,29 +71,29 @@ judging-none s scratch head next head2 next2 bounds lent fine = record {
   placed = λ k. let e : 0 + k ≡ k = omega arith in ap (λ (i : ℕ). placeOf i (itemsOfStream s)) e;
 }
 
-module _ {s scratch head next head2 next2 : List ℕ} {n : ℕ} {cur : Run} (j : Judging s scratch head next head2 next2 n cur) where
+module _ {edition : Edition} {s scratch head next head2 next2 : List ℕ} {n : ℕ} {cur : Run} (j : Judging edition s scratch head next head2 next2 n cur) where
   -- no element is left
   module _ (end : itemsOf s cur ≡ none) where
     whole-count : tops (itemsOfStream s) ≡ n
     whole-count = omega (arith, j .counted, ap tops end)
 
-    end-empty : n ≡ 0 → Stopped s 11 0
+    end-empty : n ≡ 0 → Stopped edition s 11 0
     unfolding judge placeOf
     end-empty e =
         let empty-stream : itemsOfStream s ≡ none = no-tops (itemsOfStream s) (whole-count ∙ e) in
-        record { element = 0; judged = ap (λ (i : Items). judge edition1988 (plain s i)) empty-stream; placed = sym (ap (placeOf 0) empty-stream) }
+        record { element = 0; judged = ap (λ (i : Items). judge edition (plain s i)) empty-stream; placed = sym (ap (placeOf 0) empty-stream) }
 
-    end-filled : (n ≡ 0 → ⊥) → Filled s scratch head next head2 next2 n
+    end-filled : (n ≡ 0 → ⊥) → Filled edition s scratch head next head2 next2 n
     unfolding judgeFrom rowsOf
     end-filled some =
-        let all-rows : rowsOfStream edition1988 s ≡ j .table = j .tabled ∙ ap (λ (i : Items). j .table ++ rowsOf edition1988 s i) end ∙ append-nil (j .table) in
+        let all-rows : rowsOfStream edition s ≡ j .table = j .tabled ∙ ap (λ (i : Items). j .table ++ rowsOf edition s i) end ∙ append-nil (j .table) in
         record {
           elements = j .done;
-          judged = judge-some s (itemsOfStream s) (omega (arith, whole-count, some)) ∙ j .judged ∙ ap (λ (i : Items). judgeFrom edition1988 (j .done) (plain s i)) end;
+          judged = judge-some edition s (itemsOfStream s) (omega (arith, whole-count, some)) ∙ j .judged ∙ ap (λ (i : Items). judgeFrom edition (j .done) (plain s i)) end;
           holds = rw all-rows (j .holds);
         }
 
-    pub end-gives : GivesVerdict s scratch head next head2 next2 (endVerdict n)
+    pub end-gives : GivesVerdict edition s scratch head next head2 next2 (endVerdict n)
     end-gives = cases (eqb n 0) (λ t. rw t (end-empty (eqb-true n 0 t))) (λ t. rw t (end-filled (eqb-false n 0 t)))
 
   -- an element is met
@@ -104,29 +104,29 @@ module _ {s scratch head next head2 next2 : List ℕ} {n : ℕ} {cur : Run} (j :
     some-left : 0 < tops (itemsOfStream s)
     some-left = omega (arith, j .counted, ap tops (m .tree))
 
-    met-judged : judge edition1988 (treeOf s) ≡ judgeFrom edition1988 (j .done) (treeIn s cur)
-    met-judged = judge-some s (itemsOfStream s) some-left ∙ j .judged
+    met-judged : judge edition (treeOf s) ≡ judgeFrom edition (j .done) (treeIn s cur)
+    met-judged = judge-some edition s (itemsOfStream s) some-left ∙ j .judged
 
-    met-tree : judgeFrom edition1988 (j .done) (treeIn s cur)
-        ≡ judgeFrom edition1988 (j .done) (plain s (item (cur .at) octet first past (itemsOf s inner) (itemsOf s rest)))
-    met-tree = ap (λ (i : Items). judgeFrom edition1988 (j .done) (plain s i)) (m .tree)
+    met-tree : judgeFrom edition (j .done) (treeIn s cur)
+        ≡ judgeFrom edition (j .done) (plain s (item (cur .at) octet first past (itemsOf s inner) (itemsOf s rest)))
+    met-tree = ap (λ (i : Items). judgeFrom edition (j .done) (plain s i)) (m .tree)
 
     -- and refused: element n stands there
-    pub refused-at : (number : ℕ) → Judges s (j .done) here (Fails number) → Stopped s number (cur .at)
+    pub refused-at : (number : ℕ) → Judges edition s (j .done) here (Fails number) → Stopped edition s number (cur .at)
     unfolding placeOf
     refused-at number w =
         let this : n + 0 ≡ length (j .done) = omega (arith, j .holds .counted) in
         record {
           element = length (j .done);
           judged = met-judged ∙ met-tree
-              ∙ judged-refused s (j .done) (cur .at) octet first past (itemsOf s inner) (itemsOf s rest) (nothing-inside (j .fine) m) number (w .0) (w .1);
+              ∙ judged-refused edition s (j .done) (cur .at) octet first past (itemsOf s inner) (itemsOf s rest) (nothing-inside (j .fine) m) number (w .0) (w .1);
           placed = sym (ap (λ (i : ℕ). placeOf i (itemsOfStream s)) (sym this) ∙ j .placed 0 ∙ ap (placeOf 0) (m .tree));
         }
 
     -- and passed: there is room for its row
-    module _ {row : Row} {hashes : Hashes} (w : Passing s (j .done) here row hashes) where
+    module _ {row : Row} {hashes : Hashes} (w : Passing edition s (j .done) here row hashes) where
       pub few : n < mostElements
-      few = omega (arith, unrefused-few (j .done) octet (treeIn s inner) (w .unrefused), j .holds .counted)
+      few = omega (arith, unrefused-few edition (j .done) octet (treeIn s inner) (w .unrefused), j .holds .counted)
 
       pub needed : n < rowsNeeded s
       needed = omega (arith, few, j .counted, ap tops (m .tree))
@@ -135,24 +135,24 @@ module _ {s scratch head next head2 next2 : List ℕ} {n : ℕ} {cur : Run} (j :
       ends-there =
           ap (λ (end : ℕ). startOf end (itemsOf s rest)) (sym (m .rest-limit ∙ j .to-end)) ∙ start-at (m .rest-fine) (m .rest-marked ∙ j .unmarked)
 
-      rows-here : rowsOf edition1988 s (itemsOf s cur) ≡ row ∷ rowsOf edition1988 s (itemsOf s rest)
+      rows-here : rowsOf edition s (itemsOf s cur) ≡ row ∷ rowsOf edition s (itemsOf s rest)
       unfolding rowsOf
-      rows-here = ap (rowsOf edition1988 s) (m .tree) ∙ rw (ends-there, ← w .row-is)
+      rows-here = ap (rowsOf edition s) (m .tree) ∙ rw (ends-there, ← w .row-is)
 
       pub judging-more : {scratch' head' next' head2' next2' : List ℕ}
-          → Keeps s scratch' head' next' head2' next2' (n + 1) (j .table ++ row ∷ []) (j .done ++ element1988 octet (treeIn s inner) ∷ [])
-          → Judging s scratch' head' next' head2' next2' (n + 1) rest
+          → Keeps s scratch' head' next' head2' next2' (n + 1) (j .table ++ row ∷ []) (j .done ++ elementBy edition octet (treeIn s inner) ∷ [])
+          → Judging edition s scratch' head' next' head2' next2' (n + 1) rest
       unfolding placeOf
       judging-more holds = record {
         fine = m .rest-fine;
         unmarked = m .rest-marked ∙ j .unmarked;
         to-end = m .rest-limit ∙ j .to-end;
         table = j .table ++ row ∷ [];
-        done = j .done ++ element1988 octet (treeIn s inner) ∷ [];
+        done = j .done ++ elementBy edition octet (treeIn s inner) ∷ [];
         holds = holds;
         judged = j .judged ∙ met-tree
-            ∙ judged-passed s (j .done) (cur .at) octet first past (itemsOf s inner) (itemsOf s rest) (nothing-inside (j .fine) m) (w .unrefused);
-        tabled = j .tabled ∙ ap (λ (l : List Row). j .table ++ l) rows-here ∙ sym (append-assoc (j .table) (row ∷ []) (rowsOf edition1988 s (itemsOf s rest)));
+            ∙ judged-passed edition s (j .done) (cur .at) octet first past (itemsOf s inner) (itemsOf s rest) (nothing-inside (j .fine) m) (w .unrefused);
+        tabled = j .tabled ∙ ap (λ (l : List Row). j .table ++ l) rows-here ∙ sym (append-assoc (j .table) (row ∷ []) (rowsOf edition s (itemsOf s rest)));
         counted = omega (arith, j .counted, ap tops (m .tree));
         placed = λ k.
             let e : n + 1 + k ≡ n + suc k = omega arith in

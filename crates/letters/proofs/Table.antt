@@ -14,7 +14,8 @@ use Rattle.runs.proofs.Laws.{start-at}
 use Rattle.contents.specs.Search.{octets}
 use Rattle.elements.specs.declared.Row.{Row}
 use Rattle.elements.specs.declared.Shape.{Shape}
-use Rattle.elements.specs.Shape.{Edition, edition1988, shapeOf}
+use Rattle.elements.specs.declared.Edition.{Edition}
+use Rattle.elements.specs.Shape.{shapeOf}
 use Rattle.elements.specs.Judge.{single, Element}
 use Rattle.elements.specs.Rows.{bodyIn, contentOctet, rowOf, rowsOf, bytesIn}
 use Rattle.elements.specs.Says.{Contains, Says}
@@ -63,13 +64,13 @@ pairs-within edition s fine =
     rows-within edition s (itemsOfStream s) (separate (derives (r .room) s (r .at) (r .limit) (r .marked) (fine .order)) refl (fine .whole))
 
 -- an accepted letter
-module _ {s scratch head next head2 next2 : List ℕ} {count : ℕ} (filled : Filled s scratch head next head2 next2 count) where
+module _ {edition : Edition} {s scratch head next head2 next2 : List ℕ} {count : ℕ} (filled : Filled edition s scratch head next head2 next2 count) where
   -- no two of its elements share a name
   pub filled-apart : Apart (filled .elements)
-  filled-apart = accepted-apart edition1988 (treeOf s) (filled .elements) (filled .judged)
+  filled-apart = accepted-apart edition (treeOf s) (filled .elements) (filled .judged)
 
   -- each has its row
-  pub filled-row : (j : ℕ) (e : Element) → getElem? (filled .elements) j ≡ some e → RowOf s (rowsOfStream edition1988 s) j e
+  pub filled-row : (j : ℕ) (e : Element) → getElem? (filled .elements) j ≡ some e → RowOf s (rowsOfStream edition s) j e
   filled-row = row-of (filled .holds .saying)
 
 -- the content pair of a row bounds the content of its element

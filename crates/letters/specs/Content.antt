@@ -13,9 +13,9 @@ use Rattle.contents.specs.declared.Span.{Span}
 use Rattle.contents.specs.Search.{Value}
 use Rattle.index.specs.Rows.{rowWidth}
 use Rattle.index.specs.Columns.{wholeColumn, firstAt}
+use Rattle.elements.specs.declared.Edition.{Edition}
 use Rattle.elements.specs.declared.Holder.{Holder}
 use Rattle.elements.specs.declared.Row.{Row}
-use Rattle.elements.specs.Shape.{edition1988}
 use Rattle.elements.specs.Judge.{Content, single, inPieces, Element, accepted, judge}
 use Rattle.elements.specs.Says.{Bounds}
 use Rattle.letters.specs.declared.Held.{Held}
@@ -23,10 +23,10 @@ use Rattle.letters.specs.declared.Held.the-variants.{Part, Pieces}
 use Rattle.letters.specs.Letter.{rowsOfStream}
 
 -- the rows of a stream have a row j, and tell where its element begins
-pub record RowIn (s rows : List ℕ) (j : ℕ) : Type 0 where
+pub record RowIn (edition : Edition) (s rows : List ℕ) (j : ℕ) : Type 0 where
   pub within : j * rowWidth + rowWidth ≤ length rows
   pub row : Row
-  pub stands : getElem? (rowsOfStream edition1988 s) j ≡ some row
+  pub stands : getElem? (rowsOfStream edition s) j ≡ some row
   pub first : firstAt rows wholeColumn j ≡ row .whole .first
 
 -- a holder as either
@@ -50,7 +50,7 @@ HeldAs s fields content (Part first past) = HeldWhole s first past fields conten
 HeldAs s fields content (Pieces run) = HeldInPieces s run content
 
 -- what holds the content of element j, if the stream is a letter
-abbrev pub HoldsElement : (s : List ℕ) (j : ℕ) → Held → Type 0
-HoldsElement s j held =
-    (elements : List Element) (row : Row) (element : Element) → judge edition1988 (treeOf s) ≡ accepted elements
-    → getElem? (rowsOfStream edition1988 s) j ≡ some row → getElem? elements j ≡ some element → HeldAs s (row .content) (element .content) held
+abbrev pub HoldsElement : Edition → (s : List ℕ) (j : ℕ) → Held → Type 0
+HoldsElement edition s j held =
+    (elements : List Element) (row : Row) (element : Element) → judge edition (treeOf s) ≡ accepted elements
+    → getElem? (rowsOfStream edition s) j ≡ some row → getElem? elements j ≡ some element → HeldAs s (row .content) (element .content) held

@@ -12,7 +12,7 @@ use Rattle.octets.specs.Walk.{Items, run, deepest, walkOf}
 use Rattle.tree.specs.Tree.{treeOf}
 use Rattle.contents.specs.declared.Span.{Span}
 use Rattle.elements.specs.declared.Row.{Row}
-use Rattle.elements.specs.Shape.{Edition}
+use Rattle.elements.specs.declared.Edition.{Edition}
 use Rattle.elements.specs.Judge.{accepted, judge, Element, Judged, refused}
 use Rattle.elements.specs.Rows.{placeOf, rowsOf, noSpan}
 

@@ -2,7 +2,7 @@
 use mathlib.Core.Path.{_≡_}
 use mathlib.Core.List.{List}
 use Prim.Native.Nat.{ℕ}
-use Rattle.elements.specs.Shape.{edition1988}
+use Rattle.elements.specs.declared.Edition.{Edition}
 use Rattle.elements.specs.Judge.{Element, accepted, refused, judge}
 use Rattle.elements.specs.Rows.{placeOf}
 use Rattle.tree.specs.Tree.{treeOf}
@@ -12,18 +12,18 @@ use Rattle.letters.specs.declared.Verdict.the-variants.{Accepted, Refuse
 use Rattle.letters.specs.Letter.{itemsOfStream, rowsOfStream}
 
 -- the scratch after a stream was judged and accepted
-pub record Filled (s scratch head next head2 next2 : List ℕ) (count : ℕ) : Type 0 where
+pub record Filled (edition : Edition) (s scratch head next head2 next2 : List ℕ) (count : ℕ) : Type 0 where
   pub elements : List Element
-  pub judged : judge edition1988 (treeOf s) ≡ accepted elements
-  pub holds : Keeps s scratch head next head2 next2 count (rowsOfStream edition1988 s) elements
+  pub judged : judge edition (treeOf s) ≡ accepted elements
+  pub holds : Keeps s scratch head next head2 next2 count (rowsOfStream edition s) elements
 
 -- the element at which a stream is refused
-pub record Stopped (s : List ℕ) (number place : ℕ) : Type 0 where
+pub record Stopped (edition : Edition) (s : List ℕ) (number place : ℕ) : Type 0 where
   pub element : ℕ
-  pub judged : judge edition1988 (treeOf s) ≡ refused number element
+  pub judged : judge edition (treeOf s) ≡ refused number element
   pub placed : place ≡ placeOf element (itemsOfStream s)
 
 -- what the judge of a stream gives
-abbrev pub GivesVerdict : (s scratch head next head2 next2 : List ℕ) → Verdict → Type 0
-GivesVerdict s scratch head next head2 next2 (Accepted count) = Filled s scratch head next head2 next2 count
-GivesVerdict s scratch head next head2 next2 (Refused number place) = Stopped s number place
+abbrev pub GivesVerdict : Edition → (s scratch head next head2 next2 : List ℕ) → Verdict → Type 0
+GivesVerdict edition s scratch head next head2 next2 (Accepted count) = Filled edition s scratch head next head2 next2 count
+GivesVerdict edition s scratch head next head2 next2 (Refused number place) = Stopped edition s number place

@@ -1,5 +1,6 @@
 // Where the content of one element stands, in a stream that was judged.
 use super::Held;
+use elements::Edition;
 use elements::Holder;
 use runs::Met;
 use runs::Run;
@@ -29,9 +30,9 @@ fn held_by(holder: Holder) -> Held
 
 // Where the content of element j stands. The rows are those of the stream: the element is met where its row begins, and its shape tells
 // which of its items holds the content.
-pub fn content_of(s: &[u8], rows: &[u32], j: usize) -> Held
-    requires { ⌜ Fine (now s) (wholeStream (now s)) × RowIn (now s) (now rows) j ⌝ }
-    ensures { λ held. ⌜ HoldsElement (now (s .entry)) j held ⌝ }
+pub fn content_of(edition: Edition, s: &[u8], rows: &[u32], j: usize) -> Held
+    requires { ⌜ Fine (now s) (wholeStream (now s)) × RowIn edition (now s) (now rows) j ⌝ }
+    ensures { λ held. ⌜ HoldsElement edition (now (s .entry)) j held ⌝ }
 {
     let at = wide(rows[j * index::ROW_WIDTH + index::WHOLE]);
     let whole = runs::whole_stream(s);
@@ -49,6 +50,6 @@ pub fn content_of(s: &[u8], rows: &[u32], j: usize) -> Held
             past: _,
             inner,
             rest: _,
-        } => { held_by(elements::holder_in(s, elements::shape_1988(octet), inner)) }
+        } => { held_by(elements::holder_in(s, elements::shape_of(edition, octet), inner)) }
     }
 }

@@ -1,4 +1,5 @@
 // The judge of a whole stream: elements in order, rules 9 to 15 in order within each; and the rows of its table.
+use elements::Edition;
 use judging::Judgement;
 use judging::PlacedItem;
 use runs::Met;
@@ -73,6 +74,7 @@ fn at_end(n: usize) -> Verdict
 
 // Judges the elements of a stream that the walk has passed. The scratch then holds the rows of an accepted one and their indexes.
 pub fn judge_stream(
+    edition: Edition,
     s: &[u8],
     rows: &mut [u32],
     head: &mut [u16],
@@ -83,7 +85,7 @@ pub fn judge_stream(
 ) -> Verdict
     requires { ⌜ Fine (now s) (wholeStream (now s)) × (length (now s) ≤ streamLimit) ⌝ }
     requires { ⌜ Lent (now s) (now rows) (now head) (now next) (now head2) (now next2) (now bounds) ⌝ }
-    ensures { λ r. ⌜ GivesVerdict (now (s .entry)) (now (rows .exit)) (now (head .exit)) (now (next .exit)) (now (head2 .exit)) (now (next2 .exit)) r ⌝ }
+    ensures { λ r. ⌜ GivesVerdict edition (now (s .entry)) (now (rows .exit)) (now (head .exit)) (now (next .exit)) (now (head2 .exit)) (now (next2 .exit)) r ⌝ }
 {
     let mut cur = runs::whole_stream(s);
     let mut n: usize = 0;
@@ -103,7 +105,18 @@ pub fn judge_stream(
                     past: rest.at,
                     inner,
                 };
-                match judging::judge_element(s, rows, head, next, head2, next2, bounds, n, item) {
+                match judging::judge_element(
+                    edition,
+                    s,
+                    rows,
+                    head,
+                    next,
+                    head2,
+                    next2,
+                    bounds,
+                    n,
+                    item,
+                ) {
                     Judgement::Fails { number } => return Verdict::Refused {
                         number,
                         place: cur.at,

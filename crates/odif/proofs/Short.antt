@@ -17,7 +17,7 @@ use Rattle.normal.specs.Normal.{normalForm}
 use Rattle.normal.specs.Writes.{outputOf}
 use Rattle.normal.specs.Short.{shortLimit, answerShort}
 use Rattle.normal.proofs.Normals.{small}
-use Rattle.elements.specs.Shape.{edition1988}
+use Rattle.elements.specs.declared.Edition.the-variants.{Of1988}
 use Rattle.elements.specs.Judge.{Element}
 use Rattle.letters.specs.Letter.{Letter, letter, refusal}
 use Rattle.answers.specs.declared.Reason.{Reason}
@@ -50,7 +50,7 @@ module _ (s : List ℕ) where
   refused-from (letter headers elements) e n = absurd (n refl)
 
   passed-from : (l : Letter) → letterIn s ≡ l → ruledBy l .number ≡ 0 → Passed
-  passed-from (refusal number place headers) e z = absurd (omega (arith, refusal-small edition1988 s number place headers e .low))
+  passed-from (refusal number place headers) e z = absurd (omega (arith, refusal-small Of1988 s number place headers e .low))
   passed-from (letter headers elements) e z = record { headers = headers; elements = elements; judged = e }
 
   pub refused : (r : Reason) → r ≡ ruled s → (r .number ≡ 0 → ⊥) → Refused (r .number) (r .place)
@@ -63,13 +63,13 @@ module _ (s : List ℕ) where
 
   pub passed-whole : Passed → Whole (run deepest s 0 (length s) false .how)
   passed-whole p =
-      let f = letter-found edition1988 s (p .headers) (p .elements) (p .judged) in
+      let f = letter-found Of1988 s (p .headers) (p .elements) (p .judged) in
       whole-of s (f .at) (p .headers) (f .walked) .1
 
   -- a normal form is at most three times as long as its stream
   form-fits : Passed → length s ≤ shortLimit → length (normalForm s) ≤ streamLimit
   form-fits p l =
-      let f = letter-found edition1988 s (p .headers) (p .elements) (p .judged) in
+      let f = letter-found Of1988 s (p .headers) (p .elements) (p .judged) in
       let few = small (means s (treeOf s) (accepts-walked (f .walked)) .0) in
       omega arith
 
@@ -85,7 +85,7 @@ module _ (s : List ℕ) where
       pub short-refused : (number place : ℕ) → Refused number place → ShortOutcome s out (record { number = number; place = place; length = 0 }) out
       unfolding writtenShort writtenShortOutput
       short-refused number place r =
-          let low = refusal-small edition1988 s number place (r .headers) (r .judged) .low in
+          let low = refusal-small Of1988 s number place (r .headers) (r .judged) .low in
           let some : eqb number 0 ≡ false = ne-eqb number 0 (λ z. omega arith) in
           record { answered = rw (within, r .judged); put = rw (within, r .judged, some) }
 

@@ -13,7 +13,7 @@ use Rattle.normal.specs.declared.Answer.{Answer}
 use Rattle.normal.specs.declared.Answer.the-variants.{Written as Wrote, Refused as Not}
 use Rattle.normal.specs.Normal.{normalForm}
 use Rattle.normal.specs.Writes.{answerOf, outputOf}
-use Rattle.elements.specs.Shape.{edition1988}
+use Rattle.elements.specs.declared.Edition.the-variants.{Of1988}
 use Rattle.elements.specs.Judge.{Element}
 use Rattle.letters.specs.Letter.{letter, refusal}
 use Rattle.answers.specs.declared.Written.{Written}
@@ -39,7 +39,7 @@ module _ (s out : List ℕ) where
       → NormalOutcome s out (record { number = number; place = place; length = 0 }) out
   unfolding written writtenOutput
   writes-refused number place headers e =
-      let low = refusal-small edition1988 s number place headers e .low in
+      let low = refusal-small Of1988 s number place headers e .low in
       let some : eqb number 0 ≡ false = ne-eqb number 0 (λ z. omega arith) in
       record { answered = rw e; put = rw (e, some) }
 

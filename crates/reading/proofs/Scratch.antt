@@ -14,8 +14,8 @@ use Rattle.contents.specs.Search.{Value, absent, octets}
 use Rattle.portions.specs.Portions.{allPortions, values}
 use Rattle.index.specs.Rows.{rowWidth}
 use Rattle.index.specs.Columns.{identifierColumn, logicalColumn}
+use Rattle.elements.specs.declared.Edition.{Edition}
 use Rattle.elements.specs.declared.Row.{Row}
-use Rattle.elements.specs.Shape.{edition1988}
 use Rattle.elements.specs.Judge.{Element, accepted, judge}
 use Rattle.elements.specs.Rows.{cells}
 use Rattle.elements.specs.Says.{Names, portionsRun}
@@ -36,9 +36,9 @@ name-of : (s : List ℕ) (pair : Span) (name : Value) → Names s pair name → 
 name-of s pair absent e = rw e
 name-of s pair (octets bytes) (covers, longer) = rw (lt-ltb (pair .first) (pair .past) longer) (ap octets (sym (covers .value)))
 
-module _ {s rows head next head2 next2 : List ℕ} {n : ℕ} (filled : Filled s rows head next head2 next2 n) where
+module _ {edition : Edition} {s rows head next head2 next2 : List ℕ} {n : ℕ} (filled : Filled edition s rows head next head2 next2 n) where
   module _ (j : ℕ) (element : Element) (there : getElem? (filled .elements) j ≡ some element) where
-    abbrev own : RowOf s (rowsOfStream edition1988 s) j element
+    abbrev own : RowOf s (rowsOfStream edition s) j element
     own = filled-row filled j element there
 
     abbrev row : Row
@@ -85,7 +85,7 @@ module _ {s rows head next head2 next2 : List ℕ} {n : ℕ} (filled : Filled s 
 
   -- all matches of a side are put: that is its list
   pub puts-list : (side given : Side) → side ≡ given → (before after : List ℕ) (count : ℕ) → 3 * n ≤ length before → PutsAll given s rows n before after count
-      → (elements : List Element) → judge edition1988 (treeOf s) ≡ accepted elements → ListsMatches side elements before after count
+      → (elements : List Element) → judge edition (treeOf s) ≡ accepted elements → ListsMatches side elements before after count
   puts-list side given same-side before after count enough puts elements judged =
       let e : accepted (filled .elements) ≡ accepted elements = sym (filled .judged) ∙ judged in
       let same : filled .elements ≡ elements = cc in

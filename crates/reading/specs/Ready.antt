@@ -17,15 +17,18 @@ use Rattle.index.specs.declared.RowFound.{RowFound}
 use Rattle.index.specs.declared.RowFound.the-variants.{At, Nothing}
 use Rattle.index.specs.Columns.{identifierColumn, logicalColumn, kindAt, firstAt, pastAt, Bounded}
 use Rattle.index.specs.Index.{Indexed}
-use Rattle.elements.specs.Judge.{single, Element}
+use Rattle.tree.specs.Tree.{treeOf}
+use Rattle.elements.specs.declared.Edition.{Edition}
+use Rattle.elements.specs.Judge.{single, Element, accepted, judge}
 use Rattle.elements.specs.Rows.{bytesIn}
 use Rattle.elements.specs.Says.{portionsRun}
+use Rattle.letters.specs.Scratch.{Filled}
 use Rattle.letters.specs.Apart.{Apart}
 use Rattle.reading.specs.declared.Match.{Match}
 use Rattle.reading.specs.declared.Side.{Side}
 use Rattle.reading.specs.declared.Side.the-variants.{Layout, Logical}
 use Rattle.reading.specs.Match.{kindsOf, elementMatches, matches}
-use Rattle.reading.specs.Records.{PutsRecords}
+use Rattle.reading.specs.Records.{PutsRecords, ListsMatches}
 
 -- where a row has the portions, and the identifier of a side
 abbrev pub portionsColumn : ℕ
@@ -113,3 +116,9 @@ PutsElement side s rows n e before count after total =
 -- all matches of the side are put
 abbrev pub PutsAll : (side : Side) (s rows : List ℕ) (n : ℕ) (before after : List ℕ) (total : ℕ) → Type 0
 PutsAll side s rows n before after total = (elements : List Element) → RowsTell s rows n elements → PutsRecords before 0 (matches side elements) after total
+
+-- the reading list of a side of the stream that the judge filled the scratch with, by whichever edition
+abbrev pub ListsFilled : (side : Side) (s rows head next head2 next2 : List ℕ) (n : ℕ) (before after : List ℕ) (count : ℕ) → Type 0
+ListsFilled side s rows head next head2 next2 n before after count =
+    (edition : Edition) → Filled edition s rows head next head2 next2 n
+    → (elements : List Element) → judge edition (treeOf s) ≡ accepted elements → ListsMatches side elements before after count

@@ -10,7 +10,7 @@ use runs::Met;
 use runs::Run;
 ghost use mathlib.Core.Path.{_≡_};
 ghost use mathlib.Core.Bool.{true};
-ghost use mathlib.Core.List.{List, [], _∷_, _++_};
+ghost use mathlib.Core.List.{[], _∷_, _++_};
 ghost use Prim.Native.Nat.{_+_, _*_, _<_, _≤_};
 ghost use lib.ListN.{length, drop};
 ghost use Rattle.headers.specs.Head.{isIn};
@@ -19,16 +19,14 @@ ghost use Rattle.names.specs.Hash.{hash, hashFrom, hashes};
 ghost use Rattle.index.specs.Rows.{rowWidth};
 ghost use Rattle.index.specs.Columns.{Bounded};
 ghost use Rattle.index.specs.Index.{Indexed, FindsRow};
-ghost use Rattle.tree.specs.Tree.{treeOf};
-ghost use Rattle.elements.specs.Shape.{edition1988};
-ghost use Rattle.elements.specs.Judge.{Element, accepted, judge};
+ghost use Rattle.elements.specs.declared.Edition.{Edition};
 ghost use Rattle.elements.specs.Rows.{bytesIn};
 ghost use Rattle.elements.specs.Says.{Placed};
 ghost use Rattle.letters.specs.Scratch.{Filled};
 ghost use Rattle.reading.specs.Match.{kindsOf};
-ghost use Rattle.reading.specs.Records.{recordAt, records, PutsRecords, ListsMatches};
-ghost use Rattle.reading.specs.Ready.{columnOf, unitSpace, spanAt, there, portionsAt, isListed, Searchable, Room, PutsElement, PutsAll, foundMatches};
-ghost use Rattle.reading.specs.Ready.{FoundBelow};
+ghost use Rattle.reading.specs.Records.{recordAt, records, PutsRecords};
+ghost use Rattle.reading.specs.Ready.{columnOf, unitSpace, spanAt, there, portionsAt, isListed, Searchable, Room, PutsElement, PutsAll, ListsFilled};
+ghost use Rattle.reading.specs.Ready.{foundMatches, FoundBelow};
 
 // The name space of text units.
 const UNITS: u8 = 2;
@@ -317,9 +315,9 @@ pub fn list_matches(
     side: Side,
     flat: &mut [u32],
 ) -> usize
-    requires { ⌜ Filled (now s) (now rows) (now head) (now next) (now head2) (now next2) n ⌝ }
+    requires { ⌜ ((edition : Edition) × Filled edition (now s) (now rows) (now head) (now next) (now head2) (now next2) n) ⌝ }
     requires { ⌜ 3 * n ≤ length (now flat) ⌝ }
-    ensures { λ r. ⌜ ((elements : List Element) → judge edition1988 (treeOf (now (s .entry))) ≡ accepted elements → ListsMatches side elements (now (flat .entry)) (now (flat .exit)) r) ⌝ }
+    ensures { λ r. ⌜ ListsFilled side (now (s .entry)) (now (rows .entry)) (now (head .entry)) (now (next .entry)) (now (head2 .entry)) (now (next2 .entry)) n (now (flat .entry)) (now (flat .exit)) r ⌝ }
 {
     match side {
         Side::Layout => list_side(s, rows, head, next, n, Side::Layout, flat),

@@ -2,6 +2,7 @@
 // for as many as a letter may have. A question that is added later has these arrays too.
 use answers::Question;
 use answers::Told;
+use elements::Edition;
 use letters::Verdict;
 use octets::Outcome;
 ghost use mathlib.Core.Path.{_≡_};
@@ -31,6 +32,7 @@ pub fn few(
     let mut next2 = [0u16; 512];
     let mut bounds = [0u32; 128];
     match letters::judge_stream(
+        Edition::Of1988,
         stream,
         &mut rows,
         &mut head,
@@ -81,6 +83,7 @@ pub fn many(
     let mut next2 = [0u16; 4096];
     let mut bounds = [0u32; 128];
     match letters::judge_stream(
+        Edition::Of1988,
         stream,
         &mut rows,
         &mut head,

@@ -3,6 +3,7 @@ use mathlib.Core.Path.{_∙_}
 use borrow.Author.Needs.{needs}
 use native.Mathlib.Omega.{arith}
 use denote.Ref.{now}
+use Rattle.elements.specs.declared.Edition.the-variants.{Of1988}
 use Rattle.reading.proofs.Single.{no-more-than-elements}
 use Rattle.answers.proofs.Judging.{judged-in, accepted-judged}
 use Rattle.answers.proofs.Checks.{table-filled}
@@ -26,7 +27,7 @@ list-matches-requires : tie.Need-list-matches-requires
 list-matches-requires c κs =
     let a = c .before .before .before .before .before .before .before .before .before .before .before .before .before .before in
     let l = accepted-judged (a .pre .0 .ended) (judged-in (a .pre .1 .0)) in
-    (a .pre .1 .0, omega arith)
+    ((Of1988, a .pre .1 .0), omega arith)
 
 cast-t21 : tie.Need-cast-t21
 cast-t21 c =
@@ -44,7 +45,7 @@ returns-2 : tie.Need-returns-2
 returns-2 c =
     let a = c .before .before .before .before .before .before .before .before .before .before .before .before .before .before .before .before .before .before in
     let l = accepted-judged (a .pre .0 .ended) (judged-in (a .pre .1 .0)) in
-    let lists = c .before .before .before .list-matches .ensures (l .elements) (l .judge-accepted) in
+    let lists = c .before .before .before .list-matches .ensures Of1988 (a .pre .1 .0) (l .elements) (l .judge-accepted) in
     let s = now (a .args .stream) in
     let table = now (a .args .table) in
     let tabled = c .before .before .before .before .before .before .before .put-table .ensures ∙ table-filled s table (now (a .args .rows)) _ (l .written) (l .within) in
@@ -60,7 +61,7 @@ cast-t23 : tie.Need-cast-t23
 cast-t23 c =
     let a = c .before .before .before .before .before .before .before .before .before .before .before .before .before .before .before .before .before .before in
     let l = accepted-judged (a .pre .0 .ended) (judged-in (a .pre .1 .0)) in
-    let lists = c .before .before .before .list-matches .ensures (l .elements) (l .judge-accepted) in
+    let lists = c .before .before .before .list-matches .ensures Of1988 (a .pre .1 .0) (l .elements) (l .judge-accepted) in
     let few = no-more-than-elements (l .elements) (l .apart) (a .args .side) in
     omega (arith, lists .counted)
 
@@ -74,7 +75,7 @@ returns-3 : tie.Need-returns-3
 returns-3 c =
     let a = c .before .before .before .before .before .before .before .before .before .before .before .before .before .before .before .before .before .before in
     let l = accepted-judged (a .pre .0 .ended) (judged-in (a .pre .1 .0)) in
-    let lists = c .before .before .before .list-matches .ensures (l .elements) (l .judge-accepted) in
+    let lists = c .before .before .before .list-matches .ensures Of1988 (a .pre .1 .0) (l .elements) (l .judge-accepted) in
     let s = now (a .args .stream) in
     let table = now (a .args .table) in
     let tabled = c .before .before .before .before .before .before .before .put-table .ensures ∙ table-filled s table (now (a .args .rows)) _ (l .written) (l .within) in

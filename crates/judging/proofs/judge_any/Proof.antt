@@ -1,6 +1,6 @@
 -- `judging::judge_any` meets its contract: the three steps of the rules, each by what its function ensures. Assumes nothing.
 use mathlib.Core.Path.{_≡_, sym, ap, _∙_, subst}
-use mathlib.Core.List.{List}
+use mathlib.Core.List.{List, [], _∷_}
 use Prim.Native.Nat.{ℕ}
 use native.Mathlib.Omega.{arith}
 use borrow.Author.Needs.{needs}
@@ -11,9 +11,9 @@ use Rattle.elements.specs.declared.Shape.{Shape}
 use Rattle.elements.specs.Judge.{Element, twice, shapeRefusal}
 use Rattle.elements.specs.WellMade.{WellMade}
 use Rattle.elements.specs.Sees.{Sees}
-use Rattle.elements.proofs.Made.{made-1988}
+use Rattle.elements.proofs.Made.{made}
 use Rattle.judging.specs.Done.{Keeps}
-use Rattle.judging.specs.Judges.{earlyRefusal, shape1988, element1988}
+use Rattle.judging.specs.Judges.{earlyRefusal, shapeBy, elementBy}
 use Rattle.judging.proofs.Steps.{refused-early, refused-later, refused-last}
 use Rattle.judging.proofs.judge_any.Statement.{statement}
 use Rattle.judging.proofs.judge_any.Tie as tie
@@ -26,40 +26,40 @@ Done c table done =
 -- rules 9 to 11
 early-is : (c : tie.After-early) (table : List Row) (done : List Element) → Done (c .before .before .before .before .before .before .before .before .before) table done →
     let a = c .before .before .before .before .before .before .before .before .before .args in
-    c .early .result ≡ earlyRefusal (length done) (a .item .octet) (shape1988 (a .item .octet) .octet)
+    c .early .result ≡ earlyRefusal (length done) (a .item .octet) (shapeBy (a .edition) (a .item .octet) .octet)
 early-is c table done holds =
     let a = c .before .before .before .before .before .before .before .before .before .args in
-    c .early .ensures ∙ ap (λ (x : Shape). earlyRefusal (a .n) (a .item .octet) (x .octet)) (c .before .shape-1988 .ensures)
-    ∙ ap (λ (n : ℕ). earlyRefusal n (a .item .octet) (shape1988 (a .item .octet) .octet)) (sym (holds .counted))
+    c .early .ensures ∙ ap (λ (x : Shape). earlyRefusal (a .n) (a .item .octet) (x .octet)) (c .before .shape-of .ensures)
+    ∙ ap (λ (n : ℕ). earlyRefusal n (a .item .octet) (shapeBy (a .edition) (a .item .octet) .octet)) (sym (holds .counted))
 
 early-passed : (c : tie.Else1) (table : List Row) (done : List Element) → Done (c .before .before .before .before .before .before .before .before .before .before) table done →
     let a = c .before .before .before .before .before .before .before .before .before .before .args in
-    earlyRefusal (length done) (a .item .octet) (shape1988 (a .item .octet) .octet) ≡ 0
+    earlyRefusal (length done) (a .item .octet) (shapeBy (a .edition) (a .item .octet) .octet) ≡ 0
 early-passed c table done holds = sym (early-is (c .before) table done holds) ∙ c .if1 .left
 
 -- rules 12 to 14
 seen-is : (c : tie.After-see) →
     let a = c .before .before .before .before .before .before .before .before .before .before .before .before .args in
-    Sees (a .s .now) (shape1988 (a .item .octet)) (a .item .inner) (a .item .first) (a .item .past) (c .see .last .1 .1 .1 .1 .1 .0) (c .see .result)
+    Sees (a .s .now) (shapeBy (a .edition) (a .item .octet)) (a .item .inner) (a .item .first) (a .item .past) (c .see .last .1 .1 .1 .1 .1 .0) (c .see .result)
 seen-is c =
     let a = c .before .before .before .before .before .before .before .before .before .before .before .before .args in
-    subst (λ (x : Shape). Sees (a .s .now) x (a .item .inner) (a .item .first) (a .item .past) (c .see .last .1 .1 .1 .1 .1 .0) (c .see .result)) (c .before .before .before .before .shape-1988 .ensures) (c .see .ensures)
+    subst (λ (x : Shape). Sees (a .s .now) x (a .item .inner) (a .item .first) (a .item .past) (c .see .last .1 .1 .1 .1 .1 .0) (c .see .result)) (c .before .before .before .before .shape-of .ensures) (c .see .ensures)
 
 later-passed : (c : tie.Else2) →
     let a = c .before .before .before .before .before .before .before .before .before .before .before .before .before .before .before .before .args in
-    shapeRefusal (shape1988 (a .item .octet)) (treeIn (a .s .now) (a .item .inner)) ≡ 0
+    shapeRefusal (shapeBy (a .edition) (a .item .octet)) (treeIn (a .s .now) (a .item .inner)) ≡ 0
 later-passed c = sym (seen-is (c .before .before .before .before) .refusal) ∙ c .if2 .left
 
 -- rule 15
 double-is : (c : tie.After-has-double) (table : List Row) (done : List Element) → Done (c .before .before .before .before .before .before .before .before .before .before .before .before .before .before .before .before .before .before .before .before) table done →
     let a = c .before .before .before .before .before .before .before .before .before .before .before .before .before .before .before .before .before .before .before .before .args in
-    c .has-double .result ≡ twice done (element1988 (a .item .octet) (treeIn (a .s .now) (a .item .inner)))
+    c .has-double .result ≡ twice done (elementBy (a .edition) (a .item .octet) (treeIn (a .s .now) (a .item .inner)))
 double-is c table done holds =
     let passes = seen-is (c .before .before .before .before .before .before .before .before) .passes (c .before .before .before .before .if2 .left) in
     c .has-double .ensures table done _ holds (passes .says) (passes .stored)
 
-shape-1988-requires : tie.Need-shape-1988-requires
-shape-1988-requires c κs = search needs
+shape-of-requires : tie.Need-shape-of-requires
+shape-of-requires c κs = search needs
 
 early-requires : tie.Need-early-requires
 early-requires c κs = search needs
@@ -68,13 +68,13 @@ returns : tie.Need-returns
 returns c =
     λ table done holds.
     let a = c .before .before .before .before .before .before .before .before .before .before .args in
-    (refused-early done (a .item .octet) (treeIn (a .s .now) (a .item .inner)) (c .before .early .result) (early-is (c .before) table done holds) (c .if1 .taken), c .if1 .taken)
+    (refused-early (a .edition) done (a .item .octet) (treeIn (a .s .now) (a .item .inner)) (c .before .early .result) (early-is (c .before) table done holds) (c .if1 .taken), c .if1 .taken)
 
 see-requires : tie.Need-see-requires
 see-requires c κs =
     let start = c .before .before .before .before .before .before .before .before .before .before .before in
     let fits = start .pre .1 in
-    (fits .0, subst WellMade (sym (c .before .before .before .shape-1988 .ensures)) (made-1988 (start .args .item .octet)), fits .1, fits .2, fits .3, fits .4)
+    (fits .0, subst WellMade (sym (c .before .before .before .shape-of .ensures)) (made (start .args .edition) (start .args .item .octet ∷ [])), fits .1, fits .2, fits .3, fits .4)
 
 same-length : tie.Need-same-length
 same-length c = search needs
@@ -83,7 +83,7 @@ returns-2 : tie.Need-returns-2
 returns-2 c =
     λ table done holds.
     let a = c .before .before .before .before .before .before .before .before .before .before .before .before .before .before .before .before .args in (
-      refused-later done (a .item .octet) (treeIn (a .s .now) (a .item .inner)) (early-passed (c .before .before .before .before .before .before) table done holds) (c .before .before .before .before .see .result .refusal)
+      refused-later (a .edition) done (a .item .octet) (treeIn (a .s .now) (a .item .inner)) (early-passed (c .before .before .before .before .before .before) table done holds) (c .before .before .before .before .see .result .refusal)
           (seen-is (c .before .before .before .before) .refusal) (c .if2 .taken),
       c .if2 .taken,
     )
@@ -104,7 +104,7 @@ returns-3 : tie.Need-returns-3
 returns-3 c =
     λ table done holds.
     let a = c .before .before .before .before .before .before .before .before .before .before .before .before .before .before .before .before .before .before .before .before .before .args in (
-      refused-last done (a .item .octet) (treeIn (a .s .now) (a .item .inner)) (early-passed (c .before .before .before .before .before .before .before .before .before .before .before) table done holds) (later-passed (c .before .before .before .before .before)) _
+      refused-last (a .edition) done (a .item .octet) (treeIn (a .s .now) (a .item .inner)) (early-passed (c .before .before .before .before .before .before .before .before .before .before .before) table done holds) (later-passed (c .before .before .before .before .before)) _
           (sym (double-is (c .before) table done holds) ∙ c .if3 .taken),
       λ e. absurd (omega arith),
     )
@@ -120,7 +120,7 @@ returns-4 c =
     let passes = seen .passes (c .before .before .before .before .before .if2 .left) in
     record {
       unrefused =
-          refused-last done (a .item .octet) (treeIn (a .s .now) (a .item .inner)) (early-passed (c .before .before .before .before .before .before .before .before .before .before .before) table done holds) (later-passed (c .before .before .before .before .before)) _
+          refused-last (a .edition) done (a .item .octet) (treeIn (a .s .now) (a .item .inner)) (early-passed (c .before .before .before .before .before .before .before .before .before .before .before) table done holds) (later-passed (c .before .before .before .before .before)) _
           (sym (double-is (c .before) table done holds) ∙ c .if3 .left);
       row-is = passes .row;
       says = passes .says;
@@ -132,7 +132,7 @@ pub judge-any-spec : {M : Type 1} → statement M
 judge-any-spec =
     tie.close
     (tie.spec
-    shape-1988-requires
+    shape-of-requires
     early-requires
     returns
     see-requires

@@ -23,7 +23,7 @@ returns c =
     let start = at-test .before .before .before .before .before .before .before .before .before in
     let items = itemsOf (start .args .s .now) (start .args .item .inner) in
     let none-there = no-tops items (eqb-true (tops items) 0 (sym (at-test .before .is-over .ensures) ∙ at-test .if1 .taken)) in
-    c .judge-bare .ensures _ _ _ _ _ _ none-there (start .pre .1 .3)
+    c .judge-bare .ensures _ _ _ _ _ _ _ none-there (start .pre .1 .3)
 
 judge-any-requires : tie.Need-judge-any-requires
 judge-any-requires c κs = search needs

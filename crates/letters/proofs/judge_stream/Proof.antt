@@ -15,12 +15,12 @@ use Rattle.letters.proofs.judge_stream.Statement.{statement}
 use Rattle.letters.proofs.judge_stream.Tie as tie
 
 abbrev Inv-loop : tie.InvT-loop
-Inv-loop s rows₀ head₀ next₀ head2₀ next2₀ bounds₀ cur₀ n₀ rows head next head2 next2 bounds cur n =
-    Judging s rows head next head2 next2 n cur × (length rows ≡ length rows₀) × (length head ≡ length head₀) × (length next ≡ length next₀)
+Inv-loop edition s rows₀ head₀ next₀ head2₀ next2₀ bounds₀ cur₀ n₀ rows head next head2 next2 bounds cur n =
+    Judging edition s rows head next head2 next2 n cur × (length rows ≡ length rows₀) × (length head ≡ length head₀) × (length next ≡ length next₀)
     × (length head2 ≡ length head2₀) × (length next2 ≡ length next2₀) × (length bounds ≡ length bounds₀)
 
 abbrev μ-loop : tie.MeasureT-loop
-μ-loop s rows₀ head₀ next₀ head2₀ next2₀ bounds₀ cur₀ n₀ rows head next head2 next2 bounds cur n = cur .limit - cur .at
+μ-loop edition s rows₀ head₀ next₀ head2₀ next2₀ bounds₀ cur₀ n₀ rows head next head2 next2 bounds cur n = cur .limit - cur .at
 
 -- an element is met
 meeting : (c : tie.After-known-told Inv-loop μ-loop) →
@@ -35,15 +35,15 @@ item c =
 
 -- and judged
 judged : (c : tie.After-judge-element Inv-loop μ-loop) (y : Judgement) → c .judge-element .result ≡ y
-    → Judges (c .before .before .before .before .before .before .before .before .before .before .before .before .before .before .before .before .before .before .before .before .args .s .now) (c .before .before .before .before .before .before .before .before .before .before .before .loop .inv .0 .done) (item (c .before .before .before .before .before .before .before)) y
+    → Judges (c .before .before .before .before .before .before .before .before .before .before .before .before .before .before .before .before .before .before .before .before .args .edition) (c .before .before .before .before .before .before .before .before .before .before .before .before .before .before .before .before .before .before .before .before .args .s .now) (c .before .before .before .before .before .before .before .before .before .before .before .loop .inv .0 .done) (item (c .before .before .before .before .before .before .before)) y
 judged c y e =
     let state = c .before .before .before .before .before .before .before .before .before .before .before .loop .inv .0 in
-    subst (Judges (c .before .before .before .before .before .before .before .before .before .before .before .before .before .before .before .before .before .before .before .before .args .s .now) (state .done) (item (c .before .before .before .before .before .before .before))) e (c .judge-element .ensures (state .table) (state .done) (state .holds))
+    subst (Judges (c .before .before .before .before .before .before .before .before .before .before .before .before .before .before .before .before .before .before .before .before .args .edition) (c .before .before .before .before .before .before .before .before .before .before .before .before .before .before .before .before .before .before .before .before .args .s .now) (state .done) (item (c .before .before .before .before .before .before .before))) e (c .judge-element .ensures (state .table) (state .done) (state .holds))
 
 -- and passed
 passing : (c : tie.After-known-told3 Inv-loop μ-loop) →
     let p = c .before .row .given .0 in
-    Passing (c .before .before .before .before .before .before .before .before .before .before .before .before .before .before .before .before .before .before .before .before .before .before .before .before .before .args .s .now) (c .before .before .before .before .before .before .before .before .before .before .before .before .before .before .before .before .loop .inv .0 .done) (item (c .before .before .before .before .before .before .before .before .before .before .before .before)) (p .0) (p .1 .0)
+    Passing (c .before .before .before .before .before .before .before .before .before .before .before .before .before .before .before .before .before .before .before .before .before .before .before .before .before .args .edition) (c .before .before .before .before .before .before .before .before .before .before .before .before .before .before .before .before .before .before .before .before .before .before .before .before .before .args .s .now) (c .before .before .before .before .before .before .before .before .before .before .before .before .before .before .before .before .loop .inv .0 .done) (item (c .before .before .before .before .before .before .before .before .before .before .before .before)) (p .0) (p .1 .0)
 passing c = judged (c .before .before .before .before .before) _ (c .before .row .given .1)
 
 whole-stream-requires : tie.Need-whole-stream-requires Inv-loop μ-loop
@@ -53,8 +53,8 @@ loop-holds : tie.Need-loop-holds Inv-loop μ-loop
 loop-holds c =
     let start = c .before .before .before .before .before .before .before .before in
     let a = start .args in (
-      subst (Judging (a .s .now) (a .rows .now) (a .head .now) (a .next .now) (a .head2 .now) (a .next2 .now) 0) (sym (c .whole-stream .ensures))
-          (judging-none (a .s .now) (a .rows .now) (a .head .now) (a .next .now) (a .head2 .now) (a .next2 .now) (a .bounds .now) (start .pre .1) (start .pre .0 .0)),
+      subst (Judging (a .edition) (a .s .now) (a .rows .now) (a .head .now) (a .next .now) (a .head2 .now) (a .next2 .now) 0) (sym (c .whole-stream .ensures))
+          (judging-none (a .edition) (a .s .now) (a .rows .now) (a .head .now) (a .next .now) (a .head2 .now) (a .next2 .now) (a .bounds .now) (start .pre .1) (start .pre .0 .0)),
       refl,
       refl,
       refl,

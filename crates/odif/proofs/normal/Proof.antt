@@ -5,7 +5,7 @@ use native.Mathlib.Omega.{arith}
 use denote.Ref.{now}
 use Rattle.tree.proofs.Meaning.{whole-of}
 use Rattle.normal.specs.declared.Answer.{Answer}
-use Rattle.elements.specs.Shape.{edition1988}
+use Rattle.elements.specs.declared.Edition.the-variants.{Of1988}
 use Rattle.answers.proofs.Letters.{letter-found}
 use Rattle.answers.proofs.Working.{letter-told}
 use Rattle.odif.proofs.Writing.{toldAs, Fits, writes-told, writes-letter}
@@ -33,7 +33,7 @@ write-requires : tie.Need-write-requires
 write-requires c κs =
     let s = now (c .before .before .before .before .before .before .before .before .before .before .before .before .args .stream) in
     let d = letter-told (c .before .before .before .before .before .before .ask .ensures .answered) (c .before .if1 .left) in
-    let f = letter-found edition1988 s (d .headers) (d .elements) (d .judged) in
+    let f = letter-found Of1988 s (d .headers) (d .elements) (d .judged) in
     whole-of s (f .at) (d .headers) (f .walked)
 
 enum-known-length : tie.Need-enum-known-length

@@ -1,12 +1,13 @@
 -- `letters::content::content_of` meets its contract: the element is what is met where its row begins. Assumes nothing.
 use mathlib.Core.Path.{_≡_, ap, sym, _∙_, subst}
+use mathlib.Core.List.{[], _∷_}
 use borrow.Author.Needs.{needs}
 use Rattle.runs.specs.declared.Run.{Run}
 use Rattle.runs.specs.Runs.{itemsOf, Fine, Meeting}
 use Rattle.elements.specs.declared.Shape.{Shape}
 use Rattle.elements.specs.WellMade.{WellMade}
 use Rattle.elements.specs.Frames.{Holding}
-use Rattle.elements.proofs.Made.{made-1988}
+use Rattle.elements.proofs.Made.{made}
 use Rattle.letters.specs.Content.{HoldsElement}
 use Rattle.contents.proofs.Firsts.{met}
 use Rattle.letters.proofs.Standing.{restFrom, rest-fine, rest-some}
@@ -18,7 +19,7 @@ use Rattle.letters.proofs.content.content_of.Tie as tie
 from-row : (c : tie.After-whole-stream) → let start = c .before .before .before .before .before in
     let whole = c .whole-stream .result in
     record { at = c .before .wide .result; limit = whole .limit; marked = whole .marked; room = whole .room }
-    ≡ restFrom (start .pre .0) (start .args .j) (start .pre .1 .row) (start .pre .1 .stands)
+    ≡ restFrom (start .args .edition) (start .pre .0) (start .args .j) (start .pre .1 .row) (start .pre .1 .stands)
 from-row c =
     let start = c .before .before .before .before .before in
     rw (c .before .wide .ensures ∙ start .pre .1 .first, c .whole-stream .ensures)
@@ -26,7 +27,7 @@ from-row c =
 -- an item is met there
 meeting : (c : tie.After-known-told) → let start = c .before .before .before .before .before .before .before .before .before in
     let g = c .before .octet .given .0 in
-    Meeting (start .args .s .now) (restFrom (start .pre .0) (start .args .j) (start .pre .1 .row) (start .pre .1 .stands))
+    Meeting (start .args .s .now) (restFrom (start .args .edition) (start .pre .0) (start .args .j) (start .pre .1 .row) (start .pre .1 .stands))
     (g .0) (g .1 .0) (g .1 .1 .0) (g .1 .1 .1 .0) (g .1 .1 .1 .1 .0)
 meeting c =
     let start = c .before .before .before .before .before .before .before .before .before in
@@ -57,7 +58,7 @@ whole-stream-requires c κs = search needs
 meet-requires : tie.Need-meet-requires
 meet-requires c κs =
     let start = c .before .before .before .before .before in
-    subst (Fine (start .args .s .now)) (sym (from-row c)) (rest-fine (start .pre .0) (start .args .j) (start .pre .1 .row) (start .pre .1 .stands))
+    subst (Fine (start .args .s .now)) (sym (from-row c)) (rest-fine (start .args .edition) (start .pre .0) (start .args .j) (start .pre .1 .row) (start .pre .1 .stands))
 
 enum-told : tie.Need-enum-told
 enum-told c = search needs
@@ -65,12 +66,12 @@ enum-told c = search needs
 enum-known-octet : tie.Need-enum-known-octet
 enum-known-octet c = search needs
 
-shape-1988-requires : tie.Need-shape-1988-requires
-shape-1988-requires c κs = search needs
+shape-of-requires : tie.Need-shape-of-requires
+shape-of-requires c κs = search needs
 
 holder-in-requires : tie.Need-holder-in-requires
 holder-in-requires c κs =
-    (meeting (c .before) .inner-fine, subst WellMade (sym (c .shape-1988 .ensures)) (made-1988 (c .before .before .octet .given .0 .0)))
+    (meeting (c .before) .inner-fine, subst WellMade (sym (c .shape-of .ensures)) (made (c .before .before .before .before .before .before .before .before .before .before .args .edition) (c .before .before .octet .given .0 .0 ∷ [])))
 
 held-by-requires : tie.Need-held-by-requires
 held-by-requires c κs = search needs
@@ -81,7 +82,7 @@ returns c =
     let start = at-meet .before .before .before .before .before .before in
     let s = start .args .s .now in
     let none-met = met s _ (at-meet .meet .ensures) (c .enum-told .given .1) in
-    absurd (rest-some (start .pre .0) (start .args .j) (start .pre .1 .row) (start .pre .1 .stands)
+    absurd (rest-some (start .args .edition) (start .pre .0) (start .args .j) (start .pre .1 .row) (start .pre .1 .stands)
     (ap (itemsOf s) (sym (from-row (at-meet .before))) ∙ none-met))
 
 returns-2 : tie.Need-returns-2
@@ -91,9 +92,9 @@ returns-2 c =
     let start = at-told .before .before .before .before .before .before .before .before .before in
     let s = start .args .s .now in
     let inner = at-told .before .octet .given .0 .1 .1 .1 .0 in
-    let holding = subst (λ (shape : Shape). Holding s shape inner (c .before .holder-in .result)) (at-shape .shape-1988 .ensures) (c .before .holder-in .ensures) in
-    subst (HoldsElement s (start .args .j)) (sym (c .held-by .ensures))
-    (holds-element (start .pre .0) (start .args .j) (start .pre .1 .row) (start .pre .1 .stands) (meeting at-told) holding)
+    let holding = subst (λ (shape : Shape). Holding s shape inner (c .before .holder-in .result)) (at-shape .shape-of .ensures) (c .before .holder-in .ensures) in
+    subst (HoldsElement (start .args .edition) s (start .args .j)) (sym (c .held-by .ensures))
+    (holds-element (start .args .edition) (start .pre .0) (start .args .j) (start .pre .1 .row) (start .pre .1 .stands) (meeting at-told) holding)
 
 pub content-of-spec : {M : Type 1} → statement M
 content-of-spec =
@@ -108,7 +109,7 @@ content-of-spec =
     meet-requires
     enum-told
     enum-known-octet
-    shape-1988-requires
+    shape-of-requires
     holder-in-requires
     held-by-requires
     returns

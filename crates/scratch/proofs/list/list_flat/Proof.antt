@@ -7,7 +7,7 @@ use native.Mathlib.Omega.{arith}
 use lib.ListN.{length}
 use denote.Ref.{now}
 use Rattle.octets.specs.declared.Outcome.{Outcome}
-use Rattle.elements.specs.Shape.{edition1988}
+use Rattle.elements.specs.declared.Edition.the-variants.{Of1988}
 use Rattle.letters.specs.Lent.{rowsNeeded}
 use Rattle.answers.specs.Asking.{rowsAfter}
 use Rattle.answers.proofs.Small.{walk-small, headers-small}
@@ -98,7 +98,7 @@ returns-3 : tie.Need-returns-3
 returns-3 c =
     let a = c .before .before .before .before .before .before in
     let x = a .args in
-    let e = refused-walk edition1988 _ _ _ _ (a .pre .outcome ∙ c .before .walked2 .given .1) in
+    let e = refused-walk Of1988 _ _ _ _ (a .pre .outcome ∙ c .before .walked2 .given .1) in
     lists-refused (x .side) (now (x .stream)) (now (x .table)) (now (x .flat)) (x .room) _ _ _ e
 
 pub list-flat-spec : {M : Type 1} → statement M
