@@ -2,12 +2,13 @@
 -- Assumes nothing.
 use mathlib.Core.Path.{_≡_, refl, ap, sym, _∙_, subst}
 use mathlib.Core.Bool.{Bool, true, false, cond, true≢false, false≢true}
-use mathlib.Core.List.{List, [], _∷_}
+use mathlib.Core.List.{List}
 use Prim.Native.Nat.{ℕ, _+_}
 use native.Mathlib.Omega.{arith}
 use lib.Dec.{eqb}
 use borrow.Author.Tests.{eq-eqb, ne-eqb}
-use Rattle.headers.specs.Head.{constructed}
+use Rattle.headers.specs.Head.{constructed, typeField}
+use Rattle.headers.proofs.Fields.{code-field}
 use Rattle.octets.specs.Walk.{none}
 use Rattle.tree.specs.Tree.{Tree, formed}
 use Rattle.runs.specs.declared.Run.{Run}
@@ -15,7 +16,7 @@ use Rattle.runs.specs.declared.Met.{Met}
 use Rattle.runs.specs.Runs.{itemsOf, treeIn, Meets}
 use Rattle.runs.proofs.Laws.{tree-meets, tree-none}
 use Rattle.contents.specs.declared.Part.{Part}
-use Rattle.contents.specs.Search.{amount, octets, firstValue, firstRun, boundsOf, itemsIn}
+use Rattle.contents.specs.Search.{is, amount, octets, firstValue, firstRun, boundsOf, itemsIn}
 use Rattle.contents.specs.First.{IsFirst, Lacks}
 use Rattle.contents.specs.Opening.{Begins}
 
@@ -23,33 +24,37 @@ use Rattle.contents.specs.Opening.{Begins}
 pub met : (s : List ℕ) (r : Run) {x y : Met} → Meets s r x → x ≡ y → Meets s r y
 met s r m e = subst (Meets s r) e m
 
+-- an item's type field is the sought one exactly if the codes are equal
+pub is-field : (octet code : ℕ) → is octet (typeField code) ≡ eqb code octet
+is-field octet code = ap (λ (k : ℕ). eqb k octet) (code-field code)
+
 -- an item of either form
 module _ (octet type : ℕ) (value : List ℕ) (inside after : Tree) where
   pub amount-formed : (b : Bool) →
-      amount octet (formed b (type ∷ []) value inside after) ≡ cond (eqb type octet) 1 0 + amount octet after
+      amount octet (formed b (typeField type) value inside after) ≡ cond (eqb type octet) 1 0 + amount octet after
   unfolding amount
-  amount-formed true = refl
-  amount-formed false = refl
+  amount-formed true = rw (is-field octet type)
+  amount-formed false = rw (is-field octet type)
 
-  pub value-here : (b : Bool) → b ≡ false → type ≡ octet → firstValue octet (formed b (type ∷ []) value inside after) ≡ octets value
+  pub value-here : (b : Bool) → b ≡ false → type ≡ octet → firstValue octet (formed b (typeField type) value inside after) ≡ octets value
   unfolding firstValue
   value-here true f e = absurd (true≢false f)
-  value-here false f e = rw (eq-eqb type octet e)
+  value-here false f e = rw (is-field octet type, eq-eqb type octet e)
 
   pub value-after : (b : Bool) → (type ≡ octet → ⊥) →
-      firstValue octet (formed b (type ∷ []) value inside after) ≡ firstValue octet after
+      firstValue octet (formed b (typeField type) value inside after) ≡ firstValue octet after
   unfolding firstValue
   value-after true n = refl
-  value-after false n = rw (ne-eqb type octet n)
+  value-after false n = rw (is-field octet type, ne-eqb type octet n)
 
-  pub run-here : (b : Bool) → b ≡ true → type ≡ octet → firstRun octet (formed b (type ∷ []) value inside after) ≡ inside
+  pub run-here : (b : Bool) → b ≡ true → type ≡ octet → firstRun octet (formed b (typeField type) value inside after) ≡ inside
   unfolding firstRun
-  run-here true f e = rw (eq-eqb type octet e)
+  run-here true f e = rw (is-field octet type, eq-eqb type octet e)
   run-here false f e = absurd (false≢true f)
 
-  pub run-after : (b : Bool) → (type ≡ octet → ⊥) → firstRun octet (formed b (type ∷ []) value inside after) ≡ firstRun octet after
+  pub run-after : (b : Bool) → (type ≡ octet → ⊥) → firstRun octet (formed b (typeField type) value inside after) ≡ firstRun octet after
   unfolding firstRun
-  run-after true n = rw (ne-eqb type octet n)
+  run-after true n = rw (is-field octet type, ne-eqb type octet n)
   run-after false n = refl
 
 -- a search that starts at `from` is one that starts at `to`

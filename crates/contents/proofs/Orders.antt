@@ -1,11 +1,11 @@
 -- Two slots in order, by how many items a run has: the octets of its first two decide. Assumes nothing.
 use mathlib.Core.Path.{_≡_, refl, sym, ap, _∙_}
 use mathlib.Core.Bool.{Bool, true, false, not, _&&_, _||_, and-true, and-false, or-false, false≢true}
-use mathlib.Core.List.{List, [], _∷_}
+use mathlib.Core.List.{List}
 use Prim.Native.Nat.{ℕ, zero, suc, _≤_}
 use native.Mathlib.Omega.{arith}
 use lib.Dec.{eqb}
-use Rattle.headers.specs.Head.{constructed}
+use Rattle.headers.specs.Head.{constructed, typeField}
 use Rattle.octets.specs.Walk.{none}
 use Rattle.tree.specs.Tree.{Tree, formed}
 use Rattle.runs.specs.declared.Run.{Run}
@@ -16,16 +16,17 @@ use Rattle.contents.specs.declared.Part.{Part}
 use Rattle.contents.specs.declared.Slot.{Slot}
 use Rattle.contents.specs.Search.{ends, starts, slot, inOrder}
 use Rattle.contents.specs.Opening.{Begins, Opens, nothing, single, several, ends-here, goes-on}
+use Rattle.contents.proofs.Firsts.{is-field}
 
 module _ (type : ℕ) (value : List ℕ) (inside after : Tree) where
-  ends-formed : (b : Bool) → ends (formed b (type ∷ []) value inside after) ≡ false
+  ends-formed : (b : Bool) → ends (formed b (typeField type) value inside after) ≡ false
   ends-formed true = refl
   ends-formed false = refl
 
   starts-formed : (octet : ℕ) (rest : Tree → Bool) (b : Bool) →
-      starts octet rest (formed b (type ∷ []) value inside after) ≡ (eqb type octet && rest after)
-  starts-formed octet rest true = refl
-  starts-formed octet rest false = refl
+      starts octet rest (formed b (typeField type) value inside after) ≡ (eqb type octet && rest after)
+  starts-formed octet rest true = rw (is-field octet type)
+  starts-formed octet rest false = rw (is-field octet type)
 
 module _ (s : List ℕ) (r : Run) (e : itemsOf s r ≡ none) where
   ends-end : ends (treeIn s r) ≡ true

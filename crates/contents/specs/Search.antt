@@ -2,19 +2,18 @@
 -- element may have, and in which order. "In the 31", "in it" and "in a style" of document 01 mean the direct items. An octet 0 stands for
 -- none: no item has it. Definitions only: assumes nothing.
 use Prim.Native.Nat.{ℕ, _+_}
-use mathlib.Core.Bool.{Bool, cond, false, true, _&&_, _||_, not}
-use mathlib.Core.List.{List, [], _∷_}
+use mathlib.Core.Bool.{Bool, cond, true, false, _&&_, _||_, not}
+use mathlib.Core.List.{List}
 use lib.Dec.{eqb}
+use Rattle.headers.specs.Head.{codeOf}
 use Rattle.octets.specs.Walk.{Items, none, item}
 use Rattle.tree.specs.Tree.{empty, Tree, leaf, branch}
 use Rattle.contents.specs.declared.Span.{Span}
 use Rattle.contents.specs.declared.Slot.{Slot}
 
--- whether a type field is this one octet
+-- whether a type field is the one that is sought, by its code; that of one octet is the octet
 abbrev pub is : (octet : ℕ) → (type : List ℕ) → Bool
-is octet [] = false
-is octet (x ∷ []) = eqb x octet
-is octet (x ∷ y ∷ ys) = false
+is octet type = eqb (codeOf type) octet
 
 -- how many items of a run have the octet
 unfoldable pub amount : (octet : ℕ) → Tree → ℕ

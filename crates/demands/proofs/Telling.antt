@@ -12,18 +12,18 @@ use lib.ListN.{length, getElem?, length-map}
 use lib.Seq.{slice, slice-empty}
 use borrow.Author.Tests.{eqb-true, eqb-false, ne-eqb}
 use borrow.Table.Steps.{cases}
-use Rattle.headers.specs.Head.{constructed, misfits}
+use Rattle.headers.specs.Head.{constructed, misfits, codeOf, typeField}
 use Rattle.octets.specs.Walk.{Items, none, item, count, End, ends, pastOf, deepest, startOf}
 use Rattle.octets.specs.Rules.{Runs, at-limit, unclosed, closes, refuses, primitive, passes, breaks}
 use Rattle.octets.proofs.Turns.{header-ok}
-use Rattle.tree.specs.Tree.{Tree, empty, leaf, branch, formed, plain, TypeField, firstOctet, Codes, nothing, primitive as flat, definite, indefinite}
+use Rattle.tree.specs.Tree.{Tree, empty, leaf, branch, formed, plain, TypeField, oneOctet, Codes, nothing, primitive as flat, definite, indefinite}
 use Rattle.tree.specs.Accepts.{Whole}
 use Rattle.tree.proofs.Here.{sliced}
 use Rattle.tree.proofs.Sound.{Past, sound}
 use Rattle.runs.proofs.Heads.{item-octet}
 use Rattle.contents.specs.declared.Span.{Span}
 use Rattle.contents.specs.Search.{is, amount, firstValue, firstRun, boundsOf, itemsIn as insideOf}
-use Rattle.contents.proofs.Firsts.{amount-formed}
+use Rattle.contents.proofs.Firsts.{is-field, amount-formed}
 use Rattle.portions.specs.Portions.{allPortions, values, all}
 use Rattle.elements.specs.Rows.{noSpan, bytesIn, bodyIn, contentOctet, rowOf, rowsOf}
 use Rattle.elements.specs.declared.Row.{Row}
@@ -100,11 +100,11 @@ module _ (s : List ℕ) where
       (λ t.
       let same = eqb-true type octet t in
       let k : constructed type ≡ false = ap constructed same ∙ c in
-      rw (t, k, t) (refl, there))
+      rw (t, k, is-field octet type, t) (refl, there))
       (λ t.
       cases (constructed type)
       (λ k. rw (t, k) (value-at octet c q))
-      (λ k. rw (t, k, t) (value-at octet c q)))
+      (λ k. rw (t, k, is-field octet type, t) (value-at octet c q)))
 
   -- the bounds of an item that is there end past 0, and those of one that is not are 0 and 0
   there-at : (octet : ℕ) {room : ℕ} {i : Items} → Proper s room i → (boundsOf octet i ≡ noSpan) ↔ (amount octet (plain s i) ≡ 0)
@@ -130,10 +130,10 @@ module _ (s : List ℕ) where
       (λ t.
       let same = eqb-true type octet t in
       let p : constructed type ≡ true = ap constructed same ∙ c in
-      rw (t, p, t))
+      rw (t, p, is-field octet type, t))
       (λ t.
       cases (constructed type)
-      (λ p. rw (t, p, t) (run-at octet c after))
+      (λ p. rw (t, p, is-field octet type, t) (run-at octet c after))
       (λ p. rw (t, p) (run-at octet c after)))
 
   inside-proper : (octet : ℕ) {room : ℕ} {i : Items} → Proper s room i → Proper s (room - 1) (insideOf octet i)
@@ -152,12 +152,12 @@ module _ (s : List ℕ) where
       (λ t.
       let same = eqb-true type octet t in
       let k : constructed type ≡ true = ap constructed same ∙ c in
-      rw (t, k, t) (codes k, there))
+      rw (t, k, is-field octet type, t) (codes k, there))
       (λ t.
       let counted = amount-formed octet type (slice start past s) (plain s inside) (plain s after) (constructed type) in
       let fewer : amount octet (plain s (item 0 type start past inside after)) ≡ amount octet (plain s after) = counted ∙ rw t (omega arith) in
       let rest = codes-at octet c q (λ z. present (fewer ∙ z)) in
-      cases (constructed type) (λ k. rw (t, k, t) rest) (λ k. rw (t, k) rest))
+      cases (constructed type) (λ k. rw (t, k, is-field octet type, t) rest) (λ k. rw (t, k) rest))
 
   -- no item has octet 0
   zero-at : {room : ℕ} {i : Items} → Proper s room i → (octet : ℕ) → octet ≡ 0 → amount octet (plain s i) ≡ 0
@@ -191,11 +191,9 @@ constructed-by : (octet : ℕ) → (octet ≡ 0) ⊎ (constructed octet ≡ true
 constructed-by octet (inl z) present = absurd (present z)
 constructed-by octet (inr c) present = c
 
--- a type field that is this one octet
-is-octet : (octet : ℕ) (type : List ℕ) → is octet type ≡ true → type ≡ octet ∷ []
-is-octet octet [] e = absurd (false≢true e)
-is-octet octet (x ∷ []) e = ap (λ (k : ℕ). k ∷ []) (eqb-true x octet e)
-is-octet octet (x ∷ y ∷ ys) e = absurd (false≢true e)
+-- a type field with the code of one octet is that octet
+is-octet : (octet : ℕ) {type : List ℕ} {form : Bool} → TypeField type form → is octet type ≡ true → type ≡ octet ∷ []
+is-octet octet (oneOctet {octet = first} n a c) e = let same = eqb-true _ octet e in ap (λ (k : ℕ). k ∷ []) (omega arith)
 
 both : (a b : Bool) → a && b ≡ true → (a ≡ true) × (b ≡ true)
 both true b e = (refl, e)
@@ -207,10 +205,10 @@ unfolding allPortions values
 one-level nothing e = nothing
 one-level (flat {type = type} {len} {value} {rest} {after} f m l c) e =
     let (a, b) = both (is 0x12 type) (allPortions after) e in
-    let k = is-octet 0x12 type a in
+    let k = is-octet 0x12 f a in
     subst (λ (field : List ℕ). Codes 1 (portionItems (value ∷ values after)) (field ++ (len ++ (value ++ rest)))) (sym k)
     (flat (subst (λ (field : List ℕ). TypeField field false) k f)
-    (subst (λ (field : List ℕ). misfits (firstOctet field) (length value) ≡ false) k m) l (one-level c b))
+    (subst (λ (field : List ℕ). misfits (codeOf field) (length value) ≡ false) k m) l (one-level c b))
 one-level (definite f l v c) e = absurd (false≢true e)
 one-level (indefinite f v c) e = absurd (false≢true e)
 
@@ -251,10 +249,10 @@ module _ (s : List ℕ) where
       rw t (codes-at s (shape .pieces) (constructed-by (shape .pieces) (made .pieces) (λ z. present (zero-at s p (shape .pieces) z))) p present))
 
   abbrev shapeAt : ℕ → Shape
-  shapeAt octet = shapeOf Of1988 (octet ∷ [])
+  shapeAt octet = shapeOf Of1988 (typeField octet)
 
   abbrev itemAt : (octet : ℕ) → Items → TopItem
-  itemAt octet inside = record { type = octet ∷ []; run = plain s inside }
+  itemAt octet inside = record { type = typeField octet; run = plain s inside }
 
   row-tells : (octet first past : ℕ) (inside : Items) → Proper s (deepest - 1) inside
       → allPortions (firstRun (shapeAt octet .portions) (bodyOf (shapeAt octet) (plain s inside))) ≡ true
@@ -262,7 +260,7 @@ module _ (s : List ℕ) where
   unfolding rowOf elementOf
   row-tells octet first past inside p only =
       let shape = shapeAt octet in
-      let made = made Of1988 (octet ∷ []) in
+      let made = made Of1988 (typeField octet) in
       let body = bodyIn shape inside in
       let same : plain s body ≡ bodyOf shape (plain s inside) = body-at s shape made inside in
       let q = body-proper s shape p .1 in
@@ -281,7 +279,7 @@ module _ (s : List ℕ) where
 
   -- an element stands in the tree as the items inside its own
   same-top : (octet : ℕ) (value : List ℕ) (inside : Items) (after : Tree) → (constructed octet ≡ false → inside ≡ none)
-      → topItems (formed (constructed octet) (octet ∷ []) value (plain s inside) after) ≡ itemAt octet inside ∷ topItems after
+      → topItems (formed (constructed octet) (typeField octet) value (plain s inside) after) ≡ itemAt octet inside ∷ topItems after
   same-top octet value inside after n =
       cases (constructed octet)
       (λ c. rw c)

@@ -4,13 +4,15 @@ use mathlib.Core.Path.{_≡_, refl, sym, ap, _∙_}
 use mathlib.Core.List.{[], _∷_}
 use Prim.Native.Nat.{ℕ}
 use borrow.Author.Tests.{ne-eqb}
+use Rattle.headers.specs.Head.{typeField}
+use Rattle.contents.proofs.Firsts.{is-field}
 use Rattle.elements.specs.declared.Shape.{Shape}
 use Rattle.elements.specs.Shape.{Shapes, shapeIn, noShape}
 
 -- an octet that is tried
-pub found : (shapes : Shapes) {shape : Shape} {tried octet : ℕ} → shape ≡ shapeIn shapes (tried ∷ []) → octet ≡ tried
-    → shape ≡ shapeIn shapes (octet ∷ [])
-found shapes made same = made ∙ sym (ap (λ (o : ℕ). shapeIn shapes (o ∷ [])) same)
+pub found : (shapes : Shapes) {shape : Shape} {tried octet : ℕ} → shape ≡ shapeIn shapes (typeField tried) → octet ≡ tried
+    → shape ≡ shapeIn shapes (typeField octet)
+found shapes made same = made ∙ sym (ap (λ (o : ℕ). shapeIn shapes (typeField o)) same)
 
 -- an octet that no shape of a list has, told one shape after another
 abbrev pub Untried : (before : Type 0) (octet : ℕ) → Shapes → Type 0
@@ -21,8 +23,8 @@ told-before : (before : Type 0) (octet : ℕ) (shapes : Shapes) → Untried befo
 told-before before octet [] others = others
 told-before before octet (shape ∷ shapes) others = told-before (before × (octet ≡ shape .octet → ⊥)) octet shapes others .0
 
-pub unlisted : (before : Type 0) (octet : ℕ) (shapes : Shapes) → Untried before octet shapes → shapeIn shapes (octet ∷ []) ≡ noShape
+pub unlisted : (before : Type 0) (octet : ℕ) (shapes : Shapes) → Untried before octet shapes → shapeIn shapes (typeField octet) ≡ noShape
 unlisted before octet [] others = refl
 unlisted before octet (shape ∷ shapes) others =
     let this = before × (octet ≡ shape .octet → ⊥) in
-    rw (ne-eqb octet (shape .octet) (told-before this octet shapes others .1)) (unlisted this octet shapes others)
+    rw (is-field (shape .octet) octet, ne-eqb octet (shape .octet) (told-before this octet shapes others .1)) (unlisted this octet shapes others)

@@ -7,7 +7,7 @@ use mathlib.Core.Logic.{_⊎_, inl, inr}
 use Prim.Native.Nat.{ℕ}
 use lib.Dec.{eqb}
 use borrow.Author.Tests.{eqb-true, not-true}
-use Rattle.headers.specs.Head.{constructed}
+use Rattle.headers.specs.Head.{constructed, typeField}
 use Rattle.contents.specs.Search.{is}
 use Rattle.portions.specs.Portions.{all}
 use Rattle.elements.specs.declared.Shape.{Shape}

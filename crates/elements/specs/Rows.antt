@@ -7,6 +7,7 @@ use mathlib.Core.List.{List, [], _∷_, _++_}
 use lib.Dec.{eqb}
 use lib.ListN.{length}
 use lib.Seq.{slice}
+use Rattle.headers.specs.Head.{typeField}
 use Rattle.octets.specs.Walk.{Items, none, item, startOf}
 use Rattle.tree.specs.Tree.{Tree, plain}
 use Rattle.contents.specs.Search.{itemsIn, boundsOf}
@@ -52,7 +53,7 @@ rowOf shape s first past items =
 unfoldable pub rowsOf : Edition → List ℕ → Items → List Row
 rowsOf edition s none = []
 rowsOf edition s (item at octet first past inside after) =
-    rowOf (shapeOf edition (octet ∷ [])) s at (startOf (length s) after) inside ∷ rowsOf edition s after
+    rowOf (shapeOf edition (typeField octet)) s at (startOf (length s) after) inside ∷ rowsOf edition s after
 
 -- the twelve numbers of a row
 abbrev pub cells : Row → List ℕ

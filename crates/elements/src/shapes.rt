@@ -3,7 +3,7 @@ use super::Edition;
 use super::Shape;
 use contents::Slot;
 ghost use mathlib.Core.Path.{_≡_};
-ghost use mathlib.Core.List.{[], _∷_};
+ghost use Rattle.headers.specs.Head.{typeField};
 ghost use Rattle.elements.specs.Shape.{profileShape, describedShape, unitShape, styleShape, shapes1988, shapeIn, shapeOf};
 
 const NO_ITEM: Slot = Slot {
@@ -136,7 +136,7 @@ fn style_shape(octet: usize) -> Shape
 }
 
 fn shape_1988(octet: usize) -> Shape
-    ensures { λ r. ⌜ r ≡ shapeIn shapes1988 (octet ∷ []) ⌝ }
+    ensures { λ r. ⌜ r ≡ shapeIn shapes1988 (typeField octet) ⌝ }
 {
     match octet {
         0xA0 => profile_shape(0xA0),
@@ -153,7 +153,7 @@ fn shape_1988(octet: usize) -> Shape
 
 // The shape of an element by its octet, in an edition.
 pub fn shape_of(edition: Edition, octet: usize) -> Shape
-    ensures { λ r. ⌜ r ≡ shapeOf edition (octet ∷ []) ⌝ }
+    ensures { λ r. ⌜ r ≡ shapeOf edition (typeField octet) ⌝ }
 {
     match edition {
         Edition::Of1988 => shape_1988(octet),

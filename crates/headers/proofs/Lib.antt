@@ -1,4 +1,5 @@
 pub mod Table
+pub mod Fields
 pub mod Lengths
 pub mod Usual
 pub mod Lies

@@ -1,4 +1,5 @@
--- A header that is read lies between its place and the limit, in the order of its parts; and so does a closing mark. Assumes nothing.
+-- What an item's type field is that was read, and that a header that is read lies between its place and the limit, in the order of its
+-- parts; and so does a closing mark. Assumes nothing.
 use mathlib.Core.Path.{_≡_, refl}
 use mathlib.Core.Bool.{Bool, true, false, cond, false≢true}
 use mathlib.Core.List.{List}
@@ -9,12 +10,35 @@ use borrow.Author.Tests.{leb-true, ltb-true, eqb-false}
 use Rattle.headers.specs.declared.Header.{Header}
 use Rattle.headers.specs.declared.Head.{Head}
 use Rattle.headers.specs.declared.Head.the-variants.{Item, ClosingMark, Refusal}
-use Rattle.headers.specs.Head.{number, constructed, formAllowed, misfits, octetAt, definiteAt, indefiniteAt, longAt, byFirst, lengthAt, closingAt, itemAt, headAt}
+use Rattle.headers.specs.declared.Field.{Field}
+use Rattle.headers.specs.Head.{number, constructed, formAllowed, misfits, octetAt, definiteAt, indefiniteAt, longAt, byFirst, lengthAt, afterField, closingAt, itemAt, headAt}
 
 -- what holds of both cases holds of the one that a test picks
 pub cond-holds : {A : Type 0} (P : A → Type 0) (b : Bool) {x y : A} → (b ≡ true → P x) → (b ≡ false → P y) → P (cond b x y)
 cond-holds P true f g = f refl
 cond-holds P false f g = g refl
+
+-- a type field that was read at `at`, from this octet on: its code, and the place past it
+pub data FieldRead (octet at : ℕ) : (code past : ℕ) → Type 0 where
+  in-one : (number octet ≡ 31 → ⊥) → formAllowed octet ≡ true → FieldRead octet at octet (at + 1)
+
+-- What holds of a refusal by 3 to 7, and of the length octets after any type field that can be read there, holds of an item.
+pub item-holds : (P : Head → Type 0) (s : List ℕ) (octet at limit room : ℕ) → ((n : ℕ) → 3 ≤ n → n ≤ 7 → P (Refusal n at))
+    → (0 < room → (code past : ℕ) → FieldRead octet at code past → P (lengthAt s code at past limit)) → P (itemAt s octet at limit room)
+unfolding itemAt
+item-holds P s octet at limit room refused read =
+    let Q : Field → Type 0 = λ f. P (afterField s at limit f) in
+    cond-holds P (eqb room 0) (λ _. refused 3 (omega arith) (omega arith))
+    (λ e.
+    let deep : 0 < room = let ne = eqb-false room 0 e in omega arith in
+    cond-holds Q (eqb (number octet) 31) (λ _. refused 4 (omega arith) (omega arith))
+    (λ a. cond-holds Q (formAllowed octet)
+    (λ b. read deep octet (at + 1) (in-one (eqb-false (number octet) 31 a) b))
+    (λ _. refused 5 (omega arith) (omega arith))))
+
+-- the place past a type field
+pub field-past : {octet at code past : ℕ} → FieldRead octet at code past → at < past
+field-past (in-one n f) = omega arith
 
 -- a header lies between `at` and the limit, there is room for its item, and only a constructed item is indefinite
 pub record Lies (at limit room : ℕ) (h : Header) : Type 0 where
@@ -38,38 +62,33 @@ module _ (s : List ℕ) (at limit room : ℕ) where
       (λ _. record { header = h; order = omega arith; within = leb-true _ _ e; deep = r; mark = λ m. absurd (false≢true m) }))
       (λ _. tt)
 
-  indefinite-ok : (octet : ℕ) → at + 2 ≤ limit → 0 < room → HeadOk at limit room (indefiniteAt octet at limit)
+  indefinite-ok : (octet from : ℕ) → at < from → from < limit → 0 < room → HeadOk at limit room (indefiniteAt octet at from limit)
   unfolding indefiniteAt
-  indefinite-ok octet h r =
+  indefinite-ok octet from a h r =
       cond-holds (HeadOk at limit room) (constructed octet)
-      (λ e. record { header = omega arith; order = h; within = omega arith; deep = r; mark = λ _. e })
+      (λ e. record { header = omega arith; order = omega arith; within = omega arith; deep = r; mark = λ _. e })
       (λ _. tt)
 
-  long-ok : (octet k : ℕ) → 0 < room → HeadOk at limit room (longAt s octet at k limit)
+  long-ok : (octet from k : ℕ) → at < from → 0 < room → HeadOk at limit room (longAt s octet at from k limit)
   unfolding longAt
-  long-ok octet k r =
-      cond-holds (HeadOk at limit room) (leb (at + 2 + k) limit) (λ _. definite-ok octet (at + 2 + k) _ (omega arith) r) (λ _. tt)
+  long-ok octet from k a r =
+      cond-holds (HeadOk at limit room) (leb (from + 1 + k) limit) (λ _. definite-ok octet (from + 1 + k) _ (omega arith) r) (λ _. tt)
 
-  first-ok : (octet first : ℕ) → at + 1 < limit → 0 < room → HeadOk at limit room (byFirst s octet at first limit)
+  first-ok : (octet from first : ℕ) → at < from → from < limit → 0 < room → HeadOk at limit room (byFirst s octet at from first limit)
   unfolding byFirst
-  first-ok octet first h r =
-      cond-holds (HeadOk at limit room) (ltb first 0x80) (λ _. definite-ok octet (at + 2) first (omega arith) r)
-      (λ _. cond-holds (HeadOk at limit room) (eqb first 0x80) (λ _. indefinite-ok octet (omega arith) r)
-      (λ _. cond-holds (HeadOk at limit room) (ltb first 0x85) (λ _. long-ok octet (first - 0x80) r) (λ _. tt)))
+  first-ok octet from first a h r =
+      cond-holds (HeadOk at limit room) (ltb first 0x80) (λ _. definite-ok octet (from + 1) first (omega arith) r)
+      (λ _. cond-holds (HeadOk at limit room) (eqb first 0x80) (λ _. indefinite-ok octet from a h r)
+      (λ _. cond-holds (HeadOk at limit room) (ltb first 0x85) (λ _. long-ok octet from (first - 0x80) a r) (λ _. tt)))
 
-  length-ok : (octet : ℕ) → 0 < room → HeadOk at limit room (lengthAt s octet at limit)
+  length-ok : (octet from : ℕ) → at < from → 0 < room → HeadOk at limit room (lengthAt s octet at from limit)
   unfolding lengthAt
-  length-ok octet r =
-      cond-holds (HeadOk at limit room) (ltb (at + 1) limit) (λ e. first-ok octet _ (ltb-true _ _ e) r) (λ _. tt)
+  length-ok octet from a r =
+      cond-holds (HeadOk at limit room) (ltb from limit) (λ e. first-ok octet from _ a (ltb-true _ _ e) r) (λ _. tt)
 
   item-ok : (octet : ℕ) → HeadOk at limit room (itemAt s octet at limit room)
-  unfolding itemAt
   item-ok octet =
-      cond-holds (HeadOk at limit room) (eqb room 0) (λ _. tt)
-      (λ e. cond-holds (HeadOk at limit room) (eqb (number octet) 31) (λ _. tt)
-      (λ _. cond-holds (HeadOk at limit room) (formAllowed octet)
-      (λ _. length-ok octet (let ne = eqb-false room 0 e in omega arith))
-      (λ _. tt)))
+      item-holds (HeadOk at limit room) s octet at limit room (λ _ _ _. tt) (λ r code past f. length-ok code past (field-past f) r)
 
   closing-ok : (marked : Bool) → HeadOk at limit room (closingAt s at limit marked)
   unfolding closingAt

@@ -1,5 +1,5 @@
 -- What stands where nothing is refused: each test of `headAt` that could have refused went the other way. Assumes nothing.
-use mathlib.Core.Path.{_≡_, refl}
+use mathlib.Core.Path.{_≡_, refl, _∙_}
 use mathlib.Core.Bool.{Bool, true, false}
 use mathlib.Core.List.{List}
 use Prim.Native.Nat.{ℕ, _+_, _-_, _<_, _≤_}
@@ -9,8 +9,8 @@ use lib.ListN.{take, drop}
 use borrow.Author.Tests.{leb-true, ltb-true, eq-eqb, ne-eqb, lt-ltb, le-ltb}
 use Rattle.headers.specs.declared.Head.{Head}
 use Rattle.headers.specs.declared.Head.the-variants.{Item, ClosingMark}
-use Rattle.headers.specs.Head.{number, constructed, formAllowed, bigEndian, misfits, octetAt, definiteAt, indefiniteAt, longAt, byFirst, lengthAt, closingAt, itemAt, headAt, Passed}
-use Rattle.headers.proofs.Lies.{cond-holds}
+use Rattle.headers.specs.Head.{constructed, bigEndian, misfits, octetAt, definiteAt, indefiniteAt, longAt, byFirst, lengthAt, closingAt, headAt, Passed}
+use Rattle.headers.proofs.Lies.{cond-holds, FieldRead, in-one, item-holds}
 
 -- a header with a definite length, from start on
 abbrev pub definite : (octet start n : ℕ) → Head
@@ -26,46 +26,61 @@ module _ (s : List ℕ) (at limit : ℕ) (marked : Bool) (room : ℕ) where
       (λ _. cond-holds P (ltb (at + 1) limit)
       (λ _. cond-holds P (eqb (octetAt s (at + 1)) 0) (λ _ _. refl) (λ _ p. absurd p)) (λ _ p. absurd p)) (λ _ p. absurd p))
 
-  -- another octet is an item's, and the first length octet decides
+  -- another octet is an item's: its type field was read, and its length octets follow
   pub passed-item : (octetAt s at ≡ 0 → ⊥) → Passed (headAt s at limit marked room)
-      → (headAt s at limit marked room ≡ byFirst s (octetAt s at) at (octetAt s (at + 1)) limit) × (at + 1 < limit)
-  unfolding headAt itemAt lengthAt
+      → (code past : ℕ) × FieldRead (octetAt s at) at code past × (headAt s at limit marked room ≡ lengthAt s code at past limit)
+  unfolding headAt
   passed-item n =
       let octet = octetAt s at in
-      let P : Head → Type 0 = λ x. Passed x → (x ≡ byFirst s octet at (octetAt s (at + 1)) limit) × (at + 1 < limit) in
-      rw (ne-eqb octet 0 n) (cond-holds P (eqb room 0) (λ _ p. absurd p)
-      (λ _. cond-holds P (eqb (number octet) 31) (λ _ p. absurd p)
-      (λ _. cond-holds P (formAllowed octet)
-      (λ _. cond-holds P (ltb (at + 1) limit) (λ e _. (refl, ltb-true _ _ e)) (λ _ p. absurd p)) (λ _ p. absurd p))))
+      let P : Head → Type 0 = λ x. Passed x → (code past : ℕ) × FieldRead octet at code past × (x ≡ lengthAt s code at past limit) in
+      rw (ne-eqb octet 0 n) (item-holds P s octet at limit room (λ _ _ _ p. absurd p) (λ _ code past f _. (code, past, f, refl)))
 
-  module _ (octet : ℕ) where
-    passed-definite : (start n : ℕ) → Passed (definiteAt octet at start n limit) → (definiteAt octet at start n limit ≡ definite octet start n) × (start + n ≤ limit)
-    unfolding definiteAt
-    passed-definite start n =
-        let P : Head → Type 0 = λ x. Passed x → (x ≡ definite octet start n) × (start + n ≤ limit) in
-        cond-holds P (leb (start + n) limit) (λ e. cond-holds P (misfits octet n) (λ _ p. absurd p) (λ _ _. (refl, leb-true _ _ e))) (λ _ p. absurd p)
+-- a type field of one octet
+one-field : (s : List ℕ) (octet at limit code past : ℕ) → FieldRead octet at code past → lengthAt s code at past limit ≡ lengthAt s octet at (at + 1) limit
+one-field s octet at limit _ _ (in-one n f) = refl
 
-    pub passed-short : (first : ℕ) → first < 0x80 → Passed (byFirst s octet at first limit)
-        → (byFirst s octet at first limit ≡ definite octet (at + 2) first) × (at + 2 + first ≤ limit)
-    unfolding byFirst
-    passed-short first l = rw (lt-ltb first 0x80 l) (passed-definite (at + 2) first)
+pub passed-one : (s : List ℕ) (at limit : ℕ) (marked : Bool) (room : ℕ) → (octetAt s at ≡ 0 → ⊥) → Passed (headAt s at limit marked room)
+    → headAt s at limit marked room ≡ lengthAt s (octetAt s at) at (at + 1) limit
+passed-one s at limit marked room n p =
+    let (code, past, f, e) = passed-item s at limit marked room n p in
+    e ∙ one-field s (octetAt s at) at limit code past f
 
-    pub passed-open : (first : ℕ) → first ≡ 0x80 → Passed (byFirst s octet at first limit)
-        → byFirst s octet at first limit ≡ Item (record { octet = octet; start = at + 2; bound = limit; marked = true })
-    unfolding byFirst indefiniteAt
-    passed-open first e =
-        let P : Head → Type 0 = λ x. Passed x → x ≡ Item (record { octet = octet; start = at + 2; bound = limit; marked = true }) in
-        rw (le-ltb first 0x80 (omega arith), eq-eqb first 0x80 e) (cond-holds P (constructed octet) (λ _ _. refl) (λ _ p. absurd p))
+module _ (s : List ℕ) (octet at from limit : ℕ) where
+  -- the first length octet decides
+  pub passed-first : Passed (lengthAt s octet at from limit)
+      → (lengthAt s octet at from limit ≡ byFirst s octet at from (octetAt s from) limit) × (from < limit)
+  unfolding lengthAt
+  passed-first =
+      let P : Head → Type 0 = λ x. Passed x → (x ≡ byFirst s octet at from (octetAt s from) limit) × (from < limit) in
+      cond-holds P (ltb from limit) (λ e _. (refl, ltb-true _ _ e)) (λ _ p. absurd p)
 
-    pub passed-long : (first : ℕ) → 0x80 < first → Passed (byFirst s octet at first limit) →
-        let k = first - 0x80 in
-        let n = bigEndian (take k (drop (at + 2) s)) in
-        (byFirst s octet at first limit ≡ definite octet (at + 2 + k) n) × (at + 2 + k + n ≤ limit) × (k ≤ 4)
-    unfolding byFirst longAt
-    passed-long first l =
-        let k = first - 0x80 in
-        let n = bigEndian (take k (drop (at + 2) s)) in
-        let P : Head → Type 0 = λ x. Passed x → (x ≡ definite octet (at + 2 + k) n) × (at + 2 + k + n ≤ limit) × (k ≤ 4) in
-        rw (le-ltb first 0x80 (omega arith), ne-eqb first 0x80 (λ z. omega arith)) (cond-holds P (ltb first 0x85)
-        (λ e. cond-holds P (leb (at + 2 + k) limit)
-        (λ _ p. let (a, b) = passed-definite (at + 2 + k) n p in (a, b, let h = ltb-true first 0x85 e in omega arith)) (λ _ p. absurd p)) (λ _ p. absurd p))
+  passed-definite : (start n : ℕ) → Passed (definiteAt octet at start n limit) → (definiteAt octet at start n limit ≡ definite octet start n) × (start + n ≤ limit)
+  unfolding definiteAt
+  passed-definite start n =
+      let P : Head → Type 0 = λ x. Passed x → (x ≡ definite octet start n) × (start + n ≤ limit) in
+      cond-holds P (leb (start + n) limit) (λ e. cond-holds P (misfits octet n) (λ _ p. absurd p) (λ _ _. (refl, leb-true _ _ e))) (λ _ p. absurd p)
+
+  pub passed-short : (first : ℕ) → first < 0x80 → Passed (byFirst s octet at from first limit)
+      → (byFirst s octet at from first limit ≡ definite octet (from + 1) first) × (from + 1 + first ≤ limit)
+  unfolding byFirst
+  passed-short first l = rw (lt-ltb first 0x80 l) (passed-definite (from + 1) first)
+
+  pub passed-open : (first : ℕ) → first ≡ 0x80 → Passed (byFirst s octet at from first limit)
+      → byFirst s octet at from first limit ≡ Item (record { octet = octet; start = from + 1; bound = limit; marked = true })
+  unfolding byFirst indefiniteAt
+  passed-open first e =
+      let P : Head → Type 0 = λ x. Passed x → x ≡ Item (record { octet = octet; start = from + 1; bound = limit; marked = true }) in
+      rw (le-ltb first 0x80 (omega arith), eq-eqb first 0x80 e) (cond-holds P (constructed octet) (λ _ _. refl) (λ _ p. absurd p))
+
+  pub passed-long : (first : ℕ) → 0x80 < first → Passed (byFirst s octet at from first limit) →
+      let k = first - 0x80 in
+      let n = bigEndian (take k (drop (from + 1) s)) in
+      (byFirst s octet at from first limit ≡ definite octet (from + 1 + k) n) × (from + 1 + k + n ≤ limit) × (k ≤ 4)
+  unfolding byFirst longAt
+  passed-long first l =
+      let k = first - 0x80 in
+      let n = bigEndian (take k (drop (from + 1) s)) in
+      let P : Head → Type 0 = λ x. Passed x → (x ≡ definite octet (from + 1 + k) n) × (from + 1 + k + n ≤ limit) × (k ≤ 4) in
+      rw (le-ltb first 0x80 (omega arith), ne-eqb first 0x80 (λ z. omega arith)) (cond-holds P (ltb first 0x85)
+      (λ e. cond-holds P (leb (from + 1 + k) limit)
+      (λ _ p. let (a, b) = passed-definite (from + 1 + k) n p in (a, b, let h = ltb-true first 0x85 e in omega arith)) (λ _ p. absurd p)) (λ _ p. absurd p))

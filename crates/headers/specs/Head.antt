@@ -2,13 +2,15 @@
 -- which are tested in their order; X.209, 6.2 and 6.3. First the octet that begins an item, then what length octets say, then the header.
 -- `at` is the position, `limit` the end of the nearest enclosing definite item or of the stream, `marked` says whether the innermost open
 -- item is indefinite, and `room` is how many levels are left. Definitions only: assumes nothing.
-use Prim.Native.Nat.{ℕ, _/_, _%_, _*_, _+_, _-_}
+use Prim.Native.Nat.{ℕ, _/_, _%_, _+_, _*_, _-_}
 use mathlib.Core.Bool.{Bool, cond, false, true, _||_, not}
 use mathlib.Core.List.{List, [], _∷_}
 use lib.ListN.{drop, getD, take}
 use lib.Dec.{eqb, ltb, leb}
 use Rattle.headers.specs.declared.Head.{Head}
 use Rattle.headers.specs.declared.Head.the-variants.{Item, ClosingMark, Refusal}
+use Rattle.headers.specs.declared.Field.{Field}
+use Rattle.headers.specs.declared.Field.the-variants.{Read, Wrong}
 
 -- "class in bits 8 and 7": universal is 00
 abbrev pub universal : ℕ → Bool
@@ -48,6 +50,15 @@ permits n false = isIn n primitiveOnly || isIn n eitherForm
 unfoldable pub formAllowed : ℕ → Bool
 formAllowed octet = cond (universal octet) (permits (number octet) (constructed octet)) true
 
+-- A type field is held as one number, its code: the first octet, and 256 times the octets after it. So the code of one octet is that octet.
+abbrev pub codeOf : (type : List ℕ) → ℕ
+codeOf [] = 0
+codeOf (octet ∷ octets) = octet + 256 * codeOf octets
+
+-- the type field that a code stands for: one octet in the streams that are read now
+abbrev pub typeField : (code : ℕ) → List ℕ
+typeField code = code ∷ []
+
 -- the number whose octets go on with these, where those before them are n
 unfoldable pub bigEndianFrom : ℕ → List ℕ → ℕ
 bigEndianFrom n [] = n
@@ -77,36 +88,44 @@ definiteAt octet at start len limit =
     (Item (record { octet = octet; start = start; bound = start + len; marked = false })))
     (Refusal 7 at)
 
--- An item with the length octet 80: indefinite; 6 "80 on a primitive".
-unfoldable pub indefiniteAt : (octet at limit : ℕ) → Head
-indefiniteAt octet at limit =
-    cond (constructed octet) (Item (record { octet = octet; start = at + 2; bound = limit; marked = true })) (Refusal 6 at)
+-- An item with the length octet 80, at `from`: indefinite; 6 "80 on a primitive".
+unfoldable pub indefiniteAt : (octet at from limit : ℕ) → Head
+indefiniteAt octet at from limit =
+    cond (constructed octet) (Item (record { octet = octet; start = from + 1; bound = limit; marked = true })) (Refusal 6 at)
 
--- An item with k further length octets: 7 if one of them passes the limit.
-unfoldable pub longAt : List ℕ → (octet at k limit : ℕ) → Head
-longAt s octet at k limit =
-    cond (leb (at + 2 + k) limit) (definiteAt octet at (at + 2 + k) (bigEndian (take k (drop (at + 2) s))) limit) (Refusal 7 at)
+-- An item with k length octets after the first, which is at `from`: 7 if one of them passes the limit.
+unfoldable pub longAt : List ℕ → (octet at from k limit : ℕ) → Head
+longAt s octet at from k limit =
+    cond (leb (from + 1 + k) limit) (definiteAt octet at (from + 1 + k) (bigEndian (take k (drop (from + 1) s))) limit) (Refusal 7 at)
 
 -- "The first length octet decides: 00 to 7F is the length; 80 is indefinite; 81 to 84 say how many length octets follow ..;
 -- 85 to FF are refused", by 6.
-unfoldable pub byFirst : List ℕ → (octet at first limit : ℕ) → Head
-byFirst s octet at first limit =
-    cond (ltb first 0x80) (definiteAt octet at (at + 2) first limit)
-    (cond (eqb first 0x80) (indefiniteAt octet at limit)
-    (cond (ltb first 0x85) (longAt s octet at (first - 0x80) limit)
+unfoldable pub byFirst : List ℕ → (octet at from first limit : ℕ) → Head
+byFirst s octet at from first limit =
+    cond (ltb first 0x80) (definiteAt octet at (from + 1) first limit)
+    (cond (eqb first 0x80) (indefiniteAt octet at from limit)
+    (cond (ltb first 0x85) (longAt s octet at from (first - 0x80) limit)
     (Refusal 6 at)))
 
--- 7 if the first length octet passes the limit
-unfoldable pub lengthAt : List ℕ → (octet at limit : ℕ) → Head
-lengthAt s octet at limit = cond (ltb (at + 1) limit) (byFirst s octet at (octetAt s (at + 1)) limit) (Refusal 7 at)
+-- The length octets, from `from` on: 7 if the first of them passes the limit.
+unfoldable pub lengthAt : List ℕ → (octet at from limit : ℕ) → Head
+lengthAt s octet at from limit = cond (ltb from limit) (byFirst s octet at from (octetAt s from) limit) (Refusal 7 at)
 
--- An item: 3 "item at level 17", 4 "number bits 11111", 5 "universal form not in the table".
+-- The type field at `at`, which begins with this octet: 4 "number bits 11111", 5 "universal form not in the table".
+abbrev pub fieldAt : (octet at : ℕ) → Field
+fieldAt octet at =
+    cond (eqb (number octet) 31) (Wrong 4)
+    (cond (formAllowed octet) (Read octet (at + 1))
+    (Wrong 5))
+
+-- what follows a type field: the length octets
+abbrev pub afterField : List ℕ → (at limit : ℕ) → Field → Head
+afterField s at limit (Read octet past) = lengthAt s octet at past limit
+afterField s at limit (Wrong number) = Refusal number at
+
+-- An item: 3 "item at level 17", then its type field and its length octets.
 unfoldable pub itemAt : List ℕ → (octet at limit room : ℕ) → Head
-itemAt s octet at limit room =
-    cond (eqb room 0) (Refusal 3 at)
-    (cond (eqb (number octet) 31) (Refusal 4 at)
-    (cond (formAllowed octet) (lengthAt s octet at limit)
-    (Refusal 5 at)))
+itemAt s octet at limit room = cond (eqb room 0) (Refusal 3 at) (afterField s at limit (fieldAt octet at))
 
 -- A 00: "The closing mark is 00 00 and ends the innermost open item if that is indefinite." 2 "00 where no indefinite item is
 -- innermost, or 00 followed within the limit by another byte than 00"; 7 "second 00 passes the limit".

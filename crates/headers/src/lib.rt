@@ -3,8 +3,8 @@ ghost use mathlib.Core.Path.{_≡_};
 ghost use mathlib.Core.Bool.{true, false};
 ghost use Prim.Native.Nat.{_+_, _<_, _≤_};
 ghost use lib.ListN.{length, take, drop};
-ghost use Rattle.headers.specs.Head.{number, permits, formAllowed, misfits, bigEndian, definiteAt, indefiniteAt, longAt, lengthAt, closingAt, headAt};
-ghost use Rattle.headers.specs.Head.{Passed};
+ghost use Rattle.headers.specs.Head.{number, permits, formAllowed, misfits, bigEndian, definiteAt, indefiniteAt, longAt, lengthAt, fieldAt, closingAt};
+ghost use Rattle.headers.specs.Head.{headAt, Passed};
 ghost use Rattle.headers.specs.declared.Head.the-variants.{Item};
 
 // A header that passed. The value starts at `start`. A definite value ends at `bound`; an indefinite one (`marked`) ends at its
@@ -22,6 +22,12 @@ pub enum Head {
     Item(Header),
     ClosingMark,
     Refusal { number: usize, place: usize },
+}
+
+// The type field at a place: what an item holds of it, and the place past it; or the number of a refusal.
+pub enum Field {
+    Read { octet: usize, past: usize },
+    Wrong { number: usize },
 }
 
 // The forms that each universal number may have: 0 never, 1 primitive, 2 constructed, 3 either.
@@ -102,7 +108,7 @@ fn big_endian(s: &[u8], from: usize, k: usize) -> usize
     n
 }
 
-fn is_misfit(octet: u8, len: usize) -> bool
+fn is_misfit(octet: usize, len: usize) -> bool
     ensures { λ r. ⌜ r ≡ misfits octet len ⌝ }
 {
     match octet {
@@ -113,7 +119,7 @@ fn is_misfit(octet: u8, len: usize) -> bool
     }
 }
 
-fn definite_at(octet: u8, at: usize, start: usize, len: usize, limit: usize) -> Head
+fn definite_at(octet: usize, at: usize, start: usize, len: usize, limit: usize) -> Head
     requires { ⌜ start ≤ limit ⌝ }
     ensures { λ r. ⌜ r ≡ definiteAt octet at start len limit ⌝ }
 {
@@ -130,16 +136,16 @@ fn definite_at(octet: u8, at: usize, start: usize, len: usize, limit: usize) -> 
         };
     }
     Head::Item(Header {
-        octet: wide(octet),
+        octet,
         start,
         bound: start + len,
         marked: false,
     })
 }
 
-fn indefinite_at(octet: u8, at: usize, limit: usize) -> Head
-    requires { ⌜ at + 2 ≤ limit ⌝ }
-    ensures { λ r. ⌜ r ≡ indefiniteAt octet at limit ⌝ }
+fn indefinite_at(octet: usize, at: usize, from: usize, limit: usize) -> Head
+    requires { ⌜ from < limit ⌝ }
+    ensures { λ r. ⌜ r ≡ indefiniteAt octet at from limit ⌝ }
 {
     if octet / 32 % 2 != 1 {
         return Head::Refusal {
@@ -148,18 +154,18 @@ fn indefinite_at(octet: u8, at: usize, limit: usize) -> Head
         };
     }
     Head::Item(Header {
-        octet: wide(octet),
-        start: at + 2,
+        octet,
+        start: from + 1,
         bound: limit,
         marked: true,
     })
 }
 
-fn long_at(s: &[u8], octet: u8, at: usize, k: usize, limit: usize) -> Head
-    requires { ⌜ (at + 2 ≤ limit) × (limit ≤ length (now s)) × (k ≤ 4) ⌝ }
-    ensures { λ r. ⌜ r ≡ longAt (now (s .entry)) octet at k limit ⌝ }
+fn long_at(s: &[u8], octet: usize, at: usize, from: usize, k: usize, limit: usize) -> Head
+    requires { ⌜ (from < limit) × (limit ≤ length (now s)) × (k ≤ 4) ⌝ }
+    ensures { λ r. ⌜ r ≡ longAt (now (s .entry)) octet at from k limit ⌝ }
 {
-    let first = at + 2;
+    let first = from + 1;
     if limit - first < k {
         return Head::Refusal {
             number: 7,
@@ -169,27 +175,44 @@ fn long_at(s: &[u8], octet: u8, at: usize, k: usize, limit: usize) -> Head
     definite_at(octet, at, first + k, big_endian(s, first, k), limit)
 }
 
-fn length_at(s: &[u8], octet: u8, at: usize, limit: usize) -> Head
-    requires { ⌜ (at < limit) × (limit ≤ length (now s)) ⌝ }
-    ensures { λ r. ⌜ r ≡ lengthAt (now (s .entry)) octet at limit ⌝ }
+// The length octets of the item at `at`, from `from` on, which is the place past its type field.
+fn length_at(s: &[u8], octet: usize, at: usize, from: usize, limit: usize) -> Head
+    requires { ⌜ limit ≤ length (now s) ⌝ }
+    ensures { λ r. ⌜ r ≡ lengthAt (now (s .entry)) octet at from limit ⌝ }
 {
-    let next = at + 1;
-    if limit <= next {
+    if limit <= from {
         return Head::Refusal {
             number: 7,
             place: at,
         };
     }
-    let first = s[next];
+    let first = s[from];
     match first {
-        0x00..=0x7F => definite_at(octet, at, at + 2, wide(first), limit),
-        0x80 => indefinite_at(octet, at, limit),
-        0x81..=0x84 => long_at(s, octet, at, wide(first - 0x80), limit),
+        0x00..=0x7F => definite_at(octet, at, from + 1, wide(first), limit),
+        0x80 => indefinite_at(octet, at, from, limit),
+        0x81..=0x84 => long_at(s, octet, at, from, wide(first - 0x80), limit),
         0x85..=0xFF => Head::Refusal {
             number: 6,
             place: at,
         },
     }
+}
+
+// The type field at `at`, which begins with this octet.
+fn field_at(octet: u8, at: usize) -> Field
+    requires { ⌜ at < 18446744073709551615 ⌝ }
+    ensures { λ r. ⌜ r ≡ fieldAt octet at ⌝ }
+{
+    if octet % 32 == 31 {
+        return Field::Wrong { number: 4 };
+    }
+    if form_allowed(octet) {
+        return Field::Read {
+            octet: wide(octet),
+            past: at + 1,
+        };
+    }
+    Field::Wrong { number: 5 }
 }
 
 // A 00 at `at`.
@@ -234,19 +257,10 @@ fn read_head(s: &[u8], at: usize, limit: usize, marked: bool, room: usize) -> He
             place: at,
         };
     }
-    if octet % 32 == 31 {
-        return Head::Refusal {
-            number: 4,
-            place: at,
-        };
+    match field_at(octet, at) {
+        Field::Read { octet, past } => length_at(s, octet, at, past, limit),
+        Field::Wrong { number } => Head::Refusal { number, place: at },
     }
-    if !form_allowed(octet) {
-        return Head::Refusal {
-            number: 5,
-            place: at,
-        };
-    }
-    length_at(s, octet, at, limit)
 }
 
 // Whether an item passes 2 to 8 for sure: one of the octets that letters are made of, with one length octet and room for its value
@@ -284,8 +298,8 @@ pub fn head_at(s: &[u8], at: usize, limit: usize, marked: bool, room: usize) -> 
         if is_usual(octet, len, limit - next, room) {
             return Head::Item(Header {
                 octet: wide(octet),
-                start: at + 2,
-                bound: at + 2 + wide(len),
+                start: next + 1,
+                bound: next + 1 + wide(len),
                 marked: false,
             });
         }
@@ -293,18 +307,44 @@ pub fn head_at(s: &[u8], at: usize, limit: usize, marked: bool, room: usize) -> 
     read_head(s, at, limit, marked, room)
 }
 
-// The header of an item with k further length octets that was passed before.
-fn passed_long(s: &[u8], octet: u8, at: usize, k: usize) -> Head
-    requires { ⌜ (at + 2 + k + bigEndian (take k (drop (at + 2) (now s))) ≤ length (now s)) × (k ≤ 4) ⌝ }
-    ensures { λ r. ⌜ r ≡ Item (record { octet = octet; start = at + 2 + k; bound = at + 2 + k + bigEndian (take k (drop (at + 2) (now (s .entry)))); marked = false }) ⌝ }
+// The header of an item with k length octets after the first, which is at `from`, that was passed before.
+fn passed_long(s: &[u8], octet: usize, from: usize, k: usize) -> Head
+    requires { ⌜ (from + 1 + k + bigEndian (take k (drop (from + 1) (now s))) ≤ length (now s)) × (k ≤ 4) ⌝ }
+    ensures { λ r. ⌜ r ≡ Item (record { octet = octet; start = from + 1 + k; bound = from + 1 + k + bigEndian (take k (drop (from + 1) (now (s .entry)))); marked = false }) ⌝ }
 {
-    let start = at + 2 + k;
+    let first = from + 1;
+    let start = first + k;
     Head::Item(Header {
-        octet: wide(octet),
+        octet,
         start,
-        bound: start + big_endian(s, at + 2, k),
+        bound: start + big_endian(s, first, k),
         marked: false,
     })
+}
+
+// What the length octets from `from` on say of an item that was passed before.
+fn passed_length(s: &[u8], octet: usize, at: usize, from: usize, limit: usize) -> Head
+    requires { ⌜ (from < limit) × (limit ≤ length (now s)) × Passed (lengthAt (now s) octet at from limit) ⌝ }
+    ensures { λ r. ⌜ r ≡ lengthAt (now (s .entry)) octet at from limit ⌝ }
+{
+    let first = s[from];
+    if first < 0x80 {
+        return Head::Item(Header {
+            octet,
+            start: from + 1,
+            bound: from + 1 + wide(first),
+            marked: false,
+        });
+    }
+    if first == 0x80 {
+        return Head::Item(Header {
+            octet,
+            start: from + 1,
+            bound: limit,
+            marked: true,
+        });
+    }
+    passed_long(s, octet, from, wide(first - 0x80))
 }
 
 // What stands at `at` in a run whose walk ended: `head_at` again, for later passes, with nothing left to judge.
@@ -316,22 +356,5 @@ pub fn passed_head(s: &[u8], at: usize, limit: usize, marked: bool, room: usize)
     if octet == 0 {
         return Head::ClosingMark;
     }
-    let first = s[at + 1];
-    if first < 0x80 {
-        return Head::Item(Header {
-            octet: wide(octet),
-            start: at + 2,
-            bound: at + 2 + wide(first),
-            marked: false,
-        });
-    }
-    if first == 0x80 {
-        return Head::Item(Header {
-            octet: wide(octet),
-            start: at + 2,
-            bound: limit,
-            marked: true,
-        });
-    }
-    passed_long(s, octet, at, wide(first - 0x80))
+    passed_length(s, wide(octet), at, at + 1, limit)
 }

@@ -7,6 +7,7 @@ use Prim.Native.Nat.{ℕ, _%_, _≤_}
 use native.Mathlib.Omega.{arith}
 use lib.Dec.{eqb}
 use lib.ListN.{length}
+use Rattle.headers.specs.Head.{typeField}
 use Rattle.octets.specs.Walk.{none, Walked, ends}
 use Rattle.octets.specs.Rules.{at-limit}
 use Rattle.octets.proofs.RulesHold.{derived}
@@ -107,7 +108,7 @@ module _ (edition : Edition) (s : List ℕ) (done : List Element) (item : Placed
   abbrev early : ℕ
   early = earlyRefusal (length done) (item .octet) (item .octet)
 
-  pub bare-refused : (n : ℕ) → n ≡ early → (n ≡ 0 → ⊥) → refusalOf edition done (item .octet ∷ []) (plain s (itemsOf s (item .inner))) ≡ n
+  pub bare-refused : (n : ℕ) → n ≡ early → (n ≡ 0 → ⊥) → refusalOf edition done (typeField (item .octet)) (plain s (itemsOf s (item .inner))) ≡ n
   bare-refused n e some = refused-early edition done (item .octet) (plain s (itemsOf s (item .inner))) n (rw (may .known) e) some
 
   module _ (passed : early ≡ 0) (order : item .first ≤ item .past) (inside : item .past ≤ length s) where

@@ -1,6 +1,6 @@
 -- The rules of an element in three steps, 9 to 11, 12 to 14 and 15, of which the first that refuses counts; and what an element does to
 -- the judge of a run. Assumes nothing.
-use mathlib.Core.Path.{_≡_, refl, _∙_}
+use mathlib.Core.Path.{_≡_, refl, ap, _∙_}
 use mathlib.Core.Bool.{Bool, true, false, cond, xor}
 use mathlib.Core.List.{List, [], _∷_, _++_}
 use Prim.Native.Nat.{ℕ, _+_, _<_}
@@ -9,10 +9,11 @@ use borrow.Author.Tests.{ne-eqb, leb-false}
 use borrow.Table.Steps.{cases}
 use lib.Dec.{eqb, leb}
 use lib.ListN.{length}
-use Rattle.headers.specs.Head.{constructed}
+use Rattle.headers.specs.Head.{constructed, typeField}
 use Rattle.octets.specs.Walk.{Items, none, item}
 use Rattle.tree.specs.Tree.{Tree, plain}
 use Rattle.runs.specs.Runs.{tops}
+use Rattle.contents.proofs.Firsts.{is-field}
 use Rattle.elements.specs.declared.Edition.{Edition}
 use Rattle.elements.specs.Judge.{Element, mostElements, profile, twice, shapeRefusal, refusalOf, refused, judgeOne, judgeFrom, judge}
 use Rattle.elements.proofs.Refusals.{refusal-9, refusal-10, refusal-11, refusal-by-shape}
@@ -31,20 +32,21 @@ module _ (edition : Edition) (done : List Element) (octet : ℕ) (run : Tree) wh
   later = shapeRefusal (shapeBy edition octet) run
 
   abbrev number : ℕ
-  number = refusalOf edition done (octet ∷ []) run
+  number = refusalOf edition done (typeField octet) run
 
   in-steps : number ≡ cond (eqb early 0) (cond (eqb later 0) (cond (twice done (elementBy edition octet run)) 15 0) later) early
   unfolding earlyRefusal
   in-steps =
-      let type = octet ∷ [] in
+      let type = typeField octet in
       cases (leb mostElements (length done)) (λ many. refusal-9 edition done type run many ∙ rw many)
       (λ few.
       cases (eqb octet (shapeBy edition octet .octet))
       (λ known.
+      let is-known = is-field (shapeBy edition octet .octet) octet ∙ known in
       cases (xor (eqb (length done) 0) (eqb octet profile))
-      (λ misplaced. refusal-11 edition done type run few known misplaced ∙ rw (few, known, misplaced))
-      (λ placed. refusal-by-shape edition done type run few known placed ∙ rw (few, known, placed)))
-      (λ unknown. refusal-10 edition done type run few unknown ∙ rw (few, unknown)))
+      (λ misplaced. refusal-11 edition done type run few is-known (ap (xor (eqb (length done) 0)) (is-field profile octet) ∙ misplaced) ∙ rw (few, known, misplaced))
+      (λ placed. refusal-by-shape edition done type run few is-known (ap (xor (eqb (length done) 0)) (is-field profile octet) ∙ placed) ∙ rw (few, known, placed)))
+      (λ unknown. refusal-10 edition done type run few (is-field (shapeBy edition octet .octet) octet ∙ unknown) ∙ rw (few, unknown)))
 
   pub refused-early : (n : ℕ) → n ≡ early → (n ≡ 0 → ⊥) → number ≡ n
   refused-early n e some = in-steps ∙ rw (← e, ne-eqb n 0 some)
@@ -64,16 +66,16 @@ module _ (edition : Edition) (done : List Element) (octet : ℕ) (run : Tree) wh
 -- an item of a run, and then those after it
 module _ (edition : Edition) (s : List ℕ) (done : List Element) (at octet first past : ℕ) (inside after : Items) (nothing-inside : constructed octet ≡ false → inside ≡ none) where
   pub judged-one : judgeFrom edition done (plain s (item at octet first past inside after))
-      ≡ judgeOne edition done (octet ∷ []) (plain s inside) (λ more. judgeFrom edition more (plain s after))
+      ≡ judgeOne edition done (typeField octet) (plain s inside) (λ more. judgeFrom edition more (plain s after))
   unfolding judgeFrom
   judged-one = cases (constructed octet) (λ t. rw t) (λ t. rw (t, nothing-inside t))
 
-  pub judged-refused : (n : ℕ) → refusalOf edition done (octet ∷ []) (plain s inside) ≡ n → (n ≡ 0 → ⊥)
+  pub judged-refused : (n : ℕ) → refusalOf edition done (typeField octet) (plain s inside) ≡ n → (n ≡ 0 → ⊥)
       → judgeFrom edition done (plain s (item at octet first past inside after)) ≡ refused n (length done)
   unfolding judgeOne
   judged-refused n e some = judged-one ∙ rw (e, ne-eqb n 0 some)
 
-  pub judged-passed : refusalOf edition done (octet ∷ []) (plain s inside) ≡ 0
+  pub judged-passed : refusalOf edition done (typeField octet) (plain s inside) ≡ 0
       → judgeFrom edition done (plain s (item at octet first past inside after))
       ≡ judgeFrom edition (done ++ elementBy edition octet (plain s inside) ∷ []) (plain s after)
   unfolding judgeOne

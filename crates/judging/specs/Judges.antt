@@ -5,6 +5,7 @@ use mathlib.Core.Bool.{Bool, true, false, not, xor}
 use mathlib.Core.List.{List, [], _∷_, _++_}
 use Prim.Native.Nat.{ℕ, _+_}
 use lib.Dec.{eqb, leb}
+use Rattle.headers.specs.Head.{typeField}
 use Rattle.tree.specs.Tree.{Tree, empty}
 use Rattle.runs.specs.Runs.{itemsOf, treeIn}
 use Rattle.names.specs.Hash.{hash}
@@ -41,7 +42,7 @@ hashesOf s row = record { identifier = hash (bytesIn s (row .identifier)); logic
 
 -- the shape of an element by its octet, and what the element says
 abbrev pub shapeBy : Edition → (octet : ℕ) → Shape
-shapeBy edition octet = shapeOf edition (octet ∷ [])
+shapeBy edition octet = shapeOf edition (typeField octet)
 
 abbrev pub elementBy : Edition → (octet : ℕ) → Tree → Element
 elementBy edition octet run = elementOf (shapeBy edition octet) run
@@ -53,7 +54,7 @@ pub record MayBeBare (edition : Edition) (octet : ℕ) : Type 0 where
 
 -- an element that is refused by no rule: its row, which says what it says
 pub record Passing (edition : Edition) (s : List ℕ) (done : List Element) (item : PlacedItem) (row : Row) (hashes : Hashes) : Type 0 where
-  pub unrefused : refusalOf edition done (item .octet ∷ []) (treeIn s (item .inner)) ≡ 0
+  pub unrefused : refusalOf edition done (typeField (item .octet)) (treeIn s (item .inner)) ≡ 0
   pub row-is : row ≡ rowOf (shapeBy edition (item .octet)) s (item .first) (item .past) (itemsOf s (item .inner))
   pub says : Says s row (elementBy edition (item .octet) (treeIn s (item .inner)))
   pub placed : RowPlaced s row
@@ -61,7 +62,7 @@ pub record Passing (edition : Edition) (s : List ℕ) (done : List Element) (ite
 
 -- what rules 9 to 15 make of an item, after the elements that are done
 abbrev pub Judges : Edition → (s : List ℕ) (done : List Element) → PlacedItem → Judgement → Type 0
-Judges edition s done item (Fails number) = (refusalOf edition done (item .octet ∷ []) (treeIn s (item .inner)) ≡ number) × (number ≡ 0 → ⊥)
+Judges edition s done item (Fails number) = (refusalOf edition done (typeField (item .octet)) (treeIn s (item .inner)) ≡ number) × (number ≡ 0 → ⊥)
 Judges edition s done item (Passes row hashes) = Passing edition s done item row hashes
 
 -- what is said of an item, whichever elements the scratch holds

@@ -9,7 +9,7 @@ use native.Mathlib.Omega.{arith}
 use borrow.Table.Steps.{cases}
 use lib.Dec.{eqb}
 use lib.ListN.{length, getElem?, length-append}
-use Rattle.headers.specs.Head.{constructed}
+use Rattle.headers.specs.Head.{constructed, typeField}
 use Rattle.octets.specs.Walk.{Items, none, item, End, Walked, deepest, run, startOf}
 use Rattle.octets.specs.Rules.{Runs, at-limit, unclosed, closes, refuses, primitive, passes, breaks}
 use Rattle.octets.proofs.RulesHold.{derived, derives}
@@ -60,13 +60,13 @@ row-starts : (edition : Edition) (s : List ℕ) (items : Items) (j : ℕ) (row :
 unfolding rowsOf rowOf
 row-starts edition s none j row e = let z : _≡_ {A = ℕ} 0 1 = cc in absurd (omega arith)
 row-starts edition s (item at octet first past inside after) zero row e =
-    let own : rowOf (shapeOf edition (octet ∷ [])) s at (startOf (length s) after) inside ≡ row = cc in sym (ap (λ (r : Row). r .whole .first) own)
+    let own : rowOf (shapeOf edition (typeField octet)) s at (startOf (length s) after) inside ≡ row = cc in sym (ap (λ (r : Row). r .whole .first) own)
 row-starts edition s (item at octet first past inside after) (suc j) row e = row-starts edition s after j row e
 
 -- row j is that of item j
 rows-from : (edition : Edition) (s : List ℕ) (items : Items) (j : ℕ) (at octet first past : ℕ) (inside after : Items)
     → from j items ≡ item at octet first past inside after
-    → getElem? (rowsOf edition s items) j ≡ some (rowOf (shapeOf edition (octet ∷ [])) s at (startOf (length s) after) inside)
+    → getElem? (rowsOf edition s items) j ≡ some (rowOf (shapeOf edition (typeField octet)) s at (startOf (length s) after) inside)
 unfolding rowsOf
 rows-from edition s none zero at octet first past inside after e = let z : _≡_ {A = ℕ} 0 1 = cc in absurd (omega arith)
 rows-from edition s none (suc j) at octet first past inside after e = let z : _≡_ {A = ℕ} 0 1 = cc in absurd (omega arith)
@@ -131,7 +131,7 @@ module _ (edition : Edition) (s : List ℕ) (elements : List Element) where
 
     passed : judgeFrom edition (w .done ++ own ∷ []) (plain s after) ≡ accepted elements
     passed =
-        passes-one edition (w .done) (octet ∷ []) (plain s inside) (λ more. judgeFrom edition more (plain s after)) elements
+        passes-one edition (w .done) (typeField octet) (plain s inside) (λ more. judgeFrom edition more (plain s after)) elements
         (sym (judged-one edition s (w .done) at octet first past inside after (w .hollow-rest .0)) ∙ w .judged)
 
     -- element n is that of the first item that is left

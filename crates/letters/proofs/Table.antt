@@ -6,6 +6,7 @@ use mathlib.Core.Option.{some}
 use Prim.Native.Nat.{ℕ, zero, suc}
 use native.Mathlib.Omega.{arith}
 use lib.ListN.{length, getElem?}
+use Rattle.headers.specs.Head.{typeField}
 use Rattle.octets.specs.Walk.{Items, none, item, startOf}
 use Rattle.octets.proofs.RulesHold.{derives}
 use Rattle.tree.specs.Tree.{plain, treeOf}
@@ -51,7 +52,7 @@ rows-within : (edition : Edition) (s : List ℕ) (items : Items) → Separate (l
 unfolding rowsOf
 rows-within edition s none w j row e = let z : _≡_ {A = ℕ} 0 1 = cc in absurd (omega arith)
 rows-within edition s (item at octet first past inside after) w zero row e =
-    let shape = shapeOf edition (octet ∷ []) in
+    let shape = shapeOf edition (typeField octet) in
     let own : rowOf shape s at (startOf (length s) after) inside ≡ row = cc in
     subst PairsWithin own (row-within shape s at (startOf (length s) after) inside (w .0))
 rows-within edition s (item at octet first past inside after) w (suc j) row e = rows-within edition s after (w .1) j row e

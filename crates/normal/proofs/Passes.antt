@@ -12,7 +12,7 @@ use borrow.Author.Tests.{le-leb, leb-true, leb-false}
 use Rattle.headers.specs.declared.Header.{Header}
 use Rattle.headers.specs.declared.Head.{Head}
 use Rattle.headers.specs.declared.Head.the-variants.{Item, ClosingMark, Refusal}
-use Rattle.headers.specs.Head.{constructed, headAt, Passed}
+use Rattle.headers.specs.Head.{constructed, typeField, headAt, Passed}
 use Rattle.octets.specs.Walk.{Items, item, count, End, ends, stops, Walked, ended, stopped, pastOf, follow, run}
 use Rattle.octets.specs.Further.{valueOf}
 use Rattle.headers.proofs.Lies.{Lies}
@@ -132,7 +132,7 @@ module _ (room : ℕ) (s : List ℕ) (at limit : ℕ) (marked : Bool) where
     pub definite : h .marked ≡ false → endOf (valueOf room s h .how) ≡ h .bound
     pub rest : run room s at limit marked .how ≡ run room s (endOf (valueOf room s h .how)) limit marked .how
     pub form : normalFrom room s at limit marked
-        ≡ coded (h .octet ∷ []) (normalIn room s h) (normalFrom room s (endOf (valueOf room s h .how)) limit marked)
+        ≡ coded (typeField (h .octet)) (normalIn room s h) (normalFrom room s (endOf (valueOf room s h .how)) limit marked)
 
   -- what was met
   abbrev pub Meets : Ahead → Type 0
@@ -159,7 +159,7 @@ module _ (room : ℕ) (s : List ℕ) (at limit : ℕ) (marked : Bool) where
           definite = definite;
           rest = k;
           form = ap (λ (x : Items). normalOf (plain s x)) t
-              ∙ form-of (constructed (h .octet)) (h .octet ∷ []) (slice (h .start) (pastOf (h .marked) next) s) (slice (h .start) (h .bound) s)
+              ∙ form-of (constructed (h .octet)) (typeField (h .octet)) (slice (h .start) (pastOf (h .marked) next) s) (slice (h .start) (h .bound) s)
               (plain s (v .items)) (plain s (run room s next limit marked .items)) (normalOf (plain s (run (room - 1) s (h .start) (h .bound) (h .marked) .items)))
               (λ c. rw c)
               (λ c.
@@ -207,8 +207,8 @@ run-left room s at limit marked r next l e = record { order = l; within = r .wit
 pub turned : (room : ℕ) (s : List ℕ) (at limit : ℕ) (marked : Bool) (h : Header) → Turn room s at limit marked h
     → (m : Measured) → ValueMeasures room s h m
     → (at + 2 ≤ m .next) × (m .next ≤ limit) × (run room s at limit marked .how ≡ run room s (m .next) limit marked .how)
-    × (normalFrom room s at limit marked ≡ coded (h .octet ∷ []) (normalIn room s h) (normalFrom room s (m .next) limit marked))
+    × (normalFrom room s at limit marked ≡ coded (typeField (h .octet)) (normalIn room s h) (normalFrom room s (m .next) limit marked))
     × (length (normalFrom room s at limit marked) ≡ headerSize (m .size) + m .size + length (normalFrom room s (m .next) limit marked))
 turned room s at limit marked h u m v =
-    let e = ap length (u .form) ∙ coded-length (h .octet ∷ []) (normalIn room s h) (normalFrom room s (endOf (valueOf room s h .how)) limit marked) in
+    let e = ap length (u .form) ∙ coded-length (typeField (h .octet)) (normalIn room s h) (normalFrom room s (endOf (valueOf room s h .how)) limit marked) in
     rw (v .measures .past, v .measures .size) (u .later, u .within, u .rest, u .form, omega arith)

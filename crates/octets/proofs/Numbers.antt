@@ -8,10 +8,10 @@ use native.Mathlib.Omega.{arith}
 use lib.Dec.{leb, ltb, eqb}
 use Rattle.headers.specs.declared.Head.{Head}
 use Rattle.headers.specs.declared.Head.the-variants.{Item, ClosingMark, Refusal}
-use Rattle.headers.specs.Head.{number, constructed, formAllowed, misfits, octetAt, definiteAt, indefiniteAt, longAt, byFirst, lengthAt, itemAt, closingAt, headAt}
+use Rattle.headers.specs.Head.{constructed, misfits, octetAt, definiteAt, indefiniteAt, longAt, byFirst, lengthAt, itemAt, closingAt, headAt}
 use Rattle.octets.specs.Walk.{Items, none, item, End, ends, stops, run}
 use Rattle.octets.specs.Rules.{Runs, at-limit, unclosed, closes, refuses, primitive, passes, breaks}
-use Rattle.headers.proofs.Lies.{cond-holds}
+use Rattle.headers.proofs.Lies.{cond-holds, item-holds}
 use Rattle.octets.proofs.Turns.{header-ok}
 use Rattle.octets.proofs.RulesHold.{derives}
 
@@ -32,30 +32,27 @@ module _ (s : List ℕ) (at limit room : ℕ) where
       (λ _. cond-holds (RefusedAt at) (misfits octet len) (λ _. by 8 (omega arith) (omega arith)) (λ _. tt))
       (λ _. by 7 (omega arith) (omega arith))
 
-  indefinite-refused : (octet : ℕ) → RefusedAt at (indefiniteAt octet at limit)
+  indefinite-refused : (octet from : ℕ) → RefusedAt at (indefiniteAt octet at from limit)
   unfolding indefiniteAt
-  indefinite-refused octet = cond-holds (RefusedAt at) (constructed octet) (λ _. tt) (λ _. by 6 (omega arith) (omega arith))
+  indefinite-refused octet from = cond-holds (RefusedAt at) (constructed octet) (λ _. tt) (λ _. by 6 (omega arith) (omega arith))
 
-  long-refused : (octet k : ℕ) → RefusedAt at (longAt s octet at k limit)
+  long-refused : (octet from k : ℕ) → RefusedAt at (longAt s octet at from k limit)
   unfolding longAt
-  long-refused octet k =
-      cond-holds (RefusedAt at) (leb (at + 2 + k) limit) (λ _. definite-refused octet (at + 2 + k) _) (λ _. by 7 (omega arith) (omega arith))
+  long-refused octet from k =
+      cond-holds (RefusedAt at) (leb (from + 1 + k) limit) (λ _. definite-refused octet (from + 1 + k) _) (λ _. by 7 (omega arith) (omega arith))
 
-  length-refused : (octet : ℕ) → RefusedAt at (lengthAt s octet at limit)
+  length-refused : (octet from : ℕ) → RefusedAt at (lengthAt s octet at from limit)
   unfolding lengthAt byFirst
-  length-refused octet =
-      cond-holds (RefusedAt at) (ltb (at + 1) limit)
-      (λ _. cond-holds (RefusedAt at) (ltb (octetAt s (at + 1)) 0x80) (λ _. definite-refused octet (at + 2) _)
-      (λ _. cond-holds (RefusedAt at) (eqb (octetAt s (at + 1)) 0x80) (λ _. indefinite-refused octet)
-      (λ _. cond-holds (RefusedAt at) (ltb (octetAt s (at + 1)) 0x85) (λ _. long-refused octet _) (λ _. by 6 (omega arith) (omega arith)))))
+  length-refused octet from =
+      cond-holds (RefusedAt at) (ltb from limit)
+      (λ _. cond-holds (RefusedAt at) (ltb (octetAt s from) 0x80) (λ _. definite-refused octet (from + 1) _)
+      (λ _. cond-holds (RefusedAt at) (eqb (octetAt s from) 0x80) (λ _. indefinite-refused octet from)
+      (λ _. cond-holds (RefusedAt at) (ltb (octetAt s from) 0x85) (λ _. long-refused octet from _) (λ _. by 6 (omega arith) (omega arith)))))
       (λ _. by 7 (omega arith) (omega arith))
 
   item-refused : (octet : ℕ) → RefusedAt at (itemAt s octet at limit room)
-  unfolding itemAt
   item-refused octet =
-      cond-holds (RefusedAt at) (eqb room 0) (λ _. by 3 (omega arith) (omega arith))
-      (λ _. cond-holds (RefusedAt at) (eqb (number octet) 31) (λ _. by 4 (omega arith) (omega arith))
-      (λ _. cond-holds (RefusedAt at) (formAllowed octet) (λ _. length-refused octet) (λ _. by 5 (omega arith) (omega arith))))
+      item-holds (RefusedAt at) s octet at limit room (λ n low high. by n (omega arith) (omega arith)) (λ _ code past _. length-refused code past)
 
   closing-refused : (marked : Bool) → RefusedAt at (closingAt s at limit marked)
   unfolding closingAt

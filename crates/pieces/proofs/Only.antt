@@ -1,16 +1,17 @@
 -- Whether a run is of pieces only, told by the item that is met: a 04, a 24, or another. Assumes nothing.
 use mathlib.Core.Path.{_≡_, ap, _∙_}
 use mathlib.Core.Bool.{Bool, true, false, _&&_}
-use mathlib.Core.List.{List, [], _∷_}
+use mathlib.Core.List.{List}
 use Prim.Native.Nat.{ℕ}
 use lib.Seq.{slice}
 use borrow.Author.Tests.{ne-eqb}
-use Rattle.headers.specs.Head.{constructed}
+use Rattle.headers.specs.Head.{constructed, typeField}
 use Rattle.octets.specs.Walk.{none}
 use Rattle.tree.specs.Tree.{Tree, formed}
 use Rattle.runs.specs.declared.Run.{Run}
 use Rattle.runs.specs.Runs.{itemsOf, treeIn, Meeting}
 use Rattle.runs.proofs.Laws.{tree-meets, tree-none}
+use Rattle.contents.proofs.Firsts.{is-field}
 use Rattle.pieces.specs.Pieces.{piece, pieces, onlyPieces}
 
 pub only-none : (s : List ℕ) (r : Run) → itemsOf s r ≡ none → true ≡ onlyPieces (treeIn s r)
@@ -18,10 +19,10 @@ unfolding onlyPieces
 only-none s r e = rw (tree-none s r e)
 
 other-formed : (b : Bool) (octet : ℕ) (value : List ℕ) (inside after : Tree) → (octet ≡ piece → ⊥) → (octet ≡ pieces → ⊥)
-    → onlyPieces (formed b (octet ∷ []) value inside after) ≡ false
+    → onlyPieces (formed b (typeField octet) value inside after) ≡ false
 unfolding onlyPieces
-other-formed true octet value inside after p q = rw (ne-eqb octet pieces q)
-other-formed false octet value inside after p q = rw (ne-eqb octet piece p)
+other-formed true octet value inside after p q = rw (is-field pieces octet, ne-eqb octet pieces q)
+other-formed false octet value inside after p q = rw (is-field piece octet, ne-eqb octet piece p)
 
 module _ {s : List ℕ} {r : Run} {octet first past : ℕ} {inner rest : Run} (m : Meeting s r octet first past inner rest) where
   pub only-piece : octet ≡ piece → onlyPieces (treeIn s r) ≡ onlyPieces (treeIn s rest)

@@ -7,31 +7,32 @@ use borrow.Author.Tests.{ne-eqb, eqb-true, eqb-false}
 use borrow.Table.Steps.{cases}
 use lib.Dec.{eqb}
 use lib.Seq.{slice}
-use Rattle.headers.specs.Head.{constructed}
+use Rattle.headers.specs.Head.{constructed, typeField}
 use Rattle.octets.specs.Walk.{Items, none, item}
 use Rattle.tree.specs.Tree.{Tree, formed, plain}
 use Rattle.runs.specs.declared.Run.{Run}
 use Rattle.runs.specs.Runs.{itemsOf, treeIn, definiteRun, allPrimitive, Fine, Meeting}
 use Rattle.runs.proofs.Laws.{tree-meets, tree-none}
 use Rattle.runs.proofs.Again.{again-fine, again-tree}
+use Rattle.contents.proofs.Firsts.{is-field}
 use Rattle.portions.specs.Portions.{allPortions, values}
 
 -- an item with an octet, its value, the run inside it and what follows
 module _ (octet : ℕ) (value : List ℕ) (inside after : Tree) where
-  pub portions-formed : octet ≡ 0x12 → allPortions (formed (constructed octet) (octet ∷ []) value inside after) ≡ allPortions after
+  pub portions-formed : octet ≡ 0x12 → allPortions (formed (constructed octet) (typeField octet) value inside after) ≡ allPortions after
   unfolding allPortions
   portions-formed e = rw e
 
-  pub others-formed : (octet ≡ 0x12 → ⊥) → allPortions (formed (constructed octet) (octet ∷ []) value inside after) ≡ false
+  pub others-formed : (octet ≡ 0x12 → ⊥) → allPortions (formed (constructed octet) (typeField octet) value inside after) ≡ false
   unfolding allPortions
-  others-formed n = cases (constructed octet) (λ c. rw c) (λ c. rw (c, ne-eqb octet 0x12 n))
+  others-formed n = cases (constructed octet) (λ c. rw c) (λ c. rw (c, is-field 0x12 octet, ne-eqb octet 0x12 n))
 
-  pub values-formed : octet ≡ 0x12 → values (formed (constructed octet) (octet ∷ []) value inside after) ≡ value ∷ values after
+  pub values-formed : octet ≡ 0x12 → values (formed (constructed octet) (typeField octet) value inside after) ≡ value ∷ values after
   unfolding values
   values-formed e = rw e
 
   -- if all are portions, the first is
-  pub portion-formed : allPortions (formed (constructed octet) (octet ∷ []) value inside after) ≡ true → octet ≡ 0x12
+  pub portion-formed : allPortions (formed (constructed octet) (typeField octet) value inside after) ≡ true → octet ≡ 0x12
   portion-formed t =
       cases (eqb octet 0x12) (λ e. eqb-true octet 0x12 e) (λ e. absurd (false≢true (sym (others-formed (eqb-false octet 0x12 e)) ∙ t)))
 

@@ -14,7 +14,7 @@ use Rattle.headers.specs.declared.Head.the-variants.{Item, ClosingMark, Refusal
 use Rattle.headers.specs.Head.{number, constructed, formAllowed, misfits, bigEndian, octetAt, definiteAt, indefiniteAt, longAt, byFirst, lengthAt, closingAt, itemAt, headAt}
 use Rattle.octets.specs.Walk.{Items, none, item, End, ends, Walked, pastOf, run}
 use Rattle.octets.specs.Rules.{Runs, at-limit, unclosed, closes, refuses, primitive, passes, breaks}
-use Rattle.headers.proofs.Lies.{cond-holds}
+use Rattle.headers.proofs.Lies.{cond-holds, FieldRead, in-one, item-holds}
 use Rattle.octets.proofs.Turns.{header-ok}
 use Rattle.octets.proofs.RulesHold.{derived, derives}
 use Rattle.tree.specs.Tree.{plain}
@@ -38,19 +38,27 @@ module _ (octet at limit past : ℕ) (other : Head) where
       (λ _. cond-holds (Kept other past) (misfits octet len) (λ _. tt) (λ f _ w. same w ∙ rw (le-leb _ _ w, f)))
       (λ _. tt)
 
-  first-kept : (s : List ℕ) (first : ℕ) → (at + 2 ≤ past → other ≡ byFirst s octet at first past) → Kept other past (byFirst s octet at first limit)
+  first-kept : (s : List ℕ) (from first : ℕ) → (from + 1 ≤ past → other ≡ byFirst s octet at from first past)
+      → Kept other past (byFirst s octet at from first limit)
   unfolding byFirst indefiniteAt longAt
-  first-kept s first same =
+  first-kept s from first same =
       cond-holds (Kept other past) (ltb first 0x80)
-      (λ a. definite-kept (at + 2) first (λ w. same (omega arith) ∙ rw a))
+      (λ a. definite-kept (from + 1) first (λ w. same (omega arith) ∙ rw a))
       (λ a. cond-holds (Kept other past) (eqb first 0x80)
       (λ _. cond-holds (Kept other past) (constructed octet) (λ _ m. absurd (false≢true (sym m))) (λ _. tt))
       (λ b. cond-holds (Kept other past) (ltb first 0x85)
-      (λ d. cond-holds (Kept other past) (leb (at + 2 + (first - 0x80)) limit)
-      (λ _. definite-kept (at + 2 + (first - 0x80)) (bigEndian (take (first - 0x80) (drop (at + 2) s)))
-      (λ w. let k : at + 2 + (first - 0x80) ≤ past = omega arith in same (omega arith) ∙ rw (a, b, d, le-leb _ _ k)))
+      (λ d. cond-holds (Kept other past) (leb (from + 1 + (first - 0x80)) limit)
+      (λ _. definite-kept (from + 1 + (first - 0x80)) (bigEndian (take (first - 0x80) (drop (from + 1) s)))
+      (λ w. let k : from + 1 + (first - 0x80) ≤ past = omega arith in same (omega arith) ∙ rw (a, b, d, le-leb _ _ k)))
       (λ _. tt))
       (λ _. tt)))
+
+  length-kept : (s : List ℕ) (from : ℕ) → (from < past → other ≡ lengthAt s octet at from past) → Kept other past (lengthAt s octet at from limit)
+  unfolding lengthAt
+  length-kept s from same =
+      cond-holds (Kept other past) (ltb from limit)
+      (λ _. first-kept s from (octetAt s from) (λ w. let k : from < past = omega arith in same k ∙ rw (lt-ltb _ _ k)))
+      (λ _. tt)
 
 closing-kept : (s : List ℕ) (at limit past : ℕ) (marked : Bool) (other : Head) → Kept other past (closingAt s at limit marked)
 unfolding closingAt
@@ -61,26 +69,24 @@ closing-kept s at limit past marked other =
     (λ _. tt))
     (λ _. tt)
 
+-- a type field that was read is read again
+item-again : (s : List ℕ) (octet at past levels : ℕ) → 0 < levels → {code from : ℕ} → FieldRead octet at code from
+    → itemAt s octet at past levels ≡ lengthAt s code at from past
+unfolding itemAt
+item-again s octet at past levels some (in-one low tabled) = rw (ne-eqb levels 0 (λ z. omega arith), ne-eqb (number octet) 31 low, tabled)
+
 -- an item's header is kept where the run is definite, ends within another limit and has a level left
 head-kept : (s : List ℕ) (at limit past : ℕ) (marked : Bool) (room levels : ℕ) → (0 < room → 0 < levels)
     → Kept (headAt s at past false levels) past (headAt s at limit marked room)
-unfolding headAt itemAt lengthAt
+unfolding headAt
 head-kept s at limit past marked room levels deep =
     let octet = octetAt s at in
     let other = headAt s at past false levels in
     cond-holds (Kept other past) (eqb octet 0) (λ _. closing-kept s at limit past marked other)
-    (λ z. cond-holds (Kept other past) (eqb room 0) (λ _. tt)
-    (λ a. cond-holds (Kept other past) (eqb (number octet) 31) (λ _. tt)
-    (λ b. cond-holds (Kept other past) (formAllowed octet)
-    (λ f. cond-holds (Kept other past) (ltb (at + 1) limit)
-    (λ _. first-kept octet at limit past other s (octetAt s (at + 1))
-    (λ w.
-    let some : 0 < room = let ne = eqb-false room 0 a in omega arith in
-    let left : (levels ≡ 0 → ⊥) = λ e. let d = deep some in omega arith in
-    let k : at + 1 < past = omega arith in
-    rw (z, ne-eqb levels 0 left, b, f, lt-ltb _ _ k)))
-    (λ _. tt))
-    (λ _. tt))))
+    (λ z. item-holds (Kept other past) s octet at limit room (λ _ _ _. tt)
+    (λ some code from read.
+    length-kept code at limit past other s from
+    (λ _. rw z (item-again s octet at past levels (deep some) read))))
 
 -- a primitive item is definite
 definite : (s : List ℕ) (at limit : ℕ) (marked : Bool) (room : ℕ) (h : Header) → headAt s at limit marked room ≡ Item h → constructed (h .octet) ≡ false

@@ -9,8 +9,8 @@ use borrow.Author.Tests.{eqb-false}
 use Rattle.headers.specs.declared.Header.{Header}
 use Rattle.headers.specs.declared.Head.{Head}
 use Rattle.headers.specs.declared.Head.the-variants.{Item, ClosingMark, Refusal}
-use Rattle.headers.specs.Head.{number, constructed, formAllowed, misfits, octetAt, definiteAt, indefiniteAt, longAt, byFirst, lengthAt, closingAt, itemAt, headAt}
-use Rattle.headers.proofs.Lies.{cond-holds}
+use Rattle.headers.specs.Head.{constructed, misfits, octetAt, definiteAt, indefiniteAt, longAt, byFirst, lengthAt, closingAt, itemAt, headAt}
+use Rattle.headers.proofs.Lies.{cond-holds, FieldRead, in-one, item-holds}
 
 -- an item with this octet, or a refusal
 abbrev Has : (octet : ℕ) → Head → Type 0
@@ -24,29 +24,32 @@ Tells octet marked (Item h) = (h .octet ≡ octet) × (octet ≡ 0 → ⊥)
 Tells octet marked ClosingMark = marked ≡ true
 Tells octet marked (Refusal number place) = Unit {0}
 
-module _ (s : List ℕ) (octet at limit : ℕ) where
-  definite-has : (start len : ℕ) → Has octet (definiteAt octet at start len limit)
+module _ (s : List ℕ) (code at from limit : ℕ) where
+  definite-has : (start len : ℕ) → Has code (definiteAt code at start len limit)
   unfolding definiteAt
   definite-has start len =
-      cond-holds (Has octet) (leb (start + len) limit) (λ _. cond-holds (Has octet) (misfits octet len) (λ _. tt) (λ _. refl)) (λ _. tt)
+      cond-holds (Has code) (leb (start + len) limit) (λ _. cond-holds (Has code) (misfits code len) (λ _. tt) (λ _. refl)) (λ _. tt)
 
-  first-has : (first : ℕ) → Has octet (byFirst s octet at first limit)
+  first-has : (first : ℕ) → Has code (byFirst s code at from first limit)
   unfolding byFirst indefiniteAt longAt
   first-has first =
-      cond-holds (Has octet) (ltb first 0x80) (λ _. definite-has (at + 2) first)
-      (λ _. cond-holds (Has octet) (eqb first 0x80) (λ _. cond-holds (Has octet) (constructed octet) (λ _. refl) (λ _. tt))
-      (λ _. cond-holds (Has octet) (ltb first 0x85)
-      (λ _. cond-holds (Has octet) (leb (at + 2 + (first - 0x80)) limit) (λ _. definite-has (at + 2 + (first - 0x80)) _) (λ _. tt))
+      cond-holds (Has code) (ltb first 0x80) (λ _. definite-has (from + 1) first)
+      (λ _. cond-holds (Has code) (eqb first 0x80) (λ _. cond-holds (Has code) (constructed code) (λ _. refl) (λ _. tt))
+      (λ _. cond-holds (Has code) (ltb first 0x85)
+      (λ _. cond-holds (Has code) (leb (from + 1 + (first - 0x80)) limit) (λ _. definite-has (from + 1 + (first - 0x80)) _) (λ _. tt))
       (λ _. tt)))
 
-  item-has : (room : ℕ) → Has octet (itemAt s octet at limit room)
-  unfolding itemAt lengthAt
-  item-has room =
-      cond-holds (Has octet) (eqb room 0) (λ _. tt)
-      (λ _. cond-holds (Has octet) (eqb (number octet) 31) (λ _. tt)
-      (λ _. cond-holds (Has octet) (formAllowed octet)
-      (λ _. cond-holds (Has octet) (ltb (at + 1) limit) (λ _. first-has _) (λ _. tt))
-      (λ _. tt)))
+  length-has : Has code (lengthAt s code at from limit)
+  unfolding lengthAt
+  length-has = cond-holds (Has code) (ltb from limit) (λ _. first-has _) (λ _. tt)
+
+-- an item has the code of a type field that was read
+item-has : (s : List ℕ) (octet at limit room : ℕ) → Has octet (itemAt s octet at limit room)
+item-has s octet at limit room =
+    item-holds (Has octet) s octet at limit room (λ _ _ _. tt) (λ _ code past read. has read (length-has s code at past limit))
+  where
+    has : {code past : ℕ} → FieldRead octet at code past → Has code (lengthAt s code at past limit) → Has octet (lengthAt s code at past limit)
+    has (in-one low tabled) h = h
 
 tells : (octet : ℕ) (marked : Bool) → (octet ≡ 0 → ⊥) → (head : Head) → Has octet head → Tells octet marked head
 tells octet marked z (Item h) e = (e, z)

@@ -11,7 +11,7 @@ use lib.Seq.{slice}
 use borrow.Author.Tests.{leb-true, le-leb}
 use Rattle.octets.specs.declared.Outcome.{Outcome}
 use Rattle.octets.specs.declared.Outcome.the-variants.{Ended, Refused}
-use Rattle.headers.specs.Head.{constructed}
+use Rattle.headers.specs.Head.{constructed, typeField}
 use Rattle.octets.specs.Walk.{Items, none, item, count, End, ends, stops, streamLimit, run, outcomeOf, answer, walkOf, startOf}
 use Rattle.octets.specs.Rules.{Runs, at-limit, unclosed, closes, refuses, primitive, passes, breaks}
 use Rattle.octets.proofs.Walks.{EndOk, run-ok}
@@ -80,7 +80,7 @@ end-at {s} {r} f m e = sym (start-at f m) ∙ ap (startOf (r .limit)) e
 
 -- what is met is the first item of the tree
 pub tree-meets : {s : List ℕ} {r : Run} {octet first past : ℕ} {inner rest : Run} → Meeting s r octet first past inner rest
-    → treeIn s r ≡ formed (constructed octet) (octet ∷ []) (slice first past s) (treeIn s inner) (treeIn s rest)
+    → treeIn s r ≡ formed (constructed octet) (typeField octet) (slice first past s) (treeIn s inner) (treeIn s rest)
 tree-meets {s} m = ap (plain s) (m .tree)
 
 -- where no item is met the tree is empty

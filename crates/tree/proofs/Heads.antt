@@ -2,19 +2,19 @@
 -- Assumes nothing.
 use mathlib.Core.Path.{_≡_, refl, ap, sym, subst}
 use mathlib.Core.Bool.{Bool, true, false}
-use mathlib.Core.List.{List, [], _∷_}
+use mathlib.Core.List.{List, [], _∷_, _++_, append-assoc}
 use Prim.Native.Nat.{ℕ, _+_, _-_, _<_, _≤_}
 use native.Mathlib.Omega.{arith}
 use lib.Dec.{leb, ltb, eqb}
-use lib.ListN.{length, take, drop}
+use lib.ListN.{length, take, drop, length-append}
 use borrow.Author.Tests.{leb-true, ltb-true, ltb-false, eqb-true, eqb-false}
 use Rattle.headers.specs.declared.Header.{Header}
 use Rattle.headers.specs.declared.Head.{Head}
 use Rattle.headers.specs.declared.Head.the-variants.{Item, ClosingMark, Refusal}
-use Rattle.headers.specs.Head.{number, constructed, formAllowed, misfits, bigEndian, octetAt, definiteAt, indefiniteAt, longAt, byFirst, lengthAt, closingAt, itemAt, headAt}
-use Rattle.headers.proofs.Lies.{cond-holds}
+use Rattle.headers.specs.Head.{constructed, typeField, misfits, bigEndian, octetAt, definiteAt, indefiniteAt, longAt, byFirst, lengthAt, closingAt, itemAt, headAt}
+use Rattle.headers.proofs.Lies.{cond-holds, FieldRead, in-one, item-holds}
 use Rattle.tree.specs.Tree.{TypeField, oneOctet, Length, short, long}
-use Rattle.tree.proofs.Here.{Here, one, some, joined}
+use Rattle.tree.proofs.Here.{Here, one, some, joined, moved}
 
 long-of : (first : ℕ) (octets : List ℕ) → first ≡ 0x80 + length octets → 1 ≤ length octets → length octets ≤ 4
     → Length (bigEndian octets) (first ∷ octets)
@@ -25,13 +25,23 @@ abbrev pub Sized : (marked : Bool) → (octet start bound limit : ℕ) → (len 
 Sized false octet start bound limit len = (n : ℕ) × (bound ≡ start + n) × Length n len × (misfits octet n ≡ false)
 Sized true octet start bound limit len = (len ≡ 0x80 ∷ []) × (constructed octet ≡ true) × (bound ≡ limit)
 
+-- a type field with this code stands at `at`, up to past
+pub record FieldHere (s : List ℕ) (at code past : ℕ) : Type 0 where
+  pub here : Here s at (typeField code)
+  pub ends : past ≡ at + length (typeField code)
+  pub type : TypeField (typeField code) (constructed code)
+
+-- a type field that was read stands there
+field-tells : (s : List ℕ) (at code past : ℕ) → at < length s → FieldRead (octetAt s at) at code past → FieldHere s at code past
+field-tells s at _ _ l (in-one low tabled) = record { here = one s at l; ends = refl; type = oneOctet low tabled refl }
+
 -- the octets that a header was read from: its type field and its length octets
 pub record ReadFrom (s : List ℕ) (at limit room : ℕ) (h : Header) : Type 0 where
   pub len : List ℕ
-  pub here : Here s at (h .octet ∷ len)
-  pub past : h .start ≡ at + length (h .octet ∷ len)
+  pub here : Here s at (typeField (h .octet) ++ len)
+  pub past : h .start ≡ at + length (typeField (h .octet) ++ len)
   pub deep : 0 < room
-  pub type : TypeField (h .octet ∷ []) (constructed (h .octet))
+  pub type : TypeField (typeField (h .octet)) (constructed (h .octet))
   pub sized : Sized (h .marked) (h .octet) (h .start) (h .bound) limit len
 
 abbrev pub Tells : List ℕ → (at limit room : ℕ) → (marked : Bool) → Head → Type 0
@@ -43,41 +53,59 @@ module _ (s : List ℕ) (at limit room : ℕ) (marked : Bool) (f : limit ≤ len
   abbrev P : Head → Type 0
   P = Tells s at limit room marked
 
-  module _ (octet : ℕ) (deep : 0 < room) (type : TypeField (octet ∷ []) (constructed octet)) where
-    definite-tells : (start n : ℕ) (len : List ℕ) → Here s at (octet ∷ len) → start ≡ at + length (octet ∷ len) → Length n len
-        → P (definiteAt octet at start n limit)
+  module _ (code from : ℕ) (deep : 0 < room) (field : FieldHere s at code from) where
+    -- the type field, and length octets after it
+    abbrev headed : List ℕ → List ℕ
+    headed len = typeField code ++ len
+
+    -- the place past a first length octet
+    past-first : (first : ℕ) → from + 1 ≡ at + length (headed (first ∷ []))
+    past-first first = omega (arith, field .ends, length-append (typeField code) (first ∷ []))
+
+    definite-tells : (start n : ℕ) (len : List ℕ) → Here s at (headed len) → start ≡ at + length (headed len) → Length n len
+        → P (definiteAt code at start n limit)
     unfolding definiteAt
     definite-tells start n len here past l =
         cond-holds P (leb (start + n) limit)
-        (λ _. cond-holds P (misfits octet n) (λ _. tt)
-        (λ m. record { len = len; here = here; past = past; deep = deep; type = type; sized = (n, refl, l, m) }))
+        (λ _. cond-holds P (misfits code n) (λ _. tt)
+        (λ m. record { len = len; here = here; past = past; deep = deep; type = field .type; sized = (n, refl, l, m) }))
         (λ _. tt)
 
-    indefinite-tells : (first : ℕ) → first ≡ 0x80 → Here s at (octet ∷ first ∷ []) → P (indefiniteAt octet at limit)
+    indefinite-tells : (first : ℕ) → first ≡ 0x80 → Here s at (headed (first ∷ [])) → P (indefiniteAt code at from limit)
     unfolding indefiniteAt
     indefinite-tells first e here =
-        cond-holds P (constructed octet)
-        (λ c. record { len = first ∷ []; here = here; past = refl; deep = deep; type = type; sized = (ap (λ (x : ℕ). x ∷ []) e, c, refl) })
+        cond-holds P (constructed code)
+        (λ c. record {
+          len = first ∷ [];
+          here = here;
+          past = past-first first;
+          deep = deep;
+          type = field .type;
+          sized = (ap (λ (x : ℕ). x ∷ []) e, c, refl);
+        })
         (λ _. tt)
 
-    long-tells : (first k : ℕ) → first ≡ 0x80 + k → 1 ≤ k → k ≤ 4 → Here s at (octet ∷ first ∷ []) → P (longAt s octet at k limit)
+    long-tells : (first k : ℕ) → first ≡ 0x80 + k → 1 ≤ k → k ≤ 4 → Here s at (headed (first ∷ [])) → P (longAt s code at from k limit)
     unfolding longAt
     long-tells first k e a b here =
-        cond-holds P (leb (at + 2 + k) limit)
+        cond-holds P (leb (from + 1 + k) limit)
         (λ t.
-        let l = leb-true (at + 2 + k) limit t in
-        let octets = take k (drop (at + 2) s) in
-        let (there, z) = some s (at + 2) k (omega arith) in
+        let l = leb-true (from + 1 + k) limit t in
+        let octets = take k (drop (from + 1) s) in
+        let (there, z) = some s (from + 1) k (omega arith) in
         let e′ : first ≡ 0x80 + length octets = omega arith in
-        definite-tells (at + 2 + k) (bigEndian octets) (first ∷ octets) (joined s at (octet ∷ first ∷ []) octets here there) (omega arith)
+        let all = joined s at (headed (first ∷ [])) octets here (moved s octets (past-first first) there) in
+        let past : from + 1 + k ≡ at + length (headed (first ∷ octets)) = omega (arith, field .ends, length-append (typeField code) (first ∷ octets)) in
+        definite-tells (from + 1 + k) (bigEndian octets) (first ∷ octets)
+        (subst (Here s at) (append-assoc (typeField code) (first ∷ []) octets) all) past
         (long-of first octets e′ (omega arith) (omega arith)))
         (λ _. tt)
 
-    first-tells : (first : ℕ) → Here s at (octet ∷ first ∷ []) → P (byFirst s octet at first limit)
+    first-tells : (first : ℕ) → Here s at (headed (first ∷ [])) → P (byFirst s code at from first limit)
     unfolding byFirst
     first-tells first here =
         cond-holds P (ltb first 0x80)
-        (λ e. definite-tells (at + 2) first (first ∷ []) here refl (short (ltb-true _ _ e)))
+        (λ e. definite-tells (from + 1) first (first ∷ []) here (past-first first) (short (ltb-true _ _ e)))
         (λ a. cond-holds P (eqb first 0x80)
         (λ e. indefinite-tells first (eqb-true _ _ e) here)
         (λ b. cond-holds P (ltb first 0x85)
@@ -88,23 +116,19 @@ module _ (s : List ℕ) (at limit room : ℕ) (marked : Bool) (f : limit ≤ len
         long-tells first (first - 0x80) (omega arith) (omega arith) (omega arith) here)
         (λ _. tt)))
 
-    length-tells : Here s at (octet ∷ []) → P (lengthAt s octet at limit)
+    length-tells : P (lengthAt s code at from limit)
     unfolding lengthAt
-    length-tells here =
-        cond-holds P (ltb (at + 1) limit)
-        (λ e. let l = ltb-true (at + 1) limit e in
-        let first = octetAt s (at + 1) in
-        first-tells first (joined s at (octet ∷ []) (first ∷ []) here (one s (at + 1) (omega arith))))
+    length-tells =
+        cond-holds P (ltb from limit)
+        (λ e. let l = ltb-true from limit e in
+        let first = octetAt s from in
+        first-tells first (joined s at (typeField code) (first ∷ []) (field .here) (moved s (first ∷ []) (field .ends) (one s from (omega arith)))))
         (λ _. tt)
 
-  item-tells : (octet : ℕ) → Here s at (octet ∷ []) → P (itemAt s octet at limit room)
-  unfolding itemAt
-  item-tells octet here =
-      cond-holds P (eqb room 0) (λ _. tt)
-      (λ a. cond-holds P (eqb (number octet) 31) (λ _. tt)
-      (λ b. cond-holds P (formAllowed octet)
-      (λ c. length-tells octet (let n = eqb-false room 0 a in omega arith) (oneOctet (eqb-false (number octet) 31 b) c refl) here)
-      (λ _. tt)))
+  item-tells : at < limit → P (itemAt s (octetAt s at) at limit room)
+  item-tells l =
+      item-holds P s (octetAt s at) at limit room (λ _ _ _. tt)
+      (λ deep code past read. length-tells code past deep (field-tells s at code past (omega arith) read))
 
   closing-tells : Here s at (0 ∷ []) → P (closingAt s at limit marked)
   unfolding closingAt
@@ -125,4 +149,4 @@ module _ (s : List ℕ) (at limit room : ℕ) (marked : Bool) (f : limit ≤ len
       let here = one s at (omega arith) in
       cond-holds P (eqb (octetAt s at) 0)
       (λ z. closing-tells (subst (λ (x : ℕ). Here s at (x ∷ [])) (eqb-true (octetAt s at) 0 z) here))
-      (λ _. item-tells (octetAt s at) here)
+      (λ _. item-tells l)

@@ -67,6 +67,22 @@ module _ (s : List ℕ) (at : ℕ) (head value rest : List ℕ) (start bound : �
   pub three-length : at + length (head ++ (value ++ rest)) ≡ bound + length rest
   three-length = simp length-append (omega arith)
 
+-- the same, where what stands before the value is a type field and length octets
+module _ (s : List ℕ) (at : ℕ) (type len value rest : List ℕ) (start bound : ℕ)
+    (p : start ≡ at + length (type ++ len)) (q : bound ≡ start + length value) where
+  pub item-here : Here s at (type ++ len) → Here s start value → Here s bound rest → Here s at (type ++ (len ++ (value ++ rest)))
+  item-here a b c = subst (Here s at) (append-assoc type len (value ++ rest)) (three s at (type ++ len) value rest start bound p q a b c)
+
+  pub item-length : at + length (type ++ (len ++ (value ++ rest))) ≡ bound + length rest
+  item-length = ap (λ (l : List ℕ). at + length l) (sym (append-assoc type len (value ++ rest))) ∙ three-length s at (type ++ len) value rest start bound p q
+
+  -- what stands before it, it, and what follows
+  pub apart : Here s at (type ++ (len ++ (value ++ rest))) → Here s at (type ++ len) × Here s start value × Here s bound rest
+  apart h =
+      let all = subst (Here s at) (sym (append-assoc type len (value ++ rest))) h in
+      let there = moved s (value ++ rest) (sym p) (second s at (type ++ len) (value ++ rest) all) in
+      (first s at (type ++ len) (value ++ rest) all, first s start value rest there, moved s rest (sym q) (second s start value rest there))
+
 -- octets that are all of a stream
 pub all : (s xs : List ℕ) → Here s 0 xs → length xs ≡ length s → xs ≡ s
 all s xs (rest, e) l = sym (e ∙ ap (λ (r : List ℕ). xs ++ r) (nil rest (omega (arith, ap length e ∙ length-append xs rest))) ∙ append-nil xs)

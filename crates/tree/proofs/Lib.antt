@@ -1,5 +1,7 @@
 -- that octets stand at a place of a stream
 pub mod Here
+-- a type field and its code
+pub mod Types
 -- what a header that was read tells of the octets there
 pub mod Heads
 -- what the walk accepts is coded so

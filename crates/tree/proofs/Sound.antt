@@ -8,12 +8,13 @@ use lib.ListN.{length, drop}
 use lib.Seq.{slice}
 use Rattle.headers.specs.declared.Header.{Header}
 use Rattle.headers.specs.declared.Head.the-variants.{Item}
-use Rattle.headers.specs.Head.{constructed, misfits, headAt}
+use Rattle.headers.specs.Head.{constructed, codeOf, typeField, misfits, headAt}
 use Rattle.octets.specs.Walk.{Items, End, ends, stops, pastOf}
 use Rattle.octets.specs.Rules.{Runs, at-limit, unclosed, closes, refuses, primitive, passes, breaks}
+use Rattle.headers.proofs.Fields.{code-field}
 use Rattle.octets.proofs.Turns.{header-ok}
-use Rattle.tree.specs.Tree.{Tree, empty, leaf, branch, plain, TypeField, firstOctet, Length, Codes, nothing, primitive as leaf-coding, definite, indefinite}
-use Rattle.tree.proofs.Here.{Here, part, joined, moved, three, three-length}
+use Rattle.tree.specs.Tree.{Tree, empty, leaf, branch, plain, TypeField, Length, Codes, nothing, primitive as leaf-coding, definite, indefinite}
+use Rattle.tree.proofs.Here.{Here, part, joined, moved, item-here, item-length}
 use Rattle.tree.proofs.Heads.{ReadFrom, Tells, head-tells}
 
 -- where a run ends whose octets end at `to`: there, or past its closing mark
@@ -28,7 +29,7 @@ Coded s room at limit marked t (stops number place) = Unit {0}
 
 -- the cases of `Codes` with the levels as the walk counts them
 leaf-codes : (room : ℕ) (type len value rest : List ℕ) (after : Tree) → 0 < room → TypeField type false
-    → misfits (firstOctet type) (length value) ≡ false → Length (length value) len
+    → misfits (codeOf type) (length value) ≡ false → Length (length value) len
     → Codes room after rest → Codes room (leaf type value after) (type ++ (len ++ (value ++ rest)))
 leaf-codes zero type len value rest after r g m l c = absurd (omega arith)
 leaf-codes (suc room) type len value rest after r g m l c = leaf-coding g m l c
@@ -54,7 +55,7 @@ module _ (s : List ℕ) (room at limit : ℕ) (marked : Bool) (f : limit ≤ len
   -- a primitive item, and then what follows it
   leaf-coded : (m : Bool) → bound ≤ limit → ReadFrom s at limit room (header m)
       → constructed octet ≡ false → (after : Tree) (e : End) → Coded s room bound limit marked after e
-      → Coded s room at limit marked (leaf (octet ∷ []) (slice start (pastOf m bound) s) after) e
+      → Coded s room at limit marked (leaf (typeField octet) (slice start (pastOf m bound) s) after) e
   leaf-coded m b r q after (stops n place) c = tt
   leaf-coded true b r q after (ends next) c = absurd (false≢true (sym q ∙ r .sized .1))
   leaf-coded false b r q after (ends next) (rest, cr, hr, p) =
@@ -63,42 +64,43 @@ module _ (s : List ℕ) (room at limit : ℕ) (marked : Bool) (f : limit ≤ len
       let (hv, lv) = part s start bound n w (omega arith) in
       let e : n ≡ length value = sym lv in
       let k : bound ≡ start + length value = omega arith in
-      let head = octet ∷ r .len in (
-        head ++ (value ++ rest),
-        leaf-codes room (octet ∷ []) (r .len) value rest after (r .deep) (subst (TypeField (octet ∷ [])) q (r .type))
-            (subst (λ (k : ℕ). misfits octet k ≡ false) e m) (subst (λ (k : ℕ). Length k (r .len)) e l) cr,
-        three s at head value rest start bound (r .past) k (r .here) hv hr,
-        subst (λ (to : ℕ). Past s limit to next marked) (sym (three-length s at head value rest start bound (r .past) k)) p,
+      let type = typeField octet in
+      let fits : misfits (codeOf type) (length value) ≡ false = rw (code-field octet) (subst (λ (k : ℕ). misfits octet k ≡ false) e m) in (
+        type ++ (r .len ++ (value ++ rest)),
+        leaf-codes room type (r .len) value rest after (r .deep) (subst (TypeField type) q (r .type)) fits (subst (λ (k : ℕ). Length k (r .len)) e l) cr,
+        item-here s at type (r .len) value rest start bound (r .past) k (r .here) hv hr,
+        subst (λ (to : ℕ). Past s limit to next marked) (sym (item-length s at type (r .len) value rest start bound (r .past) k)) p,
       )
 
   -- a constructed item whose run is coded, and then what follows it
   branch-coded : (m : Bool) → ReadFrom s at limit room (header m)
       → constructed octet ≡ true → (next : ℕ) (inside : Tree) → Coded s (room - 1) start bound m inside (ends next)
-      → (after : Tree) (e : End) → Coded s room next limit marked after e → Coded s room at limit marked (branch (octet ∷ []) inside after) e
+      → (after : Tree) (e : End) → Coded s room next limit marked after e → Coded s room at limit marked (branch (typeField octet) inside after) e
   branch-coded m r q next inside i after (stops n place) c = tt
   branch-coded false r q next inside (value, cv, hv, (x, y)) after (ends to) (rest, cr, hr, p) =
       let (n, w, l, m) = r .sized in
       let e : n ≡ length value = omega arith in
       let k : next ≡ start + length value = omega arith in
-      let head = octet ∷ r .len in (
-        head ++ (value ++ rest),
-        definite-codes room (octet ∷ []) (r .len) value rest inside after (r .deep) (subst (TypeField (octet ∷ [])) q (r .type))
+      let type = typeField octet in (
+        type ++ (r .len ++ (value ++ rest)),
+        definite-codes room type (r .len) value rest inside after (r .deep) (subst (TypeField type) q (r .type))
             (subst (λ (k : ℕ). Length k (r .len)) e l) cv cr,
-        three s at head value rest start next (r .past) k (r .here) hv hr,
-        subst (λ (j : ℕ). Past s limit j to marked) (sym (three-length s at head value rest start next (r .past) k)) p,
+        item-here s at type (r .len) value rest start next (r .past) k (r .here) hv hr,
+        subst (λ (j : ℕ). Past s limit j to marked) (sym (item-length s at type (r .len) value rest start next (r .past) k)) p,
       )
   branch-coded true r q next inside (value, cv, hv, (x, mark)) after (ends to) (rest, cr, hr, p) =
       let w = r .sized .0 in
-      let head = octet ∷ 0x80 ∷ [] in
-      let here : Here s at head = subst (λ (l : List ℕ). Here s at (octet ∷ l)) w (r .here) in
-      let past : start ≡ at + length head = r .past ∙ ap (λ (l : List ℕ). at + length (octet ∷ l)) w in
+      let type = typeField octet in
+      let open-length : List ℕ = 0x80 ∷ [] in
+      let here : Here s at (type ++ open-length) = subst (λ (l : List ℕ). Here s at (type ++ l)) w (r .here) in
+      let past : start ≡ at + length (type ++ open-length) = r .past ∙ ap (λ (l : List ℕ). at + length (type ++ l)) w in
       let stop = start + length value in
       let rest-here = joined s stop (0 ∷ 0 ∷ []) rest mark (moved s rest x hr) in
-      let len : at + length (head ++ (value ++ (0 ∷ 0 ∷ rest))) ≡ next + length rest =
-      three-length s at head value (0 ∷ 0 ∷ rest) start stop past refl ∙ omega arith in (
-        head ++ (value ++ (0 ∷ 0 ∷ rest)),
-        indefinite-codes room (octet ∷ []) value rest inside after (r .deep) (subst (TypeField (octet ∷ [])) q (r .type)) cv cr,
-        three s at head value (0 ∷ 0 ∷ rest) start stop past refl here hv rest-here,
+      let len : at + length (type ++ (0x80 ∷ (value ++ (0 ∷ 0 ∷ rest)))) ≡ next + length rest =
+      item-length s at type open-length value (0 ∷ 0 ∷ rest) start stop past refl ∙ omega arith in (
+        type ++ (0x80 ∷ (value ++ (0 ∷ 0 ∷ rest))),
+        indefinite-codes room type value rest inside after (r .deep) (subst (TypeField type) q (r .type)) cv cr,
+        item-here s at type open-length value (0 ∷ 0 ∷ rest) start stop past refl here hv rest-here,
         subst (λ (j : ℕ). Past s limit j to marked) (sym len) p,
       )
 

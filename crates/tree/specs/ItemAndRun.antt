@@ -6,8 +6,8 @@ use mathlib.Core.Path.{_≡_}
 use mathlib.Core.Bool.{true, false}
 use mathlib.Core.List.{List, [], _∷_, _++_}
 use lib.ListN.{length}
-use Rattle.headers.specs.Head.{misfits}
-use Rattle.tree.specs.Tree.{TypeField, firstOctet, Length}
+use Rattle.headers.specs.Head.{codeOf, misfits}
+use Rattle.tree.specs.Tree.{TypeField, Length}
 
 -- "An item is a header with a value; a constructed value is a run of items, each with a value of its own."
 mutual
@@ -22,7 +22,7 @@ mutual
 -- the octets xs of an item, and of a run of items, with so many levels
 mutual
   pub data ItemCodes : (room : ℕ) → Item → List ℕ → Type 0 where
-    primitively : {room : ℕ} {type len value xs : List ℕ} → TypeField type false → misfits (firstOctet type) (length value) ≡ false
+    primitively : {room : ℕ} {type len value xs : List ℕ} → TypeField type false → misfits (codeOf type) (length value) ≡ false
         → Length (length value) len → xs ≡ type ++ (len ++ value) → ItemCodes (suc room) (primitive type value) xs
     definitely : {room : ℕ} {type len value xs : List ℕ} {inside : Run} → TypeField type true → Length (length value) len
         → RunCodes room inside value → xs ≡ type ++ (len ++ value) → ItemCodes (suc room) (constructed type inside) xs

@@ -6,10 +6,10 @@
 use Prim.Native.Nat.{ℕ, _≤_, _<_, _+_, suc}
 use mathlib.Core.Bool.{Bool, true, false}
 use mathlib.Core.List.{List, [], _∷_, _++_}
-use lib.ListN.{length, getD}
+use lib.ListN.{length}
 use lib.Seq.{slice}
 use mathlib.Core.Path.{_≡_}
-use Rattle.headers.specs.Head.{constructed, number, formAllowed, bigEndian, misfits}
+use Rattle.headers.specs.Head.{constructed, typeField, number, formAllowed, bigEndian, misfits, codeOf}
 use Rattle.octets.specs.Walk.{Items, none, item, run, deepest}
 
 -- A run of items: nothing; a primitive item with its value octets, and the items after it; or a constructed item with the run inside
@@ -28,7 +28,7 @@ formed false type value inside after = leaf type value after
 abbrev pub plain : List ℕ → Items → Tree
 plain s none = empty
 plain s (item at octet start past inside after) =
-    formed (constructed octet) (octet ∷ []) (slice start past s) (plain s inside) (plain s after)
+    formed (constructed octet) (typeField octet) (slice start past s) (plain s inside) (plain s after)
 
 -- the tree of a stream
 abbrev pub treeOf : List ℕ → Tree
@@ -39,10 +39,6 @@ pub data TypeField : List ℕ → (form : Bool) → Type 0 where
   -- one octet: its number bits are not 11111, and its form is in the table
   oneOctet : {octet : ℕ} {form : Bool} → (number octet ≡ 31 → ⊥) → formAllowed octet ≡ true → constructed octet ≡ form
       → TypeField (octet ∷ []) form
-
--- the octet of a type field that has the class and the form
-abbrev pub firstOctet : List ℕ → ℕ
-firstOctet type = getD type 0 0
 
 -- A definite length and its octets.
 pub data Length : ℕ → List ℕ → Type 0 where
@@ -57,7 +53,7 @@ pub data Codes : (room : ℕ) → Tree → List ℕ → Type 0 where
   nothing : {room : ℕ} → Codes room empty []
   -- a primitive item: a definite length, and a value that rule 8 lets pass
   primitive : {room : ℕ} {type len value rest : List ℕ} {after : Tree}
-      → TypeField type false → misfits (firstOctet type) (length value) ≡ false → Length (length value) len
+      → TypeField type false → misfits (codeOf type) (length value) ≡ false → Length (length value) len
       → Codes (suc room) after rest → Codes (suc room) (leaf type value after) (type ++ (len ++ (value ++ rest)))
   -- a constructed item with a definite length: its value is the run inside it
   definite : {room : ℕ} {type len value rest : List ℕ} {inside after : Tree}

@@ -1,4 +1,4 @@
--- `octets::definite_at` meets its contract: the tests that led to each return say which case of `definiteAt` holds. Assumes nothing.
+-- `headers::definite_at` meets its contract: the tests that led to each return say which case of `definiteAt` holds. Assumes nothing.
 use Prim.Native.Nat.{_+_, _≤_, _<_}
 use mathlib.Core.Path.{_∙_, sym}
 use borrow.Author.Needs.{needs}
@@ -28,20 +28,16 @@ returns-2 c =
     let h : a .start + a .len ≤ a .limit = omega arith in
     simp (le-leb _ _ h, sym (c .before .is-misfit .ensures) ∙ c .if2 .taken)
 
-wide-requires : tie.Need-wide-requires
-wide-requires c κs = search needs
-
-add-t9 : tie.Need-add-t9
-add-t9 c = search needs
+add-t6 : tie.Need-add-t6
+add-t6 c = search needs
 
 returns-3 : tie.Need-returns-3
 unfolding definiteAt
 returns-3 c =
-    let a = c .before .before .before .before .args in
+    let a = c .before .before .before .args in
     let h : a .start + a .len ≤ a .limit = omega arith in
-    simp (le-leb _ _ h, sym (c .before .before .is-misfit .ensures) ∙ c .before .if2 .left, c .wide .ensures)
+    simp (le-leb _ _ h, sym (c .before .is-misfit .ensures) ∙ c .if2 .left)
 
 pub definite-at-spec : {M : Type 1} → statement M
 definite-at-spec =
-    tie.close
-    (tie.spec sub-if1 returns is-misfit-requires returns-2 wide-requires add-t9 returns-3)
+    tie.close (tie.spec sub-if1 returns is-misfit-requires returns-2 add-t6 returns-3)

@@ -1,4 +1,4 @@
--- `octets::head_at` meets its contract: a usual item passes each test of `headAt`, and `read_head` answers for the rest. Assumes nothing.
+-- `headers::head_at` meets its contract: a usual item passes each test of `headAt`, and `read_head` answers for the rest. Assumes nothing.
 use Prim.Native.Nat.{_+_, _≤_}
 use borrow.Author.Needs.{needs}
 use borrow.Author.Tests.{lt-ltb, le-leb, ne-eqb}
@@ -45,7 +45,7 @@ returns c =
     let a = c .before .before .before .before .before .before .before .before .args in
     let u = c .before .before .before .is-usual .ensures (c .before .before .if2 .taken) in
     let i = lt-ltb _ _ (c .before .before .before .before .before .before .if1 .taken) in
-    let w : a .at + 2 + octetAt (a .s .now) (a .at + 1) ≤ a .limit = omega arith in
+    let w : a .at + 1 + 1 + octetAt (a .s .now) (a .at + 1) ≤ a .limit = omega arith in
     let r = ne-eqb (a .room) 0 (λ e. omega arith) in
     simp (ne-eqb _ _ (u .3 .0), r, ne-eqb _ _ (u .3 .1), u .3 .2, i, lt-ltb _ _ (u .2), le-leb _ _ w, u .3 .3, c .before .wide .ensures, c .wide2 .ensures)
 

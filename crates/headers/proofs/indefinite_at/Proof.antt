@@ -1,4 +1,4 @@
--- `octets::indefinite_at` meets its contract: its test is that of `indefiniteAt`. Assumes nothing.
+-- `headers::indefinite_at` meets its contract: its test is that of `indefiniteAt`. Assumes nothing.
 use borrow.Author.Needs.{needs}
 use borrow.Author.Tests.{eq-eqb, ne-eqb}
 use Rattle.headers.specs.Head.{indefiniteAt}
@@ -9,15 +9,12 @@ returns : tie.Need-returns
 unfolding indefiniteAt
 returns c = simp (ne-eqb _ _ (c .if1 .taken))
 
-wide-requires : tie.Need-wide-requires
-wide-requires c κs = search needs
-
-add-t8 : tie.Need-add-t8
-add-t8 c = search needs
+add-t5 : tie.Need-add-t5
+add-t5 c = search needs
 
 returns-2 : tie.Need-returns-2
 unfolding indefiniteAt
-returns-2 c = simp (eq-eqb _ _ (c .before .if1 .left), c .wide .ensures)
+returns-2 c = simp (eq-eqb _ _ (c .if1 .left))
 
 pub indefinite-at-spec : {M : Type 1} → statement M
-indefinite-at-spec = tie.close (tie.spec returns wide-requires add-t8 returns-2)
+indefinite-at-spec = tie.close (tie.spec returns add-t5 returns-2)

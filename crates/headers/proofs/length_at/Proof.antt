@@ -1,12 +1,9 @@
--- `octets::length_at` meets its contract: each arm of the match on the first length octet is a case of `byFirst`. Assumes nothing.
+-- `headers::length_at` meets its contract: each arm of the match on the first length octet is a case of `byFirst`. Assumes nothing.
 use borrow.Author.Needs.{needs}
 use borrow.Author.Tests.{lt-ltb, le-ltb, ne-eqb}
 use Rattle.headers.specs.Head.{lengthAt, byFirst}
 use Rattle.headers.proofs.length_at.Statement.{statement}
 use Rattle.headers.proofs.length_at.Tie as tie
-
-add-next : tie.Need-add-next
-add-next c = search needs
 
 returns : tie.Need-returns
 unfolding lengthAt
@@ -66,7 +63,6 @@ pub length-at-spec : {M : Type 1} → statement M
 length-at-spec =
     tie.close
     (tie.spec
-    add-next
     returns
     shared-slice-read-first
     indefinite-at-requires

@@ -1,4 +1,4 @@
--- `octets::long_at` meets its contract: its test is that of `longAt`, turned round so that nothing overflows. Assumes nothing.
+-- `headers::long_at` meets its contract: its test is that of `longAt`, turned round so that nothing overflows. Assumes nothing.
 use Prim.Native.Nat.{_+_, _≤_, _<_}
 use borrow.Author.Needs.{needs}
 use borrow.Author.Tests.{le-leb, lt-leb}
@@ -17,7 +17,7 @@ returns : tie.Need-returns
 unfolding longAt
 returns c =
     let a = c .before .before .args in
-    let h : a .limit < a .at + 2 + a .k = omega arith in
+    let h : a .limit < a .from + 1 + a .k = omega arith in
     simp (lt-leb _ _ h)
 
 add-definite-at : tie.Need-add-definite-at
@@ -33,7 +33,7 @@ returns-2 : tie.Need-returns-2
 unfolding longAt
 returns-2 c =
     let a = c .before .before .before .before .args in
-    let h : a .at + 2 + a .k ≤ a .limit = omega arith in
+    let h : a .from + 1 + a .k ≤ a .limit = omega arith in
     simp (le-leb _ _ h, c .definite-at .ensures, c .before .big-endian .ensures)
 
 pub long-at-spec : {M : Type 1} → statement M

@@ -1,14 +1,10 @@
+-- `headers::read_head` meets its contract: the tests that led to each return say which case of `headAt` holds. Assumes nothing.
 use mathlib.Core.Path.{_∙_, sym}
 use borrow.Author.Needs.{needs}
-use borrow.Author.Tests.{eq-eqb, ne-eqb, not-true, not-false}
+use borrow.Author.Tests.{eq-eqb, ne-eqb}
 use Rattle.headers.specs.Head.{headAt, itemAt}
 use Rattle.headers.proofs.read_head.Statement.{statement}
 use Rattle.headers.proofs.read_head.Tie as tie
-use Rattle.headers.proofs.read_head.Reads as reads
-use Rattle.headers.proofs.read_head.Lts as lts
-use Rattle.headers.proofs.form_allowed.Reads as allowed-reads
-use Rattle.headers.proofs.closing_at.Reads as closing-reads
-use Rattle.headers.proofs.length_at.Reads as sized-reads
 
 shared-slice-read-octet : tie.Need-shared-slice-read-octet
 shared-slice-read-octet c = search needs
@@ -24,23 +20,29 @@ returns-2 : tie.Need-returns-2
 unfolding headAt itemAt
 returns-2 c = simp (ne-eqb _ _ (c .before .if1 .left), eq-eqb _ _ (c .if2 .taken))
 
-returns-3 : tie.Need-returns-3
-unfolding headAt itemAt
-returns-3 c = simp (ne-eqb _ _ (c .before .before .if1 .left), ne-eqb _ _ (c .before .if2 .left), eq-eqb _ _ (c .if3 .taken))
+field-at-requires : tie.Need-field-at-requires
+field-at-requires c κs = search needs
 
-form-allowed-requires : tie.Need-form-allowed-requires
-form-allowed-requires c κs = search needs
-
-returns-4 : tie.Need-returns-4
-unfolding headAt itemAt
-returns-4 c = simp (ne-eqb _ _ (c .before .before .before .before .if1 .left), ne-eqb _ _ (c .before .before .before .if2 .left), ne-eqb _ _ (c .before .before .if3 .left), sym (c .before .form-allowed .ensures) ∙ not-true _ (c .if4 .taken))
+enum-known-octet : tie.Need-enum-known-octet
+enum-known-octet c = search needs
 
 length-at-requires : tie.Need-length-at-requires
 length-at-requires c κs = search needs
 
-returns-5 : tie.Need-returns-5
+enum-known-number : tie.Need-enum-known-number
+enum-known-number c = search needs
+
+returns-3 : tie.Need-returns-3
 unfolding headAt itemAt
-returns-5 c = simp (ne-eqb _ _ (c .before .before .before .before .before .if1 .left), ne-eqb _ _ (c .before .before .before .before .if2 .left), ne-eqb _ _ (c .before .before .before .if3 .left), sym (c .before .before .form-allowed .ensures) ∙ not-false _ (c .before .if4 .left), c .length-at .ensures)
+returns-3 c =
+    let told = sym (c .before .before .before .before .field-at .ensures) ∙ c .before .before .octet .given .1 in
+    simp (ne-eqb _ _ (c .before .before .before .before .before .before .if1 .left), ne-eqb _ _ (c .before .before .before .before .before .if2 .left), told, c .length-at .ensures)
+
+returns-4 : tie.Need-returns-4
+unfolding headAt itemAt
+returns-4 c =
+    let told = sym (c .before .before .before .field-at .ensures) ∙ c .before .number .given .1 in
+    simp (ne-eqb _ _ (c .before .before .before .before .before .if1 .left), ne-eqb _ _ (c .before .before .before .before .if2 .left), told)
 
 pub read-head-spec : {M : Type 1} → statement M
 read-head-spec =
@@ -50,8 +52,9 @@ read-head-spec =
     closing-at-requires
     returns
     returns-2
-    returns-3
-    form-allowed-requires
-    returns-4
+    field-at-requires
+    enum-known-octet
     length-at-requires
-    returns-5)
+    enum-known-number
+    returns-3
+    returns-4)

@@ -5,6 +5,7 @@ use Prim.Native.Nat.{ℕ}
 use native.Mathlib.Omega.{arith}
 use borrow.Author.Needs.{needs}
 use lib.ListN.{length}
+use Rattle.headers.specs.Head.{typeField}
 use Rattle.runs.specs.Runs.{treeIn}
 use Rattle.elements.specs.declared.Row.{Row}
 use Rattle.elements.specs.declared.Shape.{Shape}
@@ -74,7 +75,7 @@ see-requires : tie.Need-see-requires
 see-requires c κs =
     let start = c .before .before .before .before .before .before .before .before .before .before .before in
     let fits = start .pre .1 in
-    (fits .0, subst WellMade (sym (c .before .before .before .shape-of .ensures)) (made (start .args .edition) (start .args .item .octet ∷ [])), fits .1, fits .2, fits .3, fits .4)
+    (fits .0, subst WellMade (sym (c .before .before .before .shape-of .ensures)) (made (start .args .edition) (typeField (start .args .item .octet))), fits .1, fits .2, fits .3, fits .4)
 
 same-length : tie.Need-same-length
 same-length c = search needs
