@@ -7,9 +7,9 @@ use mathlib.Core.List.{List}
 use mathlib.Core.Option.{some}
 use Prim.Native.Nat.{ℕ, _/_, _<_, _≤_}
 use native.Mathlib.Omega.{arith}
-use lib.Dec.{ltb}
+use lib.Dec.{eqb, ltb}
 use lib.ListN.{length, getElem?}
-use borrow.Author.Tests.{le-ltb, ltb-true, ltb-false}
+use borrow.Author.Tests.{ne-eqb, le-ltb, ltb-true, ltb-false}
 use borrow.Table.Steps.{cases}
 use Rattle.octets.specs.declared.Outcome.the-variants.{Ended}
 use Rattle.octets.specs.Walk.{streamLimit, deepest, walkOf}
@@ -24,14 +24,15 @@ use Rattle.index.specs.Rows.{rowWidth}
 use Rattle.elements.specs.declared.Row.{Row}
 use Rattle.elements.specs.declared.Edition.the-variants.{Of1988}
 use Rattle.elements.specs.Judge.{Element, accepted, judge}
-use Rattle.letters.specs.Letter.{letter, itemsOfStream}
+use Rattle.letters.specs.Letter.{letter, refusal, itemsOfStream}
 use Rattle.letters.proofs.Table.{end-to-end, pairs-within}
 use Rattle.judging.proofs.Lists.{below-length, at-below}
-use Rattle.answers.specs.Answers.{letterIn, rowsIn, onto, tableOf, checked, checkedTable, written, writtenOutput}
+use Rattle.answers.specs.Answers.{letterIn, rowsIn, onto, tableOf, checked, checkedTable, written, writtenOutput, listed, fetched, joinedIn, copied}
 use Rattle.demands.specs.Refusals.{TopItem, topItems}
-use Rattle.demands.specs.Demands.{IsLetterOf, RowTells, OfLetter, Demand2, itemCount}
+use Rattle.demands.specs.Demands.{IsLetterOf, RowTells, OfLetter, RefusedByAll, Demand2, itemCount}
 use Rattle.answers.proofs.Letters.{Found, letter-found, accepted-letter}
 use Rattle.answers.proofs.Judging.{accepts-walked}
+use Rattle.answers.proofs.Small.{refusal-small}
 use Rattle.demands.proofs.Refusals.{refused-is}
 use Rattle.demands.proofs.Telling.{Proper, proper, count-tree, tops-counted, rows-counted, rows-tell}
 use Rattle.demands.proofs.Joining.{told-within, content, content-20, content-21, joins, joins-20, joins-22, part-joined}
@@ -164,9 +165,23 @@ of-letter s headers elements e =
       normal-tree = normal-tree s headers elements e;
     }
 
+-- what every question gives to a stream that is refused
+refused-alike : (s : List ℕ) (number place headers : ℕ) → letterIn s ≡ refusal number place headers → RefusedByAll s number place headers
+unfolding checked written listed fetched joinedIn copied
+refused-alike s number place headers e =
+    let other : eqb number 0 ≡ false = ne-eqb number 0 (λ z. omega (arith, refusal-small Of1988 s number place headers e .low)) in
+    record {
+      check = λ table. rw e;
+      normal = λ out. rw e;
+      list = λ side table room. rw e;
+      content = λ asked. rw e;
+      joined = λ asked out. rw (e, other);
+    }
+
 pub demand2 : Demand2
 demand2 = record {
   accepted-is = λ s headers elements. (letter-is s headers elements, is-letter s headers elements);
   refused-is = λ s. refused-is Of1988 s;
+  refused-alike = refused-alike;
   of-letter = of-letter;
 }

@@ -23,8 +23,8 @@ use Rattle.letters.specs.Letter.{letter, refusal, itemsOfStream, EndToEnd, Pair
 use Rattle.reading.specs.declared.Match.{Match}
 use Rattle.reading.specs.declared.Side.{Side}
 use Rattle.reading.specs.Match.{unitKind, matches, IsMatch, Before, units, portionsOn}
-use Rattle.answers.specs.Answers.{letterIn, rowsIn, onto, tableOf, checked, checkedTable, written, writtenOutput, listed, listedTable, matchesIn, listedList}
-use Rattle.answers.specs.Answers.{handed, fetched, joinedIn, copied, copiedOutput}
+use Rattle.answers.specs.Answers.{letterIn, rowsIn, onto, tableOf, refusedCheck, checked, checkedTable, written, writtenOutput, listed, listedTable, matchesIn}
+use Rattle.answers.specs.Answers.{listedList, handed, withheld, fetched, joinedIn, copied, copiedOutput}
 use Rattle.demands.specs.Refusals.{TopItem, topItems, RefusedWith}
 
 -- A number that a question may give, and its place: 0, one of 1 to 15, or one of the question's own, "where the question can give it". The
@@ -163,11 +163,20 @@ pub record OfLetter (s : List ℕ) (headers : ℕ) (elements : List Element) : T
   pub normal-accepted : length (normalForm s) ≤ streamLimit → letterIn (normalForm s) ≡ letter headers elements
   pub normal-tree : treeOf (normalForm s) ≡ treeOf s
 
+-- a stream that is refused by one of 1 to 15 gets that number and place from every question
+pub record RefusedByAll (s : List ℕ) (number place headers : ℕ) : Type 0 where
+  pub check : (table : List ℕ) → checked s table ≡ refusedCheck number place headers
+  pub normal : (out : List ℕ) → written s out ≡ record { number = number; place = place; length = 0 }
+  pub list : (side : Side) (table : List ℕ) (room : ℕ) → listed side s table room ≡ record { number = number; place = place; elements = 0; matches = 0 }
+  pub content : (asked : ℕ) → fetched s asked ≡ withheld number place
+  pub joined : (asked : ℕ) (out : List ℕ) → copied s asked out ≡ record { number = number; place = place; length = 0 }
+
 -- Demand 2: accepted is what X.209 and the shapes say, and what is accepted is kept by the normal form. What is refused is refused by the
 -- first of 1 to 15 whose condition holds.
 pub record Demand2 : Type 0 where
   pub accepted-is : (s : List ℕ) (headers : ℕ) (elements : List Element) → (letterIn s ≡ letter headers elements) ↔ IsLetterOf s headers elements
   pub refused-is : (s : List ℕ) (number place : ℕ) → ((headers : ℕ) × (letterIn s ≡ refusal number place headers)) ↔ RefusedWith Of1988 s number place
+  pub refused-alike : (s : List ℕ) (number place headers : ℕ) → letterIn s ≡ refusal number place headers → RefusedByAll s number place headers
   pub of-letter : (s : List ℕ) (headers : ℕ) (elements : List Element) → letterIn s ≡ letter headers elements → OfLetter s headers elements
 
 -- a record stands somewhere in a list
