@@ -79,6 +79,11 @@ extern "C" {
 #define ODIF_ROW_WIDTH     12      /* the numbers of a row */
 #define ODIF_STACK         262144  /* octets of stack: no question but the lists takes more */
 #define ODIF_STACK_LISTS   311296  /* the same for the two lists */
+#define ODIF_SHORT_LIMIT   65535   /* the most octets of a stream that odif_normal_short takes */
+
+/* How much to lend. A side has no more matches than the letter has text units, nor than portions are listed on that
+   side: a list of as many records as there are text units never meets 19. An output as long as the stream never meets
+   18 of odif_normal_short. */
 
 /* What each number of a table row is. Each pair is first and past; every pair but the element's bounds a value. An
    absent one is 0 and 0. */
@@ -159,6 +164,10 @@ odif_listed odif_layout(const uint8_t *ODIF_APART stream, size_t stream_len,
 odif_listed odif_logical(const uint8_t *ODIF_APART stream, size_t stream_len,
                          uint32_t *ODIF_APART table, size_t table_len,
                          odif_match *ODIF_APART list, size_t list_len);
+
+/* Writes the normal form of a stream of at most 65,535 octets, for machines with little memory: 1 is given where the
+   stream is longer, and never 17. There the normal form is never longer than the stream. */
+odif_written odif_normal_short(const uint8_t *stream, size_t stream_len, uint8_t *out, size_t out_len);
 
 /* Finds the content of the text unit in row `element`, which may be any number. Content in pieces is refused by 21. */
 odif_found odif_content(const uint8_t *stream, size_t stream_len, uint32_t element);

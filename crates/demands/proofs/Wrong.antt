@@ -4,7 +4,7 @@ use mathlib.Core.Path.{_≡_, refl, ap, sym, _∙_}
 use mathlib.Core.Bool.{false, xor}
 use mathlib.Core.List.{List, [], _∷_}
 use mathlib.Core.Option.{some}
-use Prim.Native.Nat.{ℕ, _≤_}
+use Prim.Native.Nat.{ℕ, suc, _≤_}
 use native.Mathlib.Omega.{arith}
 use lib.ListN.{length, getD, getElem?, replicate}
 use Rattle.headers.specs.Head.{permits, formAllowed, bigEndianFrom, misfits, definiteAt, indefiniteAt, longAt, byFirst, lengthAt, itemAt, closingAt, headAt}
@@ -14,7 +14,7 @@ use Rattle.tree.specs.Tree.{Tree, empty, leaf, branch, treeOf}
 use Rattle.names.specs.Names.{isDigit, grouped, isIdentifier, allDigits, isPortion, same}
 use Rattle.normal.specs.Normal.{numberOctets, normalOf}
 use Rattle.index.specs.Rows.{nameSpaceOf}
-use Rattle.contents.specs.Search.{absent, amount, firstValue, firstRun, boundsOf, itemsIn as insideOf, inOrder}
+use Rattle.contents.specs.Search.{absent, octets, amount, firstValue, firstRun, boundsOf, itemsIn as insideOf, inOrder}
 use Rattle.pieces.specs.Pieces.{onlyPieces, joined}
 use Rattle.portions.specs.Portions.{allPortions, values, wellSpelt, among, repeats}
 use Rattle.elements.specs.Shape.{shapeOf}
@@ -25,7 +25,7 @@ use Rattle.letters.specs.Letter.{letter, letterOf}
 use Rattle.reading.specs.declared.Match.{Match}
 use Rattle.reading.specs.declared.Side.{Side}
 use Rattle.reading.specs.declared.Side.the-variants.{Layout}
-use Rattle.reading.specs.Match.{joins, forEach, portionMatches, elementMatches, matches}
+use Rattle.reading.specs.Match.{joins, forEach, portionMatches, elementMatches, matches, units}
 use Rattle.answers.specs.declared.Checked.{Checked}
 use Rattle.answers.specs.declared.Written.{Written}
 use Rattle.answers.specs.declared.Listed.{Listed}
@@ -240,3 +240,32 @@ joins-headers f meets wrong =
     let w : f pieced 1 nines .0 .number ≡ 0 = ap (λ (a : Copied). a .number) (m .answered) ∙ joined-pieces .0 in
     let z : _≡_ {A = ℕ} 0x04 0x48 = ap (λ (octets : List ℕ). getD octets 0 0) (sym (wrong pieced 1 nines piecedRow row-of-pieces w) ∙ m .put ∙ joined-pieces .1) in
     omega arith
+
+-- what the elements of the printed letter say
+abbrev printedElements : List Element
+printedElements =
+    saying 0 (single absent)
+    ∷ record { kind = 2; object = 4; identifier = octets (0x31 ∷ 0x20 ∷ 0x30 ∷ 0x20 ∷ 0x32 ∷ []); logical = absent; portions = (0x30 ∷ []) ∷ []; content = single absent }
+    ∷ record {
+      kind = 3;
+      object = 255;
+      identifier = octets (0x31 ∷ 0x20 ∷ 0x30 ∷ 0x20 ∷ 0x32 ∷ 0x20 ∷ 0x30 ∷ []);
+      logical = absent;
+      portions = [];
+      content = single (octets (0x48 ∷ 0x69 ∷ []));
+    }
+    ∷ []
+
+printed-letter : letterIn printed ≡ letter 11 printedElements
+unfolding permits formAllowed bigEndianFrom misfits definiteAt indefiniteAt longAt byFirst lengthAt itemAt closingAt headAt runFor run walkOf amount firstValue firstRun inOrder allPortions values wellSpelt among repeats isDigit grouped isIdentifier allDigits isPortion same nameSpaceOf shapeOf bodyOf contentOf elementOf ordered asTabled namesFit clash twice refusalOf judgeOne judgeFrom judge placeOf letterOf onlyPieces xor
+printed-letter = refl
+
+no-room : listed Layout printed table 0 .number ≡ 19
+unfolding permits formAllowed bigEndianFrom misfits definiteAt indefiniteAt longAt byFirst lengthAt itemAt closingAt headAt runFor run walkOf amount firstValue firstRun inOrder allPortions values wellSpelt among repeats isDigit grouped isIdentifier allDigits isPortion same nameSpaceOf shapeOf bodyOf contentOf elementOf ordered asTabled namesFit clash twice refusalOf judgeOne judgeFrom judge placeOf letterOf joins forEach portionMatches elementMatches matches listed xor
+no-room = refl
+
+-- And no promise of a list with one record fewer than there are text units could be kept: the printed letter has one unit and one match.
+pub one-record-fewer : ((s : List ℕ) (headers : ℕ) (elements : List Element) → letterIn s ≡ letter headers elements → (side : Side) (rows : List ℕ) (room : ℕ)
+    → units elements ≤ suc room → listed side s rows room .number ≡ 19 → ⊥) → ⊥
+unfolding units
+one-record-fewer promise = promise printed 11 printedElements printed-letter Layout table 0 (omega arith) no-room

@@ -9,16 +9,14 @@ ghost use Prim.Native.Nat.{_≤_};
 ghost use lib.ListN.{length};
 ghost use Rattle.octets.specs.Walk.{deepest, run};
 ghost use Rattle.tree.specs.Accepts.{Whole};
-ghost use Rattle.normal.specs.Normal.{normalForm};
-ghost use Rattle.normal.specs.Writes.{GivesAnswer};
-ghost use Rattle.normal.specs.Short.{shortLimit, answerShort};
+ghost use Rattle.normal.specs.Short.{shortLimit, ShortWrites};
 
 const DEEPEST: usize = 16;
 
 // Writes the normal form of a short stream whose walk ended: refusal 18 alone.
 pub fn write_short(s: &[u8], out: &mut [u8]) -> Answer
     requires { ⌜ (length (now s) ≤ shortLimit) × Whole (run deepest (now s) 0 (length (now s)) false .how) ⌝ }
-    ensures { λ r. ⌜ GivesAnswer (answerShort (normalForm (now (s .entry))) (now (out .entry))) (normalForm (now (s .entry))) (now (out .entry)) r (now (out .exit)) ⌝ }
+    ensures { λ r. ⌜ ShortWrites (now (s .entry)) (now (out .entry)) r (now (out .exit)) ⌝ }
 {
     let m = measure_run(s, 0, s.len(), false, DEEPEST);
     let length = m.size;

@@ -1,7 +1,7 @@
 //! One stream: every question put to the library and to the reader, with the same memory lent, long enough, exact and
 //! one short.
 
-use odif::{ROW_WIDTH, STREAM_LIMIT, raw};
+use odif::{ROW_WIDTH, SHORT_LIMIT, STREAM_LIMIT, raw};
 use reader::{Reading, Side};
 
 use crate::lent::{self, Lent};
@@ -28,6 +28,7 @@ impl Holder {
         one.ask_list(Side::Layout, rng);
         one.ask_list(Side::Logical, rng);
         one.ask_normal(rng);
+        one.ask_normal_short(rng);
         one.ask_content(rng);
         one.ask_joined(rng);
         one.expect(before == stream, "the stream itself", || "it was written to".into());
@@ -152,6 +153,27 @@ impl One<'_> {
             self.expect(ours == theirs, &question, || format!("{}, not {}", hex(ours.cells()), hex(theirs.cells())));
             let used = answer.length as usize;
             self.expect(ours.is_untouched_past(used, &before), &question, || "written past its end".into());
+        }
+    }
+
+    /// The mailroom's question: as the reader answers, never by 17, and never by 18 with an output as long as the stream.
+    fn ask_normal_short(&mut self, rng: &mut Rng) {
+        let lengths = match self.reading.normal_size() {
+            0 => vec![rng.below(40)],
+            exact if self.stream.len() > SHORT_LIMIT => vec![0, exact.min(STREAM_LIMIT)],
+            exact => vec![self.stream.len(), exact, exact - 1, rng.below(exact)],
+        };
+        for length in lengths {
+            let before = Lent::new(length, lent::octets);
+            let (mut ours, mut theirs) = (before.clone(), before.clone());
+            let answer = raw::normal_short(self.stream, ours.lend());
+            let wanted = self.reading.normal_short(theirs.lend());
+            let question = format!("short normal form with an output of {length} octets");
+            let same = [answer.number, answer.place, answer.length] == [wanted.number, wanted.place, wanted.length];
+            self.expect(same, &question, || format!("{answer:?}, not {wanted:?}"));
+            self.expect(ours == theirs, &question, || format!("{}, not {}", hex(ours.cells()), hex(theirs.cells())));
+            let possible = answer.number != 17 && (answer.number != 18 || length < self.stream.len());
+            self.expect(possible, &question, || format!("{answer:?}"));
         }
     }
 

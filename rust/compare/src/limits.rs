@@ -2,7 +2,7 @@
 
 mod pieces;
 
-use odif::{MOST_ELEMENTS, STREAM_LIMIT};
+use odif::{MOST_ELEMENTS, SHORT_LIMIT, STREAM_LIMIT};
 
 use crate::coding::{Form, indefinite, item, item_in};
 
@@ -15,7 +15,7 @@ const STYLES: [u8; 2] = [0xA7, 0xA8];
 const PROFILE: [u8; 2] = [0xA0, 0x00];
 
 /// The groups of cases. Each group is made when it is wanted, for some are large.
-pub const GROUPS: [fn() -> Vec<Case>; 23] = [
+pub const GROUPS: [fn() -> Vec<Case>; 24] = [
     stream_length,
     element_count,
     full_tables,
@@ -37,6 +37,7 @@ pub const GROUPS: [fn() -> Vec<Case>; 23] = [
     pieces::most,
     descriptors,
     normal_length,
+    short_length,
     name_spaces,
     two_faults,
 ];
@@ -423,6 +424,28 @@ fn normal_length() -> Vec<Case> {
     for length in [0x7D, 0x7E, 0x7F, 0x80, 0xFC, 0xFD, 0xFE, 0xFF, 0x100, 0xFFFB, 0xFFFC, 0xFFFF, 0x10000] {
         let inner = item_in(Form::Long(4), 0x04, &vec![0x11; length]);
         cases.push(case(format!("a value of {length} in two levels"), indefinite(0xA0, &indefinite(0x24, &inner))));
+    }
+    cases
+}
+
+/// Streams about as long as the mailroom's question takes, with items of every kind of length around all the rest.
+fn short_length() -> Vec<Case> {
+    let mut cases = Vec::new();
+    for length in [SHORT_LIMIT - 1, SHORT_LIMIT, SHORT_LIMIT + 1] {
+        for depth in [0, 1, 2, 14] {
+            // Two octets before and after each indefinite level, the profile among them, and five before the value.
+            let value = vec![0x11; length - 5 - 4 * (depth + 1)];
+            let mut stream = item_in(Form::Long(3), 0x04, &value);
+            for _ in 0..depth {
+                stream = indefinite(0xA5, &stream);
+            }
+            cases.push(case(format!("{depth} indefinite levels in {length} octets"), indefinite(0xA0, &stream)));
+        }
+        cases.push(case(format!("a profile of {length} octets"), item(0xA0, &item(0x04, &vec![0x11; length - 8]))));
+        let spare = length - 2 - 4_095 * 16;
+        let text = |place: usize| vec![b'x'; 10 + if place == 0 { spare } else { 0 }];
+        let units: Vec<Vec<u8>> = (0..4_095).map(|place| unit(&[], &text(place))).collect();
+        cases.push(case(format!("4,095 units in {length} octets"), letter(&units)));
     }
     cases
 }

@@ -6,7 +6,7 @@ use std::ops::Range;
 
 use crate::raw;
 use crate::refusal::{Refusal, Rule};
-use crate::{MOST_ELEMENTS, ROW_WIDTH, STREAM_LIMIT};
+use crate::{MOST_ELEMENTS, ROW_WIDTH, SHORT_LIMIT, STREAM_LIMIT};
 
 /// One side of a letter.
 #[derive(Clone, Copy, Debug, PartialEq, Eq)]
@@ -186,6 +186,16 @@ pub fn normal_form(stream: &[u8]) -> Result<Vec<u8>, Refusal> {
     let longest = (stream.len() + stream.len() / 4_096 + 16).min(STREAM_LIMIT);
     let mut out = vec![0; longest];
     let answer = raw::normal(stream, &mut out);
+    Refusal::unless_accepted(answer.number, answer.place)?;
+    out.truncate(answer.length as usize);
+    Ok(out)
+}
+
+/// Makes the normal form of a stream of at most [`SHORT_LIMIT`](crate::SHORT_LIMIT) octets, which is never longer than the
+/// stream. A longer one is refused by rule 1.
+pub fn short_normal_form(stream: &[u8]) -> Result<Vec<u8>, Refusal> {
+    let mut out = vec![0; stream.len().min(SHORT_LIMIT)];
+    let answer = raw::normal_short(stream, &mut out);
     Refusal::unless_accepted(answer.number, answer.place)?;
     out.truncate(answer.length as usize);
     Ok(out)

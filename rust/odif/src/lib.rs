@@ -27,11 +27,13 @@ mod letter;
 pub mod raw;
 mod refusal;
 
-pub use letter::{Checked, Element, Kind, Letter, Match, Side, check, content, normal_form};
+pub use letter::{Checked, Element, Kind, Letter, Match, Side, check, content, normal_form, short_normal_form};
 pub use refusal::{Refusal, Rule};
 
 /// The most octets of a stream, and of a normal form.
 pub const STREAM_LIMIT: usize = 1_048_576;
+/// The most octets of a stream that [`short_normal_form`] takes.
+pub const SHORT_LIMIT: usize = 65_535;
 /// The most elements of a letter.
 pub const MOST_ELEMENTS: usize = 4_096;
 /// The numbers of one table row.

@@ -101,6 +101,7 @@ unsafe extern "C" {
         list: *mut Match,
         list_len: usize,
     ) -> Listed;
+    fn odif_normal_short(stream: *const u8, stream_len: usize, out: *mut u8, out_len: usize) -> Written;
     fn odif_content(stream: *const u8, stream_len: usize, element: u32) -> Found;
     fn odif_joined(stream: *const u8, stream_len: usize, element: u32, out: *mut u8, out_len: usize) -> Copied;
 }
@@ -130,6 +131,11 @@ pub fn logical(stream: &[u8], table: &mut [u32], list: &mut [Match]) -> Listed {
     unsafe {
         odif_logical(stream.as_ptr(), stream.len(), table.as_mut_ptr(), table.len(), list.as_mut_ptr(), list.len())
     }
+}
+
+/// Writes the normal form of a stream of at most 65,535 octets, which is never longer than the stream.
+pub fn normal_short(stream: &[u8], out: &mut [u8]) -> Written {
+    unsafe { odif_normal_short(stream.as_ptr(), stream.len(), out.as_mut_ptr(), out.len()) }
 }
 
 /// Finds the content of a text unit, if it is one part of the stream.

@@ -148,6 +148,22 @@ fn normal_forms() {
     assert_eq!(odif::normal_form(b"\xA0").map_err(|refusal| refusal.rule), Err(Rule::PastLimit));
 }
 
+#[test]
+fn short_normal_forms() {
+    assert_eq!(odif::short_normal_form(b"\xA0\x80\x00\x00"), Ok(vec![0xA0, 0x00]));
+    assert_eq!(odif::short_normal_form(b"\xA0").map_err(|refusal| refusal.rule), Err(Rule::PastLimit));
+    // An indefinite profile that is as long as can be: its normal form is no longer.
+    let value = vec![b'x'; odif::SHORT_LIMIT - 8];
+    let (first, last) = (value.len() >> 8, value.len() & 0xFF);
+    let stream = [&[0xA0, 0x80, 0x04, 0x82, first as u8, last as u8][..], &value, &[0, 0]].concat();
+    assert_eq!(stream.len(), odif::SHORT_LIMIT);
+    assert_eq!(odif::short_normal_form(&stream), odif::normal_form(&stream));
+    let longer = [&stream[..], &[0xA2, 0x00]].concat();
+    assert!(odif::normal_form(&longer).is_ok());
+    let refusal = odif::short_normal_form(&longer).expect_err("a refusal");
+    assert_eq!((refusal.rule.number(), refusal.place), (1, 0));
+}
+
 /// Each indefinite item of over 65,535 octets grows by one; the binding lends enough for all of them.
 #[test]
 fn a_normal_form_that_is_longer_than_its_stream() {

@@ -42,6 +42,9 @@ int main(void) {
     odif_written written = odif_normal(letter, length, out, sizeof out);
     printf("normal %" PRIu32 " %" PRIu32 " %" PRIu32 " %s\n", written.number, written.place, written.length,
            memcmp(out, letter, length) ? "differs" : "same");
+    written = odif_normal_short(letter, length, out, length);
+    printf("short normal %" PRIu32 " %" PRIu32 " %" PRIu32 " %s\n", written.number, written.place, written.length,
+           memcmp(out, letter, length) ? "differs" : "same");
     checked = odif_check(NULL, 0, NULL, 0);
     printf("empty %" PRIu32 " %" PRIu32 "\n", checked.number, checked.place);
     checked = odif_check(letter, length, table, 3 * ODIF_ROW_WIDTH - 1);

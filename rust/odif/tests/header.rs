@@ -36,6 +36,7 @@ content 0 0 Hi
 joined 0 0 2 Hi..
 too short 22 0 0
 normal 0 0 38 same
+short normal 0 0 38 same
 empty 11 0
 short 16 0 11 0
 ";
@@ -85,5 +86,5 @@ fn no_more_stack_than_the_header_says() {
     let output = run("stack", "-std=gnu99", &[]);
     let told = String::from_utf8_lossy(&output.stdout);
     assert!(output.status.success(), "{told}");
-    assert_eq!(told.lines().count(), 6, "{told}");
+    assert_eq!(told.lines().count(), 7, "{told}");
 }

@@ -16,6 +16,7 @@ static ucontext_t here, there;
 
 static void ask_check(void) { odif_check(stream, length, table, sizeof table / sizeof *table); }
 static void ask_normal(void) { odif_normal(stream, length, out, sizeof out); }
+static void ask_normal_short(void) { odif_normal_short(stream, length, out, sizeof out); }
 static void ask_layout(void) {
     odif_layout(stream, length, table, sizeof table / sizeof *table, list, ODIF_MOST_ELEMENTS);
 }
@@ -32,6 +33,7 @@ static const struct {
 } questions[] = {
     {"check", ask_check, ODIF_STACK},          {"normal form", ask_normal, ODIF_STACK},
     {"layout list", ask_layout, ODIF_STACK_LISTS}, {"logical list", ask_logical, ODIF_STACK_LISTS},
+    {"short normal form", ask_normal_short, ODIF_STACK},
     {"content", ask_content, ODIF_STACK},      {"joined content", ask_joined, ODIF_STACK},
 };
 

@@ -1,6 +1,7 @@
 //! The questions and their answers, in the numbers that document 01 gives back.
 
 use crate::ROW_WIDTH;
+use crate::SHORT_LIMIT;
 use crate::STREAM_LIMIT;
 use crate::elements::{self, Row};
 use crate::items::Tree;
@@ -161,6 +162,14 @@ impl<'a> Reading<'a> {
             }
             None => Written { number: 18, ..Written::default() },
         }
+    }
+
+    /// Writes the normal form of a stream of at most 65,535 octets.
+    pub fn normal_short(&self, out: &mut [u8]) -> Written {
+        if self.stream.len() > SHORT_LIMIT {
+            return Written { number: 1, ..Written::default() };
+        }
+        self.normal(out)
     }
 
     /// Where the content of a text unit lies, if it is one part of the stream.

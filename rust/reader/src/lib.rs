@@ -32,6 +32,8 @@ pub use refusal::{Refusal, Why};
 
 /// "stream over 1,048,576 bytes" is refused, and so is such a normal form.
 pub const STREAM_LIMIT: usize = 1_048_576;
+/// "1 in the new question means over 65,535", where the mailroom asks for a normal form.
+pub const SHORT_LIMIT: usize = 65_535;
 /// The most elements that a stream may have.
 pub const MOST_ELEMENTS: usize = 4_096;
 /// The numbers of one table row.
