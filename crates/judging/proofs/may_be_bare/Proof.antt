@@ -1,5 +1,5 @@
 -- `judging::may_be_bare` meets its contract: the rules are computed for each of the octets that it lets through, in each edition. Assumes nothing.
-use mathlib.Core.Path.{_≡_, refl}
+use mathlib.Core.Path.{_≡_, refl, sym, subst}
 use mathlib.Core.Bool.{false≢true}
 use mathlib.Core.Logic.{_⊎_, inl, inr}
 use Prim.Native.Nat.{ℕ}
@@ -13,14 +13,22 @@ use Rattle.judging.specs.Judges.{MayBeBare}
 use Rattle.judging.proofs.may_be_bare.Statement.{statement}
 use Rattle.judging.proofs.may_be_bare.Tie as tie
 
-may : (octet : ℕ) → (octet ≡ 0xA0) ⊎ ((octet ≡ 0xA2) ⊎ (octet ≡ 0xA6)) → (edition : Edition) → MayBeBare edition octet
-unfolding shapeOf shapeRefusal asTabled ordered elementOf contentOf bodyOf namesFit amount firstValue firstRun inOrder allPortions values wellSpelt
-may octet (inl e) Of1988 = rw e (record { known = refl; fits = refl })
-may octet (inr (inl e)) Of1988 = rw e (record { known = refl; fits = refl })
-may octet (inr (inr e)) Of1988 = rw e (record { known = refl; fits = refl })
+-- what is so of three octets is so of one that is among them
+among : (edition : Edition) {a b c octet : ℕ} → (octet ≡ a) ⊎ ((octet ≡ b) ⊎ (octet ≡ c)) → MayBeBare edition a → MayBeBare edition b
+    → MayBeBare edition c → MayBeBare edition octet
+among edition (inl e) one two three = subst (MayBeBare edition) (sym e) one
+among edition (inr (inl e)) one two three = subst (MayBeBare edition) (sym e) two
+among edition (inr (inr e)) one two three = subst (MayBeBare edition) (sym e) three
+
+in-each : {octet : ℕ} (edition : Edition) → MayBeBare Of1988 octet → MayBeBare edition octet
+in-each Of1988 may = may
 
 returns : tie.Need-returns
-returns c = λ e. may _ (c .match .keys1)
+unfolding shapeOf shapeRefusal asTabled ordered elementOf contentOf bodyOf namesFit amount firstValue firstRun inOrder allPortions values wellSpelt
+returns c =
+    λ e edition.
+    in-each edition
+    (among Of1988 (c .match .keys1) (record { known = refl; fits = refl }) (record { known = refl; fits = refl }) (record { known = refl; fits = refl }))
 
 returns-2 : tie.Need-returns-2
 returns-2 c = λ e. absurd (false≢true e)
