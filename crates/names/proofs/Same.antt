@@ -1,6 +1,6 @@
 -- Lists are the same exactly when they are equal; compared from the front, in two parts, or by their lengths alone. Assumes nothing.
-use mathlib.Core.Path.{_≡_, refl, sym, ap, _∙_}
-use mathlib.Core.Bool.{true, false, _&&_, false≢true, true≢false}
+use mathlib.Core.Path.{_≡_, refl, ap}
+use mathlib.Core.Bool.{true, false, _&&_, false≢true}
 use mathlib.Core.List.{List, [], _∷_, _++_}
 use Prim.Native.Nat.{ℕ, _+_, _-_, _<_, _≤_}
 use native.Mathlib.Omega.{arith}
@@ -28,9 +28,6 @@ pub same-refl : (xs : List ℕ) → same xs xs ≡ true
 unfolding same
 same-refl [] = refl
 same-refl (x ∷ xs) = rw (eq-eqb x x refl) (same-refl xs)
-
-pub same-ne : (xs ys : List ℕ) → same xs ys ≡ false → xs ≡ ys → ⊥
-same-ne xs ys t e = true≢false (sym (same-refl ys) ∙ (rw e at t))
 
 -- "0 and 00 differ": so do any two of unequal lengths
 pub same-lengths : (xs ys : List ℕ) → (length xs ≡ length ys → ⊥) → same xs ys ≡ false

@@ -76,7 +76,3 @@ refused-codes-nothing s number place k e l t c =
     let a = accepts s t c l .ended in
     let z : _≡_ {A = ℕ} 0 1 = cc in
     omega arith
-
--- A stream within the limit whose walk is whole is accepted, with its own tree.
-pub whole-accepts : (s : List ℕ) → length s ≤ streamLimit → Whole (top s .how) → Accepts s (treeOf s)
-whole-accepts s l w = accepts s (treeOf s) (whole-codes s (top s .how) refl w) l
