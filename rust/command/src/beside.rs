@@ -1,0 +1,108 @@
+//! Writing a file so that its old content is there until the new one is whole.
+
+use std::fs::{self, File, Permissions};
+use std::io::{self, BufWriter, Write};
+use std::os::unix::fs::PermissionsExt;
+use std::path::{Path, PathBuf};
+
+use nix::sys::stat::{Mode, umask};
+use tempfile::NamedTempFile;
+
+use crate::show;
+use crate::status::Failure;
+
+/// A file that is being written beside its place. It takes the place when it is finished, and is gone if it never is.
+pub struct Beside {
+    path: PathBuf,
+    out: Out,
+}
+
+enum Out {
+    Beside(BufWriter<NamedTempFile>),
+    /// What is no plain file, such as a pipe or a device, is written to as it is.
+    Through(BufWriter<File>),
+}
+
+impl Beside {
+    /// Begins a file for this place.
+    pub fn create(path: &Path) -> Result<Beside, Failure> {
+        // The file that a link leads to is written, and the link stays.
+        let path = fs::canonicalize(path).unwrap_or_else(|_| path.into());
+        let out = match fs::metadata(&path) {
+            Ok(about) if !about.is_file() => {
+                File::options().write(true).open(&path).map(BufWriter::new).map(Out::Through)
+            }
+            _ => NamedTempFile::new_in(folder(&path)).map(BufWriter::new).map(Out::Beside),
+        };
+        out.map(|out| Beside { out, path: path.clone() }).map_err(|error| failure(&path, &error))
+    }
+
+    /// Puts the finished file in its place, and on the disk.
+    pub fn finish(self) -> Result<(), Failure> {
+        let Beside { path, out } = self;
+        let done = match out {
+            Out::Through(mut out) => out.flush(),
+            Out::Beside(out) => out.into_inner().map_err(|error| error.into_error()).and_then(|file| put(file, &path)),
+        };
+        done.map_err(|error| failure(&path, &error))
+    }
+
+    /// Adds octets.
+    pub fn add(&mut self, octets: &[u8]) -> Result<(), Failure> {
+        self.write_all(octets).map_err(|error| failure(&self.path, &error))
+    }
+}
+
+impl Write for Beside {
+    fn write(&mut self, octets: &[u8]) -> io::Result<usize> {
+        match &mut self.out {
+            Out::Beside(out) => out.write(octets),
+            Out::Through(out) => out.write(octets),
+        }
+    }
+
+    fn flush(&mut self) -> io::Result<()> {
+        match &mut self.out {
+            Out::Beside(out) => out.flush(),
+            Out::Through(out) => out.flush(),
+        }
+    }
+}
+
+/// Writes a whole file.
+pub fn write(path: &Path, octets: &[u8]) -> Result<(), Failure> {
+    let mut file = Beside::create(path)?;
+    file.add(octets)?;
+    file.finish()
+}
+
+/// What can't be written, with its name.
+pub fn failure(path: &Path, error: &io::Error) -> Failure {
+    Failure::File(format!("{}: {error}", show::name(path.as_os_str())))
+}
+
+fn put(file: NamedTempFile, path: &Path) -> io::Result<()> {
+    file.as_file().set_permissions(permissions(path))?;
+    file.as_file().sync_all()?;
+    file.persist(path).map_err(|error| error.error)?;
+    File::open(folder(path))?.sync_all()
+}
+
+/// Those of the file that is replaced, or those that a new file gets.
+fn permissions(path: &Path) -> Permissions {
+    fs::metadata(path).map_or_else(
+        |_| {
+            let mask = umask(Mode::empty());
+            umask(mask);
+            Permissions::from_mode(0o666 & !mask.bits())
+        },
+        |about| about.permissions(),
+    )
+}
+
+fn folder(path: &Path) -> &Path {
+    match path.parent() {
+        Some(folder) if !folder.as_os_str().is_empty() => folder,
+        _ => Path::new("."),
+    }
+}

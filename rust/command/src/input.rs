@@ -1,0 +1,165 @@
+//! Reading a stream from a file or standard input, as octets or as hexadecimal digits.
+
+use std::ffi::{OsStr, OsString};
+use std::fs::File;
+use std::io::{self, BufRead, BufReader, Read, Write};
+use std::path::Path;
+
+use crate::args::Files;
+use crate::names::Name;
+use crate::status::{Outcome, Status, tell};
+use crate::{explain, show};
+
+/// A stream longer than this is refused whatever it holds, so no more than one octet past it is read.
+const ENOUGH: usize = odif::STREAM_LIMIT + 1;
+
+/// What was read of a file.
+pub struct Stream {
+    /// The octets; of a longer file, one more than a stream may have.
+    pub octets: Vec<u8>,
+    /// How many there are, also where they were not all read; not known of a pipe that is too long.
+    pub size: Option<u64>,
+}
+
+/// A stream with its file's name.
+pub struct Source<'a> {
+    pub file: &'a OsStr,
+    /// The name for people.
+    pub shown: String,
+    pub stream: Vec<u8>,
+    pub size: Option<u64>,
+}
+
+/// Reads the files one after another and hands on each. One that can't be read is told, as JSON on standard output if
+/// the answers are that too, and the next one follows. The worst status counts.
+pub fn each(files: &Files, json: bool, mut answer: impl FnMut(&Source<'_>) -> Outcome) -> Outcome {
+    let mut worst = Status::Accepted;
+    for file in &files.files {
+        let shown = show::name(file);
+        let status = match read(file, files.hex) {
+            Ok(Stream { octets, size }) => answer(&Source { file, shown, stream: octets, size })?,
+            Err(error) if json => {
+                writeln!(io::stdout(), "{}", explain::unreadable(&Name::of(file), &error))?;
+                Status::Failed
+            }
+            Err(error) => {
+                tell(&format!("odif: {shown}: {error}\n"));
+                Status::Failed
+            }
+        };
+        worst = worst.max(status);
+    }
+    Ok(worst)
+}
+
+/// A line with the file's name, where there are several.
+pub fn heading(out: &mut impl Write, files: &[OsString], source: &Source<'_>) -> io::Result<()> {
+    if files.len() > 1 { writeln!(out, "==> {} <==", source.shown) } else { Ok(()) }
+}
+
+/// Reads a file, or standard input for `-`.
+fn read(name: &OsStr, hex: bool) -> io::Result<Stream> {
+    if name == "-" {
+        return take(io::stdin().lock(), None, hex);
+    }
+    read_file(Path::new(name), hex).map_err(|error| match error.kind() {
+        kind @ io::ErrorKind::IsADirectory => io::Error::new(kind, "it is a folder; `odif survey` takes folders"),
+        _ => error,
+    })
+}
+
+/// Reads a file of any name.
+pub fn read_file(path: &Path, hex: bool) -> io::Result<Stream> {
+    let file = File::open(path)?;
+    let about = file.metadata()?;
+    take(file, about.is_file().then_some(about.len()), hex)
+}
+
+fn take(source: impl Read, size: Option<u64>, hex: bool) -> io::Result<Stream> {
+    if hex {
+        let octets = take_hex(BufReader::new(source))?;
+        return Ok(Stream { size: whole(&octets), octets });
+    }
+    let mut octets = Vec::with_capacity(size.map_or(0, |size| (size as usize).min(ENOUGH) + 1));
+    source.take(ENOUGH as u64).read_to_end(&mut octets)?;
+    // A file that is being written may have grown or shrunk since its size was asked for.
+    Ok(Stream { size: whole(&octets).or(size), octets })
+}
+
+/// The number of octets, if they are all.
+fn whole(octets: &[u8]) -> Option<u64> {
+    (octets.len() < ENOUGH).then_some(octets.len() as u64)
+}
+
+/// Reads pairs of hexadecimal digits. White space may stand between pairs, and nothing else.
+fn take_hex(mut source: impl BufRead) -> io::Result<Vec<u8>> {
+    let mut stream = Vec::new();
+    let mut line = 1;
+    let mut half = None;
+    let unfit = |line: usize, what: &str| io::Error::new(io::ErrorKind::InvalidData, format!("line {line}: {what}"));
+    loop {
+        let chunk = source.fill_buf()?;
+        if chunk.is_empty() {
+            break;
+        }
+        for &byte in chunk {
+            match ((byte as char).to_digit(16), half) {
+                (Some(low), Some(high)) => {
+                    stream.push((high << 4 | low) as u8);
+                    half = None;
+                    if stream.len() == ENOUGH {
+                        return Ok(stream);
+                    }
+                }
+                (Some(high), None) => half = Some(high),
+                (None, Some(_)) if byte.is_ascii_whitespace() => {
+                    return Err(unfit(line, "half a pair of hexadecimal digits"));
+                }
+                (None, None) if byte == b'\n' => line += 1,
+                (None, None) if byte.is_ascii_whitespace() => {}
+                (None, _) => return Err(unfit(line, "neither a hexadecimal digit nor white space")),
+            }
+        }
+        let used = chunk.len();
+        source.consume(used);
+    }
+    if half.is_some() { Err(unfit(line, "half a pair of hexadecimal digits")) } else { Ok(stream) }
+}
+
+#[cfg(test)]
+mod tests {
+    use super::*;
+
+    fn hex(text: &[u8]) -> io::Result<Vec<u8>> {
+        take(text, None, true).map(|stream| stream.octets)
+    }
+
+    #[test]
+    fn pairs_and_white_space() {
+        assert_eq!(hex(b"A0 00\r\n\n\ta2ff").unwrap(), [0xA0, 0x00, 0xA2, 0xFF]);
+        assert!(hex(b"").unwrap().is_empty());
+    }
+
+    #[test]
+    fn what_is_no_pair_is_told_with_its_line() {
+        for (text, message) in [
+            ("A0\nA", "line 2: half a pair of hexadecimal digits"),
+            ("A0\nA 0", "line 2: half a pair of hexadecimal digits"),
+            ("A0\n0X", "line 2: neither a hexadecimal digit nor white space"),
+            ("A0\n\nxx", "line 3: neither a hexadecimal digit nor white space"),
+        ] {
+            assert_eq!(hex(text.as_bytes()).unwrap_err().to_string(), message);
+        }
+    }
+
+    #[test]
+    fn an_endless_file_ends_past_the_limit() {
+        for (digit, hex) in [(0, false), (b'0', true)] {
+            let stream = take(io::repeat(digit), None, hex).unwrap();
+            assert_eq!((stream.octets.len(), stream.size), (odif::STREAM_LIMIT + 1, None));
+        }
+        let long = take(io::repeat(0), Some(2_000_000), false).unwrap();
+        assert_eq!(long.size, Some(2_000_000));
+        assert_eq!(take(&b"abc"[..], Some(7), false).unwrap().size, Some(3), "it shrank");
+    }
+}

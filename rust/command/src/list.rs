@@ -1,0 +1,136 @@
+//! `odif list`
+
+use std::borrow::Cow;
+use std::io::{self, BufWriter, Write};
+
+use clap::Args;
+use odif::{Letter, Match, Side};
+use serde::Serialize;
+
+use crate::args::{Files, Sides};
+use crate::explain::{self, Verdict};
+use crate::input;
+use crate::show;
+use crate::status::{Outcome, Status, tell};
+use crate::text::note_units_left_out;
+
+/// The octets of a content that a line shows.
+const SHOWN: usize = 40;
+
+const EXAMPLES: &str = "\
+Examples:
+  odif list letter.odif
+  odif list --json letter.odif | jq '.matches | length'
+
+Exit status: 0 listed; 1 a letter was refused; 2 a file could not be read.";
+
+/// Lists which text unit stands where
+///
+/// Lists the matches of a side in reading order: the element, the place of the portion in it, the text unit (all
+/// counted from 0), the unit's identifier, the length of its content and how it begins. Text units that no object of
+/// the side names are not listed; a note on standard error tells how many.
+#[derive(Args)]
+#[command(after_help = EXAMPLES)]
+pub struct Words {
+    #[command(flatten)]
+    files: Files,
+    #[command(flatten)]
+    sides: Sides,
+    /// One JSON object a line and file, with the contents and their places; of a content in pieces it is the place of
+    /// the value that holds them
+    #[arg(long)]
+    json: bool,
+}
+
+#[derive(Serialize)]
+struct Answer {
+    #[serde(flatten)]
+    verdict: Verdict,
+    #[serde(flatten)]
+    listed: Option<Listed>,
+}
+
+#[derive(Serialize)]
+struct Listed {
+    side: String,
+    elements: usize,
+    matches: Vec<Line>,
+}
+
+#[derive(Serialize)]
+struct Line {
+    element: usize,
+    portion: usize,
+    unit: usize,
+    identifier: String,
+    octets: usize,
+    in_pieces: bool,
+    first: usize,
+    past: usize,
+    /// The content, escaped as `odif text --escape` does, and line ends too.
+    content: String,
+}
+
+pub fn run(words: &Words) -> Outcome {
+    input::each(&words.files, words.json, |source| {
+        let read = Letter::read(&source.stream);
+        let status = if read.is_ok() { Status::Accepted } else { Status::Refused };
+        let mut out = BufWriter::new(io::stdout().lock());
+        if words.json {
+            let listed = read.as_ref().ok().map(|letter| listed(letter, words.sides.of(letter)));
+            writeln!(out, "{}", explain::json(&Answer { verdict: Verdict::of(source, &read), listed }))?;
+            out.flush()?;
+            return Ok(status);
+        }
+        match read {
+            Ok(letter) => {
+                let side = words.sides.of(&letter);
+                let lines = listed(&letter, side).matches;
+                input::heading(&mut out, &words.files.files, source)?;
+                write_lines(&mut out, &letter, &lines)?;
+                out.flush()?;
+                note_units_left_out(source, &letter, side, lines.len());
+            }
+            Err(refusal) => tell(&explain::refusal(source, &refusal)),
+        }
+        Ok(status)
+    })
+}
+
+fn listed(letter: &Letter<'_>, side: Side) -> Listed {
+    let list = letter.reading_list(side).unwrap_or_default();
+    let matches = list.iter().map(|found| line(letter, side, found)).collect();
+    Listed { side: side.to_string(), elements: letter.elements().len(), matches }
+}
+
+fn line(letter: &Letter<'_>, side: Side, found: &Match) -> Line {
+    let identifier = match side {
+        Side::Layout => letter.identifier(found.unit),
+        Side::Logical => letter.logical_identifier(found.unit),
+    };
+    let place = letter.elements()[found.unit].content.clone().unwrap_or_default();
+    let content = letter.content(found.unit).unwrap_or_default();
+    Line {
+        element: found.element,
+        portion: found.portion,
+        unit: found.unit,
+        identifier: show::escaped(identifier.unwrap_or_default()),
+        octets: content.len(),
+        in_pieces: matches!(content, Cow::Owned(_)),
+        first: place.start,
+        past: place.end,
+        content: show::escaped(&content),
+    }
+}
+
+fn write_lines(out: &mut impl Write, letter: &Letter<'_>, lines: &[Line]) -> io::Result<()> {
+    let width = lines.iter().map(|line| line.identifier.len()).max().unwrap_or(0).max("identifier".len());
+    writeln!(out, "element portion  unit  octets  {:width$}  content", "identifier")?;
+    for line in lines {
+        let content = letter.content(line.unit).unwrap_or_default();
+        let Line { element, portion, unit, identifier, octets, .. } = line;
+        let text = format!("{element:7} {portion:7} {unit:5} {octets:7}  {identifier:width$}  ");
+        writeln!(out, "{}", (text + &show::beginning(&content, SHOWN)).trim_end())?;
+    }
+    Ok(())
+}

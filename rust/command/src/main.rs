@@ -1,0 +1,27 @@
+//! The command `odif`: see `odif --help`.
+
+mod args;
+mod beside;
+mod check;
+mod explain;
+mod faults;
+mod files;
+mod foreign;
+mod input;
+mod list;
+mod names;
+mod normal;
+mod pool;
+mod progress;
+mod same;
+mod show;
+mod status;
+mod survey;
+mod text;
+mod tree;
+
+use std::process::ExitCode;
+
+fn main() -> ExitCode {
+    args::run(std::env::args_os())
+}

@@ -1,0 +1,155 @@
+//! `odif survey`
+
+pub mod csv;
+mod record;
+mod tally;
+
+use std::ffi::OsStr;
+use std::fs::File;
+use std::io::{self, IsTerminal, Write};
+use std::os::unix::ffi::OsStrExt;
+use std::path::{Path, PathBuf};
+use std::time::Instant;
+
+use clap::Args;
+
+use self::csv::Csv;
+use self::record::{COLUMNS, Record, Verdict};
+use self::tally::Tally;
+use crate::files::{Places, at_least_one};
+use crate::pool::Pool;
+use crate::progress::Progress;
+use crate::show;
+use crate::status::{Failure, Outcome, tell};
+
+const EXAMPLES: &str = "\
+Examples:
+  odif survey archive
+  odif survey archive --csv archive.csv --jobs 8
+  odif survey archive --only 7,12 --list | head
+  find archive -newer last.csv -type f | odif survey --files-from - --csv new.csv
+  odif survey --merge host1.csv host2.csv
+
+Exit status: 0 all were accepted; 1 some were refused; 2 some could not be read; 130 it was
+interrupted, and the CSV file is as it was before.";
+
+/// Checks every file in folders and their subfolders
+///
+/// Tells how many files were accepted and how many each rule refused, by what exactly is wrong, with the first few files
+/// of each. A file that can't be read is counted and never stops the survey, nor does a folder that is not there. Links
+/// to folders are not followed. On a terminal it shows how far it is.
+#[derive(Args)]
+#[command(after_help = EXAMPLES)]
+pub struct Words {
+    #[command(flatten)]
+    places: Places,
+    /// A line for each file, in order, with a column for each thing known of it; `-` is standard output
+    #[arg(long, value_name = "FILE")]
+    csv: Option<PathBuf>,
+    /// Name so many files of each fault
+    #[arg(long, value_name = "N", default_value = "3", value_parser = at_least_one)]
+    first: usize,
+    /// Only files with these numbers, as 7,12, are listed, in the CSV and in the report; 0 is an accepted file
+    #[arg(long, value_name = "N", value_delimiter = ',')]
+    only: Vec<u32>,
+    /// Write the names of the files and nothing else: of those that --only names, or else of those not accepted
+    #[arg(long, conflicts_with = "json")]
+    list: bool,
+    /// The CSV files of earlier surveys, to be taken together
+    #[arg(long, value_name = "CSV", num_args = 1.., conflicts_with_all = ["folders", "files_from"])]
+    merge: Vec<PathBuf>,
+    /// The result as one JSON object
+    #[arg(long)]
+    json: bool,
+}
+
+pub fn run(words: &Words) -> Outcome {
+    let begun = Instant::now();
+    let mut report = Report { words, tally: Tally::new(words.first), csv: None };
+    if words.merge.is_empty() {
+        survey(words, &mut report)?;
+    } else {
+        merge(words, &mut report)?;
+    }
+    report.csv.map_or(Ok(()), Csv::finish)?;
+    let elapsed = begun.elapsed();
+    let text = if words.json { report.tally.json(elapsed) } else { report.tally.text(elapsed) };
+    if words.csv.as_deref().is_some_and(csv::is_standard_output) {
+        tell(&text);
+    } else if !words.list {
+        io::stdout().write_all(text.as_bytes())?;
+    }
+    Ok(report.tally.status())
+}
+
+/// What becomes of each file's record.
+struct Report<'a> {
+    words: &'a Words,
+    tally: Tally,
+    csv: Option<Csv>,
+}
+
+impl Report<'_> {
+    fn add(&mut self, record: &Record) -> Result<(), Failure> {
+        let only = &self.words.only;
+        let is_named = record.number.is_some_and(|number| only.contains(&number));
+        if !only.is_empty() && !is_named {
+            return Ok(());
+        }
+        self.tally.add(record);
+        if self.words.list && (is_named || record.outcome != Verdict::Accepted) {
+            write_name(&record.name().system().unwrap_or_default(), self.words.places.null)?;
+        }
+        self.csv.as_mut().map_or(Ok(()), |csv| csv.add(record))
+    }
+}
+
+fn survey(words: &Words, report: &mut Report<'_>) -> Result<(), Failure> {
+    let pool = Pool::new(words.places.jobs)?;
+    let entries = words.places.list(words.csv.as_slice())?;
+    report.csv = words.csv.as_deref().map(|file| Csv::create(file, &COLUMNS)).transpose()?;
+    let progress = Progress::over(entries.len());
+    let cut = |done: usize| {
+        let of = format!("after {} of {} files", show::grouped(done), show::grouped(entries.len()));
+        words.csv.as_deref().map_or(of.clone(), |csv| of + &fate(csv))
+    };
+    let work = |entry: &_| Record::of(entry, words.places.hex);
+    let take_up = |_: &_, record: Record| {
+        progress.add(1);
+        progress.say(|| format!(", {} refused, {} unreadable", report.tally.refused(), report.tally.unreadable()));
+        report.add(&record)
+    };
+    pool.in_order(&entries, work, take_up, cut)
+}
+
+/// What an interrupt leaves of a CSV file.
+fn fate(csv: &Path) -> String {
+    match csv.as_os_str() {
+        name if csv::is_standard_output(csv) => format!("; `{}` has the lines of those", show::name(name)),
+        name if csv.exists() => format!("; {} is as it was before", show::name(name)),
+        name => format!("; {} is not written", show::name(name)),
+    }
+}
+
+/// Takes up the records of earlier surveys.
+fn merge(words: &Words, report: &mut Report<'_>) -> Result<(), Failure> {
+    report.csv = words.csv.as_deref().map(|file| Csv::create(file, &COLUMNS)).transpose()?;
+    for file in &words.merge {
+        let unfit = |error: &dyn std::fmt::Display| Failure::File(format!("{}: {error}", show::name(file.as_os_str())));
+        let mut lines = ::csv::Reader::from_reader(File::open(file).map_err(|error| unfit(&error))?);
+        for record in lines.deserialize() {
+            report.add(&record.map_err(|error: ::csv::Error| unfit(&error))?)?;
+        }
+    }
+    Ok(())
+}
+
+/// Writes a name as it is, but to a terminal without control characters.
+fn write_name(name: &OsStr, null: bool) -> io::Result<()> {
+    let mut out = io::stdout().lock();
+    if out.is_terminal() {
+        return writeln!(out, "{}", show::name(name));
+    }
+    out.write_all(name.as_bytes())?;
+    out.write_all(if null { b"\0" } else { b"\n" })
+}

@@ -1,0 +1,127 @@
+//! What a survey finds out about one file: a line of its CSV.
+
+use std::path::Path;
+
+use odif::Refusal;
+use serde::{Deserialize, Serialize};
+
+use crate::faults::Fault;
+use crate::files::Entry;
+use crate::input;
+use crate::names::Name;
+
+#[derive(Clone, Copy, Debug, PartialEq, Eq, Serialize, Deserialize)]
+#[serde(rename_all = "lowercase")]
+pub enum Verdict {
+    Accepted,
+    Refused,
+    Unreadable,
+}
+
+/// The names of the columns.
+pub const COLUMNS: [&str; 13] = [
+    "file",
+    "outcome",
+    "number",
+    "place",
+    "octets",
+    "headers",
+    "elements",
+    "reason",
+    "detail",
+    "kind",
+    "item",
+    "foreign",
+    "file_octets",
+];
+
+/// One file. The fields are the columns, in their order.
+#[derive(Serialize, Deserialize)]
+pub struct Record {
+    pub file: String,
+    pub outcome: Verdict,
+    pub number: Option<u32>,
+    pub place: Option<usize>,
+    pub octets: Option<u64>,
+    pub headers: Option<usize>,
+    pub elements: Option<usize>,
+    /// What refuses it, in words that are the same for all files with this fault, or why it can't be read.
+    pub reason: String,
+    /// What refuses it, with the facts.
+    pub detail: String,
+    /// The kind of element where it is refused.
+    pub kind: String,
+    /// The first octet of the item at fault, or the octets of the element's items.
+    pub item: String,
+    /// What the file seems to be instead of a letter.
+    pub foreign: String,
+    /// The file's name in hexadecimal, where it is no UTF-8.
+    pub file_octets: String,
+}
+
+impl Record {
+    /// Judges a file.
+    pub fn of(entry: &Entry, hex: bool) -> Record {
+        let unreadable = |reason| Record { reason, ..Record::new(&entry.path, Verdict::Unreadable) };
+        if let Some(trouble) = &entry.trouble {
+            return unreadable(trouble.clone());
+        }
+        let stream = match input::read_file(&entry.path, hex) {
+            Ok(stream) => stream,
+            Err(error) => return unreadable(error.to_string()),
+        };
+        let checked = odif::check(&stream.octets);
+        let verdict = match checked.verdict {
+            Ok(elements) => Record {
+                number: Some(0),
+                place: Some(0),
+                elements: Some(elements),
+                ..Record::new(&entry.path, Verdict::Accepted)
+            },
+            Err(refusal) => Record::new(&entry.path, Verdict::Refused).refused(&stream.octets, &refusal),
+        };
+        Record { octets: stream.size, headers: Some(checked.headers), ..verdict }
+    }
+
+    fn new(path: &Path, outcome: Verdict) -> Record {
+        let Name { file, file_octets } = Name::of(path.as_os_str());
+        let [number, place, octets, headers, elements] = [None; 5];
+        let (number, octets) = (number.map(|_: usize| 0), octets.map(|_: usize| 0));
+        let [reason, detail, kind, item, foreign] = [const { String::new() }; 5];
+        Record {
+            file,
+            outcome,
+            number,
+            place,
+            octets,
+            headers,
+            elements,
+            reason,
+            detail,
+            kind,
+            item,
+            foreign,
+            file_octets,
+        }
+    }
+
+    fn refused(self, stream: &[u8], refusal: &Refusal) -> Record {
+        let fault = Fault::of(stream, refusal);
+        Record {
+            number: Some(fault.number),
+            place: Some(fault.place),
+            elements: Some(0),
+            reason: fault.reason,
+            detail: fault.detail,
+            kind: fault.kind.map_or(String::new(), |kind| kind.name().into()),
+            item: fault.item,
+            foreign: fault.foreign.unwrap_or_default().into(),
+            ..self
+        }
+    }
+
+    /// The file's name.
+    pub fn name(&self) -> Name {
+        Name { file: self.file.clone(), file_octets: self.file_octets.clone() }
+    }
+}

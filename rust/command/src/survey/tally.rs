@@ -1,0 +1,230 @@
+//! What a survey counts, and its report.
+
+use std::collections::BTreeMap;
+use std::time::Duration;
+
+use odif::Rule;
+use serde::Serialize;
+
+use super::record::{Record, Verdict};
+use crate::names::Name;
+use crate::status::Status;
+use crate::{explain, show};
+
+/// How many faults of a rule a report has a line for.
+const FAULTS: usize = 10;
+
+/// The counts of a survey and the first files of each kind.
+pub struct Tally {
+    named: usize,
+    accepted: usize,
+    refused: BTreeMap<u32, BTreeMap<Cause, Group>>,
+    unreadable: Group,
+}
+
+/// What files with one fault have in common.
+#[derive(Clone, Debug, PartialEq, Eq, PartialOrd, Ord, Serialize)]
+struct Cause {
+    reason: String,
+    #[serde(skip_serializing_if = "String::is_empty")]
+    kind: String,
+    #[serde(skip_serializing_if = "String::is_empty")]
+    item: String,
+    #[serde(skip_serializing_if = "String::is_empty")]
+    foreign: String,
+}
+
+impl Cause {
+    /// Of a foreign file it is enough what it is.
+    fn of(record: &Record) -> Cause {
+        let Record { reason, kind, item, foreign, .. } = record;
+        let [reason, kind, item, foreign] = match foreign.is_empty() {
+            true => [reason, kind, item, foreign].map(String::clone),
+            false => [String::new(), String::new(), String::new(), foreign.clone()],
+        };
+        Cause { reason, kind, item, foreign }
+    }
+
+    fn words(&self) -> String {
+        if !self.foreign.is_empty() {
+            return format!("{}, and no letter", self.foreign);
+        }
+        let kind = if self.kind.is_empty() { String::new() } else { format!("{}, ", self.kind) };
+        let item = if self.item.is_empty() { String::new() } else { format!("item {}, ", self.item) };
+        format!("{kind}{item}{}", self.reason)
+    }
+}
+
+/// Files with the same trouble: how many, and the first ones, each with what is to be said of it.
+#[derive(Clone, Default, Serialize)]
+struct Group {
+    count: usize,
+    first: Vec<Remark>,
+}
+
+#[derive(Clone, Serialize)]
+struct Remark {
+    #[serde(flatten)]
+    name: Name,
+    #[serde(skip_serializing_if = "Option::is_none")]
+    place: Option<usize>,
+    #[serde(skip_serializing_if = "String::is_empty")]
+    reason: String,
+}
+
+impl Group {
+    fn add(&mut self, named: usize, record: &Record) {
+        if self.count < named {
+            let reason = if record.outcome == Verdict::Unreadable { record.reason.clone() } else { String::new() };
+            self.first.push(Remark { name: record.name(), place: record.place, reason });
+        }
+        self.count += 1;
+    }
+
+    fn push_text(&self, text: &mut String, indent: &str) {
+        for Remark { name, place, reason } in &self.first {
+            let place = place.map_or(String::new(), |place| format!(" at octet {place}"));
+            let reason = if reason.is_empty() { String::new() } else { format!(": {reason}") };
+            let name = name.system().map_or_else(|| name.file.clone(), |name| show::name(&name));
+            text.push_str(&format!("{indent}{name}{place}{reason}\n"));
+        }
+        if self.count > self.first.len() {
+            text.push_str(&format!("{indent}and {} more\n", show::grouped(self.count - self.first.len())));
+        }
+    }
+}
+
+/// Whole files a second.
+fn a_second(files: usize, elapsed: Duration) -> usize {
+    (files as f64 / elapsed.as_secs_f64().max(1e-9)) as usize
+}
+
+impl Tally {
+    /// Nothing yet; so many files of each kind will be named.
+    pub fn new(named: usize) -> Self {
+        Tally { named, accepted: 0, refused: BTreeMap::new(), unreadable: Group::default() }
+    }
+
+    /// Counts a file.
+    pub fn add(&mut self, record: &Record) {
+        match record.outcome {
+            Verdict::Accepted => self.accepted += 1,
+            Verdict::Unreadable => self.unreadable.add(self.named, record),
+            Verdict::Refused => {
+                let causes = self.refused.entry(record.number.unwrap_or_default()).or_default();
+                causes.entry(Cause::of(record)).or_default().add(self.named, record);
+            }
+        }
+    }
+
+    pub fn refused(&self) -> usize {
+        self.refused.values().map(count).sum()
+    }
+
+    pub fn unreadable(&self) -> usize {
+        self.unreadable.count
+    }
+
+    pub fn files(&self) -> usize {
+        self.accepted + self.refused() + self.unreadable()
+    }
+
+    /// How the survey ends: the worst that was met.
+    pub fn status(&self) -> Status {
+        if self.unreadable() > 0 {
+            Status::Failed
+        } else if self.refused() > 0 {
+            Status::Refused
+        } else {
+            Status::Accepted
+        }
+    }
+
+    /// The report for people.
+    pub fn text(&self, elapsed: Duration) -> String {
+        let mut text = format!(
+            "{} in {:.2} s, {} a second\n{} accepted\n{} refused\n",
+            show::counted(self.files(), "file"),
+            elapsed.as_secs_f64(),
+            show::grouped(a_second(self.files(), elapsed)),
+            show::grouped(self.accepted),
+            show::grouped(self.refused()),
+        );
+        for (number, causes) in &self.refused {
+            text += &format!("  number {number}, {}: {}\n", show::counted(count(causes), "file"), sentence(*number));
+            let causes = sorted(causes);
+            for (cause, group) in causes.iter().take(FAULTS) {
+                text += &format!("    {}: {}\n", show::counted(group.count, "file"), cause.words());
+                group.push_text(&mut text, "      ");
+            }
+            let rest = causes.iter().skip(FAULTS);
+            let files = rest.clone().map(|(_, group)| group.count).sum();
+            if files > 0 {
+                text +=
+                    &format!("    {} of {}\n", show::counted(files, "file"), show::counted(rest.len(), "other fault"));
+            }
+        }
+        text += &format!("{} unreadable\n", show::grouped(self.unreadable()));
+        self.unreadable.push_text(&mut text, "    ");
+        text
+    }
+
+    /// The report as one JSON object.
+    pub fn json(&self, elapsed: Duration) -> String {
+        #[derive(Serialize)]
+        struct Fault<'a> {
+            #[serde(flatten)]
+            cause: &'a Cause,
+            #[serde(flatten)]
+            group: &'a Group,
+        }
+        #[derive(Serialize)]
+        struct Number<'a> {
+            number: u32,
+            sentence: &'a str,
+            count: usize,
+            faults: Vec<Fault<'a>>,
+        }
+        #[derive(Serialize)]
+        struct Report<'a> {
+            files: usize,
+            seconds: f64,
+            files_a_second: usize,
+            accepted: usize,
+            refused: usize,
+            unreadable: usize,
+            numbers: Vec<Number<'a>>,
+            unreadable_files: &'a [Remark],
+        }
+        let numbers = self.refused.iter().map(|(&number, causes)| {
+            let faults = sorted(causes).into_iter().map(|(cause, group)| Fault { cause, group }).collect();
+            Number { number, sentence: sentence(number), count: count(causes), faults }
+        });
+        let report = Report {
+            files: self.files(),
+            seconds: (elapsed.as_secs_f64() * 1000.0).round() / 1000.0,
+            files_a_second: a_second(self.files(), elapsed),
+            accepted: self.accepted,
+            refused: self.refused(),
+            unreadable: self.unreadable(),
+            numbers: numbers.collect(),
+            unreadable_files: &self.unreadable.first,
+        };
+        explain::json(&report) + "\n"
+    }
+}
+
+fn count(causes: &BTreeMap<Cause, Group>) -> usize {
+    causes.values().map(|group| group.count).sum()
+}
+
+/// The faults, the most frequent first.
+fn sorted(causes: &BTreeMap<Cause, Group>) -> Vec<(&Cause, &Group)> {
+    let mut causes: Vec<_> = causes.iter().collect();
+    causes.sort_by_key(|(_, group)| std::cmp::Reverse(group.count));
+    causes
+}
+
+fn sentence(number: u32) -> &'static str {
+    Rule::from_number(number).map_or("an unknown rule", Rule::sentence)
+}

@@ -1,0 +1,13 @@
+//! The command as a user meets it: each subcommand on good, refused, empty, huge and unreadable files.
+
+mod check;
+mod help;
+mod list;
+mod names;
+mod normal;
+mod output;
+mod same;
+mod support;
+mod survey;
+mod text;
+mod tree;

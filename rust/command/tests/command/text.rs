@@ -1,0 +1,105 @@
+//! `odif text`
+
+use super::support::{CLAIM, IN_PIECES, Scratch, WRONG_PIECE, letter, odif, odif_with, on_terminal};
+
+#[test]
+fn the_letter_in_reading_order() {
+    let run = odif(&["text", CLAIM]);
+    assert_eq!(run.status, 0);
+    assert!(run.text().starts_with("Harbour Mutual Insurance\n12 Quay Street, Bristol\n\n14 March 1991\n"));
+    assert!(run.text().ends_with("Yours sincerely,\n\nR. Penrose\nClaims Department\n"));
+    assert_eq!(run.stderr, "");
+    let logical = odif(&["text", "--logical", CLAIM]);
+    assert!(logical.text().starts_with("Your claim 4471: water in the cellar\n\n14 March 1991\n"));
+    assert_eq!(logical.stdout.len(), run.stdout.len());
+}
+
+#[test]
+fn exactly_the_octets_of_the_file() {
+    let octets: Vec<u8> = (0..=255).collect();
+    for part in octets.chunks(64) {
+        let run = odif_with(&["text", "--raw", "-"], &letter(part));
+        assert_eq!((run.status, run.stdout.as_slice()), (0, part));
+        let run = odif_with(&["text", "-"], &letter(part));
+        assert_eq!((run.status, run.stdout), (0, [part, b"\n"].concat()), "with the line end of the block");
+    }
+}
+
+#[test]
+fn content_in_pieces_is_joined() {
+    let run = odif(&["text", IN_PIECES]);
+    assert_eq!((run.status, run.text(), run.stderr.as_str()), (0, "Hi\n", ""));
+    assert_eq!(odif(&["text", "--raw", IN_PIECES]).text(), "Hi");
+}
+
+#[test]
+fn escaped_for_a_terminal() {
+    let run = odif_with(&["text", "--escape", "-"], &letter(b"a\x1B[2J\\\r\n\xFFb"));
+    assert_eq!(run.text(), "a\\x1B[2J\\\\\\r\n\\xFFb\n");
+}
+
+#[test]
+fn a_terminal_gets_no_control_sequences() {
+    let scratch = Scratch::new("text-terminal");
+    let file = scratch.write("red.odif", &letter(b"a\x1B[31mb\x07\xFF"));
+    assert_eq!(on_terminal(&["text", &file]), "a\\x1B[31mb\\x07\\xFF\n");
+    assert_eq!(odif(&["text", &file]).stdout, b"a\x1B[31mb\x07\xFF\n", "a pipe gets the octets");
+    let plain = scratch.write("plain.odif", &letter(b"a\x1B[31mb"));
+    assert_eq!(on_terminal(&["text", "--raw", &plain]), "a\u{1B}[31mb", "who asks for them gets them");
+}
+
+#[test]
+fn a_line_break_between_blocks() {
+    let run = odif(&["text", "samples/letters/annex-d-1.odif"]);
+    let lines: Vec<&str> = run.text().lines().collect();
+    assert_eq!(lines[..2], ["CESSON, 26 JUNE 1985", "To members of ISO/TC97/SC18/WG3"]);
+    assert!(run.text().ends_with("\nMiss\n"));
+    let raw = odif(&["text", "--raw", "samples/letters/annex-d-1.odif"]);
+    assert!(raw.text().starts_with("CESSON, 26 JUNE 1985To members"), "{}", raw.text());
+}
+
+#[test]
+fn a_letter_with_one_side_is_read_by_that() {
+    let run = odif(&["text", "samples/letters/annex-d-2.odif"]);
+    assert_eq!((run.status, run.stderr.as_str()), (0, ""));
+    assert_eq!(run.stdout, odif(&["text", "--logical", "samples/letters/annex-d-2.odif"]).stdout);
+    assert!(!run.text().is_empty());
+    let both = odif(&["text", "--side", "logical", CLAIM]);
+    assert_ne!(both.stdout, odif(&["text", CLAIM]).stdout, "with two sides it is the layout side");
+}
+
+#[test]
+fn units_outside_the_reading_order_are_told() {
+    let words = ["text", "--side", "layout", "samples/letters/annex-d-2.odif"];
+    let run = odif(&words);
+    assert_eq!((run.status, run.text()), (0, ""));
+    assert!(run.stderr.contains("13 text units of 13 not in the reading order of the layout side"));
+    assert!(run.stderr.contains("with --side logical there are 13"), "{}", run.stderr);
+    assert_eq!(odif(&[&words[..], &["--strict"]].concat()).status, 1);
+    assert_eq!(odif(&["text", "--strict", CLAIM]).status, 0);
+    let run = odif(&["text", "--logical", "samples/letters/annex-d-1.odif"]);
+    assert!(run.stderr.contains("with --side layout there are 15"), "{}", run.stderr);
+}
+
+#[test]
+fn several_files_with_their_names() {
+    let scratch = Scratch::new("text-several");
+    let (one, two) = (scratch.write("one", &letter(b"1")), scratch.write("two", &letter(b"2\n")));
+    let run = odif(&["text", &one, "none", &two]);
+    assert_eq!(run.status, 2);
+    assert_eq!(run.text(), format!("==> {one} <==\n1\n==> {two} <==\n2\n"));
+    assert_eq!(odif(&["text", "--raw", &one, &two]).text(), "12\n");
+}
+
+#[test]
+fn refused_empty_huge_and_unreadable_files() {
+    let scratch = Scratch::new("text-bad");
+    let run = odif(&["text", &scratch.write("wrong-piece", WRONG_PIECE)]);
+    assert_eq!((run.status, run.text()), (1, ""));
+    assert!(run.stderr.contains("refused, number 12 at octet 21: "), "{}", run.stderr);
+    assert_eq!(odif(&["text", &scratch.write("empty", b"")]).status, 1);
+    assert_eq!(odif(&["text", &scratch.write_huge("huge")]).status, 1);
+    let run = odif(&["text", "none"]);
+    assert_eq!(run.status, 2);
+    assert!(run.stderr.starts_with("odif: none: No such file"), "{}", run.stderr);
+}
