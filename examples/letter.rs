@@ -27,7 +27,9 @@ fn main() -> ExitCode {
 /// All of a file that matters: an octet more than a stream may have is one too many, and so is any number of them.
 fn read(file: &Path) -> io::Result<Vec<u8>> {
     let mut stream = Vec::new();
-    File::open(file)?.take(odif::STREAM_LIMIT as u64 + 1).read_to_end(&mut stream)?;
+    File::open(file)?
+        .take(odif::STREAM_LIMIT as u64 + 1)
+        .read_to_end(&mut stream)?;
     Ok(stream)
 }
 
