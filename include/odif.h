@@ -13,9 +13,10 @@
    ODIF_FIRST to ODIF_PAST of its row, are a letter no longer than the one it stands in, and the content of its element
    1 is the same. odif_normal measures an item before it writes it, so one at level 16 is passed over 16 times.
 
-   Their scratch memory is on the stack: a question takes up to 256 KiB of it, the two lists up to 304 KiB, whatever
-   the stream. Of that it clears 31 kB for a stream of up to 512 elements and 246 kB for a longer one, the lists
-   somewhat more. Mind it where threads are started with small stacks.
+   Their scratch memory is on the stack. Of a small stream, which has up to 512 elements and up to 8,192 items in all, a
+   question takes up to 40 KiB of it, the two lists up to 88 KiB; of any other up to 256 KiB, the lists up to 304 KiB. It
+   clears 31 kB of that for a small stream and 246 kB for any other, the lists somewhat more. Mind it where threads are
+   started with small stacks: 128 KiB are enough for small streams alone.
 
    Every answer begins with a number and a place. Number 0 is accepted or answered, with place 0. Any other number is
    a refusal; places count octets of the stream from 0.
@@ -84,6 +85,12 @@ extern "C" {
 /* How much to lend. A side has no more matches than the letter has text units, nor than portions are listed on that
    side: a list of as many records as there are text units never meets 19. An output as long as the stream never meets
    18 of odif_normal_short. */
+
+/* A small stream has no more elements and no more items than this; then less stack is enough. */
+#define ODIF_SMALL_ELEMENTS    512
+#define ODIF_SMALL_ITEMS       8192
+#define ODIF_STACK_SMALL       40960
+#define ODIF_STACK_SMALL_LISTS 90112
 
 /* What each number of a table row is. Each pair is first and past; every pair but the element's bounds a value. An
    absent one is 0 and 0. */

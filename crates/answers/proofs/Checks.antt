@@ -1,11 +1,11 @@
 -- The check's answer and table, case by case: what the stream is decides both. Assumes nothing.
 use mathlib.Core.Path.{_≡_, ap, sym, _∙_}
 use mathlib.Core.Bool.{true, false}
-use mathlib.Core.List.{List, _++_}
-use Prim.Native.Nat.{ℕ, _*_, _/_, _<_, _≤_}
+use mathlib.Core.List.{List}
+use Prim.Native.Nat.{ℕ, _*_, _<_, _≤_}
 use native.Mathlib.Omega.{arith}
 use lib.Dec.{eqb, ltb}
-use lib.ListN.{length, take, drop}
+use lib.ListN.{length, take}
 use lib.Seq.{length-take-le}
 use borrow.Author.Tests.{ne-eqb, lt-ltb, le-ltb}
 use Rattle.index.specs.Rows.{rowWidth}
@@ -13,12 +13,13 @@ use Rattle.elements.specs.declared.Edition.the-variants.{Of1988}
 use Rattle.elements.specs.Judge.{Element}
 use Rattle.elements.specs.Rows.{numbers}
 use Rattle.letters.specs.Letter.{letter, refusal}
+use Rattle.answers.specs.Table.{rowsLent, filledFrom}
 use Rattle.answers.specs.Answers.{letterIn, rowsIn, tableOf, refusedCheck, checked, checkedTable, CheckOutcome}
 use Rattle.answers.proofs.Small.{refusal-small}
 
 -- a stream's rows in scratch, in front of what the table held, are the finished table
 pub table-filled : (s table scratch : List ℕ) (n : ℕ) → take (n * rowWidth) scratch ≡ numbers (rowsIn s) → n * rowWidth ≤ length scratch
-    → take (n * rowWidth) scratch ++ drop (n * rowWidth) table ≡ tableOf s table
+    → filledFrom scratch n table ≡ tableOf s table
 table-filled s table scratch n w long =
     let size : length (numbers (rowsIn s)) ≡ n * rowWidth = ap length (sym w) ∙ length-take-le (n * rowWidth) scratch long in
     rw (w, size)
@@ -32,16 +33,16 @@ module _ (s table : List ℕ) where
       let some : eqb number 0 ≡ false = ne-eqb number 0 (λ z. omega arith) in
       record { answered = rw e; tabled = rw (e, some) }
 
-  pub checks-16 : (headers : ℕ) (elements : List Element) → letterIn s ≡ letter headers elements → length table / rowWidth < length elements
+  pub checks-16 : (headers : ℕ) (elements : List Element) → letterIn s ≡ letter headers elements → rowsLent table < length elements
       → CheckOutcome s table (refusedCheck 16 0 headers) table
   unfolding checked checkedTable
   checks-16 headers elements e few =
-      let t : ltb (length table / rowWidth) (length elements) ≡ true = lt-ltb _ _ few in
+      let t : ltb (rowsLent table) (length elements) ≡ true = lt-ltb _ _ few in
       record { answered = rw (e, t); tabled = rw (e, t) }
 
   pub checks-letter : (headers count : ℕ) (elements : List Element) → letterIn s ≡ letter headers elements → length elements ≡ count
-      → count ≤ length table / rowWidth → CheckOutcome s table (record { number = 0; place = 0; headers = headers; elements = count }) (tableOf s table)
+      → count ≤ rowsLent table → CheckOutcome s table (record { number = 0; place = 0; headers = headers; elements = count }) (tableOf s table)
   unfolding checked checkedTable
   checks-letter headers count elements e counted enough =
-      let t : ltb (length table / rowWidth) (length elements) ≡ false = le-ltb (length table / rowWidth) (length elements) (omega arith) in
+      let t : ltb (rowsLent table) (length elements) ≡ false = le-ltb (rowsLent table) (length elements) (omega arith) in
       record { answered = rw (e, t, counted); tabled = rw (e, t) }

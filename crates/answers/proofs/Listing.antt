@@ -3,13 +3,12 @@
 use mathlib.Core.Path.{_≡_, refl, ap, sym, _∙_}
 use mathlib.Core.Bool.{true, false}
 use mathlib.Core.List.{List, [], _++_}
-use Prim.Native.Nat.{ℕ, _/_, _<_, _≤_}
+use Prim.Native.Nat.{ℕ, _<_, _≤_}
 use native.Mathlib.Omega.{arith}
 use lib.Dec.{eqb, ltb}
 use lib.ListN.{length, drop}
 use borrow.Author.Tests.{ne-eqb, lt-ltb, le-ltb}
 use borrow.Table.Steps.{cases}
-use Rattle.index.specs.Rows.{rowWidth}
 use Rattle.elements.specs.declared.Edition.the-variants.{Of1988}
 use Rattle.elements.specs.Judge.{Element}
 use Rattle.letters.specs.Letter.{letter, refusal}
@@ -20,6 +19,7 @@ use Rattle.reading.specs.Records.{records, ListsMatches}
 use Rattle.reading.proofs.Made.{length-records}
 use Rattle.reading.proofs.Scratch.{lists-records}
 use Rattle.answers.specs.declared.Listed.{Listed}
+use Rattle.answers.specs.Table.{rowsLent}
 use Rattle.answers.specs.Answers.{letterIn, tableOf, listed, listedTable, matchesIn, listedList}
 use Rattle.answers.specs.Asking.{ListsFlat}
 use Rattle.answers.proofs.Small.{refusal-small}
@@ -40,16 +40,16 @@ module _ (side : Side) (s table flat : List ℕ) (room : ℕ) where
       record { answered = rw e; tabled = rw (e, some, no-19); stored = rw some (no-records flat); fits = omega arith; enough = omega arith }
 
   module _ (headers : ℕ) (elements : List Element) (e : letterIn s ≡ letter headers elements) where
-    pub lists-16 : length table / rowWidth < length elements
+    pub lists-16 : rowsLent table < length elements
         → ListsFlat side s table room (record { number = 16; place = 0; elements = 0; matches = 0 }) table flat
     unfolding listed listedTable
     lists-16 few =
-        let t : ltb (length table / rowWidth) (length elements) ≡ true = lt-ltb _ _ few in
+        let t : ltb (rowsLent table) (length elements) ≡ true = lt-ltb _ _ few in
         record { answered = rw (e, t); tabled = rw (e, t); stored = no-records flat; fits = omega arith; enough = omega arith }
 
-    module _ (count : ℕ) (counted : length elements ≡ count) (enough-rows : count ≤ length table / rowWidth) (before : List ℕ) (m : ℕ) (lists : ListsMatches side elements before flat m) where
-      rows-enough : ltb (length table / rowWidth) (length elements) ≡ false
-      rows-enough = le-ltb (length table / rowWidth) (length elements) (omega arith)
+    module _ (count : ℕ) (counted : length elements ≡ count) (enough-rows : count ≤ rowsLent table) (before : List ℕ) (m : ℕ) (lists : ListsMatches side elements before flat m) where
+      rows-enough : ltb (rowsLent table) (length elements) ≡ false
+      rows-enough = le-ltb (rowsLent table) (length elements) (omega arith)
 
       pub lists-19 : room < m → ListsFlat side s table room (record { number = 19; place = 0; elements = count; matches = 0 }) (tableOf s table) flat
       unfolding listed listedTable

@@ -2,8 +2,8 @@
 -- part, normal form"; of the content, W-201. A contract of crate odif says that the result and every lent buffer at exit are these
 -- definitions of the values at entry. Definitions only: assumes nothing.
 use mathlib.Core.Path.{_≡_}
-use Prim.Native.Nat.{ℕ, _/_, _≤_}
-use mathlib.Core.Bool.{Bool, cond}
+use Prim.Native.Nat.{ℕ, _≤_}
+use mathlib.Core.Bool.{cond}
 use mathlib.Core.List.{List, [], _∷_, _++_}
 use mathlib.Core.Option.{Option, none, some}
 use lib.Dec.{eqb, ltb}
@@ -12,12 +12,11 @@ use lib.Seq.{slice}
 use Rattle.headers.specs.Head.{isIn}
 use Rattle.octets.specs.Walk.{streamLimit}
 use Rattle.normal.specs.Normal.{normalForm}
-use Rattle.index.specs.Rows.{rowWidth}
 use Rattle.contents.specs.declared.Span.{Span}
 use Rattle.elements.specs.declared.Row.{Row}
 use Rattle.elements.specs.declared.Edition.the-variants.{Of1988}
 use Rattle.elements.specs.Judge.{Content, single, inPieces, bytesOf, joinedContent, Element}
-use Rattle.elements.specs.Rows.{numbers, noSpan}
+use Rattle.elements.specs.Rows.{noSpan}
 use Rattle.letters.specs.Letter.{Letter, letter, refusal, letterOf, rowsOfStream}
 use Rattle.reading.specs.declared.Match.{Match}
 use Rattle.reading.specs.declared.Side.{Side}
@@ -28,6 +27,7 @@ use Rattle.answers.specs.declared.Listed.{Listed}
 use Rattle.answers.specs.declared.Reason.{Reason}
 use Rattle.answers.specs.declared.Found.{Found}
 use Rattle.answers.specs.declared.Copied.{Copied}
+use Rattle.answers.specs.Table.{tableNumbers, tooFewRows}
 
 -- what a stream is by rules 1 to 15, in the edition of 1988
 abbrev pub letterIn : List ℕ → Letter
@@ -42,13 +42,9 @@ rowsIn s = rowsOfStream Of1988 s
 abbrev pub onto : {A : Type 0} → List A → List A → List A
 onto values lent = values ++ drop (length values) lent
 
--- the finished table: "an incomplete last row isn't used"
+-- the finished table
 abbrev pub tableOf : (s table : List ℕ) → List ℕ
-tableOf s table = onto (numbers (rowsIn s)) table
-
--- 16 "table rows fewer than elements"
-abbrev pub tooFewRows : (table : List ℕ) → List Element → Bool
-tooFewRows table elements = ltb (length table / rowWidth) (length elements)
+tableOf s table = onto (tableNumbers (rowsIn s)) table
 
 -- The rules alone, for a question that wants no more: the number and place of a refusal by 1 to 15, 0 and 0 of a letter.
 abbrev pub ruledBy : Letter → Reason

@@ -1,5 +1,6 @@
--- Answers: what each question answers. Short: the mailroom's normal form question. Asking: what the work behind them
--- learns. Questions: what the work of any of them leaves.
+-- Table: the lent table. Answers: what each question answers. Short: the mailroom's normal form question. Asking: what the
+-- work behind them learns. Questions: what the work of any of them leaves.
+pub mod Table
 pub mod Answers
 pub mod Short
 pub mod Asking

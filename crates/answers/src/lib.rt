@@ -1,7 +1,6 @@
 // The work behind the questions: what each does with a stream that was judged.
 // Nothing that was lent to a question is written before all that can refuse it is known.
 use elements::Edition;
-use index::ROW_WIDTH;
 use octets::Outcome;
 use reading::Side;
 use runs::Run;
@@ -18,9 +17,11 @@ ghost use Rattle.answers.specs.Asking.{JudgedIn, ListsFlat};
 ghost use Rattle.answers.specs.Questions.{reasonTold, checkTold, locatedTold, copiedTold, listedTold, listedOf, refusedTold, Leaves, Roomy};
 
 mod content; // content.rt: the content of one element, as a part or copied
+mod table; // table.rt: the lent table
 
-pub use content::join_judged;
-pub use content::locate_judged;
+use content::join_judged;
+use content::locate_judged;
+use table::TABLE_WIDTH;
 
 // The numbers of refusals that come after rules 1 to 15, those of the questions themselves; 17 and 18 are crate normal's.
 const TOO_FEW_ROWS: u32 = 16;
@@ -135,10 +136,10 @@ fn check_judged(
     requires { ⌜ JudgedIn (now stream) (now rows) count ⌝ }
     ensures { λ r. ⌜ CheckOutcome (now (stream .entry)) (now (table .entry)) r (now (table .exit)) ⌝ }
 {
-    if table.len() / ROW_WIDTH < count {
+    if table.len() / TABLE_WIDTH < count {
         return refused_check(TOO_FEW_ROWS, 0, headers);
     }
-    letters::put_table(rows, count, table);
+    table::fill(rows, count, table);
     Checked {
         number: 0,
         place: 0,
@@ -157,16 +158,16 @@ fn list_judged(
     next: &[u16],
     head2: &[u16],
     next2: &[u16],
-    count: usize,
+    elements: usize,
     table: &mut [u32],
     flat: &mut [u32],
 ) -> Listed
     requires { ⌜ Accepts (now stream) (treeOf (now stream)) ⌝ }
-    requires { ⌜ Filled Edition.Of1988 (now stream) (now rows) (now head) (now next) (now head2) (now next2) count ⌝ }
+    requires { ⌜ Filled Edition.Of1988 (now stream) (now rows) (now head) (now next) (now head2) (now next2) elements ⌝ }
     requires { ⌜ 3 * rowsNeeded (now stream) ≤ length (now flat) ⌝ }
     ensures { λ r. ⌜ ListsFlat side (now (stream .entry)) (now (table .entry)) room r (now (table .exit)) (now (flat .exit)) ⌝ }
 {
-    if table.len() / ROW_WIDTH < count {
+    if table.len() / TABLE_WIDTH < elements {
         return Listed {
             number: TOO_FEW_ROWS,
             place: 0,
@@ -174,20 +175,30 @@ fn list_judged(
             matches: 0,
         };
     }
-    letters::put_table(rows, count, table);
-    let matches = reading::list_matches(stream, rows, head, next, head2, next2, count, side, flat);
+    table::fill(rows, elements, table);
+    let matches = reading::list_matches(
+        stream,
+        rows,
+        head,
+        next,
+        head2,
+        next2,
+        elements,
+        side,
+        flat,
+    );
     if room < matches {
         return Listed {
             number: LIST_TOO_SHORT,
             place: 0,
-            elements: count as u32,
+            elements: elements as u32,
             matches: 0,
         };
     }
     Listed {
         number: 0,
         place: 0,
-        elements: count as u32,
+        elements: elements as u32,
         matches: matches as u32,
     }
 }

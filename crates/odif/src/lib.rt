@@ -40,17 +40,17 @@ pub fn normal(stream: &[u8], out: &mut [u8]) -> Written
     let mut rows = [0u32; 0];
     let mut numbers = [0u32; 0];
     let mut octets = [0u8; 0];
-    let told = scratch::ask(
+    let ruled = scratch::ask(
         stream,
         Question::Rules,
         &mut rows,
         &mut numbers,
         &mut octets,
     );
-    if told.number != 0 {
+    if ruled.number != 0 {
         return Written {
-            number: told.number,
-            place: told.place,
+            number: ruled.number,
+            place: ruled.place,
             length: 0,
         };
     }
@@ -108,7 +108,7 @@ fn locate(stream: &[u8], element: usize) -> Found
     let mut rows = [0u32; 0];
     let mut numbers = [0u32; 0];
     let mut octets = [0u8; 0];
-    let told = scratch::ask(
+    let found = scratch::ask(
         stream,
         Question::Content { element },
         &mut rows,
@@ -116,10 +116,10 @@ fn locate(stream: &[u8], element: usize) -> Found
         &mut octets,
     );
     Found {
-        number: told.number,
-        place: told.place,
-        first: told.first,
-        past: told.past,
+        number: found.number,
+        place: found.place,
+        first: found.first,
+        past: found.past,
     }
 }
 
@@ -130,7 +130,7 @@ pub fn joined(stream: &[u8], element: usize, out: &mut [u8]) -> Copied
 {
     let mut rows = [0u32; 0];
     let mut numbers = [0u32; 0];
-    let told = scratch::ask(
+    let put = scratch::ask(
         stream,
         Question::Joined { element },
         &mut rows,
@@ -138,9 +138,9 @@ pub fn joined(stream: &[u8], element: usize, out: &mut [u8]) -> Copied
         out,
     );
     Copied {
-        number: told.number,
-        place: told.place,
-        length: told.length,
+        number: put.number,
+        place: put.place,
+        length: put.length,
     }
 }
 

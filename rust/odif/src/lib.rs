@@ -19,7 +19,8 @@
 //! # }
 //! ```
 //!
-//! A question takes up to 304 KiB of the calling thread's stack, and any number of threads may ask at once.
+//! A question takes up to 304 KiB of the calling thread's stack, of a small letter (up to 512 elements and 8,192 items) up
+//! to 88 KiB, and any number of threads may ask at once.
 //!
 //! [`raw`] has the functions of the C header as they stand, for callers who lend their own memory.
 

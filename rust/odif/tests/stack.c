@@ -1,6 +1,6 @@
-/* How much stack each question takes: it is asked on a stack of its own, filled with a pattern, and what is not the
-   pattern afterwards was used. Prints a line for each question, and ends with status 1 if one takes more than odif.h
-   says. */
+/* How much stack each question takes of small streams and of large ones: it is asked on a stack of its own, filled with
+   a pattern, and what is not the pattern afterwards was used. Prints a line for each question, and ends with status 1 if
+   one takes more than odif.h says. */
 #include <stdio.h>
 #include <string.h>
 #include <ucontext.h>
@@ -29,12 +29,15 @@ static void ask_joined(void) { odif_joined(stream, length, 1, out, sizeof out); 
 static const struct {
     const char *name;
     void (*ask)(void);
-    size_t limit;
+    size_t small, large;
 } questions[] = {
-    {"check", ask_check, ODIF_STACK},          {"normal form", ask_normal, ODIF_STACK},
-    {"layout list", ask_layout, ODIF_STACK_LISTS}, {"logical list", ask_logical, ODIF_STACK_LISTS},
-    {"short normal form", ask_normal_short, ODIF_STACK},
-    {"content", ask_content, ODIF_STACK},      {"joined content", ask_joined, ODIF_STACK},
+    {"check", ask_check, ODIF_STACK_SMALL, ODIF_STACK},
+    {"normal form", ask_normal, ODIF_STACK_SMALL, ODIF_STACK},
+    {"layout list", ask_layout, ODIF_STACK_SMALL_LISTS, ODIF_STACK_LISTS},
+    {"logical list", ask_logical, ODIF_STACK_SMALL_LISTS, ODIF_STACK_LISTS},
+    {"short normal form", ask_normal_short, ODIF_STACK_SMALL, ODIF_STACK},
+    {"content", ask_content, ODIF_STACK_SMALL, ODIF_STACK},
+    {"joined content", ask_joined, ODIF_STACK_SMALL, ODIF_STACK},
 };
 
 static size_t stack_of(void (*ask)(void)) {
@@ -68,19 +71,52 @@ static void make_levels(void) {
     }
 }
 
+/* A profile with so many items in it. */
+static void make_items(size_t count) {
+    size_t inside = 2 * (count - 1);
+    memcpy(stream, "\xA0\x82", 2);
+    stream[2] = (uint8_t)(inside >> 8);
+    stream[3] = (uint8_t)inside;
+    length = 4 + inside;
+    for (size_t at = 4; at < length; at += 2) memcpy(stream + at, "\x80\x00", 2);
+}
+
+/* The small streams, by number: no more than ODIF_SMALL_ELEMENTS elements and ODIF_SMALL_ITEMS items. */
+static int make_small(int input) {
+    if (input == 0) make_elements(0);
+    else if (input == 1) make_elements(1);
+    else if (input == 2) make_elements(ODIF_SMALL_ELEMENTS);
+    else if (input == 3) make_levels();
+    else if (input == 4) make_items(ODIF_SMALL_ITEMS);
+    else return 0;
+    return 1;
+}
+
+/* And some that are not. */
+static int make_large(int input) {
+    if (input == 0) make_elements(ODIF_SMALL_ELEMENTS + 1);
+    else if (input == 1) make_elements(ODIF_MOST_ELEMENTS);
+    else if (input == 2) make_items(ODIF_SMALL_ITEMS + 1);
+    else return 0;
+    return 1;
+}
+
+static size_t most_of(void (*ask)(void), int (*make)(int)) {
+    size_t most = 0;
+    for (int input = 0; make(input); input++) {
+        size_t taken = stack_of(ask);
+        if (taken > most) most = taken;
+    }
+    return most;
+}
+
 int main(void) {
     int over = 0;
     for (size_t i = 0; i < sizeof questions / sizeof *questions; i++) {
-        size_t most = 0;
-        for (int input = 0; input < 4; input++) {
-            size_t taken;
-            if (input == 3) make_levels();
-            else make_elements(input == 0 ? 1 : input == 1 ? 512 : ODIF_MOST_ELEMENTS);
-            taken = stack_of(questions[i].ask);
-            if (taken > most) most = taken;
-        }
-        printf("%s: %zu octets of stack, at most %zu\n", questions[i].name, most, questions[i].limit);
-        if (most > questions[i].limit) over = 1;
+        size_t small = most_of(questions[i].ask, make_small), large = most_of(questions[i].ask, make_large);
+        printf("%s: %zu octets of stack, at most %zu, of small streams, and %zu, at most %zu, of large ones\n",
+               questions[i].name, small, (size_t)questions[i].small, large, (size_t)questions[i].large);
+        if (small > questions[i].small || large > questions[i].large) over = 1;
     }
     return over;
 }

@@ -18,8 +18,8 @@ returns c =
     let r = checks-16 (now (a .args .stream)) (now (a .args .table)) (a .args .headers) (l .elements) (l .judged) (omega arith) in
     record { answered = c .refused-check .ensures ∙ r .answered; tabled = r .tabled }
 
-put-table-requires : tie.Need-put-table-requires
-put-table-requires c κs =
+fill-requires : tie.Need-fill-requires
+fill-requires c κs =
     let a = c .before .before .before .before .before in
     let l = accepted-judged (a .pre .0) (a .pre .1) in
     (omega (arith, l .within), omega arith)
@@ -40,7 +40,7 @@ returns-2 c =
     let s = now (a .args .stream) in
     let table = now (a .args .table) in
     let r = checks-letter s table (a .args .headers) _ (l .elements) (l .judged) (l .counted) (omega arith) in
-    record { answered = r .answered; tabled = c .before .before .put-table .ensures ∙ table-filled s table (now (a .args .rows)) _ (l .written) (l .within) ∙ r .tabled }
+    record { answered = r .answered; tabled = c .before .before .fill .ensures ∙ table-filled s table (now (a .args .rows)) _ (l .written) (l .within) ∙ r .tabled }
 
 pub check-judged-spec : {M : Type 1} → statement M
 check-judged-spec =
@@ -48,7 +48,7 @@ check-judged-spec =
     (tie.spec
     refused-check-requires
     returns
-    put-table-requires
+    fill-requires
     cast-t12
     same-length
     returns-2)

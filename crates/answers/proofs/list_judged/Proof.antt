@@ -17,8 +17,8 @@ returns c =
     let l = accepted-judged (a .pre .0 .ended) (judged-in (a .pre .1 .0)) in
     lists-16 (a .args .side) (now (a .args .stream)) (now (a .args .table)) (now (a .args .flat)) (a .args .room) _ (l .elements) (l .judged) (omega arith)
 
-put-table-requires : tie.Need-put-table-requires
-put-table-requires c κs =
+fill-requires : tie.Need-fill-requires
+fill-requires c κs =
     let a = c .before .before .before .before .before .before .before .before .before .before in
     let l = accepted-judged (a .pre .0 .ended) (judged-in (a .pre .1 .0)) in
     (omega (arith, l .within), omega arith)
@@ -48,7 +48,7 @@ returns-2 c =
     let lists = c .before .before .before .list-matches .ensures Of1988 (a .pre .1 .0) (l .elements) (l .judge-accepted) in
     let s = now (a .args .stream) in
     let table = now (a .args .table) in
-    let tabled = c .before .before .before .before .before .before .before .put-table .ensures ∙ table-filled s table (now (a .args .rows)) _ (l .written) (l .within) in
+    let tabled = c .before .before .before .before .before .before .before .fill .ensures ∙ table-filled s table (now (a .args .rows)) _ (l .written) (l .within) in
     retabled tabled (lists-19 (a .args .side) s table _ (a .args .room) _ (l .elements) (l .judged) _ (l .counted) (omega arith) _ _ lists (omega arith))
 
 cast-t22 : tie.Need-cast-t22
@@ -78,7 +78,7 @@ returns-3 c =
     let lists = c .before .before .before .list-matches .ensures Of1988 (a .pre .1 .0) (l .elements) (l .judge-accepted) in
     let s = now (a .args .stream) in
     let table = now (a .args .table) in
-    let tabled = c .before .before .before .before .before .before .before .put-table .ensures ∙ table-filled s table (now (a .args .rows)) _ (l .written) (l .within) in
+    let tabled = c .before .before .before .before .before .before .before .fill .ensures ∙ table-filled s table (now (a .args .rows)) _ (l .written) (l .within) in
     retabled tabled (lists-letter (a .args .side) s table _ (a .args .room) _ (l .elements) (l .judged) _ (l .counted) (omega arith) _ _ lists (omega arith))
 
 pub list-judged-spec : {M : Type 1} → statement M
@@ -86,7 +86,7 @@ list-judged-spec =
     tie.close
     (tie.spec
     returns
-    put-table-requires
+    fill-requires
     list-matches-requires
     cast-t21
     same-length
