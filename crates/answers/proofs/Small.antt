@@ -18,10 +18,10 @@ use Rattle.octets.proofs.Walks.{EndOk, run-ok}
 use Rattle.octets.proofs.Numbers.{Stops, run-stops, Before, nothing, stands, run-before}
 use Rattle.tree.specs.Tree.{Tree, empty, leaf, branch, treeOf}
 use Rattle.runs.proofs.Laws.{stream-within, stream-fine, stream-count, count-within}
-use Rattle.contents.specs.Search.{is, firstValue}
+use Rattle.contents.specs.Search.{is}
 use Rattle.elements.specs.declared.Edition.{Edition}
 use Rattle.elements.specs.Shape.{shapeOf}
-use Rattle.elements.specs.Judge.{Element, elementOf, asTabled, typeFits, namesFit, Judged, accepted, refused, mostElements, profile, twice, refusalOf, judgeOne, judgeFrom, judge}
+use Rattle.elements.specs.Judge.{valueAt, typeOctet, typesOf, Element, elementOf, asTabled, typeFits, namesFit, Judged, accepted, refused, mostElements, profile, twice, refusalOf, judgeOne, judgeFrom, judge}
 use Rattle.elements.specs.Rows.{placeOf}
 use Rattle.letters.specs.Letter.{refusal, itemsOfStream, afterWalk, byWalk, letterOf}
 
@@ -77,8 +77,8 @@ module _ (edition : Edition) where
       cond-holds Ruled (leb mostElements (length done)) (λ _. inr (omega arith, omega arith)) (λ _.
       cond-holds Ruled (not (is (shape .octet) type)) (λ _. inr (omega arith, omega arith)) (λ _.
       cond-holds Ruled (xor (eqb (length done) 0) (is profile type)) (λ _. inr (omega arith, omega arith)) (λ _.
-      cond-holds Ruled (not (asTabled shape items)) (λ _. inr (omega arith, omega arith)) (λ _.
-      cond-holds Ruled (not (typeFits (shape .types) (firstValue (shape .object) items))) (λ _. inr (omega arith, omega arith)) (λ _.
+      cond-holds Ruled (not (asTabled (shape .contents) items)) (λ _. inr (omega arith, omega arith)) (λ _.
+      cond-holds Ruled (not (typeFits (typesOf (shape .contents)) (valueAt (typeOctet (shape .contents)) items))) (λ _. inr (omega arith, omega arith)) (λ _.
       cond-holds Ruled (not (namesFit (elementOf shape items))) (λ _. inr (omega arith, omega arith)) (λ _.
       cond-holds Ruled (twice done (elementOf shape items)) (λ _. inr (omega arith, omega arith)) (λ _. inl refl)))))))
 

@@ -168,17 +168,27 @@ module _ (s : List ℕ) where
       ∙ rw (ne-eqb type octet (λ e. n (e ∙ z)), zero-at q octet z)
 
   -- the items that name an element are the run that does
-  body-at : (shape : Shape) → WellMade shape → (i : Items) → plain s (bodyIn shape i) ≡ bodyOf shape (plain s i)
+  body-at : (contents : Contents) (i : Items) → plain s (bodyIn contents i) ≡ bodyOf contents (plain s i)
   unfolding bodyIn bodyOf
-  body-at shape made i =
-      cases (shape .looked)
-      (λ l.
-      cases (eqb (shape .within) 0)
-      (λ z. rw (l, z))
-      (λ z.
-      let held : constructed (shape .within) ≡ true = cases (shape .free) (λ f. absurd (eqb-false (shape .within) 0 z (made .itself f))) (λ f. made .within f) in
-      rw (l, z) (run-at (shape .within) held i)))
-      (λ l. rw l)
+  body-at profile i = refl
+  body-at (described needed types) i = run-at 0x31 refl i
+  body-at (unit holders) i = run-at 0x31 refl i
+  body-at style i = refl
+
+  -- identifiers are values
+  identifier-at : (contents : Contents) (i : Items)
+      → bytesIn s (boundsAt (identifierOctet contents) i) ≡ bytesOf (valueAt (identifierOctet contents) (plain s i))
+  identifier-at profile i = refl
+  identifier-at (described needed types) i = value-at 0x41 refl i
+  identifier-at (unit holders) i = value-at 0x40 refl i
+  identifier-at style i = value-at 0x45 refl i
+
+  logical-at : (contents : Contents) (i : Items)
+      → bytesIn s (boundsAt (logicalOctet contents) i) ≡ bytesOf (valueAt (logicalOctet contents) (plain s i))
+  logical-at profile i = refl
+  logical-at (described needed types) i = refl
+  logical-at (unit holders) i = value-at 0x84 refl i
+  logical-at style i = refl
 
   body-proper : (shape : Shape) {room : ℕ} {i : Items} → Proper s room i → (levels : ℕ) × Proper s levels (bodyIn shape i)
   unfolding bodyIn

@@ -77,6 +77,9 @@ without s octet (item at type start past inside after) e =
       tree = run-after octet type value (plain s inside) (plain s after) form other ∙ w .tree;
     }
 
+pub none-bounds : (s : List ℕ) (octet : ℕ) (i : Items) → amount octet (plain s i) ≡ 0 → boundsOf octet i ≡ noSpan
+none-bounds s octet i e = without s octet i e .bounds
+
 -- what is not counted is lacked
 pub none-lacked : {s : List ℕ} {r : Run} {octet : ℕ} → amount octet (treeIn s r) ≡ 0 → Lacks s r octet
 none-lacked {s} {r} {octet} e =

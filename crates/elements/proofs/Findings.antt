@@ -18,9 +18,10 @@ use Rattle.portions.specs.Lists.{ListsPortions}
 use Rattle.portions.specs.Portions.{values}
 use Rattle.portions.proofs.Judging.{well-spelt}
 use Rattle.elements.specs.declared.Frame.{Frame}
-use Rattle.elements.specs.declared.Shape.{Shape}
+use Rattle.elements.specs.declared.Slots.{Slots}
 use Rattle.elements.specs.declared.Typed.{Typed}
-use Rattle.elements.specs.Judge.{contentOf, piecesAlone, Element, elementOf, asTabled, namesFit, shapeRefusal}
+use Rattle.elements.specs.Judge.{piecesAlone, Element, namesFit}
+use Rattle.elements.specs.Slots.{slotContent, slotElement, slotTabled, slotRefusal}
 use Rattle.elements.specs.Says.{Bounds}
 use Rattle.elements.specs.Frames.{Framed, Types}
 use Rattle.elements.specs.Sees.{once, tabledBy, speltBy, numberOf, soughtOf}
@@ -28,18 +29,18 @@ use Rattle.elements.specs.WellMade.{WellMade}
 use Rattle.elements.proofs.Bounding.{counted-bounds}
 
 -- what was found: the top of the element, what names it, its portions and its object type
-pub record Findings (s : List ℕ) (shape : Shape) (r : Run) (frame : Frame) (g : Gathered) (listed : PortionList) (numbers : List ℕ)
+pub record Findings (s : List ℕ) (shape : Slots) (r : Run) (frame : Frame) (g : Gathered) (listed : PortionList) (numbers : List ℕ)
     (typed : Typed) : Type 0 where
   pub made : WellMade shape
   pub framed : Framed s shape r frame
-  pub alone : piecesAlone (contentOf shape (treeIn s r)) ≡ true
+  pub alone : piecesAlone (slotContent shape (treeIn s r)) ≡ true
   pub gathers : Gathers s (frame .body) (soughtOf shape) g
   pub lists : ListsPortions s (g .list) listed numbers
   pub types : Types (shape .types) (firstValue (shape .object) (treeIn s r)) typed
 
 -- what the element says
-abbrev pub elementIn : Shape → List ℕ → Run → Element
-elementIn shape s r = elementOf shape (treeIn s r)
+abbrev pub elementIn : Slots → List ℕ → Run → Element
+elementIn shape s r = slotElement shape (treeIn s r)
 
 no-sum : (a b : ℕ) → eqb (a + b) 0 ≡ (eqb a 0 && eqb b 0)
 no-sum zero b = let e : 0 + b ≡ b = omega arith in rw e
@@ -56,11 +57,11 @@ numbers-agree : (tabled fits a b : Bool) → (tabled ≡ true → a ≡ b) → n
 numbers-agree true fits a b h = rw (h refl)
 numbers-agree false fits a b h = refl
 
-module _ {s : List ℕ} {shape : Shape} {r : Run} {frame : Frame} {g : Gathered} {listed : PortionList} {numbers : List ℕ} {typed : Typed}
+module _ {s : List ℕ} {shape : Slots} {r : Run} {frame : Frame} {g : Gathered} {listed : PortionList} {numbers : List ℕ} {typed : Typed}
     (f : Findings s shape r frame g listed numbers typed) where
   -- 12
-  pub tabled-by : tabledBy (shape .identifier .needed) g (listed .others) ≡ asTabled shape (treeIn s r)
-  unfolding tabledBy asTabled once
+  pub tabled-by : tabledBy (shape .identifier .needed) g (listed .others) ≡ slotTabled shape (treeIn s r)
+  unfolding tabledBy slotTabled once
   tabled-by =
       rw (
         f .framed .ordered-is,
@@ -77,19 +78,19 @@ module _ {s : List ℕ} {shape : Shape} {r : Run} {frame : Frame} {g : Gathered}
       ) (simp and-assoc)
 
   pub identifier-bounds : Bounds s (g .identifier) (elementIn shape s r .identifier)
-  unfolding elementOf
+  unfolding slotElement
   identifier-bounds =
       subst (λ (t : Tree). Bounds s (g .identifier) (firstValue (shape .identifier .octet) t)) (f .framed .tree)
       (counted-bounds (f .gathers .identifier) (f .made .identifier))
 
   pub logical-bounds : Bounds s (g .logical) (elementIn shape s r .logical)
-  unfolding elementOf
+  unfolding slotElement
   logical-bounds =
       subst (λ (t : Tree). Bounds s (g .logical) (firstValue (shape .logical) t)) (f .framed .tree)
       (counted-bounds (f .gathers .logical) (f .made .logical))
 
   pub portions-are : elementIn shape s r .portions ≡ values (treeIn s (g .list))
-  unfolding elementOf
+  unfolding slotElement
   portions-are = ap values (sym (f .gathers .list-tree (f .made .portions) ∙ ap (firstRun (shape .portions)) (f .framed .tree)))
 
   -- 14
@@ -101,8 +102,8 @@ module _ {s : List ℕ} {shape : Shape} {r : Run} {frame : Frame} {g : Gathered}
   -- the first of 12, 13 and 14
   pub number-by : (tabled spelt : Bool) → tabled ≡ tabledBy (shape .identifier .needed) g (listed .others)
       → (listed .others ≡ false → spelt ≡ namesFit (elementIn shape s r))
-      → numberOf tabled (typed .fits) spelt ≡ shapeRefusal shape (treeIn s r)
-  unfolding shapeRefusal
+      → numberOf tabled (typed .fits) spelt ≡ slotRefusal shape (treeIn s r)
+  unfolding slotRefusal
   number-by tabled spelt p q =
       numbers-agree tabled (typed .fits) spelt (namesFit (elementIn shape s r))
       (λ t. q (no-others (shape .identifier .needed) g (listed .others) (sym p ∙ t)))

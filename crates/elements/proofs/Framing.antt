@@ -16,10 +16,10 @@ use Rattle.contents.specs.Search.{inOrder}
 use Rattle.contents.specs.Opening.{Opens}
 use Rattle.contents.proofs.Orders.{in-order-few}
 use Rattle.elements.specs.declared.Holder.{Holder}
-use Rattle.elements.specs.declared.Shape.{Shape}
-use Rattle.elements.specs.Judge.{bodyOf, ordered}
-use Rattle.elements.specs.Rows.{bodyIn, noSpan}
-use Rattle.elements.specs.Frames.{Bounding, Inner, Holding, noHolder, Frames}
+use Rattle.elements.specs.declared.Slots.{Slots}
+use Rattle.elements.specs.Slots.{slotBody, slotOrdered, slotItems}
+use Rattle.elements.specs.Rows.{noSpan}
+use Rattle.elements.specs.Frames.{Bounding, Inner, HoldingSlots, noHolder, Frames}
 use Rattle.elements.specs.WellMade.{WellMade}
 use Rattle.elements.proofs.Bounding.{empty-fine, empty-items, lacked-bounding}
 use Rattle.elements.proofs.Zero.{zero-lacked}
@@ -33,20 +33,20 @@ either : (a b : Bool) → a || b ≡ true → (a ≡ true) ⊎ (b ≡ true)
 either true b e = inl e
 either false b e = inr e
 
-module _ (s : List ℕ) (shape : Shape) (r : Run) (fine : Fine s r) (made : WellMade shape) where
+module _ (s : List ℕ) (shape : Slots) (r : Run) (fine : Fine s r) (made : WellMade shape) where
   module _ (f : shape .free ≡ true) where
-    free-ordered : ordered shape (treeIn s r) ≡ true
-    unfolding ordered
+    free-ordered : slotOrdered shape (treeIn s r) ≡ true
+    unfolding slotOrdered
     free-ordered = rw f
 
     no-object : Bounding s r (shape .object) noSpan
     no-object = lacked-bounding (zero-lacked (shape .object) (made .no-object f) fine)
 
-    no-content : Holding s shape r noHolder
+    no-content : HoldingSlots s shape r noHolder
     no-content = lacked-holding made (zero-lacked (shape .pieces) (made .no-pieces f) fine) (lacked-bounding (zero-lacked (shape .content) (made .no-content f) fine))
 
     pub free-frame : shape .looked ≡ true → Frames s shape r (record { fits = true; body = r; object = noSpan; content = noHolder })
-    unfolding bodyOf bodyIn
+    unfolding slotBody slotItems
     free-frame l =
         record {
           fits = sym free-ordered;
@@ -63,7 +63,7 @@ module _ (s : List ℕ) (shape : Shape) (r : Run) (fine : Fine s r) (made : Well
 
     pub unlooked-frame : shape .looked ≡ false
         → Frames s shape r (record { fits = true; body = definiteRun 0 0 0; object = noSpan; content = noHolder })
-    unfolding bodyOf bodyIn
+    unfolding slotBody slotItems
     unlooked-frame l =
         record {
           fits = sym free-ordered;
@@ -84,17 +84,17 @@ module _ (s : List ℕ) (shape : Shape) (r : Run) (fine : Fine s r) (made : Well
     few-by (inr e) = in-order-few s r o (shape .one) (shape .instead) opens e
 
     -- items in order are no more than two
-    few-items : ordered shape (treeIn s r) ≡ true → o .count ≤ 2
-    unfolding ordered
+    few-items : slotOrdered shape (treeIn s r) ≡ true → o .count ≤ 2
+    unfolding slotOrdered
     few-items t =
         few-by (either (inOrder (shape .one) (shape .two) (treeIn s r)) (inOrder (shape .one) (shape .instead) (treeIn s r)) (rw f at t))
 
-    module _ (fits : Bool) (stands : fits ≡ ordered shape (treeIn s r))
+    module _ (fits : Bool) (stands : fits ≡ slotOrdered shape (treeIn s r))
         (body : Run) (inner : o .count ≤ 2 → constructed (shape .within) ≡ true → Inner s r (shape .within) body)
         (object : Span) (object-is : o .count ≤ 2 → Bounding s r (shape .object) object)
-        (content : Holder) (content-is : o .count ≤ 2 → Holding s shape r content) where
+        (content : Holder) (content-is : o .count ≤ 2 → HoldingSlots s shape r content) where
       pub ordered-frame : Frames s shape r (record { fits = fits; body = body; object = object; content = content })
-      unfolding bodyOf bodyIn
+      unfolding slotBody slotItems
       ordered-frame =
           record {
             fits = stands;

@@ -14,23 +14,23 @@ use Rattle.contents.specs.Search.{amount}
 use Rattle.contents.specs.First.{spanOf, IsFirst, Lacks}
 use Rattle.pieces.specs.Pieces.{onlyPieces}
 use Rattle.elements.specs.declared.Holder.{Holder}
-use Rattle.elements.specs.declared.Shape.{Shape}
-use Rattle.elements.specs.Judge.{Content, single, inPieces, contentOf, piecesAlone}
-use Rattle.elements.specs.Rows.{contentOctet}
+use Rattle.elements.specs.declared.Slots.{Slots}
+use Rattle.elements.specs.Judge.{Content, single, inPieces, piecesAlone}
+use Rattle.elements.specs.Slots.{slotContent, slotOctet}
 use Rattle.elements.specs.Says.{Placed, Contains}
-use Rattle.elements.specs.Frames.{Bounding, HoldsContent, Holding}
+use Rattle.elements.specs.Frames.{Bounding, HoldsContent, HoldingSlots}
 use Rattle.elements.specs.WellMade.{WellMade}
 use Rattle.elements.proofs.Bounding.{held-placed, held-there, empty-fine}
 
-module _ {s : List ℕ} {shape : Shape} {r : Run} (made : WellMade shape) where
+module _ {s : List ℕ} {shape : Slots} {r : Run} (made : WellMade shape) where
   constructed-by : {p : Part} → IsFirst s r (shape .pieces) p → (shape .pieces ≡ 0) ⊎ (constructed (shape .pieces) ≡ true) → constructed (shape .pieces) ≡ true
   constructed-by h (inl z) = absurd (h .octet-not-zero z)
   constructed-by h (inr c) = c
 
   -- an item with pieces is there
   pub pieced-holding : {p : Part} → IsFirst s r (shape .pieces) p
-      → Holding s shape r (record { value = spanOf p; pieced = true; pieces = p .inner })
-  unfolding contentOctet contentOf
+      → HoldingSlots s shape r (record { value = spanOf p; pieced = true; pieces = p .inner })
+  unfolding slotOctet slotContent
   pieced-holding {p} h =
       let some = ne-eqb (amount (shape .pieces) (treeIn s r)) 0 (h .there) in
       record {
@@ -42,8 +42,8 @@ module _ {s : List ℕ} {shape : Shape} {r : Run} (made : WellMade shape) where
 
   -- none is there
   pub lacked-holding : {v : Span} → Lacks s r (shape .pieces) → Bounding s r (shape .content) v
-      → Holding s shape r (record { value = v; pieced = false; pieces = definiteRun 0 0 0 })
-  unfolding contentOctet contentOf
+      → HoldingSlots s shape r (record { value = v; pieced = false; pieces = definiteRun 0 0 0 })
+  unfolding slotOctet slotContent
   lacked-holding {v} l b =
       let none = eq-eqb (amount (shape .pieces) (treeIn s r)) 0 (l .amount-is) in
       record {

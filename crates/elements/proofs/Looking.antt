@@ -6,13 +6,14 @@ use Prim.Native.Nat.{ℕ}
 use borrow.Author.Tests.{ne-eqb}
 use Rattle.headers.specs.Head.{typeField}
 use Rattle.contents.proofs.Firsts.{is-field}
-use Rattle.elements.specs.declared.Shape.{Shape}
+use Rattle.elements.specs.declared.Slots.{Slots}
 use Rattle.elements.specs.Shape.{Shapes, shapeIn, noShape}
+use Rattle.elements.specs.Slots.{slotsOf}
 
 -- an octet that is tried
-pub found : (shapes : Shapes) {shape : Shape} {tried octet : ℕ} → shape ≡ shapeIn shapes (typeField tried) → octet ≡ tried
-    → shape ≡ shapeIn shapes (typeField octet)
-found shapes made same = made ∙ sym (ap (λ (o : ℕ). shapeIn shapes (typeField o)) same)
+pub found : (shapes : Shapes) {slots : Slots} {tried octet : ℕ} → slots ≡ slotsOf (shapeIn shapes (typeField tried)) → octet ≡ tried
+    → slots ≡ slotsOf (shapeIn shapes (typeField octet))
+found shapes made same = made ∙ sym (ap (λ (o : ℕ). slotsOf (shapeIn shapes (typeField o))) same)
 
 -- an octet that no shape of a list has, told one shape after another
 abbrev pub Untried : (before : Type 0) (octet : ℕ) → Shapes → Type 0

@@ -1,8 +1,8 @@
--- Every shape of an edition is well made: a test that says so is computed over the list of shapes, and `shapeOf` gives one of them.
--- Assumes nothing.
-use mathlib.Core.Path.{_≡_, refl}
+-- The slots of every shape are well made, by a test that says so. Of a text unit they are those of its items that hold content, in every
+-- edition. Assumes nothing.
+use mathlib.Core.Path.{_≡_, refl, sym, subst}
 use mathlib.Core.Bool.{Bool, true, false, cond, not, _||_, true≢false, false≢true}
-use mathlib.Core.List.{List, [], _∷_, map}
+use mathlib.Core.List.{List, [], _∷_}
 use mathlib.Core.Logic.{_⊎_, inl, inr}
 use Prim.Native.Nat.{ℕ}
 use lib.Dec.{eqb}
@@ -10,14 +10,16 @@ use borrow.Author.Tests.{eqb-true, not-true}
 use Rattle.headers.specs.Head.{constructed, typeField}
 use Rattle.contents.specs.Search.{is}
 use Rattle.portions.specs.Portions.{all}
-use Rattle.elements.specs.declared.Shape.{Shape}
+use Rattle.elements.specs.declared.Slots.{Slots}
 use Rattle.elements.specs.declared.Edition.{Edition}
 use Rattle.elements.specs.declared.Edition.the-variants.{Of1988}
-use Rattle.elements.specs.Shape.{Shapes, shapesOf, shapeIn, shapeOf, noShape}
-use Rattle.elements.specs.WellMade.{WellMade}
+use Rattle.elements.specs.Shape.{Contents, profile, described, unit, style, Shape, Shapes, shapesOf, shapeIn, shapeOf}
+use Rattle.elements.specs.Judge.{holdersOf}
+use Rattle.elements.specs.Slots.{slotsBy, slotsOf, Slotted}
+use Rattle.elements.specs.WellMade.{WellMade, Formed}
 
 -- the fields of `WellMade` as tests
-abbrev tests : Shape → List Bool
+abbrev tests : Slots → List Bool
 tests shape =
     (shape .free || shape .looked)
     ∷ (shape .free || constructed (shape .within))
@@ -55,7 +57,7 @@ either : (n : ℕ) (t b : Bool) → eqb n 0 ≡ t → t || b ≡ true → (n ≡
 either n true b z e = inl (eqb-true n 0 z)
 either n false b z e = inr e
 
-well-made : (shape : Shape) → all (tests shape) ≡ true → WellMade shape
+well-made : (shape : Slots) → all (tests shape) ≡ true → WellMade shape
 well-made shape e =
     let k = every (tests shape) e in
     record {
@@ -73,23 +75,40 @@ well-made shape e =
       pieces = either (shape .pieces) (eqb (shape .pieces) 0) (constructed (shape .pieces)) refl (k .1 .1 .1 .1 .1 .1 .1 .1 .1 .1 .1 .0);
     }
 
-one-of : (b : Bool) (x y : Shape) → WellMade x → WellMade y → WellMade (cond b x y)
+made-by : (octet : ℕ) (contents : Contents) → WellMade (slotsBy octet contents)
+made-by octet profile = well-made (slotsBy octet profile) refl
+made-by octet (described needed types) = well-made (slotsBy octet (described needed types)) refl
+made-by octet (unit holders) = well-made (slotsBy octet (unit holders)) refl
+made-by octet style = well-made (slotsBy octet style) refl
+
+pub made : (shape : Shape) → WellMade (slotsOf shape)
+made shape = made-by (shape .octet) (shape .contents)
+
+-- all of some shapes have their slots
+abbrev AllSlotted : Shapes → Type 0
+AllSlotted [] = Unit {0}
+AllSlotted (shape ∷ shapes) = Slotted (shape .contents) × AllSlotted shapes
+
+one-of : (b : Bool) (x y : Shape) → Slotted (x .contents) → Slotted (y .contents) → Slotted (cond b x y .contents)
 one-of true x y p q = p
 one-of false x y p q = q
 
--- whether shapes pass
-abbrev passed : Shapes → List Bool
-passed shapes = map (λ shape. all (tests shape)) shapes
+among : (shapes : Shapes) → AllSlotted shapes → (type : List ℕ) → Slotted (shapeIn shapes type .contents)
+among [] m type = tt
+among (shape ∷ shapes) m type = one-of (is (shape .octet) type) shape (shapeIn shapes type) (m .0) (among shapes (m .1) type)
 
--- the shape of any type field; where there is none, that of no element
-shape-made : (shapes : Shapes) → Every (passed shapes) → (type : List ℕ) → WellMade (shapeIn shapes type)
-shape-made [] m type = well-made noShape refl
-shape-made (shape ∷ shapes) m type =
-    one-of (is (shape .octet) type) shape (shapeIn shapes type) (well-made shape (m .0)) (shape-made shapes (m .1) type)
+all-slotted : (edition : Edition) → AllSlotted (shapesOf edition)
+all-slotted Of1988 = (tt, (tt, (tt, (refl, (tt, (tt, (tt, (tt, tt))))))))
 
-all-passed : (edition : Edition) → all (passed (shapesOf edition)) ≡ true
-all-passed Of1988 = refl
-
-pub made : (edition : Edition) (type : List ℕ) → WellMade (shapeOf edition type)
+pub slotted : (edition : Edition) (type : List ℕ) → Slotted (shapeOf edition type .contents)
 unfolding shapeOf
-made edition type = shape-made (shapesOf edition) (every (passed (shapesOf edition)) (all-passed edition)) type
+slotted edition type = among (shapesOf edition) (all-slotted edition) type
+
+formed-by : (contents : Contents) → Slotted contents → Formed (holdersOf contents)
+formed-by profile w = tt
+formed-by (described needed types) w = tt
+formed-by (unit holders) w = subst Formed (sym w) (refl, (refl, tt))
+formed-by style w = tt
+
+pub formed : (edition : Edition) (type : List ℕ) → Formed (holdersOf (shapeOf edition type .contents))
+formed edition type = formed-by (shapeOf edition type .contents) (slotted edition type)

@@ -18,10 +18,10 @@ use Rattle.portions.specs.Portions.{all, allPortions, values, mostPortions}
 use Rattle.portions.proofs.Judging.{only-portions}
 use Rattle.portions.proofs.Meetings.{portions-primitive}
 use Rattle.elements.specs.declared.Frame.{Frame}
-use Rattle.elements.specs.declared.Shape.{Shape}
+use Rattle.elements.specs.declared.Slots.{Slots}
 use Rattle.elements.specs.declared.Typed.{Typed}
-use Rattle.elements.specs.Judge.{contentOf, elementOf, spelt}
-use Rattle.elements.specs.Rows.{rowOf}
+use Rattle.elements.specs.Judge.{spelt}
+use Rattle.elements.specs.Slots.{slotContent, slotElement, slotRow}
 use Rattle.elements.specs.Says.{Says, portionsRun}
 use Rattle.elements.specs.Sees.{listSpelt, speltBy, rowBy, Passes}
 use Rattle.elements.proofs.Findings.{Findings, elementIn, identifier-bounds, logical-bounds, portions-are, names-by}
@@ -39,10 +39,10 @@ first-true : (a b : Bool) → a && b ≡ true → a ≡ true
 first-true true b e = refl
 first-true false b e = absurd (false≢true e)
 
-module _ {s : List ℕ} {shape : Shape} {r : Run} {frame : Frame} {g : Gathered} {listed : PortionList} {numbers : List ℕ} {typed : Typed}
+module _ {s : List ℕ} {shape : Slots} {r : Run} {frame : Frame} {g : Gathered} {listed : PortionList} {numbers : List ℕ} {typed : Typed}
     (f : Findings s shape r frame g listed numbers typed) (whole : Span) where
-  row-by : typed .fits ≡ true → rowBy shape frame (typed .value) g whole ≡ rowOf shape s (whole .first) (whole .past) (itemsOf s r)
-  unfolding rowOf elementOf
+  row-by : typed .fits ≡ true → rowBy shape frame (typed .value) g whole ≡ slotRow shape s (whole .first) (whole .past) (itemsOf s r)
+  unfolding slotRow slotElement
   row-by t =
       rw (
         f .types .object t,
@@ -69,7 +69,7 @@ module _ {s : List ℕ} {shape : Shape} {r : Run} {frame : Frame} {g : Gathered}
       well = all-three (spelt (elementIn shape s r .identifier)) (spelt (elementIn shape s r .logical)) (listSpelt listed) q
 
       says : Says s (rowBy shape frame (typed .value) g whole) (elementIn shape s r)
-      unfolding elementOf
+      unfolding slotElement
       says =
           record {
             kind = refl;
@@ -79,14 +79,14 @@ module _ {s : List ℕ} {shape : Shape} {r : Run} {frame : Frame} {g : Gathered}
             portions-fine = relisted-fine (f .framed .fine) (f .gathers .portions) (f .made .portions) primitive;
             only-portions = ap (λ (i : Items). allPortions (plain s i)) same-items ∙ only-portions (f .lists) none;
             portions = ap (λ (i : Items). values (plain s i)) same-items ∙ sym (portions-are f);
-            content = held-contains s (frame .content) (f .framed .content .placed) (contentOf shape (treeIn s r)) (f .framed .content .held);
+            content = held-contains s (frame .content) (f .framed .content .placed) (slotContent shape (treeIn s r)) (f .framed .content .held);
             spelt = sym (names-by f none) ∙ q;
           }
 
       few : listed .count ≤ mostPortions
       few = leb-true (listed .count) mostPortions (first-true (leb (listed .count) mostPortions) (not (listed .misspelt)) (well .2))
 
-      pub passes-by : Passes s shape r (whole .first) (whole .past) numbers
+      pub passes-by : Passes s (slotRow shape s (whole .first) (whole .past) (itemsOf s r)) (slotElement shape (treeIn s r)) numbers
           (record { refusal = 0; row = rowBy shape frame (typed .value) g whole; count = listed .count })
       passes-by =
           record {

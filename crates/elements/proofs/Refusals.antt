@@ -1,19 +1,19 @@
 -- Rules 9 to 15 of one element, taken apart: 9, 10 and 11 by their own tests, then the shape's, then 15. Assumes nothing.
 use mathlib.Core.Path.{_≡_, refl}
-use mathlib.Core.Bool.{Bool, true, false, cond, not, xor}
-use mathlib.Core.List.{List, [], _∷_}
+use mathlib.Core.Bool.{Bool, true, false, cond, xor}
+use mathlib.Core.List.{List, [], _∷_, _++_}
 use Prim.Native.Nat.{ℕ}
 use lib.Dec.{eqb, leb}
 use lib.ListN.{length}
 use Rattle.tree.specs.Tree.{Tree}
-use Rattle.contents.specs.Search.{is, firstValue}
+use Rattle.contents.specs.Search.{is}
 use Rattle.elements.specs.declared.Edition.{Edition}
 use Rattle.elements.specs.Shape.{shapeOf}
-use Rattle.elements.specs.Judge.{Element, elementOf, asTabled, typeFits, namesFit, mostElements, profile, twice, firstOf, _when_, shapeRefusal, refusalOf}
+use Rattle.elements.specs.Judge.{valueAt, typeOctet, typesOf, Element, elementOf, asTabled, typeFits, namesFit, mostElements, profile, twice, firstOf, _when_, contentsRules, shapeRefusal, refusalOf}
 use Rattle.elements.specs.Sees.{numberOf}
 
 -- the last test counts where none before it refuses
-then-last : (a b c d : Bool) → firstOf ((12 when not a) ∷ (13 when not b) ∷ (14 when not c) ∷ (15 when d) ∷ [])
+then-last : (a b c d : Bool) → firstOf (contentsRules a b c ++ (15 when d) ∷ [])
     ≡ cond (eqb (numberOf a b c) 0) (cond d 15 0) (numberOf a b c)
 then-last true true true d = refl
 then-last true true false d = refl
@@ -43,5 +43,5 @@ module _ (edition : Edition) (done : List Element) (type : List ℕ) (run : Tree
       refusal-by-shape e =
           let shape = shapeOf edition type in
           rw (few, known, e)
-          (then-last (asTabled shape run) (typeFits (shape .types) (firstValue (shape .object) run)) (namesFit (elementOf shape run))
+          (then-last (asTabled (shape .contents) run) (typeFits (typesOf (shape .contents)) (valueAt (typeOctet (shape .contents)) run)) (namesFit (elementOf shape run))
           (twice done (elementOf shape run)))

@@ -16,11 +16,12 @@ use Rattle.portions.specs.declared.PortionList.{PortionList}
 use Rattle.elements.specs.declared.Frame.{Frame}
 use Rattle.elements.specs.declared.Row.{Row}
 use Rattle.elements.specs.declared.Seen.{Seen}
-use Rattle.elements.specs.declared.Shape.{Shape}
+use Rattle.elements.specs.declared.Slots.{Slots}
 use Rattle.elements.specs.declared.Typed.{Typed}
-use Rattle.elements.specs.Judge.{contentOf, piecesAlone, ordered, asTabled, shapeRefusal}
+use Rattle.elements.specs.Judge.{piecesAlone}
+use Rattle.elements.specs.Slots.{slotContent, slotOrdered, slotTabled, slotRefusal}
 use Rattle.elements.specs.Says.{Placed, RowPlaced}
-use Rattle.elements.specs.Sees.{tabledBy, speltBy, numberOf, rowBy, noRow, refusedBy, seenBy, Sees}
+use Rattle.elements.specs.Sees.{tabledBy, speltBy, numberOf, rowBy, noRow, refusedBy, seenBy, SeesSlots}
 use Rattle.elements.proofs.Bounding.{no-span-placed, counted-placed}
 use Rattle.elements.proofs.Findings.{Findings, elementIn, no-others, names-by, number-by}
 use Rattle.elements.proofs.Passing.{passes-by}
@@ -31,19 +32,19 @@ no-row-placed s =
     record { kind = omega arith; object = omega arith; whole = none; identifier = none; logical = none; portions = none; content = none }
 
 -- contents not as tabled: items out of order, or another item among the pieces
-untabled : (s : List ℕ) (shape : Shape) (r : Run) (first past : ℕ) (numbers : List ℕ)
-    → asTabled shape (treeIn s r) ≡ false → Sees s shape r first past numbers (refusedBy 12)
-unfolding shapeRefusal
+untabled : (s : List ℕ) (shape : Slots) (r : Run) (first past : ℕ) (numbers : List ℕ)
+    → slotTabled shape (treeIn s r) ≡ false → SeesSlots s shape r first past numbers (refusedBy 12)
+unfolding slotRefusal
 untabled s shape r first past numbers e = record { refusal = rw e; placed = no-row-placed s; passes = λ z. absurd (omega arith) }
 
-module _ (s : List ℕ) (shape : Shape) (r : Run) (first past : ℕ) (numbers : List ℕ) where
-  pub sees-unordered : ordered shape (treeIn s r) ≡ false → Sees s shape r first past numbers (refusedBy 12)
-  unfolding asTabled
+module _ (s : List ℕ) (shape : Slots) (r : Run) (first past : ℕ) (numbers : List ℕ) where
+  pub sees-unordered : slotOrdered shape (treeIn s r) ≡ false → SeesSlots s shape r first past numbers (refusedBy 12)
+  unfolding slotTabled
   sees-unordered e = untabled s shape r first past numbers (rw e)
 
-  pub sees-others : piecesAlone (contentOf shape (treeIn s r)) ≡ false → Sees s shape r first past numbers (refusedBy 12)
-  unfolding asTabled
-  sees-others e = untabled s shape r first past numbers (rw (e, and-false (ordered shape (treeIn s r))))
+  pub sees-others : piecesAlone (slotContent shape (treeIn s r)) ≡ false → SeesSlots s shape r first past numbers (refusedBy 12)
+  unfolding slotTabled
+  sees-others e = untabled s shape r first past numbers (rw (e, and-false (slotOrdered shape (treeIn s r))))
 
 -- none of the rules refuses
 all-well : (a b c : Bool) → numberOf a b c ≡ 0 → (a ≡ true) × (b ≡ true) × (c ≡ true)
@@ -52,7 +53,7 @@ all-well true true false e = absurd (omega arith)
 all-well true false c e = absurd (omega arith)
 all-well false b c e = absurd (omega arith)
 
-module _ {s : List ℕ} {shape : Shape} {r : Run} {frame : Frame} {g : Gathered} {listed : PortionList} {numbers : List ℕ} {typed : Typed}
+module _ {s : List ℕ} {shape : Slots} {r : Run} {frame : Frame} {g : Gathered} {listed : PortionList} {numbers : List ℕ} {typed : Typed}
     (f : Findings s shape r frame g listed numbers typed) (whole : Span)
     (small : typed .value < 256) (w : Placed s whole) (content : Placed s (frame .content .value)) where
   row-placed : RowPlaced s (rowBy shape frame (typed .value) g whole)
@@ -69,11 +70,11 @@ module _ {s : List ℕ} {shape : Shape} {r : Run} {frame : Frame} {g : Gathered}
 
   module _ (tabled fit : Bool) (p : tabled ≡ tabledBy (shape .identifier .needed) g (listed .others))
       (q : fit ≡ speltBy (elementIn shape s r .identifier) (elementIn shape s r .logical) listed) where
-    sees-either : Sees s shape r (whole .first) (whole .past) numbers
+    sees-either : SeesSlots s shape r (whole .first) (whole .past) numbers
         (seenBy (numberOf tabled (typed .fits) fit) (rowBy shape frame (typed .value) g whole) (listed .count))
     sees-either =
         let number = number-by f tabled fit p (λ none. q ∙ names-by f none) in
-        cond-holds (Sees s shape r (whole .first) (whole .past) numbers) (eqb (numberOf tabled (typed .fits) fit) 0)
+        cond-holds (SeesSlots s shape r (whole .first) (whole .past) numbers) (eqb (numberOf tabled (typed .fits) fit) 0)
         (λ e.
         let zero = eqb-true (numberOf tabled (typed .fits) fit) 0 e in
         let k = all-well tabled (typed .fits) fit zero in
@@ -83,5 +84,5 @@ module _ {s : List ℕ} {shape : Shape} {r : Run} {frame : Frame} {g : Gathered}
 
     -- the same of what the code has, step by step
     pub sees-by : (number : ℕ) → number ≡ numberOf tabled (typed .fits) fit → (row : Row) → row ≡ rowBy shape frame (typed .value) g whole
-        → (seen : Seen) → seen ≡ seenBy number row (listed .count) → Sees s shape r (whole .first) (whole .past) numbers seen
+        → (seen : Seen) → seen ≡ seenBy number row (listed .count) → SeesSlots s shape r (whole .first) (whole .past) numbers seen
     sees-by number n row w seen e = rw (e, n, w) sees-either

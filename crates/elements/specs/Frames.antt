@@ -12,10 +12,12 @@ use Rattle.contents.specs.declared.Span.{Span}
 use Rattle.contents.specs.Search.{Value, firstValue, firstRun, boundsOf, itemsIn}
 use Rattle.elements.specs.declared.Frame.{Frame}
 use Rattle.elements.specs.declared.Holder.{Holder}
-use Rattle.elements.specs.declared.Shape.{Shape}
+use Rattle.elements.specs.declared.Slots.{Slots}
 use Rattle.elements.specs.declared.Typed.{Typed}
-use Rattle.elements.specs.Judge.{bodyOf, Content, single, inPieces, contentOf, ordered, typeOf, typeFits}
-use Rattle.elements.specs.Rows.{bodyIn, contentOctet, noSpan}
+use Rattle.elements.specs.Judge.{Content, single, inPieces, contentOf, typeOf, typeFits}
+use Rattle.elements.specs.Slots.{slotBody, slotContent, slotOrdered, slotItems, slotOctet}
+use Rattle.elements.specs.Rows.{contentOctet, boundsAt, noSpan}
+use Rattle.elements.specs.Shape.{Shape}
 use Rattle.elements.specs.Says.{Placed, Bounds}
 
 -- v is the pair of the first item of the run r with the octet, and bounds its value, if that item is primitive
@@ -45,29 +47,38 @@ abbrev pub HoldsContent : List ℕ → Holder → Content → Type 0
 HoldsContent s holder (single value) = HoldsWhole s holder value
 HoldsContent s holder (inPieces run) = HoldsPieces s holder run
 
--- what holds the content of an element of a shape with the run r
-pub record Holding (s : List ℕ) (shape : Shape) (r : Run) (holder : Holder) : Type 0 where
-  pub pair : holder .value ≡ boundsOf (contentOctet shape (treeIn s r)) (itemsOf s r)
+-- what holds a content, of which the row has the fields
+pub record Holding (s : List ℕ) (fields : Span) (content : Content) (holder : Holder) : Type 0 where
+  pub pair : holder .value ≡ fields
   pub placed : Placed s (holder .value)
   pub fine : Fine s (holder .pieces)
-  pub held : HoldsContent s holder (contentOf shape (treeIn s r))
+  pub held : HoldsContent s holder content
+
+-- what holds the content of an element with the run r, by its shape, and by its slots
+abbrev pub HoldingShape : (s : List ℕ) → Shape → Run → Holder → Type 0
+HoldingShape s shape r holder =
+    let contents = shape .contents in
+    Holding s (boundsAt (contentOctet contents (treeIn s r)) (itemsOf s r)) (contentOf contents (treeIn s r)) holder
+
+abbrev pub HoldingSlots : (s : List ℕ) → Slots → Run → Holder → Type 0
+HoldingSlots s shape r holder = Holding s (boundsOf (slotOctet shape (treeIn s r)) (itemsOf s r)) (slotContent shape (treeIn s r)) holder
 
 -- nothing holds a content
 abbrev pub noHolder : Holder
 noHolder = record { value = noSpan; pieced = false; pieces = definiteRun 0 0 0 }
 
 -- where to look in an element whose items stand as tabled: what names it, its object type and its content
-pub record Framed (s : List ℕ) (shape : Shape) (r : Run) (frame : Frame) : Type 0 where
-  pub ordered-is : ordered shape (treeIn s r) ≡ true
+pub record Framed (s : List ℕ) (shape : Slots) (r : Run) (frame : Frame) : Type 0 where
+  pub ordered-is : slotOrdered shape (treeIn s r) ≡ true
   pub fine : Fine s (frame .body)
-  pub items : itemsOf s (frame .body) ≡ bodyIn shape (itemsOf s r)
-  pub tree : treeIn s (frame .body) ≡ bodyOf shape (treeIn s r)
+  pub items : itemsOf s (frame .body) ≡ slotItems shape (itemsOf s r)
+  pub tree : treeIn s (frame .body) ≡ slotBody shape (treeIn s r)
   pub object : Bounding s r (shape .object) (frame .object)
-  pub content : Holding s shape r (frame .content)
+  pub content : HoldingSlots s shape r (frame .content)
 
 -- the top of an element
-pub record Frames (s : List ℕ) (shape : Shape) (r : Run) (frame : Frame) : Type 0 where
-  pub fits : frame .fits ≡ ordered shape (treeIn s r)
+pub record Frames (s : List ℕ) (shape : Slots) (r : Run) (frame : Frame) : Type 0 where
+  pub fits : frame .fits ≡ slotOrdered shape (treeIn s r)
   pub framed : frame .fits ≡ true → Framed s shape r frame
 
 -- 13, and "object type (255 if none)"

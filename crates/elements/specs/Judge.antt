@@ -2,23 +2,99 @@
 -- "Element rules" and "Numbers given back". Over the tree of items alone, never places or length octets.
 -- Definitions only: assumes nothing.
 use Prim.Native.Nat.{ℕ, _%_}
-use mathlib.Core.Bool.{Bool, cond, true, _||_, not, _&&_, false, xor}
+use mathlib.Core.Bool.{Bool, cond, false, true, not, _&&_, _||_, xor}
 use mathlib.Core.List.{List, [], _∷_, _++_, map}
 use lib.Dec.{eqb, ltb, leb}
 use lib.ListN.{length}
+use mathlib.Core.Option.{Option, none, some}
 use Rattle.tree.specs.Tree.{empty, Tree, leaf, branch}
 use Rattle.names.specs.Names.{isIdentifier, same}
 use Rattle.index.specs.Rows.{nameSpaceOf}
-use Rattle.contents.specs.Search.{Value, absent, octets, amount, firstRun, firstValue, inOrder, is}
+use Rattle.contents.specs.Search.{Value, firstRun, absent, firstValue, amount, octets, inOrder, is}
+use Rattle.contents.specs.declared.Slot.{Slot}
 use Rattle.pieces.specs.Pieces.{joined, onlyPieces}
-use Rattle.portions.specs.Portions.{all, allPortions, values, wellSpelt, any, repeats}
-use Rattle.elements.specs.declared.Shape.{Shape}
+use Rattle.portions.specs.Portions.{all, any, allPortions, values, wellSpelt, repeats}
 use Rattle.elements.specs.declared.Edition.{Edition}
-use Rattle.elements.specs.Shape.{shapeOf}
+use Rattle.elements.specs.Shape.{ContentItem, whole, pieced, Contents, profile, described, unit, style, Shape, shapeOf}
 
--- where the items stand that name an element: nowhere, among its own items, or in one of them
-unfoldable pub bodyOf : Shape → Tree → Tree
-bodyOf shape run = cond (shape .looked) (cond (eqb (shape .within) 0) run (firstRun (shape .within) run)) empty
+-- where the items stand that name an element: nowhere, "in the 31", or "in a style" among its own items
+unfoldable pub bodyOf : Contents → Tree → Tree
+bodyOf profile run = empty
+bodyOf (described needed types) run = firstRun 0x31 run
+bodyOf (unit holders) run = firstRun 0x31 run
+bodyOf style run = run
+
+-- "at most one 41 (its identifier)", "at most one 40 (layout identifier)", "exactly one 45"
+abbrev pub identifierOctet : Contents → Option ℕ
+identifierOctet profile = none
+identifierOctet (described needed types) = some 0x41
+identifierOctet (unit holders) = some 0x40
+identifierOctet style = some 0x45
+
+-- "41 required in the 31" of a class; "exactly one 45"
+abbrev pub identifierNeeded : Contents → Bool
+identifierNeeded profile = false
+identifierNeeded (described needed types) = needed
+identifierNeeded (unit holders) = false
+identifierNeeded style = true
+
+-- "at most one 84 (logical identifier)"
+abbrev pub logicalOctet : Contents → Option ℕ
+logicalOctet profile = none
+logicalOctet (described needed types) = none
+logicalOctet (unit holders) = some 0x84
+logicalOctet style = none
+
+-- "at most one A1 (portions, ..)"
+abbrev pub portionsOctet : Contents → Option ℕ
+portionsOctet profile = none
+portionsOctet (described needed types) = some 0xA1
+portionsOctet (unit holders) = none
+portionsOctet style = none
+
+-- "no 61 and no 81", "no 60 and no A4", "In a style: no 65"
+abbrev pub barred : Contents → List ℕ
+barred profile = []
+barred (described needed types) = 0x61 ∷ 0x81 ∷ []
+barred (unit holders) = 0x60 ∷ 0xA4 ∷ []
+barred style = 0x65 ∷ []
+
+-- the item with the object type, and how many types there are
+abbrev pub typeOctet : Contents → Option ℕ
+typeOctet profile = none
+typeOctet (described needed types) = some 0x02
+typeOctet (unit holders) = none
+typeOctet style = none
+
+abbrev pub typesOf : Contents → ℕ
+typesOf profile = 0
+typesOf (described needed types) = types
+typesOf (unit holders) = 0
+typesOf style = 0
+
+-- the items that may hold content
+abbrev pub holdersOf : Contents → List ContentItem
+holdersOf profile = []
+holdersOf (described needed types) = []
+holdersOf (unit holders) = holders
+holdersOf style = []
+
+abbrev pub octetOf : ContentItem → ℕ
+octetOf (whole octet) = octet
+octetOf (pieced octet) = octet
+
+-- of the items with an octet, if one is looked for: the first value, the first run, and how many there are
+abbrev pub valueAt : Option ℕ → Tree → Value
+valueAt none run = absent
+valueAt (some octet) run = firstValue octet run
+
+abbrev pub runAt : Option ℕ → Tree → Tree
+runAt none run = empty
+runAt (some octet) run = firstRun octet run
+
+abbrev pub amountAt : Option ℕ → Tree → ℕ
+amountAt none run = 0
+amountAt (some octet) run = amount octet run
 
 -- "object type (255 if none)"
 abbrev pub noType : ℕ
@@ -40,9 +116,15 @@ pub data Content : Type 0 where
   single : Value → Content
   inPieces : Tree → Content
 
--- the content of an element of a shape with this run of items
-unfoldable pub contentOf : Shape → Tree → Content
-contentOf shape run = cond (noneOf (shape .pieces) run) (single (firstValue (shape .content) run)) (inPieces (firstRun (shape .pieces) run))
+-- what the first of some items that is there holds
+abbrev pub contentIn : List ContentItem → Tree → Content
+contentIn [] run = single absent
+contentIn (whole octet ∷ others) run = cond (noneOf octet run) (contentIn others run) (single (firstValue octet run))
+contentIn (pieced octet ∷ others) run = cond (noneOf octet run) (contentIn others run) (inPieces (firstRun octet run))
+
+-- the content of an element with this run of items
+unfoldable pub contentOf : Contents → Tree → Content
+contentOf contents run = contentIn (holdersOf contents) run
 
 -- the octets of a value, none if it is absent
 abbrev pub bytesOf : Value → List ℕ
@@ -72,34 +154,47 @@ pub record Element : Type 0 where
 -- what an element of a shape with this run of items says
 unfoldable pub elementOf : Shape → Tree → Element
 elementOf shape run =
-    let body = bodyOf shape run in
+    let contents = shape .contents in
+    let body = bodyOf contents run in
     record {
       kind = shape .octet % 32;
-      object = typeOf (firstValue (shape .object) run);
-      identifier = firstValue (shape .identifier .octet) body;
-      logical = firstValue (shape .logical) body;
-      portions = values (firstRun (shape .portions) body);
-      content = contentOf shape run;
+      object = typeOf (valueAt (typeOctet contents) run);
+      identifier = valueAt (identifierOctet contents) body;
+      logical = valueAt (logicalOctet contents) body;
+      portions = values (runAt (portionsOctet contents) body);
+      content = contentOf contents run;
     }
 
--- The items of an element are free, or stand in order, the second as tabled or what may stand instead of it.
-unfoldable pub ordered : Shape → Tree → Bool
-ordered shape run = shape .free || (inOrder (shape .one) (shape .two) run || inOrder (shape .one) (shape .instead) run)
+-- an item that is required, one that may be missing, and either
+abbrev pub required : ℕ → Slot
+required octet = record { octet = octet; needed = true }
+
+abbrev pub optional : ℕ → Slot
+optional octet = record { octet = octet; needed = false }
+
+abbrev pub asked : (needed : Bool) → ℕ → Slot
+asked needed octet = record { octet = octet; needed = needed }
+
+-- "02, then 31", "02 or nothing, then 31 or nothing", "31 or nothing, then 04"; or the items are free
+unfoldable pub ordered : Contents → Tree → Bool
+ordered profile run = true
+ordered (described needed types) run = inOrder (asked needed 0x02) (asked needed 0x31) run
+ordered (unit holders) run = any (map (λ item. inOrder (optional 0x31) (required (octetOf item)) run) holders)
+ordered style run = true
 
 -- 12 "contents not as tabled"
-unfoldable pub asTabled : Shape → Tree → Bool
-asTabled shape run =
-    let body = bodyOf shape run in
-    all (ordered shape run
-    ∷ piecesAlone (contentOf shape run)
-    ∷ not (shape .identifier .needed && noneOf (shape .identifier .octet) body)
-    ∷ atMostOne (shape .identifier .octet) body
-    ∷ atMostOne (shape .logical) body
-    ∷ atMostOne (shape .portions) body
-    ∷ noneOf (shape .never) body
-    ∷ noneOf (shape .neither) body
-    ∷ allPortions (firstRun (shape .portions) body)
-    ∷ [])
+unfoldable pub asTabled : Contents → Tree → Bool
+asTabled contents run =
+    let body = bodyOf contents run in
+    let identifiers = amountAt (identifierOctet contents) body in
+    all (ordered contents run
+    ∷ piecesAlone (contentOf contents run)
+    ∷ not (identifierNeeded contents && eqb identifiers 0)
+    ∷ leb identifiers 1
+    ∷ leb (amountAt (logicalOctet contents) body) 1
+    ∷ leb (amountAt (portionsOctet contents) body) 1
+    ∷ allPortions (runAt (portionsOctet contents) body)
+    ∷ map (λ octet. noneOf octet body) (barred contents))
 
 -- 13 "object type outside its range or not one octet"
 abbrev pub typeFits : (types : ℕ) → Value → Bool
@@ -151,26 +246,38 @@ abbrev pub firstOf : List Rule → ℕ
 firstOf [] = 0
 firstOf (r ∷ rs) = cond (r .refuses) (r .number) (firstOf rs)
 
--- rules 12 to 14 for an element with a shape and a run of items
+-- rules 9 to 11, for an element after n others: they look at its type field alone. `known` is the octet of its shape.
+abbrev pub placeRules : (n known : ℕ) → (type : List ℕ) → List Rule
+placeRules n known type =
+    (9 when leb mostElements n)
+    ∷ (10 when not (is known type))
+    ∷ (11 when xor (eqb n 0) (is profile type))
+    ∷ []
+
+-- rules 12 to 14, by whether the contents are as tabled, the object type is in its range, and the names are well spelt
+abbrev pub contentsRules : (tabled fits spelt : Bool) → List Rule
+contentsRules tabled fits spelt =
+    (12 when not tabled)
+    ∷ (13 when not fits)
+    ∷ (14 when not spelt)
+    ∷ []
+
+-- the same for an element with a shape and a run of items
+abbrev pub shapeRules : Shape → Tree → List Rule
+shapeRules shape run =
+    let contents = shape .contents in
+    contentsRules (asTabled contents run) (typeFits (typesOf contents) (valueAt (typeOctet contents) run)) (namesFit (elementOf shape run))
+
 unfoldable pub shapeRefusal : Shape → Tree → ℕ
-shapeRefusal shape run =
-    firstOf ((12 when not (asTabled shape run))
-    ∷ (13 when not (typeFits (shape .types) (firstValue (shape .object) run)))
-    ∷ (14 when not (namesFit (elementOf shape run)))
-    ∷ [])
+shapeRefusal shape run = firstOf (shapeRules shape run)
 
 -- rules 9 to 15 for an element with a type field and a run of items, after those that are done
 unfoldable pub refusalOf : Edition → (done : List Element) → (type : List ℕ) → Tree → ℕ
 refusalOf edition done type run =
     let shape = shapeOf edition type in
-    firstOf ((9 when leb mostElements (length done))
-    ∷ (10 when not (is (shape .octet) type))
-    ∷ (11 when xor (eqb (length done) 0) (is profile type))
-    ∷ (12 when not (asTabled shape run))
-    ∷ (13 when not (typeFits (shape .types) (firstValue (shape .object) run)))
-    ∷ (14 when not (namesFit (elementOf shape run)))
-    ∷ (15 when twice done (elementOf shape run))
-    ∷ [])
+    firstOf (placeRules (length done) (shape .octet) type
+    ++ shapeRules shape run
+    ++ (15 when twice done (elementOf shape run)) ∷ [])
 
 -- A letter is accepted with what its elements say, or refused by a number at an element, counted from 0.
 pub data Judged : Type 0 where

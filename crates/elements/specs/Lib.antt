@@ -3,6 +3,7 @@
 pub mod Shape
 pub mod Judge
 pub mod Rows
+pub mod Slots
 pub mod WellMade
 pub mod Says
 pub mod Frames

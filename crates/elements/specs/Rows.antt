@@ -4,19 +4,18 @@
 use Prim.Native.Nat.{ℕ, zero, suc}
 use mathlib.Core.Bool.{cond}
 use mathlib.Core.List.{List, [], _∷_, _++_}
-use lib.Dec.{eqb}
+use mathlib.Core.Option.{Option, none as nowhere, some}
 use lib.ListN.{length}
 use lib.Seq.{slice}
 use Rattle.headers.specs.Head.{typeField}
 use Rattle.octets.specs.Walk.{Items, none, item, startOf}
 use Rattle.tree.specs.Tree.{Tree, plain}
-use Rattle.contents.specs.Search.{itemsIn, boundsOf}
 use Rattle.contents.specs.declared.Span.{Span}
-use Rattle.elements.specs.declared.Shape.{Shape}
+use Rattle.contents.specs.Search.{itemsIn, boundsOf}
 use Rattle.elements.specs.declared.Row.{Row}
 use Rattle.elements.specs.declared.Edition.{Edition}
-use Rattle.elements.specs.Shape.{shapeOf}
-use Rattle.elements.specs.Judge.{noneOf, elementOf}
+use Rattle.elements.specs.Shape.{ContentItem, Contents, profile, described, unit, style, Shape, shapeOf}
+use Rattle.elements.specs.Judge.{noneOf, octetOf, holdersOf, elementOf, identifierOctet, logicalOctet, portionsOctet}
 
 -- the pair of what is absent
 abbrev pub noSpan : Span
@@ -27,26 +26,39 @@ abbrev pub bytesIn : List ℕ → Span → List ℕ
 bytesIn s v = slice (v .first) (v .past) s
 
 -- the items that name an element: `bodyOf` of another file, with places
-unfoldable pub bodyIn : Shape → Items → Items
-bodyIn shape items = cond (shape .looked) (cond (eqb (shape .within) 0) items (itemsIn (shape .within) items)) none
+unfoldable pub bodyIn : Contents → Items → Items
+bodyIn profile items = none
+bodyIn (described needed types) items = itemsIn 0x31 items
+bodyIn (unit holders) items = itemsIn 0x31 items
+bodyIn style items = items
 
 -- the octet of the item that holds the content: "The content fields of the row give the value of the 24." (W-201)
-unfoldable pub contentOctet : Shape → Tree → ℕ
-contentOctet shape run = cond (noneOf (shape .pieces) run) (shape .content) (shape .pieces)
+abbrev pub holderIn : List ContentItem → Tree → Option ℕ
+holderIn [] run = nowhere
+holderIn (holder ∷ others) run = cond (noneOf (octetOf holder) run) (holderIn others run) (some (octetOf holder))
+
+unfoldable pub contentOctet : Contents → Tree → Option ℕ
+contentOctet contents run = holderIn (holdersOf contents) run
+
+-- the bounds of the first item with an octet, if one is looked for. "Absent is 0 and 0."
+abbrev pub boundsAt : Option ℕ → Items → Span
+boundsAt nowhere items = record { first = 0; past = 0 }
+boundsAt (some octet) items = boundsOf octet items
 
 -- the row of an element of a shape that stands from first to past and has these items
 unfoldable pub rowOf : Shape → List ℕ → (first past : ℕ) → Items → Row
 rowOf shape s first past items =
-    let body = bodyIn shape items in
+    let contents = shape .contents in
+    let body = bodyIn contents items in
     let says = elementOf shape (plain s items) in
     record {
       kind = says .kind;
       object = says .object;
       whole = record { first = first; past = past };
-      identifier = boundsOf (shape .identifier .octet) body;
-      logical = boundsOf (shape .logical) body;
-      portions = boundsOf (shape .portions) body;
-      content = boundsOf (contentOctet shape (plain s items)) items;
+      identifier = boundsAt (identifierOctet contents) body;
+      logical = boundsAt (logicalOctet contents) body;
+      portions = boundsAt (portionsOctet contents) body;
+      content = boundsAt (contentOctet contents (plain s items)) items;
     }
 
 -- "Elements meet end to end from 0 to the stream's length."

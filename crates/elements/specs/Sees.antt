@@ -18,9 +18,11 @@ use Rattle.portions.specs.Portions.{mostPortions, all}
 use Rattle.elements.specs.declared.Frame.{Frame}
 use Rattle.elements.specs.declared.Row.{Row}
 use Rattle.elements.specs.declared.Seen.{Seen}
-use Rattle.elements.specs.declared.Shape.{Shape}
-use Rattle.elements.specs.Judge.{elementOf, spelt, firstOf, _when_, shapeRefusal}
+use Rattle.elements.specs.declared.Slots.{Slots}
+use Rattle.elements.specs.Judge.{Element, elementOf, spelt, firstOf, contentsRules, shapeRefusal}
 use Rattle.elements.specs.Rows.{rowOf, noSpan}
+use Rattle.elements.specs.Shape.{Shape}
+use Rattle.elements.specs.Slots.{slotElement, slotRefusal, slotRow}
 use Rattle.elements.specs.Says.{Placed, Says, RowPlaced}
 use Rattle.elements.specs.WellMade.{WellMade}
 
@@ -48,10 +50,10 @@ speltBy identifier logical listed = all (spelt identifier ∷ spelt logical ∷ 
 
 -- rules 12 to 14, by what was found of each
 abbrev pub numberOf : (tabled fits spelt : Bool) → ℕ
-numberOf tabled fits spelt = firstOf ((12 when not tabled) ∷ (13 when not fits) ∷ (14 when not spelt) ∷ [])
+numberOf tabled fits spelt = firstOf (contentsRules tabled fits spelt)
 
 -- the octets that matter in the run that names an element
-abbrev pub soughtOf : Shape → Sought
+abbrev pub soughtOf : Slots → Sought
 soughtOf shape = record {
   identifier = shape .identifier .octet;
   logical = shape .logical;
@@ -61,7 +63,7 @@ soughtOf shape = record {
 }
 
 -- the row of an element, by what was found
-abbrev pub rowBy : Shape → Frame → (object : ℕ) → Gathered → (whole : Span) → Row
+abbrev pub rowBy : Slots → Frame → (object : ℕ) → Gathered → (whole : Span) → Row
 rowBy shape frame object g whole = record {
   kind = shape .octet % 32;
   object = object;
@@ -93,7 +95,7 @@ abbrev pub seenBy : (number : ℕ) → Row → (count : ℕ) → Seen
 seenBy number row count = cond (eqb number 0) (record { refusal = 0; row = row; count = count }) (refusedBy number)
 
 -- what is needed to look into an element
-pub record Lookable (s : List ℕ) (shape : Shape) (frame : Frame) (whole : Span) : Type 0 where
+pub record Lookable (s : List ℕ) (shape : Slots) (frame : Frame) (whole : Span) : Type 0 where
   pub made : WellMade shape
   pub small : length s ≤ streamLimit
   pub fine : Fine s (frame .body)
@@ -101,17 +103,26 @@ pub record Lookable (s : List ℕ) (shape : Shape) (frame : Frame) (whole : Span
   pub content : Placed s (frame .content .value)
   pub whole-placed : Placed s whole
 
--- an element that rules 12 to 14 do not refuse: its row, and the numbers that bound its portions
-pub record Passes (s : List ℕ) (shape : Shape) (r : Run) (first past : ℕ) (bounds : List ℕ) (seen : Seen) : Type 0 where
-  pub row : seen .row ≡ rowOf shape s first past (itemsOf s r)
-  pub says : Says s (seen .row) (elementOf shape (treeIn s r))
-  pub count : seen .count ≡ length (elementOf shape (treeIn s r) .portions)
+-- an element with a row that rules 12 to 14 do not refuse, and the numbers that bound its portions
+pub record Passes (s : List ℕ) (its : Row) (e : Element) (bounds : List ℕ) (seen : Seen) : Type 0 where
+  pub row : seen .row ≡ its
+  pub says : Says s (seen .row) e
+  pub count : seen .count ≡ length (e .portions)
   pub few : seen .count ≤ mostPortions
   pub inside : Inside s (take (2 * seen .count) bounds)
-  pub stored : bounded s (take (2 * seen .count) bounds) ≡ elementOf shape (treeIn s r) .portions
+  pub stored : bounded s (take (2 * seen .count) bounds) ≡ e .portions
 
--- an element that stands from first to past and has the run r
-pub record Sees (s : List ℕ) (shape : Shape) (r : Run) (first past : ℕ) (bounds : List ℕ) (seen : Seen) : Type 0 where
-  pub refusal : seen .refusal ≡ shapeRefusal shape (treeIn s r)
+-- an element that is refused by a number, 0 for none, or has a row and says so much
+pub record Sees (s : List ℕ) (number : ℕ) (its : Row) (e : Element) (bounds : List ℕ) (seen : Seen) : Type 0 where
+  pub refusal : seen .refusal ≡ number
   pub placed : RowPlaced s (seen .row)
-  pub passes : seen .refusal ≡ 0 → Passes s shape r first past bounds seen
+  pub passes : seen .refusal ≡ 0 → Passes s its e bounds seen
+
+-- an element that stands from first to past and has the run r, by its shape, and by its slots
+abbrev pub SeesShape : (s : List ℕ) → Shape → (r : Run) (first past : ℕ) (bounds : List ℕ) → Seen → Type 0
+SeesShape s shape r first past bounds seen =
+    Sees s (shapeRefusal shape (treeIn s r)) (rowOf shape s first past (itemsOf s r)) (elementOf shape (treeIn s r)) bounds seen
+
+abbrev pub SeesSlots : (s : List ℕ) → Slots → (r : Run) (first past : ℕ) (bounds : List ℕ) → Seen → Type 0
+SeesSlots s shape r first past bounds seen =
+    Sees s (slotRefusal shape (treeIn s r)) (slotRow shape s first past (itemsOf s r)) (slotElement shape (treeIn s r)) bounds seen

@@ -1,12 +1,14 @@
--- What the code relies on in a shape, and what every shape of an edition is: an item with a value is primitive, one with a run is
+-- What the code relies on in the slots of a shape, and what every shape of an edition is: an item with a value is primitive, one with a run is
 -- constructed, and where items are free nothing is sought among them in order. Definitions only: assumes nothing.
 use mathlib.Core.Path.{_≡_}
 use mathlib.Core.Bool.{true, false}
+use mathlib.Core.List.{List, [], _∷_}
 use mathlib.Core.Logic.{_⊎_}
 use Rattle.headers.specs.Head.{constructed}
-use Rattle.elements.specs.declared.Shape.{Shape}
+use Rattle.elements.specs.declared.Slots.{Slots}
+use Rattle.elements.specs.Shape.{ContentItem, whole, pieced}
 
-pub record WellMade (shape : Shape) : Type 0 where
+pub record WellMade (shape : Slots) : Type 0 where
   -- items that stand in order are looked at, and one of them names the element
   pub looked : shape .free ≡ false → shape .looked ≡ true
   pub within : shape .free ≡ false → constructed (shape .within) ≡ true
@@ -22,3 +24,9 @@ pub record WellMade (shape : Shape) : Type 0 where
   pub content : constructed (shape .content) ≡ false
   pub portions : (shape .portions ≡ 0) ⊎ (constructed (shape .portions) ≡ true)
   pub pieces : (shape .pieces ≡ 0) ⊎ (constructed (shape .pieces) ≡ true)
+
+-- among the items that may hold content, those with a value are primitive, and those with pieces are constructed
+abbrev pub Formed : List ContentItem → Type 0
+Formed [] = Unit {0}
+Formed (whole octet ∷ others) = (constructed octet ≡ false) × Formed others
+Formed (pieced octet ∷ others) = (constructed octet ≡ true) × Formed others

@@ -1,7 +1,7 @@
 // The top of an element: which of its items stand where, by its shape.
 use super::Frame;
 use super::Holder;
-use super::Shape;
+use super::Slots;
 use contents::Opening;
 use contents::Part;
 use contents::PartFound;
@@ -15,9 +15,10 @@ ghost use Rattle.headers.specs.Head.{constructed};
 ghost use Rattle.runs.specs.Runs.{treeIn, definiteRun, Fine};
 ghost use Rattle.contents.specs.First.{IsFirst, Lacks};
 ghost use Rattle.contents.specs.Opening.{Opens, FoundIn};
-ghost use Rattle.elements.specs.Judge.{Content, ordered, piecesAlone};
+ghost use Rattle.elements.specs.Judge.{Content, piecesAlone};
+ghost use Rattle.elements.specs.Slots.{slotOrdered};
 ghost use Rattle.elements.specs.WellMade.{WellMade};
-ghost use Rattle.elements.specs.Frames.{Bounding, Inner, HoldsContent, Holding, noHolder, Frames};
+ghost use Rattle.elements.specs.Frames.{Bounding, Inner, HoldsContent, HoldingSlots, noHolder, Frames};
 
 fn no_run() -> Run
     ensures { λ r. ⌜ r ≡ definiteRun 0 0 0 ⌝ }
@@ -63,7 +64,7 @@ fn no_holder() -> Holder
 
 // A content in pieces is held by their item.
 fn held_in_pieces(p: Part) -> Holder
-    ensures { λ holder. ⌜ ((s : List ℕ) (shape : Shape) (r : Run) → WellMade shape → IsFirst s r (shape .pieces) p → Holding s shape r holder) ⌝ }
+    ensures { λ holder. ⌜ ((s : List ℕ) (shape : Slots) (r : Run) → WellMade shape → IsFirst s r (shape .pieces) p → HoldingSlots s shape r holder) ⌝ }
 {
     let run = p.inner;
     let value = contents::span_of(p);
@@ -76,7 +77,7 @@ fn held_in_pieces(p: Part) -> Holder
 
 // Where there are no pieces, it is held by the item with the content, if that is there.
 fn held_whole(found: PartFound) -> Holder
-    ensures { λ holder. ⌜ ((s : List ℕ) (shape : Shape) (r : Run) → WellMade shape → Lacks s r (shape .pieces) → FoundIn s r (shape .content) found → Holding s shape r holder) ⌝ }
+    ensures { λ holder. ⌜ ((s : List ℕ) (shape : Slots) (r : Run) → WellMade shape → Lacks s r (shape .pieces) → FoundIn s r (shape .content) found → HoldingSlots s shape r holder) ⌝ }
 {
     Holder {
         value: bounds_of(found),
@@ -86,9 +87,9 @@ fn held_whole(found: PartFound) -> Holder
 }
 
 // What of an opening's items holds the content of an element.
-fn holder_with(o: Opening, shape: Shape) -> Holder
+fn holder_with(o: Opening, shape: Slots) -> Holder
     requires { ⌜ WellMade shape ⌝ }
-    ensures { λ holder. ⌜ ((s : List ℕ) (r : Run) → Opens s r o → o .count ≤ 2 → Holding s shape r holder) ⌝ }
+    ensures { λ holder. ⌜ ((s : List ℕ) (r : Run) → Opens s r o → o .count ≤ 2 → HoldingSlots s shape r holder) ⌝ }
 {
     match contents::part_with(o, shape.pieces) {
         PartFound::At(p) => held_in_pieces(p),
@@ -97,9 +98,9 @@ fn holder_with(o: Opening, shape: Shape) -> Holder
 }
 
 // Whether an opening's items stand in order, the second as tabled or what may stand instead of it.
-fn stands(o: Opening, shape: Shape) -> bool
+fn stands(o: Opening, shape: Slots) -> bool
     requires { ⌜ shape .free ≡ false ⌝ }
-    ensures { λ b. ⌜ ((s : List ℕ) (r : Run) → Opens s r o → b ≡ ordered shape (treeIn s r)) ⌝ }
+    ensures { λ b. ⌜ ((s : List ℕ) (r : Run) → Opens s r o → b ≡ slotOrdered shape (treeIn s r)) ⌝ }
 {
     let one = shape.one;
     let two = shape.two;
@@ -111,7 +112,7 @@ fn stands(o: Opening, shape: Shape) -> bool
 }
 
 // The top of an element whose items stand in order.
-fn frame_in_order(s: &[u8], shape: Shape, r: Run) -> Frame
+fn frame_in_order(s: &[u8], shape: Slots, r: Run) -> Frame
     requires { ⌜ Fine (now s) r × WellMade shape × (shape .free ≡ false) ⌝ }
     ensures { λ frame. ⌜ Frames (now (s .entry)) shape r frame ⌝ }
 {
@@ -129,7 +130,7 @@ fn frame_in_order(s: &[u8], shape: Shape, r: Run) -> Frame
 }
 
 // The top of an element: at most three items of it are met.
-pub fn frame_of(s: &[u8], shape: Shape, r: Run) -> Frame
+pub fn frame_of(s: &[u8], shape: Slots, r: Run) -> Frame
     requires { ⌜ Fine (now s) r × WellMade shape ⌝ }
     ensures { λ frame. ⌜ Frames (now (s .entry)) shape r frame ⌝ }
 {
@@ -153,9 +154,9 @@ pub fn frame_of(s: &[u8], shape: Shape, r: Run) -> Frame
 }
 
 // What holds the content of an element of a stream that was judged. It looks for one item, where `frame_of` tells all of the top.
-pub fn holder_in(s: &[u8], shape: Shape, r: Run) -> Holder
+pub fn holder_in(s: &[u8], shape: Slots, r: Run) -> Holder
     requires { ⌜ Fine (now s) r × WellMade shape ⌝ }
-    ensures { λ holder. ⌜ Holding (now (s .entry)) shape r holder ⌝ }
+    ensures { λ holder. ⌜ HoldingSlots (now (s .entry)) shape r holder ⌝ }
 {
     match contents::first_with(s, r, shape.pieces) {
         PartFound::At(p) => held_in_pieces(p),

@@ -12,10 +12,11 @@ ghost use lib.ListN.{length};
 ghost use Rattle.octets.specs.Walk.{none, streamLimit};
 ghost use Rattle.runs.specs.Runs.{itemsOf, treeIn, Fine};
 ghost use Rattle.portions.specs.Lists.{ListsPortions};
-ghost use Rattle.elements.specs.Judge.{contentOf, piecesAlone};
+ghost use Rattle.elements.specs.Judge.{piecesAlone};
+ghost use Rattle.elements.specs.Slots.{slotContent};
 ghost use Rattle.elements.specs.WellMade.{WellMade};
 ghost use Rattle.elements.specs.Frames.{Framed};
-ghost use Rattle.elements.specs.Sees.{soughtOf, rowBy, refusedBy, seenBy, Lookable, Sees};
+ghost use Rattle.elements.specs.Sees.{soughtOf, rowBy, refusedBy, seenBy, Lookable, SeesSlots};
 
 mod frames; // frames.rt: the top of an element
 mod rules; // rules.rt: rules 12 to 14, by what was found
@@ -33,8 +34,9 @@ pub enum Edition {
 // The object type of an element that has none.
 pub const NO_TYPE: usize = 255;
 
-// The shape of an element: which items it has, and what they are for. An octet 0 stands for none.
-pub struct Shape {
+// A shape as the code looks for it: the definitions have a case for each kind of element, and here one record has the slots of them all, so
+// that one function serves every element. Most slots are empty: an octet 0 stands for none.
+pub struct Slots {
     pub octet: usize,
     // whether its items are looked at, and whether they are free or stand in order
     pub looked: bool,
@@ -129,7 +131,7 @@ fn seen_by(number: usize, row: Row, count: usize) -> Seen
     }
 }
 
-fn sought_of(shape: Shape) -> Sought
+fn sought_of(shape: Slots) -> Sought
     ensures { λ r. ⌜ r ≡ soughtOf shape ⌝ }
 {
     let identifier = shape.identifier;
@@ -159,7 +161,7 @@ fn listed_of(s: &[u8], g: Gathered, bounds: &mut [u32]) -> PortionList
 }
 
 // The row of an element.
-fn row_of(shape: Shape, frame: Frame, object: usize, g: Gathered, whole: Span) -> Row
+fn row_of(shape: Slots, frame: Frame, object: usize, g: Gathered, whole: Span) -> Row
     ensures { λ row. ⌜ row ≡ rowBy shape frame object g whole ⌝ }
 {
     let identifier = g.identifier;
@@ -179,9 +181,9 @@ fn row_of(shape: Shape, frame: Frame, object: usize, g: Gathered, whole: Span) -
 }
 
 // What is seen of an element whose items stand as tabled. What names it is gathered once, and its portions are read once.
-fn see_body(s: &[u8], shape: Shape, frame: Frame, whole: Span, bounds: &mut [u32]) -> Seen
+fn see_body(s: &[u8], shape: Slots, frame: Frame, whole: Span, bounds: &mut [u32]) -> Seen
     requires { ⌜ Lookable (now s) shape frame whole × (128 ≤ length (now bounds)) ⌝ }
-    ensures { λ seen. ⌜ ((r : Run) → Framed (now (s .entry)) shape r frame → piecesAlone (contentOf shape (treeIn (now (s .entry)) r)) ≡ true → Sees (now (s .entry)) shape r (whole .first) (whole .past) (now (bounds .exit)) seen) ⌝ }
+    ensures { λ seen. ⌜ ((r : Run) → Framed (now (s .entry)) shape r frame → piecesAlone (slotContent shape (treeIn (now (s .entry)) r)) ≡ true → SeesSlots (now (s .entry)) shape r (whole .first) (whole .past) (now (bounds .exit)) seen) ⌝ }
 {
     let body = frame.body;
     let g = contents::gather(s, body, sought_of(shape));
@@ -198,9 +200,9 @@ fn see_body(s: &[u8], shape: Shape, frame: Frame, whole: Span, bounds: &mut [u32
 
 // What rules 12 to 14 say of an element that stands from `first` to `past` and has the run r; and its row, if they refuse nothing. The
 // judge of a letter calls it once for each element, and lends the numbers that its portions are then compared by.
-pub fn see(s: &[u8], shape: Shape, r: Run, first: usize, past: usize, bounds: &mut [u32]) -> Seen
+pub fn see(s: &[u8], shape: Slots, r: Run, first: usize, past: usize, bounds: &mut [u32]) -> Seen
     requires { ⌜ Fine (now s) r × WellMade shape × (length (now s) ≤ streamLimit) × (first ≤ past) × (past ≤ length (now s)) × (128 ≤ length (now bounds)) ⌝ }
-    ensures { λ seen. ⌜ Sees (now (s .entry)) shape r first past (now (bounds .exit)) seen ⌝ }
+    ensures { λ seen. ⌜ SeesSlots (now (s .entry)) shape r first past (now (bounds .exit)) seen ⌝ }
 {
     let frame = frames::frame_of(s, shape, r);
     if !frame.fits {

@@ -1,10 +1,11 @@
-// The shapes of elements, and which octet has which. Made anew at each use: a table would be copied for it.
+// The slots of each shape, and which octet has which. Made anew at each use: a table would be copied for it.
 use super::Edition;
-use super::Shape;
+use super::Slots;
 use contents::Slot;
 ghost use mathlib.Core.Path.{_≡_};
 ghost use Rattle.headers.specs.Head.{typeField};
-ghost use Rattle.elements.specs.Shape.{profileShape, describedShape, unitShape, styleShape, shapes1988, shapeIn, shapeOf};
+ghost use Rattle.elements.specs.Shape.{shapes1988, shapeIn, shapeOf};
+ghost use Rattle.elements.specs.Slots.{profileSlots, describedSlots, unitSlots, styleSlots, slotsOf};
 
 const NO_ITEM: Slot = Slot {
     octet: 0,
@@ -15,10 +16,10 @@ const LAYOUT_TYPES: usize = 5;
 
 const LOGICAL_TYPES: usize = 3;
 
-fn profile_shape(octet: usize) -> Shape
-    ensures { λ r. ⌜ r ≡ profileShape octet ⌝ }
+fn profile_slots(octet: usize) -> Slots
+    ensures { λ r. ⌜ r ≡ profileSlots octet ⌝ }
 {
-    Shape {
+    Slots {
         octet,
         looked: false,
         free: true,
@@ -39,10 +40,10 @@ fn profile_shape(octet: usize) -> Shape
 }
 
 // A class, of which the items are needed, or an object.
-fn described_shape(octet: usize, needed: bool, types: usize) -> Shape
-    ensures { λ r. ⌜ r ≡ describedShape octet needed types ⌝ }
+fn described_slots(octet: usize, needed: bool, types: usize) -> Slots
+    ensures { λ r. ⌜ r ≡ describedSlots octet needed types ⌝ }
 {
-    Shape {
+    Slots {
         octet,
         looked: true,
         free: false,
@@ -74,10 +75,10 @@ fn described_shape(octet: usize, needed: bool, types: usize) -> Shape
     }
 }
 
-fn unit_shape(octet: usize) -> Shape
-    ensures { λ r. ⌜ r ≡ unitShape octet ⌝ }
+fn unit_slots(octet: usize) -> Slots
+    ensures { λ r. ⌜ r ≡ unitSlots octet ⌝ }
 {
-    Shape {
+    Slots {
         octet,
         looked: true,
         free: false,
@@ -109,10 +110,10 @@ fn unit_shape(octet: usize) -> Shape
     }
 }
 
-fn style_shape(octet: usize) -> Shape
-    ensures { λ r. ⌜ r ≡ styleShape octet ⌝ }
+fn style_slots(octet: usize) -> Slots
+    ensures { λ r. ⌜ r ≡ styleSlots octet ⌝ }
 {
-    Shape {
+    Slots {
         octet,
         looked: true,
         free: true,
@@ -135,25 +136,25 @@ fn style_shape(octet: usize) -> Shape
     }
 }
 
-fn shape_1988(octet: usize) -> Shape
-    ensures { λ r. ⌜ r ≡ shapeIn shapes1988 (typeField octet) ⌝ }
+fn shape_1988(octet: usize) -> Slots
+    ensures { λ r. ⌜ r ≡ slotsOf (shapeIn shapes1988 (typeField octet)) ⌝ }
 {
     match octet {
-        0xA0 => profile_shape(0xA0),
-        0xA1 => described_shape(0xA1, true, LAYOUT_TYPES),
-        0xA2 => described_shape(0xA2, false, LAYOUT_TYPES),
-        0xA3 => unit_shape(0xA3),
-        0xA5 => described_shape(0xA5, true, LOGICAL_TYPES),
-        0xA6 => described_shape(0xA6, false, LOGICAL_TYPES),
-        0xA7 => style_shape(0xA7),
-        0xA8 => style_shape(0xA8),
-        _ => profile_shape(0),
+        0xA0 => profile_slots(0xA0),
+        0xA1 => described_slots(0xA1, true, LAYOUT_TYPES),
+        0xA2 => described_slots(0xA2, false, LAYOUT_TYPES),
+        0xA3 => unit_slots(0xA3),
+        0xA5 => described_slots(0xA5, true, LOGICAL_TYPES),
+        0xA6 => described_slots(0xA6, false, LOGICAL_TYPES),
+        0xA7 => style_slots(0xA7),
+        0xA8 => style_slots(0xA8),
+        _ => profile_slots(0),
     }
 }
 
 // The shape of an element by its octet, in an edition.
-pub fn shape_of(edition: Edition, octet: usize) -> Shape
-    ensures { λ r. ⌜ r ≡ shapeOf edition (typeField octet) ⌝ }
+pub fn shape_of(edition: Edition, octet: usize) -> Slots
+    ensures { λ r. ⌜ r ≡ slotsOf (shapeOf edition (typeField octet)) ⌝ }
 {
     match edition {
         Edition::Of1988 => shape_1988(octet),

@@ -3,6 +3,7 @@
 use mathlib.Core.Path.{_≡_, refl, sym, ap, _∙_, subst}
 use mathlib.Core.Bool.{Bool, true, false, cond, _&&_}
 use mathlib.Core.List.{List, [], _∷_}
+use mathlib.Core.Option.{none as nowhere}
 use Prim.Native.Nat.{ℕ, _%_, _≤_}
 use native.Mathlib.Omega.{arith}
 use lib.Dec.{eqb}
@@ -20,9 +21,9 @@ use Rattle.portions.specs.Portions.{allPortions, values, wellSpelt, repeats}
 use Rattle.index.specs.Rows.{nameSpaceOf}
 use Rattle.elements.specs.declared.Edition.{Edition}
 use Rattle.elements.specs.declared.Row.{Row}
-use Rattle.elements.specs.declared.Shape.{Shape}
-use Rattle.elements.specs.Judge.{single, contentOf, Element, noType, bodyOf, elementOf, namesFit, shares, clash, twice, refusalOf}
-use Rattle.elements.specs.Rows.{bodyIn, rowOf, noSpan}
+use Rattle.elements.specs.Shape.{Contents, profile, described, unit, style, ContentItem, whole, pieced, Shape}
+use Rattle.elements.specs.Judge.{single, contentIn, contentOf, Element, noType, bodyOf, elementOf, namesFit, shares, clash, twice, refusalOf}
+use Rattle.elements.specs.Rows.{holderIn, contentOctet, bodyIn, rowOf, noSpan}
 use Rattle.elements.specs.Says.{portionsRun, Says}
 use Rattle.judging.specs.declared.PlacedItem.{PlacedItem}
 use Rattle.judging.specs.Judges.{earlyRefusal, shapeBy, elementBy, MayBeBare, Passing}
@@ -44,26 +45,38 @@ bareRow octet first past = record {
   content = noSpan;
 }
 
-either : {A : Type 0} (b : Bool) (x : A) → cond b x x ≡ x
-either true x = refl
-either false x = refl
+-- where nothing stands, nothing holds a content
+holds-nothing : (holders : List ContentItem) → contentIn holders empty ≡ single absent
+unfolding amount
+holds-nothing [] = refl
+holds-nothing (whole octet ∷ others) = holds-nothing others
+holds-nothing (pieced octet ∷ others) = holds-nothing others
 
-module _ (shape : Shape) where
-  body-empty : bodyOf shape empty ≡ empty
-  unfolding bodyOf firstRun
-  body-empty = rw (either (eqb (shape .within) 0) empty) (either (shape .looked) empty)
+held-nowhere : (holders : List ContentItem) → holderIn holders empty ≡ nowhere
+unfolding amount
+held-nowhere [] = refl
+held-nowhere (holder ∷ others) = held-nowhere others
 
-  body-none : bodyIn shape none ≡ none
-  unfolding bodyIn itemsIn
-  body-none = rw (either (eqb (shape .within) 0) none) (either (shape .looked) none)
+says-nothing-by : (octet : ℕ) (contents : Contents) → elementOf (record { octet = octet; contents = contents }) empty ≡ bareElement octet
+unfolding elementOf bodyOf contentOf amount firstValue firstRun values
+says-nothing-by octet profile = refl
+says-nothing-by octet (described needed types) = refl
+says-nothing-by octet (unit holders) = rw (holds-nothing holders)
+says-nothing-by octet style = refl
 
-  says-nothing : elementOf shape empty ≡ bareElement (shape .octet)
-  unfolding elementOf contentOf amount firstValue firstRun values
-  says-nothing = rw body-empty
+says-nothing : (shape : Shape) → elementOf shape empty ≡ bareElement (shape .octet)
+says-nothing shape = says-nothing-by (shape .octet) (shape .contents)
 
-  row-of-none : (s : List ℕ) (first past : ℕ) → rowOf shape s first past none ≡ bareRow (shape .octet) first past
-  unfolding rowOf boundsOf
-  row-of-none s first past = rw (body-none, says-nothing)
+row-of-none-by : (octet : ℕ) (contents : Contents) (s : List ℕ) (first past : ℕ)
+    → rowOf (record { octet = octet; contents = contents }) s first past none ≡ bareRow octet first past
+unfolding rowOf bodyIn contentOctet itemsIn boundsOf
+row-of-none-by octet profile s first past = rw (says-nothing-by octet profile)
+row-of-none-by octet (described needed types) s first past = rw (says-nothing-by octet (described needed types))
+row-of-none-by octet (unit holders) s first past = rw (says-nothing-by octet (unit holders), held-nowhere holders)
+row-of-none-by octet style s first past = rw (says-nothing-by octet style)
+
+row-of-none : (shape : Shape) (s : List ℕ) (first past : ℕ) → rowOf shape s first past none ≡ bareRow (shape .octet) first past
+row-of-none shape s first past = row-of-none-by (shape .octet) (shape .contents) s first past
 
 -- it shares no name
 shares-absent : (v : Value) → shares v absent ≡ false

@@ -1,10 +1,9 @@
 -- What the code learns of one element: the rules in three steps, whether an earlier row has its identifier, and its row.
 -- Definitions only: assumes nothing.
 use mathlib.Core.Path.{_≡_}
-use mathlib.Core.Bool.{Bool, true, false, not, xor}
+use mathlib.Core.Bool.{Bool, true, false}
 use mathlib.Core.List.{List, [], _∷_, _++_}
 use Prim.Native.Nat.{ℕ, _+_}
-use lib.Dec.{eqb, leb}
 use Rattle.headers.specs.Head.{typeField}
 use Rattle.tree.specs.Tree.{Tree, empty}
 use Rattle.runs.specs.Runs.{itemsOf, treeIn}
@@ -12,9 +11,8 @@ use Rattle.names.specs.Hash.{hash}
 use Rattle.index.specs.Index.{Has}
 use Rattle.elements.specs.declared.Edition.{Edition}
 use Rattle.elements.specs.declared.Row.{Row}
-use Rattle.elements.specs.declared.Shape.{Shape}
-use Rattle.elements.specs.Shape.{shapeOf}
-use Rattle.elements.specs.Judge.{Element, elementOf, mostElements, profile, twice, firstOf, _when_, shapeRefusal, refusalOf}
+use Rattle.elements.specs.Shape.{Shape, shapeOf}
+use Rattle.elements.specs.Judge.{Element, elementOf, twice, firstOf, placeRules, shapeRefusal, refusalOf}
 use Rattle.elements.specs.Rows.{rowOf, bytesIn}
 use Rattle.elements.specs.Says.{Says, RowPlaced}
 use Rattle.judging.specs.declared.Hashes.{Hashes}
@@ -25,11 +23,7 @@ use Rattle.judging.specs.Done.{Keeps}
 
 -- rules 9 to 11, which look at an element's number and octet alone; `known` is the octet of its shape
 unfoldable pub earlyRefusal : (n octet known : ℕ) → ℕ
-earlyRefusal n octet known =
-    firstOf ((9 when leb mostElements n)
-    ∷ (10 when not (eqb octet known))
-    ∷ (11 when xor (eqb n 0) (eqb octet profile))
-    ∷ [])
+earlyRefusal n octet known = firstOf (placeRules n known (typeField octet))
 
 -- whether one of the first n rows has these bytes at the column and is of the name space
 abbrev pub Taken : (s scratch : List ℕ) (column n nameSpace : ℕ) (bytes : List ℕ) → Bool → Type 0

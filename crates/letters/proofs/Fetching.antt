@@ -18,7 +18,7 @@ use Rattle.elements.specs.declared.Row.{Row}
 use Rattle.elements.specs.Judge.{Content, single, inPieces, contentOf, joinedContent, Element, elementOf}
 use Rattle.elements.specs.Rows.{rowOf}
 use Rattle.elements.specs.Says.{Bounds}
-use Rattle.elements.specs.Frames.{HoldsContent, Holding}
+use Rattle.elements.specs.Frames.{HoldsContent, HoldingShape}
 use Rattle.judging.specs.Judges.{shapeBy}
 use Rattle.letters.specs.Letter.{rowsOfStream}
 use Rattle.letters.specs.Scratch.{Filled}
@@ -36,7 +36,7 @@ held-by s holder fields e fine (inPieces run) h = rw (h .pieced) (record { fine 
 
 module _ (edition : Edition) {s : List ℕ} (fine : Fine s (wholeStream s)) (j : ℕ) (row : Row) (stands : getElem? (rowsOfStream edition s) j ≡ some row)
     {octet first past : ℕ} {inner rest : Run} (m : Meeting s (restFrom edition fine j row stands) octet first past inner rest)
-    {holder : Holder} (holding : Holding s (shapeBy edition octet) inner holder) where
+    {holder : Holder} (holding : HoldingShape s (shapeBy edition octet) inner holder) where
   -- what is met where a row begins holds the content of its element
   pub holds-element : HoldsElement edition s j (heldBy holder)
   unfolding elementOf rowOf
@@ -45,7 +45,7 @@ module _ (edition : Edition) {s : List ℕ} (fine : Fine s (wholeStream s)) (j :
       let says = element-says edition fine j row stands octet first past (itemsOf s inner) (itemsOf s rest) (m .tree) elements judged element there in
       let fields : other .content ≡ holder .value = ap (λ (r : Row). r .content) (sym same ∙ says .row-is) ∙ sym (holding .pair) in
       subst (λ (e : Element). HeldAs s (other .content) (e .content) (heldBy holder)) (sym (says .element-is))
-      (held-by s holder (other .content) fields (holding .fine) (contentOf (shapeBy edition octet) (treeIn s inner)) (holding .held))
+      (held-by s holder (other .content) fields (holding .fine) (contentOf (shapeBy edition octet .contents) (treeIn s inner)) (holding .held))
 
 -- the rows that the judge of a letter left have each of its elements
 pub filled-row-in : {edition : Edition} {s scratch head next head2 next2 : List ℕ} {count : ℕ} → Filled edition s scratch head next head2 next2 count

@@ -2,6 +2,7 @@
 -- the next. By the rules of the walk. Assumes nothing.
 use mathlib.Core.Path.{_≡_, refl, sym, _∙_}
 use mathlib.Core.Bool.{Bool, true, false, false≢true}
+use mathlib.Core.Option.{Option, some, none as nowhere}
 use mathlib.Core.List.{List}
 use Prim.Native.Nat.{ℕ, _+_, _≤_}
 use native.Mathlib.Omega.{arith}
@@ -13,8 +14,8 @@ use Rattle.octets.proofs.Turns.{header-ok}
 use Rattle.tree.specs.Accepts.{Whole}
 use Rattle.runs.proofs.Laws.{starts-at}
 use Rattle.contents.specs.Search.{boundsOf, itemsIn}
-use Rattle.elements.specs.declared.Shape.{Shape}
-use Rattle.elements.specs.Rows.{bodyIn}
+use Rattle.elements.specs.Shape.{Contents, profile, described, unit, style}
+use Rattle.elements.specs.Rows.{boundsAt, bodyIn}
 use Rattle.letters.specs.Letter.{Within, absent, present}
 
 -- all values lie between two places
@@ -109,7 +110,13 @@ module _ (from to : ℕ) where
   items-within octet (item at type first past inside after) w =
       cases (eqb type octet) (λ t. rw t (w .3)) (λ t. rw t (items-within octet after (w .4)))
 
-  pub body-within : (shape : Shape) (i : Items) → Nested from to i → Nested from to (bodyIn shape i)
+  pub bounds-at-within : (octet : Option ℕ) (i : Items) → Nested from to i → Within from to (boundsAt octet i)
+  bounds-at-within nowhere i w = absent refl
+  bounds-at-within (some octet) i w = bounds-within octet i w
+
+  pub body-within : (contents : Contents) (i : Items) → Nested from to i → Nested from to (bodyIn contents i)
   unfolding bodyIn
-  body-within shape i w =
-      cases (shape .looked) (λ t. cases (eqb (shape .within) 0) (λ u. rw (t, u) w) (λ u. rw (t, u) (items-within (shape .within) i w))) (λ t. rw t tt)
+  body-within profile i w = tt
+  body-within (described needed types) i w = items-within 0x31 i w
+  body-within (unit holders) i w = items-within 0x31 i w
+  body-within style i w = w

@@ -14,17 +14,16 @@ use Rattle.runs.specs.Runs.{wholeStream, Fine}
 use Rattle.runs.proofs.Laws.{start-at}
 use Rattle.contents.specs.Search.{octets}
 use Rattle.elements.specs.declared.Row.{Row}
-use Rattle.elements.specs.declared.Shape.{Shape}
 use Rattle.elements.specs.declared.Edition.{Edition}
-use Rattle.elements.specs.Shape.{shapeOf}
-use Rattle.elements.specs.Judge.{single, Element}
+use Rattle.elements.specs.Shape.{Shape, shapeOf}
+use Rattle.elements.specs.Judge.{identifierOctet, logicalOctet, portionsOctet, single, Element}
 use Rattle.elements.specs.Rows.{bodyIn, contentOctet, rowOf, rowsOf, bytesIn}
 use Rattle.elements.specs.Says.{Contains, Says}
 use Rattle.letters.specs.Letter.{itemsOfStream, rowsOfStream, EndToEnd, PairsWithin}
 use Rattle.letters.specs.Scratch.{Filled}
 use Rattle.letters.specs.Apart.{Apart}
 use Rattle.judging.proofs.Rows.{RowOf, row-of}
-use Rattle.letters.proofs.Nested.{Nested, Separate, separate, bounds-within, body-within}
+use Rattle.letters.proofs.Nested.{Nested, Separate, separate, bounds-at-within, body-within}
 use Rattle.letters.proofs.Apart.{accepted-apart}
 
 rows-meet : (edition : Edition) (s : List ℕ) (items : Items) → EndToEnd (startOf (length s) items) (length s) (rowsOf edition s items)
@@ -40,11 +39,12 @@ end-to-end edition s fine =
 row-within : (shape : Shape) (s : List ℕ) (first past : ℕ) (items : Items) → Nested first past items → PairsWithin (rowOf shape s first past items)
 unfolding rowOf
 row-within shape s first past items nested =
-    let body = body-within first past shape items nested in record {
-      identifier = bounds-within first past (shape .identifier .octet) (bodyIn shape items) body;
-      logical = bounds-within first past (shape .logical) (bodyIn shape items) body;
-      portions = bounds-within first past (shape .portions) (bodyIn shape items) body;
-      content = bounds-within first past (contentOctet shape (plain s items)) items nested;
+    let contents = shape .contents in
+    let body = body-within first past contents items nested in record {
+      identifier = bounds-at-within first past (identifierOctet contents) (bodyIn contents items) body;
+      logical = bounds-at-within first past (logicalOctet contents) (bodyIn contents items) body;
+      portions = bounds-at-within first past (portionsOctet contents) (bodyIn contents items) body;
+      content = bounds-at-within first past (contentOctet contents (plain s items)) items nested;
     }
 
 rows-within : (edition : Edition) (s : List ℕ) (items : Items) → Separate (length s) items → (j : ℕ) (row : Row)

@@ -4,9 +4,9 @@ use mathlib.Core.Path.{sym, _∙_, subst}
 use borrow.Author.Needs.{needs}
 use borrow.Author.Tests.{not-true, not-false}
 use Rattle.runs.specs.Runs.{treeIn}
-use Rattle.elements.specs.Judge.{contentOf}
+use Rattle.elements.specs.Slots.{slotContent}
 use Rattle.elements.specs.Frames.{Framed}
-use Rattle.elements.specs.Sees.{Sees}
+use Rattle.elements.specs.Sees.{SeesSlots}
 use Rattle.elements.proofs.Seeing.{sees-unordered, sees-others}
 use Rattle.elements.proofs.see.Statement.{statement}
 use Rattle.elements.proofs.see.Tie as tie
@@ -29,7 +29,7 @@ returns c =
     let a = c .before .before .before .before .before .before .args in
     let frame = c .before .before .before .frame-of in
     let unordered = sym (frame .ensures .fits) ∙ not-true (frame .result .fits) (c .before .if1 .taken) in
-    subst (Sees (a .s .now) (a .shape) (a .r) (a .first) (a .past) _) (sym (c .refused .ensures))
+    subst (SeesSlots (a .s .now) (a .shape) (a .r) (a .first) (a .past) _) (sym (c .refused .ensures))
     (sees-unordered (a .s .now) (a .shape) (a .r) (a .first) (a .past) _ unordered)
 
 pieces-alone-requires : tie.Need-pieces-alone-requires
@@ -44,9 +44,9 @@ returns-2 c =
     let a = at-alone .before .before .before .before .before .before .args in
     let alone = at-alone .pieces-alone in
     let others =
-    sym (alone .ensures (contentOf (a .shape) (treeIn (a .s .now) (a .r))) (framed (at-alone .before) .content .held))
+    sym (alone .ensures (slotContent (a .shape) (treeIn (a .s .now) (a .r))) (framed (at-alone .before) .content .held))
     ∙ not-true (alone .result) (c .before .if2 .taken) in
-    subst (Sees (a .s .now) (a .shape) (a .r) (a .first) (a .past) _) (sym (c .refused2 .ensures))
+    subst (SeesSlots (a .s .now) (a .shape) (a .r) (a .first) (a .past) _) (sym (c .refused2 .ensures))
     (sees-others (a .s .now) (a .shape) (a .r) (a .first) (a .past) _ others)
 
 see-body-requires : tie.Need-see-body-requires
@@ -77,7 +77,7 @@ returns-3 c =
     let top = framed at-else in
     let alone = at-if .before .pieces-alone in
     at-body .see-body .ensures (a .r) top
-    (sym (alone .ensures (contentOf (a .shape) (treeIn (a .s .now) (a .r))) (top .content .held)) ∙ not-false (alone .result) (at-if .if2 .left))
+    (sym (alone .ensures (slotContent (a .shape) (treeIn (a .s .now) (a .r))) (top .content .held)) ∙ not-false (alone .result) (at-if .if2 .left))
 
 pub see-spec : {M : Type 1} → statement M
 see-spec =

@@ -8,11 +8,12 @@ use lib.ListN.{length}
 use Rattle.headers.specs.Head.{typeField}
 use Rattle.runs.specs.Runs.{treeIn}
 use Rattle.elements.specs.declared.Row.{Row}
-use Rattle.elements.specs.declared.Shape.{Shape}
+use Rattle.elements.specs.declared.Slots.{Slots}
 use Rattle.elements.specs.Judge.{Element, twice, shapeRefusal}
 use Rattle.elements.specs.WellMade.{WellMade}
-use Rattle.elements.specs.Sees.{Sees}
-use Rattle.elements.proofs.Made.{made}
+use Rattle.elements.specs.Sees.{SeesShape, SeesSlots}
+use Rattle.elements.proofs.Made.{made, slotted}
+use Rattle.elements.proofs.Slotting.{octet-same, sees-shape}
 use Rattle.judging.specs.Done.{Keeps}
 use Rattle.judging.specs.Judges.{earlyRefusal, shapeBy, elementBy}
 use Rattle.judging.proofs.Steps.{refused-early, refused-later, refused-last}
@@ -30,7 +31,8 @@ early-is : (c : tie.After-early) (table : List Row) (done : List Element) → Do
     c .early .result ≡ earlyRefusal (length done) (a .item .octet) (shapeBy (a .edition) (a .item .octet) .octet)
 early-is c table done holds =
     let a = c .before .before .before .before .before .before .before .before .before .args in
-    c .early .ensures ∙ ap (λ (x : Shape). earlyRefusal (a .n) (a .item .octet) (x .octet)) (c .before .shape-of .ensures)
+    c .early .ensures ∙ ap (λ (x : Slots). earlyRefusal (a .n) (a .item .octet) (x .octet)) (c .before .shape-of .ensures)
+    ∙ ap (earlyRefusal (a .n) (a .item .octet)) (octet-same (shapeBy (a .edition) (a .item .octet)))
     ∙ ap (λ (n : ℕ). earlyRefusal n (a .item .octet) (shapeBy (a .edition) (a .item .octet) .octet)) (sym (holds .counted))
 
 early-passed : (c : tie.Else1) (table : List Row) (done : List Element) → Done (c .before .before .before .before .before .before .before .before .before .before) table done →
@@ -41,10 +43,11 @@ early-passed c table done holds = sym (early-is (c .before) table done holds) �
 -- rules 12 to 14
 seen-is : (c : tie.After-see) →
     let a = c .before .before .before .before .before .before .before .before .before .before .before .before .args in
-    Sees (a .s .now) (shapeBy (a .edition) (a .item .octet)) (a .item .inner) (a .item .first) (a .item .past) (c .see .last .1 .1 .1 .1 .1 .0) (c .see .result)
+    SeesShape (a .s .now) (shapeBy (a .edition) (a .item .octet)) (a .item .inner) (a .item .first) (a .item .past) (c .see .last .1 .1 .1 .1 .1 .0) (c .see .result)
 seen-is c =
     let a = c .before .before .before .before .before .before .before .before .before .before .before .before .args in
-    subst (λ (x : Shape). Sees (a .s .now) x (a .item .inner) (a .item .first) (a .item .past) (c .see .last .1 .1 .1 .1 .1 .0) (c .see .result)) (c .before .before .before .before .shape-of .ensures) (c .see .ensures)
+    sees-shape (c .before .before .before .before .before .before .before .before .before .before .before .before .pre .1 .0) (shapeBy (a .edition) (a .item .octet)) (slotted (a .edition) (typeField (a .item .octet))) (a .item .first) (a .item .past)
+    (subst (λ (x : Slots). SeesSlots (a .s .now) x (a .item .inner) (a .item .first) (a .item .past) (c .see .last .1 .1 .1 .1 .1 .0) (c .see .result)) (c .before .before .before .before .shape-of .ensures) (c .see .ensures))
 
 later-passed : (c : tie.Else2) →
     let a = c .before .before .before .before .before .before .before .before .before .before .before .before .before .before .before .before .args in
@@ -75,7 +78,7 @@ see-requires : tie.Need-see-requires
 see-requires c κs =
     let start = c .before .before .before .before .before .before .before .before .before .before .before in
     let fits = start .pre .1 in
-    (fits .0, subst WellMade (sym (c .before .before .before .shape-of .ensures)) (made (start .args .edition) (typeField (start .args .item .octet))), fits .1, fits .2, fits .3, fits .4)
+    (fits .0, subst WellMade (sym (c .before .before .before .shape-of .ensures)) (made (shapeBy (start .args .edition) (start .args .item .octet))), fits .1, fits .2, fits .3, fits .4)
 
 same-length : tie.Need-same-length
 same-length c = search needs

@@ -4,7 +4,7 @@ use mathlib.Core.Bool.{true, false}
 use borrow.Author.Needs.{needs}
 use Rattle.runs.specs.Runs.{treeIn}
 use Rattle.contents.specs.Search.{inOrder}
-use Rattle.elements.specs.Judge.{ordered}
+use Rattle.elements.specs.Slots.{slotOrdered}
 use Rattle.elements.proofs.frames.stands.Statement.{statement}
 use Rattle.elements.proofs.frames.stands.Tie as tie
 
@@ -12,7 +12,7 @@ fills-requires : tie.Need-fills-requires
 fills-requires c κs = search needs
 
 returns : tie.Need-returns
-unfolding ordered
+unfolding slotOrdered
 returns c =
     let start = c .before .before .before .before in
     let shape = start .args .shape in
@@ -24,7 +24,7 @@ fills-requires-2 : tie.Need-fills-requires-2
 fills-requires-2 c κs = search needs
 
 returns-2 : tie.Need-returns-2
-unfolding ordered
+unfolding slotOrdered
 returns-2 c =
     let at-if = c .before .before in
     let start = at-if .before .before .before .before in

@@ -4,10 +4,12 @@ use mathlib.Core.List.{[], _∷_}
 use borrow.Author.Needs.{needs}
 use Rattle.runs.specs.declared.Run.{Run}
 use Rattle.runs.specs.Runs.{itemsOf, Fine, Meeting}
-use Rattle.elements.specs.declared.Shape.{Shape}
+use Rattle.elements.specs.declared.Slots.{Slots}
+use Rattle.elements.specs.Shape.{shapeOf}
 use Rattle.elements.specs.WellMade.{WellMade}
-use Rattle.elements.specs.Frames.{Holding}
-use Rattle.elements.proofs.Made.{made}
+use Rattle.elements.specs.Frames.{HoldingSlots}
+use Rattle.elements.proofs.Made.{made, slotted}
+use Rattle.elements.proofs.Slotting.{holding-shape}
 use Rattle.letters.specs.Content.{HoldsElement}
 use Rattle.contents.proofs.Firsts.{met}
 use Rattle.letters.proofs.Standing.{restFrom, rest-fine, rest-some}
@@ -71,7 +73,7 @@ shape-of-requires c κs = search needs
 
 holder-in-requires : tie.Need-holder-in-requires
 holder-in-requires c κs =
-    (meeting (c .before) .inner-fine, subst WellMade (sym (c .shape-of .ensures)) (made (c .before .before .before .before .before .before .before .before .before .before .args .edition) (c .before .before .octet .given .0 .0 ∷ [])))
+    (meeting (c .before) .inner-fine, subst WellMade (sym (c .shape-of .ensures)) (made (shapeOf (c .before .before .before .before .before .before .before .before .before .before .args .edition) (c .before .before .octet .given .0 .0 ∷ []))))
 
 held-by-requires : tie.Need-held-by-requires
 held-by-requires c κs = search needs
@@ -92,7 +94,10 @@ returns-2 c =
     let start = at-told .before .before .before .before .before .before .before .before .before in
     let s = start .args .s .now in
     let inner = at-told .before .octet .given .0 .1 .1 .1 .0 in
-    let holding = subst (λ (shape : Shape). Holding s shape inner (c .before .holder-in .result)) (at-shape .shape-of .ensures) (c .before .holder-in .ensures) in
+    let type = at-told .before .octet .given .0 .0 ∷ [] in
+    let edition = start .args .edition in
+    let by-slots = subst (λ (shape : Slots). HoldingSlots s shape inner (c .before .holder-in .result)) (at-shape .shape-of .ensures) (c .before .holder-in .ensures) in
+    let holding = holding-shape (meeting at-told .inner-fine) (shapeOf edition type) (slotted edition type) by-slots in
     subst (HoldsElement (start .args .edition) s (start .args .j)) (sym (c .held-by .ensures))
     (holds-element (start .args .edition) (start .pre .0) (start .args .j) (start .pre .1 .row) (start .pre .1 .stands) (meeting at-told) holding)
 

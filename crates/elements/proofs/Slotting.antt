@@ -1,0 +1,241 @@
+-- What an element says and is refused by is the same by its shape and by its slots, in a run of which no item has octet 0: what is sought by
+-- an empty slot is then not found. Assumes nothing.
+use mathlib.Core.Path.{_≡_, refl, sym, ap, _∙_, subst}
+use mathlib.Core.Bool.{Bool, true, false, cond, _&&_, _||_}
+use mathlib.Core.List.{List}
+use Prim.Native.Nat.{ℕ, _+_}
+use native.Mathlib.Omega.{arith}
+use borrow.Author.Tests.{eqb-true}
+use borrow.Table.Steps.{cases}
+use lib.Dec.{eqb}
+use Rattle.octets.specs.Walk.{Items}
+use Rattle.tree.specs.Tree.{Tree, empty, leaf, branch, plain}
+use Rattle.runs.specs.declared.Run.{Run}
+use Rattle.runs.specs.Runs.{itemsOf, treeIn, Fine}
+use Rattle.contents.specs.declared.Span.{Span}
+use Rattle.contents.specs.Search.{is, absent, amount, firstValue, firstRun, boundsOf, itemsIn, inOrder}
+use Rattle.portions.specs.Portions.{allPortions, values}
+use Rattle.elements.specs.declared.Holder.{Holder}
+use Rattle.elements.specs.declared.Row.{Row}
+use Rattle.elements.specs.declared.Seen.{Seen}
+use Rattle.elements.specs.Shape.{Contents, profile, described, unit, style, Shape, holders1988}
+use Rattle.elements.specs.Judge.{required, optional, noneOf, typeOctet, typesOf, valueAt, Content, single, inPieces, contentOf, Element, bodyOf, elementOf, ordered, asTabled, typeFits, namesFit, shapeRefusal}
+use Rattle.elements.specs.Rows.{bodyIn, contentOctet, boundsAt, rowOf, noSpan}
+use Rattle.elements.specs.Frames.{Holding, HoldingShape, HoldingSlots}
+use Rattle.elements.specs.Sees.{Sees, SeesShape, SeesSlots}
+use Rattle.elements.specs.Slots.{slotsBy, slotsOf, Slotted, slotBody, slotItems, slotContent, slotOctet, slotElement, slotOrdered, slotTabled, slotRefusal, slotRow}
+use Rattle.elements.proofs.Bounding.{none-bounds}
+use Rattle.elements.proofs.Zero.{no-zero, no-zero-inside, no-zero-items}
+
+-- of what is not there the first value and the first run are none
+none-here : (b : Bool) (n : ℕ) → cond {A = ℕ} b 1 0 + n ≡ 0 → (b ≡ false) × (n ≡ 0)
+none-here true n e = absurd (omega arith)
+none-here false n e = (refl, omega arith)
+
+no-value : (octet : ℕ) (t : Tree) → amount octet t ≡ 0 → firstValue octet t ≡ absent
+unfolding amount firstValue
+no-value octet empty e = refl
+no-value octet (leaf type value after) e = let k = none-here (is octet type) (amount octet after) e in rw (k .0) (no-value octet after (k .1))
+no-value octet (branch type inside after) e = no-value octet after (none-here (is octet type) (amount octet after) e .1)
+
+no-run : (octet : ℕ) (t : Tree) → amount octet t ≡ 0 → firstRun octet t ≡ empty
+unfolding amount firstRun
+no-run octet empty e = refl
+no-run octet (leaf type value after) e = no-run octet after (none-here (is octet type) (amount octet after) e .1)
+no-run octet (branch type inside after) e = let k = none-here (is octet type) (amount octet after) e in rw (k .0) (no-run octet after (k .1))
+
+or-same : (a : Bool) → a || a ≡ a
+or-same true = refl
+or-same false = refl
+
+or-turned : (a b : Bool) → a || b ≡ b || (a || false)
+or-turned true true = refl
+or-turned true false = refl
+or-turned false true = refl
+or-turned false false = refl
+
+octet-by : (octet : ℕ) (contents : Contents) → slotsBy octet contents .octet ≡ octet
+octet-by octet profile = refl
+octet-by octet (described needed types) = refl
+octet-by octet (unit holders) = refl
+octet-by octet style = refl
+
+pub octet-same : (shape : Shape) → slotsOf shape .octet ≡ shape .octet
+octet-same shape = octet-by (shape .octet) (shape .contents)
+
+-- where the items stand that name an element
+body-same : (octet : ℕ) (contents : Contents) (run : Tree) → slotBody (slotsBy octet contents) run ≡ bodyOf contents run
+unfolding slotBody bodyOf
+body-same octet profile run = refl
+body-same octet (described needed types) run = refl
+body-same octet (unit holders) run = refl
+body-same octet style run = refl
+
+items-same : (octet : ℕ) (contents : Contents) (items : Items) → slotItems (slotsBy octet contents) items ≡ bodyIn contents items
+unfolding slotItems bodyIn
+items-same octet profile items = refl
+items-same octet (described needed types) items = refl
+items-same octet (unit holders) items = refl
+items-same octet style items = refl
+
+-- a content that is one value, whether or not its item is there
+one-value : (octet : ℕ) (t : Tree) → single (firstValue octet t) ≡ cond (noneOf octet t) (single absent) (single (firstValue octet t))
+one-value octet t =
+    cases (noneOf octet t) (λ e. rw e (ap single (no-value octet t (eqb-true (amount octet t) 0 e)))) (λ e. rw e)
+
+no-content : (t : Tree) → amount 0 t ≡ 0 → cond (noneOf 0 t) (single (firstValue 0 t)) (inPieces (firstRun 0 t)) ≡ single absent
+no-content t z = rw z (ap single (no-value 0 t z))
+
+content-same : (octet : ℕ) (contents : Contents) → Slotted contents → (run : Tree) → amount 0 run ≡ 0
+    → slotContent (slotsBy octet contents) run ≡ contentOf contents run
+unfolding slotContent contentOf
+content-same octet profile w run z = no-content run z
+content-same octet (described needed types) w run z = no-content run z
+content-same octet (unit holders) w run z =
+    rw w (ap (λ (c : Content). cond (noneOf 0x24 run) c (inPieces (firstRun 0x24 run))) (one-value 0x04 run))
+content-same octet style w run z = no-content run z
+
+ordered-same : (octet : ℕ) (contents : Contents) → Slotted contents → (run : Tree) → slotOrdered (slotsBy octet contents) run ≡ ordered contents run
+unfolding slotOrdered ordered
+ordered-same octet profile w run = refl
+ordered-same octet (described needed types) w run = or-same _
+ordered-same octet (unit holders) w run =
+    rw w (or-turned (inOrder (optional 0x31) (required 0x04) run) (inOrder (optional 0x31) (required 0x24) run))
+ordered-same octet style w run = refl
+
+-- the last of three tests before the others
+last-first : (a b c : Bool) → a && (b && (c && true)) ≡ c && (a && (b && true))
+last-first true true c = refl
+last-first true false true = refl
+last-first true false false = refl
+last-first false b true = refl
+last-first false b false = refl
+
+-- 12
+tabled-same : (octet : ℕ) (contents : Contents) → Slotted contents → (run : Tree) → amount 0 run ≡ 0 → amount 0 (bodyOf contents run) ≡ 0
+    → slotTabled (slotsBy octet contents) run ≡ asTabled contents run
+unfolding slotTabled asTabled bodyOf slotBody amount firstRun allPortions
+tabled-same octet profile w run z y = rw (ordered-same octet profile w run, content-same octet profile w run z)
+tabled-same octet (described needed types) w run z y =
+    let contents = described needed types in
+    let body = firstRun 0x31 run in
+    rw (
+      ordered-same octet contents w run,
+      content-same octet contents w run z,
+      y,
+      last-first (noneOf 0x61 body) (noneOf 0x81 body) (allPortions (firstRun 0xA1 body)),
+    )
+tabled-same octet (unit holders) w run z y =
+    rw (ordered-same octet (unit holders) w run, content-same octet (unit holders) w run z, y, no-run 0 (firstRun 0x31 run) y)
+tabled-same octet style w run z y = rw (ordered-same octet style w run, content-same octet style w run z, y, no-run 0 run y)
+
+-- what the element says
+element-same : (octet : ℕ) (contents : Contents) → Slotted contents → (run : Tree) → amount 0 run ≡ 0 → amount 0 (bodyOf contents run) ≡ 0
+    → slotElement (slotsBy octet contents) run ≡ elementOf (record { octet = octet; contents = contents }) run
+unfolding slotElement elementOf bodyOf slotBody firstValue firstRun values
+element-same octet profile w run z y = rw (content-same octet profile w run z, no-value 0 run z)
+element-same octet (described needed types) w run z y =
+    rw (content-same octet (described needed types) w run z, no-value 0 (firstRun 0x31 run) y)
+element-same octet (unit holders) w run z y =
+    rw (content-same octet (unit holders) w run z, no-value 0 run z, no-run 0 (firstRun 0x31 run) y)
+element-same octet style w run z y = rw (content-same octet style w run z, no-value 0 run y, no-run 0 run y)
+
+-- 13
+object-same : (octet : ℕ) (contents : Contents) (run : Tree) → amount 0 run ≡ 0
+    → typeFits (slotsBy octet contents .types) (firstValue (slotsBy octet contents .object) run)
+    ≡ typeFits (typesOf contents) (valueAt (typeOctet contents) run)
+object-same octet profile run z = rw (no-value 0 run z)
+object-same octet (described needed types) run z = refl
+object-same octet (unit holders) run z = rw (no-value 0 run z)
+object-same octet style run z = rw (no-value 0 run z)
+
+-- the fields of the content
+fields-same : (octet : ℕ) (contents : Contents) → Slotted contents → (s : List ℕ) (items : Items) → amount 0 (plain s items) ≡ 0
+    → boundsOf (slotOctet (slotsBy octet contents) (plain s items)) items ≡ boundsAt (contentOctet contents (plain s items)) items
+unfolding slotOctet contentOctet
+fields-same octet profile w s items z = rw z (none-bounds s 0 items z)
+fields-same octet (described needed types) w s items z = rw z (none-bounds s 0 items z)
+fields-same octet (unit holders) w s items z =
+    let run = plain s items in
+    rw w (
+    cases (noneOf 0x24 run)
+    (λ e.
+    cases (noneOf 0x04 run) (λ f. rw (e, f) (none-bounds s 0x04 items (eqb-true (amount 0x04 run) 0 f))) (λ f. rw (e, f)))
+    (λ e. rw e)
+    )
+fields-same octet style w s items z = rw z (none-bounds s 0 items z)
+
+-- its row
+row-same : (octet : ℕ) (contents : Contents) → Slotted contents → (s : List ℕ) (first past : ℕ) (items : Items) → amount 0 (plain s items) ≡ 0
+    → amount 0 (bodyOf contents (plain s items)) ≡ 0 → amount 0 (plain s (bodyIn contents items)) ≡ 0
+    → slotRow (slotsBy octet contents) s first past items ≡ rowOf (record { octet = octet; contents = contents }) s first past items
+unfolding slotRow rowOf slotItems bodyIn boundsOf
+row-same octet profile w s first past items z y x =
+    rw (element-same octet profile w (plain s items) z y, fields-same octet profile w s items z)
+row-same octet (described needed types) w s first past items z y x =
+    let contents = described needed types in
+    rw (
+      element-same octet contents w (plain s items) z y,
+      fields-same octet contents w s items z,
+      none-bounds s 0 (itemsIn 0x31 items) x,
+    )
+row-same octet (unit holders) w s first past items z y x =
+    let contents = unit holders in
+    rw (
+      element-same octet contents w (plain s items) z y,
+      fields-same octet contents w s items z,
+      none-bounds s 0 (itemsIn 0x31 items) x,
+    )
+row-same octet style w s first past items z y x =
+    rw (element-same octet style w (plain s items) z y, fields-same octet style w s items z, none-bounds s 0 items x)
+
+module _ {s : List ℕ} {r : Run} (fine : Fine s r) where
+  body-zero : (contents : Contents) → amount 0 (bodyOf contents (treeIn s r)) ≡ 0
+  unfolding bodyOf amount
+  body-zero profile = refl
+  body-zero (described needed types) = no-zero-inside fine 0x31
+  body-zero (unit holders) = no-zero-inside fine 0x31
+  body-zero style = no-zero fine
+
+  items-zero : (contents : Contents) → amount 0 (plain s (bodyIn contents (itemsOf s r))) ≡ 0
+  unfolding bodyIn amount
+  items-zero profile = refl
+  items-zero (described needed types) = no-zero-items fine 0x31
+  items-zero (unit holders) = no-zero-items fine 0x31
+  items-zero style = no-zero fine
+
+  module _ (shape : Shape) (w : Slotted (shape .contents)) where
+    abbrev its-octet : ℕ
+    its-octet = shape .octet
+
+    abbrev its-contents : Contents
+    its-contents = shape .contents
+
+    says-same : slotElement (slotsOf shape) (treeIn s r) ≡ elementOf shape (treeIn s r)
+    says-same = element-same its-octet its-contents w (treeIn s r) (no-zero fine) (body-zero its-contents)
+
+    refusal-same : slotRefusal (slotsOf shape) (treeIn s r) ≡ shapeRefusal shape (treeIn s r)
+    unfolding slotRefusal shapeRefusal
+    refusal-same =
+        rw (
+          tabled-same its-octet its-contents w (treeIn s r) (no-zero fine) (body-zero its-contents),
+          object-same its-octet its-contents (treeIn s r) (no-zero fine),
+          says-same,
+        )
+
+    -- what is seen of an element by its slots is what it is by its shape
+    pub sees-shape : (first past : ℕ) {bounds : List ℕ} {seen : Seen} → SeesSlots s (slotsOf shape) r first past bounds seen
+        → SeesShape s shape r first past bounds seen
+    sees-shape first past {bounds} {seen} h =
+        let same-row = row-same its-octet its-contents w s first past (itemsOf s r) (no-zero fine) (body-zero its-contents) (items-zero its-contents) in
+        subst (λ (n : ℕ). Sees s n (rowOf shape s first past (itemsOf s r)) (elementOf shape (treeIn s r)) bounds seen) refusal-same
+        (subst (λ (row : Row). Sees s (slotRefusal (slotsOf shape) (treeIn s r)) row (elementOf shape (treeIn s r)) bounds seen) same-row
+        (subst (λ (e : Element). Sees s (slotRefusal (slotsOf shape) (treeIn s r)) (slotRow (slotsOf shape) s first past (itemsOf s r)) e bounds seen)
+        says-same h))
+
+    pub holding-shape : {holder : Holder} → HoldingSlots s (slotsOf shape) r holder → HoldingShape s shape r holder
+    holding-shape {holder} h =
+        subst (λ (v : Span). Holding s v (contentOf its-contents (treeIn s r)) holder)
+        (fields-same its-octet its-contents w s (itemsOf s r) (no-zero fine))
+        (subst (λ (c : Content). Holding s (boundsOf (slotOctet (slotsOf shape) (treeIn s r)) (itemsOf s r)) c holder)
+        (content-same its-octet its-contents w (treeIn s r) (no-zero fine)) h)

@@ -1,0 +1,190 @@
+-- A shape as the code looks for it: in slots, of which most are empty, and an octet 0 stands for none, since no item has it. What an
+-- element says and is refused by, by its slots; `Slotting` among the proofs says that this is what the shape says.
+-- Definitions only: assumes nothing.
+use Prim.Native.Nat.{ℕ, _%_}
+use mathlib.Core.Path.{_≡_}
+use mathlib.Core.Bool.{Bool, true, false, cond, not, _&&_, _||_}
+use mathlib.Core.List.{List, [], _∷_}
+use lib.Dec.{eqb}
+use Rattle.octets.specs.Walk.{Items, none}
+use Rattle.tree.specs.Tree.{Tree, empty, plain}
+use Rattle.contents.specs.declared.Slot.{Slot}
+use Rattle.contents.specs.Search.{firstValue, firstRun, boundsOf, itemsIn, inOrder}
+use Rattle.portions.specs.Portions.{all, allPortions, values}
+use Rattle.elements.specs.declared.Row.{Row}
+use Rattle.elements.specs.declared.Slots.{Slots}
+use Rattle.elements.specs.Shape.{Contents, profile, described, unit, style, Shape, holders1988}
+use Rattle.elements.specs.Judge.{required, optional, asked, typeOf, atMostOne, noneOf, Content, single, inPieces, piecesAlone, Element, typeFits}
+use Rattle.elements.specs.Judge.{namesFit, firstOf, contentsRules}
+
+-- no item
+abbrev pub nothing : Slot
+nothing = optional 0
+
+-- no item of a profile is looked at
+abbrev pub profileSlots : (octet : ℕ) → Slots
+profileSlots octet = record {
+  octet = octet;
+  looked = false;
+  free = true;
+  one = nothing;
+  two = nothing;
+  instead = nothing;
+  within = 0;
+  identifier = nothing;
+  logical = 0;
+  portions = 0;
+  never = 0;
+  neither = 0;
+  object = 0;
+  types = 0;
+  content = 0;
+  pieces = 0;
+}
+
+-- a class or an object
+abbrev pub describedSlots : (octet : ℕ) (needed : Bool) (types : ℕ) → Slots
+describedSlots octet needed types = record {
+  octet = octet;
+  looked = true;
+  free = false;
+  one = asked needed 0x02;
+  two = asked needed 0x31;
+  instead = asked needed 0x31;
+  within = 0x31;
+  identifier = asked needed 0x41;
+  logical = 0;
+  portions = 0xA1;
+  never = 0x61;
+  neither = 0x81;
+  object = 0x02;
+  types = types;
+  content = 0;
+  pieces = 0;
+}
+
+-- a text unit
+abbrev pub unitSlots : (octet : ℕ) → Slots
+unitSlots octet = record {
+  octet = octet;
+  looked = true;
+  free = false;
+  one = optional 0x31;
+  two = required 0x04;
+  instead = required 0x24;
+  within = 0x31;
+  identifier = optional 0x40;
+  logical = 0x84;
+  portions = 0;
+  never = 0x60;
+  neither = 0xA4;
+  object = 0;
+  types = 0;
+  content = 0x04;
+  pieces = 0x24;
+}
+
+-- a style
+abbrev pub styleSlots : (octet : ℕ) → Slots
+styleSlots octet = record {
+  octet = octet;
+  looked = true;
+  free = true;
+  one = nothing;
+  two = nothing;
+  instead = nothing;
+  within = 0;
+  identifier = required 0x45;
+  logical = 0;
+  portions = 0;
+  never = 0x65;
+  neither = 0;
+  object = 0;
+  types = 0;
+  content = 0;
+  pieces = 0;
+}
+
+-- the slots of a shape
+abbrev pub slotsBy : (octet : ℕ) → Contents → Slots
+slotsBy octet profile = profileSlots octet
+slotsBy octet (described needed types) = describedSlots octet needed types
+slotsBy octet (unit holders) = unitSlots octet
+slotsBy octet style = styleSlots octet
+
+abbrev pub slotsOf : Shape → Slots
+slotsOf shape = slotsBy (shape .octet) (shape .contents)
+
+-- The slots of a text unit are those of the items that hold content in 1988.
+abbrev pub Slotted : Contents → Type 0
+Slotted profile = Unit {0}
+Slotted (described needed types) = Unit {0}
+Slotted (unit holders) = holders ≡ holders1988
+Slotted style = Unit {0}
+
+-- where the items stand that name an element: nowhere, among its own items, or in one of them
+unfoldable pub slotBody : Slots → Tree → Tree
+slotBody shape run = cond (shape .looked) (cond (eqb (shape .within) 0) run (firstRun (shape .within) run)) empty
+
+-- the same items, with places
+unfoldable pub slotItems : Slots → Items → Items
+slotItems shape items = cond (shape .looked) (cond (eqb (shape .within) 0) items (itemsIn (shape .within) items)) none
+
+-- the content, and the octet of the item that holds it
+unfoldable pub slotContent : Slots → Tree → Content
+slotContent shape run = cond (noneOf (shape .pieces) run) (single (firstValue (shape .content) run)) (inPieces (firstRun (shape .pieces) run))
+
+unfoldable pub slotOctet : Slots → Tree → ℕ
+slotOctet shape run = cond (noneOf (shape .pieces) run) (shape .content) (shape .pieces)
+
+-- what the element says
+unfoldable pub slotElement : Slots → Tree → Element
+slotElement shape run =
+    let body = slotBody shape run in
+    record {
+      kind = shape .octet % 32;
+      object = typeOf (firstValue (shape .object) run);
+      identifier = firstValue (shape .identifier .octet) body;
+      logical = firstValue (shape .logical) body;
+      portions = values (firstRun (shape .portions) body);
+      content = slotContent shape run;
+    }
+
+-- its items are free, or stand in order, the second as tabled or what may stand instead of it
+unfoldable pub slotOrdered : Slots → Tree → Bool
+slotOrdered shape run = shape .free || (inOrder (shape .one) (shape .two) run || inOrder (shape .one) (shape .instead) run)
+
+-- 12
+unfoldable pub slotTabled : Slots → Tree → Bool
+slotTabled shape run =
+    let body = slotBody shape run in
+    all (slotOrdered shape run
+    ∷ piecesAlone (slotContent shape run)
+    ∷ not (shape .identifier .needed && noneOf (shape .identifier .octet) body)
+    ∷ atMostOne (shape .identifier .octet) body
+    ∷ atMostOne (shape .logical) body
+    ∷ atMostOne (shape .portions) body
+    ∷ noneOf (shape .never) body
+    ∷ noneOf (shape .neither) body
+    ∷ allPortions (firstRun (shape .portions) body)
+    ∷ [])
+
+-- 12 to 14
+unfoldable pub slotRefusal : Slots → Tree → ℕ
+slotRefusal shape run =
+    firstOf (contentsRules (slotTabled shape run) (typeFits (shape .types) (firstValue (shape .object) run)) (namesFit (slotElement shape run)))
+
+-- its row
+unfoldable pub slotRow : Slots → List ℕ → (first past : ℕ) → Items → Row
+slotRow shape s first past items =
+    let body = slotItems shape items in
+    let says = slotElement shape (plain s items) in
+    record {
+      kind = says .kind;
+      object = says .object;
+      whole = record { first = first; past = past };
+      identifier = boundsOf (shape .identifier .octet) body;
+      logical = boundsOf (shape .logical) body;
+      portions = boundsOf (shape .portions) body;
+      content = boundsOf (slotOctet shape (plain s items)) items;
+    }
