@@ -21,7 +21,7 @@ use Rattle.runs.proofs.Laws.{stream-within, stream-fine, stream-count, count-wi
 use Rattle.contents.specs.Search.{is}
 use Rattle.elements.specs.declared.Edition.{Edition}
 use Rattle.elements.specs.Shape.{shapeOf}
-use Rattle.elements.specs.Judge.{valueAt, typeOctet, typesOf, Element, elementOf, asTabled, typeFits, namesFit, Judged, accepted, refused, mostElements, profile, twice, refusalOf, judgeOne, judgeFrom, judge}
+use Rattle.elements.specs.Judge.{valueAt, typeOctet, typesOf, Element, elementOf, asTabled, typeFits, namesFit, Judged, accepted, refused, mostElements, profileOctet, twice, refusalOf, judgeOne, judgeFrom, judge}
 use Rattle.elements.specs.Rows.{placeOf}
 use Rattle.letters.specs.Letter.{refusal, itemsOfStream, afterWalk, byWalk, letterOf}
 
@@ -76,7 +76,7 @@ module _ (edition : Edition) where
       let shape = shapeOf edition type in
       cond-holds Ruled (leb mostElements (length done)) (λ _. inr (omega arith, omega arith)) (λ _.
       cond-holds Ruled (not (is (shape .octet) type)) (λ _. inr (omega arith, omega arith)) (λ _.
-      cond-holds Ruled (xor (eqb (length done) 0) (is profile type)) (λ _. inr (omega arith, omega arith)) (λ _.
+      cond-holds Ruled (xor (eqb (length done) 0) (is profileOctet type)) (λ _. inr (omega arith, omega arith)) (λ _.
       cond-holds Ruled (not (asTabled (shape .contents) items)) (λ _. inr (omega arith, omega arith)) (λ _.
       cond-holds Ruled (not (typeFits (typesOf (shape .contents)) (valueAt (typeOctet (shape .contents)) items))) (λ _. inr (omega arith, omega arith)) (λ _.
       cond-holds Ruled (not (namesFit (elementOf shape items))) (λ _. inr (omega arith, omega arith)) (λ _.

@@ -20,7 +20,7 @@ use Rattle.tree.specs.Tree.{Tree, empty, leaf, branch, treeOf}
 use Rattle.contents.specs.Search.{is, firstValue}
 use Rattle.elements.specs.declared.Edition.{Edition}
 use Rattle.elements.specs.Shape.{shapeOf}
-use Rattle.elements.specs.Judge.{Element, asTabled, typeFits, namesFit, mostElements, profile, twice, Rule, _when_, firstOf, refusalOf, Judged, accepted, refused, judgeOne, judgeFrom, judge}
+use Rattle.elements.specs.Judge.{Element, asTabled, typeFits, namesFit, mostElements, profileOctet, twice, Rule, _when_, firstOf, refusalOf, Judged, accepted, refused, judgeOne, judgeFrom, judge}
 use Rattle.elements.specs.Rows.{placeOf}
 use Rattle.letters.specs.Letter.{refusal, itemsOfStream, afterWalk, byWalk, letterOf}
 use Rattle.judging.proofs.Lists.{below-length}
@@ -90,17 +90,17 @@ module _ (edition : Edition) (before : List TopItem) (item : TopItem) where
       let shape = shapeOf edition (item .type) in
       (9 when leb mostElements (length done))
       ∷ (10 when not (is (shape .octet) (item .type)))
-      ∷ (11 when xor (eqb (length done) 0) (is profile (item .type)))
+      ∷ (11 when xor (eqb (length done) 0) (is profileOctet (item .type)))
       ∷ (12 when not (asTabled shape (item .run)))
       ∷ (13 when not (typeFits (shape .types) (firstValue (shape .object) (item .run))))
       ∷ (14 when not (namesFit (saysIn edition item)))
       ∷ (15 when twice done (saysIn edition item))
       ∷ []
 
-  no-or-later : xor (eqb (length done) 0) (is profile (item .type)) ≡ true → Refuses edition before item 11
+  no-or-later : xor (eqb (length done) 0) (is profileOctet (item .type)) ≡ true → Refuses edition before item 11
   no-or-later t =
-      let e = xor-true (eqb (length done) 0) (is profile (item .type)) t in
-      cases (is profile (item .type))
+      let e = xor-true (eqb (length done) 0) (is profileOctet (item .type)) t in
+      cases (is profileOctet (item .type))
       (λ p. let q : eqb (length done) 0 ≡ false = e ∙ ap not p in let nonzero = eqb-false (length done) 0 q in later-profile (omega (arith, counted)) p)
       (λ p. let q : eqb (length done) 0 ≡ true = e ∙ ap not p in no-profile (sym counted ∙ eqb-true (length done) 0 q) p)
 
@@ -119,11 +119,11 @@ module _ (edition : Edition) (before : List TopItem) (item : TopItem) where
   refuses-fires n (too-many l) = here (le-leb mostElements (length done) (omega (arith, counted)))
   refuses-fires n (unknown e) = later (here (ap not e))
   refuses-fires n (no-profile z e) =
-      let f : xor (eqb (length done) 0) (is profile (item .type)) ≡ true = rw (eq-eqb (length done) 0 (counted ∙ z), e) in
+      let f : xor (eqb (length done) 0) (is profileOctet (item .type)) ≡ true = rw (eq-eqb (length done) 0 (counted ∙ z), e) in
       later (later (here f))
   refuses-fires n (later-profile l e) =
       let nonzero : length done ≡ 0 → ⊥ = λ z. omega (arith, counted) in
-      let f : xor (eqb (length done) 0) (is profile (item .type)) ≡ true = rw (ne-eqb (length done) 0 nonzero, e) in
+      let f : xor (eqb (length done) 0) (is profileOctet (item .type)) ≡ true = rw (ne-eqb (length done) 0 nonzero, e) in
       later (later (here f))
   refuses-fires n (misshapen e) = later (later (later (here (ap not e))))
   refuses-fires n (mistyped e) = later (later (later (later (here (ap not e)))))

@@ -13,7 +13,7 @@ use Rattle.tree.specs.Tree.{Tree, empty, leaf, branch, treeOf}
 use Rattle.contents.specs.Search.{is, firstValue}
 use Rattle.elements.specs.declared.Edition.{Edition}
 use Rattle.elements.specs.Shape.{shapeOf}
-use Rattle.elements.specs.Judge.{Element, elementOf, asTabled, typeFits, namesFit, mostElements, profile, twice}
+use Rattle.elements.specs.Judge.{Element, elementOf, asTabled, typeFits, namesFit, mostElements, profileOctet, twice}
 use Rattle.elements.specs.Rows.{placeOf}
 use Rattle.letters.specs.Letter.{itemsOfStream}
 
@@ -38,9 +38,9 @@ pub data Refuses (edition : Edition) (before : List TopItem) (item : TopItem) : 
   -- "octet not in the element table"
   unknown : is (shapeOf edition (item .type) .octet) (item .type) ≡ false → Refuses edition before item 10
   -- "first is no profile"
-  no-profile : length before ≡ 0 → is profile (item .type) ≡ false → Refuses edition before item 11
+  no-profile : length before ≡ 0 → is profileOctet (item .type) ≡ false → Refuses edition before item 11
   -- "a later one is"
-  later-profile : 0 < length before → is profile (item .type) ≡ true → Refuses edition before item 11
+  later-profile : 0 < length before → is profileOctet (item .type) ≡ true → Refuses edition before item 11
   -- "contents not as tabled"
   misshapen : asTabled (shapeOf edition (item .type)) (item .run) ≡ false → Refuses edition before item 12
   -- "object type outside its range or not one octet"

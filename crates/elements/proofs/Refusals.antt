@@ -9,7 +9,7 @@ use Rattle.tree.specs.Tree.{Tree}
 use Rattle.contents.specs.Search.{is}
 use Rattle.elements.specs.declared.Edition.{Edition}
 use Rattle.elements.specs.Shape.{shapeOf}
-use Rattle.elements.specs.Judge.{valueAt, typeOctet, typesOf, Element, elementOf, asTabled, typeFits, namesFit, mostElements, profile, twice, firstOf, _when_, contentsRules, shapeRefusal, refusalOf}
+use Rattle.elements.specs.Judge.{valueAt, typeOctet, typesOf, Element, elementOf, asTabled, typeFits, namesFit, mostElements, profileOctet, twice, firstOf, _when_, contentsRules, shapeRefusal, refusalOf}
 use Rattle.elements.specs.Sees.{numberOf}
 
 -- the last test counts where none before it refuses
@@ -31,11 +31,11 @@ module _ (edition : Edition) (done : List Element) (type : List ℕ) (run : Tree
     refusal-10 e = rw (few, e)
 
     module _ (known : is (shapeOf edition type .octet) type ≡ true) where
-      pub refusal-11 : xor (eqb (length done) 0) (is profile type) ≡ true → refusalOf edition done type run ≡ 11
+      pub refusal-11 : xor (eqb (length done) 0) (is profileOctet type) ≡ true → refusalOf edition done type run ≡ 11
       unfolding refusalOf
       refusal-11 e = rw (few, known, e)
 
-      pub refusal-by-shape : xor (eqb (length done) 0) (is profile type) ≡ false
+      pub refusal-by-shape : xor (eqb (length done) 0) (is profileOctet type) ≡ false
           → refusalOf edition done type run
           ≡ cond (eqb (shapeRefusal (shapeOf edition type) run) 0) (cond (twice done (elementOf (shapeOf edition type) run)) 15 0)
           (shapeRefusal (shapeOf edition type) run)

@@ -10,7 +10,7 @@ use lib.Dec.{eqb}
 use lib.Seq.{slice}
 use Rattle.headers.specs.declared.Header.{Header}
 use Rattle.headers.specs.declared.Head.the-variants.{Item}
-use Rattle.headers.specs.Head.{constructed, headAt}
+use Rattle.headers.specs.Head.{constructed, headAt, typeField}
 use Rattle.octets.specs.Walk.{Items, none, item, End}
 use Rattle.octets.specs.Rules.{Runs, at-limit, unclosed, closes, refuses, primitive, passes, breaks}
 use Rattle.octets.proofs.RulesHold.{derives}
@@ -20,7 +20,7 @@ use Rattle.runs.specs.Runs.{itemsOf, treeIn, Fine}
 use Rattle.runs.proofs.Heads.{item-octet}
 use Rattle.contents.specs.First.{Lacks}
 use Rattle.contents.specs.Search.{amount, firstRun, itemsIn}
-use Rattle.contents.proofs.Firsts.{amount-formed}
+use Rattle.contents.proofs.Firsts.{is-field, amount-formed}
 use Rattle.elements.proofs.Bounding.{none-lacked}
 
 -- no item of a run has octet 0, nor any inside one of its items
@@ -35,9 +35,10 @@ without-none s = record { amount-is = refl; in-run = λ octet. refl; in-items = 
 
 -- the run inside the first item with an octet is that of this item, or of one after it
 run-of : (octet type : ℕ) (value : List ℕ) (inside after : Tree) (form : Bool) → amount 0 inside ≡ 0 → amount 0 (firstRun octet after) ≡ 0
-    → amount 0 (firstRun octet (formed form (type ∷ []) value inside after)) ≡ 0
+    → amount 0 (firstRun octet (formed form (typeField type) value inside after)) ≡ 0
 unfolding firstRun
-run-of octet type value inside after true here later = cases (eqb type octet) (λ t. rw t here) (λ t. rw t later)
+run-of octet type value inside after true here later =
+    cases (eqb type octet) (λ t. rw (is-field octet type, t) here) (λ t. rw (is-field octet type, t) later)
 run-of octet type value inside after false here later = later
 
 -- an item has the octet that stands at its place

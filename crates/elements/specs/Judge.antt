@@ -216,8 +216,8 @@ abbrev pub mostElements : ℕ
 mostElements = 4096
 
 -- "The profile is first and only there."
-abbrev pub profile : ℕ
-profile = 0xA0
+abbrev pub profileOctet : ℕ
+profileOctet = 0xA0
 
 -- whether two values are there and the same, byte by byte
 abbrev pub shares : Value → Value → Bool
@@ -251,7 +251,7 @@ abbrev pub placeRules : (n known : ℕ) → (type : List ℕ) → List Rule
 placeRules n known type =
     (9 when leb mostElements n)
     ∷ (10 when not (is known type))
-    ∷ (11 when xor (eqb n 0) (is profile type))
+    ∷ (11 when xor (eqb n 0) (is profileOctet type))
     ∷ []
 
 -- rules 12 to 14, by whether the contents are as tabled, the object type is in its range, and the names are well spelt

@@ -1,11 +1,11 @@
 -- The rules of an element in three steps, 9 to 11, 12 to 14 and 15, of which the first that refuses counts; and what an element does to
 -- the judge of a run. Assumes nothing.
-use mathlib.Core.Path.{_≡_, refl, ap, _∙_}
+use mathlib.Core.Path.{_≡_, refl, _∙_}
 use mathlib.Core.Bool.{Bool, true, false, cond, xor}
 use mathlib.Core.List.{List, [], _∷_, _++_}
 use Prim.Native.Nat.{ℕ, _+_, _<_}
 use native.Mathlib.Omega.{arith}
-use borrow.Author.Tests.{ne-eqb, leb-false}
+use borrow.Author.Tests.{eq-eqb, ne-eqb, leb-false}
 use borrow.Table.Steps.{cases}
 use lib.Dec.{eqb, leb}
 use lib.ListN.{length}
@@ -13,9 +13,10 @@ use Rattle.headers.specs.Head.{constructed, typeField}
 use Rattle.octets.specs.Walk.{Items, none, item}
 use Rattle.tree.specs.Tree.{Tree, plain}
 use Rattle.runs.specs.Runs.{tops}
+use Rattle.contents.specs.Search.{is}
 use Rattle.contents.proofs.Firsts.{is-field}
 use Rattle.elements.specs.declared.Edition.{Edition}
-use Rattle.elements.specs.Judge.{Element, mostElements, profile, twice, shapeRefusal, refusalOf, refused, judgeOne, judgeFrom, judge}
+use Rattle.elements.specs.Judge.{Element, mostElements, profileOctet, twice, shapeRefusal, refusalOf, refused, judgeOne, judgeFrom, judge}
 use Rattle.elements.proofs.Refusals.{refusal-9, refusal-10, refusal-11, refusal-by-shape}
 use Rattle.judging.specs.Judges.{earlyRefusal, shapeBy, elementBy}
 
@@ -40,13 +41,12 @@ module _ (edition : Edition) (done : List Element) (octet : ℕ) (run : Tree) wh
       let type = typeField octet in
       cases (leb mostElements (length done)) (λ many. refusal-9 edition done type run many ∙ rw many)
       (λ few.
-      cases (eqb octet (shapeBy edition octet .octet))
+      cases (is (shapeBy edition octet .octet) type)
       (λ known.
-      let is-known = is-field (shapeBy edition octet .octet) octet ∙ known in
-      cases (xor (eqb (length done) 0) (eqb octet profile))
-      (λ misplaced. refusal-11 edition done type run few is-known (ap (xor (eqb (length done) 0)) (is-field profile octet) ∙ misplaced) ∙ rw (few, known, misplaced))
-      (λ placed. refusal-by-shape edition done type run few is-known (ap (xor (eqb (length done) 0)) (is-field profile octet) ∙ placed) ∙ rw (few, known, placed)))
-      (λ unknown. refusal-10 edition done type run few (is-field (shapeBy edition octet .octet) octet ∙ unknown) ∙ rw (few, unknown)))
+      cases (xor (eqb (length done) 0) (is profileOctet type))
+      (λ misplaced. refusal-11 edition done type run few known misplaced ∙ rw (few, known, misplaced))
+      (λ placed. refusal-by-shape edition done type run few known placed ∙ rw (few, known, placed)))
+      (λ unknown. refusal-10 edition done type run few unknown ∙ rw (few, unknown)))
 
   pub refused-early : (n : ℕ) → n ≡ early → (n ≡ 0 → ⊥) → number ≡ n
   refused-early n e some = in-steps ∙ rw (← e, ne-eqb n 0 some)
@@ -62,6 +62,13 @@ module _ (edition : Edition) (done : List Element) (octet : ℕ) (run : Tree) wh
   pub unrefused-few : number ≡ 0 → length done < mostElements
   unfolding refusalOf
   unrefused-few e = leb-false mostElements (length done) (passed 9 (leb mostElements (length done)) _ (λ q. absurd (omega arith)) e .0)
+
+-- whether the type field of a code is an octet's, told by the code
+pub is-known : (octet known : ℕ) → octet ≡ known → is known (typeField octet) ≡ true
+is-known octet known e = is-field known octet ∙ eq-eqb octet known e
+
+pub is-other : (octet known : ℕ) → (octet ≡ known → ⊥) → is known (typeField octet) ≡ false
+is-other octet known e = is-field known octet ∙ ne-eqb octet known e
 
 -- an item of a run, and then those after it
 module _ (edition : Edition) (s : List ℕ) (done : List Element) (at octet first past : ℕ) (inside after : Items) (nothing-inside : constructed octet ≡ false → inside ≡ none) where

@@ -16,7 +16,7 @@ use Rattle.portions.specs.Portions.{any, repeats}
 use Rattle.index.specs.Rows.{nameSpaceOf}
 use Rattle.elements.specs.declared.Edition.{Edition}
 use Rattle.elements.specs.Shape.{shapeOf}
-use Rattle.elements.specs.Judge.{valueAt, typeOctet, typesOf, Element, elementOf, asTabled, typeFits, namesFit, mostElements, profile, shares, clash, twice, refusalOf, Judged, accepted, refused, judgeOne, judgeFrom, judge}
+use Rattle.elements.specs.Judge.{valueAt, typeOctet, typesOf, Element, elementOf, asTabled, typeFits, namesFit, mostElements, profileOctet, shares, clash, twice, refusalOf, Judged, accepted, refused, judgeOne, judgeFrom, judge}
 use Rattle.letters.specs.Apart.{Apart}
 use Rattle.judging.proofs.Lists.{Last, before, last, below-length, at-last, any-none}
 use Rattle.judging.proofs.Steps.{passed}
@@ -39,7 +39,7 @@ apt edition done type run z =
     let e = elementOf shape run in
     let p9 = passed 9 (leb mostElements (length done)) _ (λ q. absurd (omega arith)) z in
     let p10 = passed 10 (not (is (shape .octet) type)) _ (λ q. absurd (omega arith)) (p9 .1) in
-    let p11 = passed 11 (xor (eqb (length done) 0) (is profile type)) _ (λ q. absurd (omega arith)) (p10 .1) in
+    let p11 = passed 11 (xor (eqb (length done) 0) (is profileOctet type)) _ (λ q. absurd (omega arith)) (p10 .1) in
     let p12 = passed 12 (not (asTabled (shape .contents) run)) _ (λ q. absurd (omega arith)) (p11 .1) in
     let p13 = passed 13 (not (typeFits (typesOf (shape .contents)) (valueAt (typeOctet (shape .contents)) run))) _ (λ q. absurd (omega arith)) (p12 .1) in
     let p14 = passed 14 (not (namesFit e)) _ (λ q. absurd (omega arith)) (p13 .1) in
