@@ -17,10 +17,10 @@ use Rattle.octets.specs.Walk.{count, streamLimit, deepest, End, ends, stops, Wa
 use Rattle.octets.specs.Rules.{Runs}
 use Rattle.octets.proofs.RulesHold.{derived, derives}
 use Rattle.tree.specs.Tree.{Tree, empty, leaf, branch, treeOf}
-use Rattle.contents.specs.Search.{is, firstValue}
+use Rattle.contents.specs.Search.{is}
 use Rattle.elements.specs.declared.Edition.{Edition}
 use Rattle.elements.specs.Shape.{shapeOf}
-use Rattle.elements.specs.Judge.{Element, asTabled, typeFits, namesFit, mostElements, profileOctet, twice, Rule, _when_, firstOf, refusalOf, Judged, accepted, refused, judgeOne, judgeFrom, judge}
+use Rattle.elements.specs.Judge.{typeOctet, typesOf, valueAt, Element, asTabled, typeFits, namesFit, mostElements, profileOctet, twice, Rule, _when_, firstOf, refusalOf, Judged, accepted, refused, judgeOne, judgeFrom, judge}
 use Rattle.elements.specs.Rows.{placeOf}
 use Rattle.letters.specs.Letter.{refusal, itemsOfStream, afterWalk, byWalk, letterOf}
 use Rattle.judging.proofs.Lists.{below-length}
@@ -91,8 +91,8 @@ module _ (edition : Edition) (before : List TopItem) (item : TopItem) where
       (9 when leb mostElements (length done))
       ∷ (10 when not (is (shape .octet) (item .type)))
       ∷ (11 when xor (eqb (length done) 0) (is profileOctet (item .type)))
-      ∷ (12 when not (asTabled shape (item .run)))
-      ∷ (13 when not (typeFits (shape .types) (firstValue (shape .object) (item .run))))
+      ∷ (12 when not (asTabled (shape .contents) (item .run)))
+      ∷ (13 when not (typeFits (typesOf (shape .contents)) (valueAt (typeOctet (shape .contents)) (item .run))))
       ∷ (14 when not (namesFit (saysIn edition item)))
       ∷ (15 when twice done (saysIn edition item))
       ∷ []

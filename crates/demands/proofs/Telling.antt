@@ -7,7 +7,7 @@ use mathlib.Core.List.{List, [], _∷_, _++_, map}
 use mathlib.Core.Option.{some}
 use Prim.Native.Nat.{ℕ, zero, suc, _+_, _-_, _<_, _≤_}
 use native.Mathlib.Omega.{arith}
-use lib.Dec.{eqb}
+use lib.Dec.{eqb, leb}
 use lib.ListN.{length, getElem?, length-map}
 use lib.Seq.{slice, slice-empty}
 use borrow.Author.Tests.{eqb-true, eqb-false, ne-eqb}
@@ -25,16 +25,16 @@ use Rattle.contents.specs.declared.Span.{Span}
 use Rattle.contents.specs.Search.{is, amount, firstValue, firstRun, boundsOf, itemsIn as insideOf}
 use Rattle.contents.proofs.Firsts.{is-field, amount-formed}
 use Rattle.portions.specs.Portions.{allPortions, values, all}
-use Rattle.elements.specs.Rows.{noSpan, bytesIn, bodyIn, contentOctet, rowOf, rowsOf}
+use Rattle.elements.specs.Rows.{noSpan, bytesIn, bodyIn, holderIn, contentOctet, boundsAt, rowOf, rowsOf}
 use Rattle.elements.specs.declared.Row.{Row}
-use Rattle.elements.specs.declared.Shape.{Shape}
 use Rattle.elements.specs.declared.Edition.the-variants.{Of1988}
-use Rattle.elements.specs.Shape.{shapeOf}
-use Rattle.elements.specs.Judge.{atMostOne, noneOf, contentOf, piecesAlone, Element, bodyOf, elementOf, ordered, asTabled, accepted, judge}
-use Rattle.elements.specs.WellMade.{WellMade}
-use Rattle.elements.proofs.Made.{made}
+use Rattle.elements.specs.Shape.{ContentItem, whole, pieced, Contents, profile, described, unit, style, Shape, shapeOf}
+use Rattle.elements.specs.Judge.{bodyOf, identifierOctet, identifierNeeded, logicalOctet, portionsOctet, barred, holdersOf, valueAt, runAt, amountAt, noneOf}
+use Rattle.elements.specs.Judge.{contentIn, contentOf, piecesAlone, Element, elementOf, ordered, asTabled, accepted, judge}
+use Rattle.elements.specs.WellMade.{Formed}
+use Rattle.elements.proofs.Made.{formed as holders-formed}
 use Rattle.letters.proofs.Nested.{past-between, stays}
-use Rattle.demands.specs.Refusals.{TopItem, topItems, saysIn, misshapen}
+use Rattle.demands.specs.Refusals.{TopItem, topItems, contentsIn, saysIn, misshapen}
 use Rattle.demands.specs.Demands.{itemCount, TellsValue, TellsContent, portionItems, RowTells}
 use Rattle.demands.proofs.Refusals.{accepted-elements, accepted-pass}
 
@@ -159,14 +159,6 @@ module _ (s : List ℕ) where
       let rest = codes-at octet c q (λ z. present (fewer ∙ z)) in
       cases (constructed type) (λ k. rw (t, k, is-field octet type, t) rest) (λ k. rw (t, k) rest))
 
-  -- no item has octet 0
-  zero-at : {room : ℕ} {i : Items} → Proper s room i → (octet : ℕ) → octet ≡ 0 → amount octet (plain s i) ≡ 0
-  unfolding amount
-  zero-at no-more octet z = refl
-  zero-at (more {octet = type} {start} {past} {inside} {after} there n f codes p q) octet z =
-      amount-formed octet type (slice start past s) (plain s inside) (plain s after) (constructed type)
-      ∙ rw (ne-eqb type octet (λ e. n (e ∙ z)), zero-at q octet z)
-
   -- the items that name an element are the run that does
   body-at : (contents : Contents) (i : Items) → plain s (bodyIn contents i) ≡ bodyOf contents (plain s i)
   unfolding bodyIn bodyOf
@@ -175,31 +167,34 @@ module _ (s : List ℕ) where
   body-at (unit holders) i = run-at 0x31 refl i
   body-at style i = refl
 
-  -- identifiers are values
-  identifier-at : (contents : Contents) (i : Items)
-      → bytesIn s (boundsAt (identifierOctet contents) i) ≡ bytesOf (valueAt (identifierOctet contents) (plain s i))
-  identifier-at profile i = refl
-  identifier-at (described needed types) i = value-at 0x41 refl i
-  identifier-at (unit holders) i = value-at 0x40 refl i
-  identifier-at style i = value-at 0x45 refl i
-
-  logical-at : (contents : Contents) (i : Items)
-      → bytesIn s (boundsAt (logicalOctet contents) i) ≡ bytesOf (valueAt (logicalOctet contents) (plain s i))
-  logical-at profile i = refl
-  logical-at (described needed types) i = refl
-  logical-at (unit holders) i = value-at 0x84 refl i
-  logical-at style i = refl
-
-  body-proper : (shape : Shape) {room : ℕ} {i : Items} → Proper s room i → (levels : ℕ) × Proper s levels (bodyIn shape i)
+  body-proper : (contents : Contents) {room : ℕ} {i : Items} → Proper s room i → (levels : ℕ) × Proper s levels (bodyIn contents i)
   unfolding bodyIn
-  body-proper shape {room} p =
-      cases (shape .looked)
-      (λ l. cases (eqb (shape .within) 0) (λ z. rw (l, z) (room, p)) (λ z. rw (l, z) (room - 1, inside-proper (shape .within) p)))
-      (λ l. rw l (0, no-more))
+  body-proper profile p = (0, no-more)
+  body-proper (described needed types) {room} p = (room - 1, inside-proper 0x31 p)
+  body-proper (unit holders) {room} p = (room - 1, inside-proper 0x31 p)
+  body-proper style {room} p = (room, p)
 
-constructed-by : (octet : ℕ) → (octet ≡ 0) ⊎ (constructed octet ≡ true) → (octet ≡ 0 → ⊥) → constructed octet ≡ true
-constructed-by octet (inl z) present = absurd (present z)
-constructed-by octet (inr c) present = c
+  -- identifiers are values
+  identifier-at : (contents : Contents) {room : ℕ} {i : Items} → Proper s room i
+      → TellsValue s (boundsAt (identifierOctet contents) i) (valueAt (identifierOctet contents) (plain s i))
+  identifier-at profile p = refl
+  identifier-at (described needed types) p = value-at 0x41 refl p
+  identifier-at (unit holders) p = value-at 0x40 refl p
+  identifier-at style p = value-at 0x45 refl p
+
+  logical-at : (contents : Contents) {room : ℕ} {i : Items} → Proper s room i
+      → TellsValue s (boundsAt (logicalOctet contents) i) (valueAt (logicalOctet contents) (plain s i))
+  logical-at profile p = refl
+  logical-at (described needed types) p = refl
+  logical-at (unit holders) p = value-at 0x84 refl p
+  logical-at style p = refl
+
+  no-portions-at : (contents : Contents) {room : ℕ} {i : Items} → Proper s room i
+      → (boundsAt (portionsOctet contents) i ≡ noSpan) ↔ (amountAt (portionsOctet contents) (plain s i) ≡ 0)
+  no-portions-at profile p = (λ _. refl, λ _. refl)
+  no-portions-at (described needed types) p = there-at 0xA1 p
+  no-portions-at (unit holders) p = (λ _. refl, λ _. refl)
+  no-portions-at style p = (λ _. refl, λ _. refl)
 
 -- a type field with the code of one octet is that octet
 is-octet : (octet : ℕ) {type : List ℕ} {form : Bool} → TypeField type form → is octet type ≡ true → type ≡ octet ∷ []
@@ -233,30 +228,37 @@ no-run octet (branch type inside after) z =
 
 module _ (s : List ℕ) where
   -- the octets of the portions
-  portions-at : (octet : ℕ) → (octet ≡ 0) ⊎ (constructed octet ≡ true) → {room : ℕ} {i : Items} → Proper s room i
+  listed-at : (octet : ℕ) → constructed octet ≡ true → {room : ℕ} {i : Items} → Proper s room i
       → allPortions (firstRun octet (plain s i)) ≡ true → Codes 1 (portionItems (values (firstRun octet (plain s i)))) (bytesIn s (boundsOf octet i))
   unfolding values
-  portions-at octet kind {room} {i} p only =
+  listed-at octet c {room} {i} p only =
       cases (eqb (amount octet (plain s i)) 0)
       (λ t.
       let z = eqb-true _ 0 t in
       let bounds : boundsOf octet i ≡ noSpan = there-at s octet p .1 z in
       let run : firstRun octet (plain s i) ≡ empty = no-run octet (plain s i) z in
       rw (run, bounds, slice-empty 0 s) nothing)
-      (λ t.
-      let present = eqb-false _ 0 t in
-      one-level (codes-at s octet (constructed-by octet kind (λ z. present (zero-at s p octet z))) p present .0) only)
+      (λ t. one-level (codes-at s octet c p (eqb-false _ 0 t) .0) only)
+
+  no-list : Codes 1 (portionItems (values empty)) (bytesIn s noSpan)
+  unfolding values
+  no-list = rw (slice-empty 0 s) nothing
+
+  portions-at : (contents : Contents) {room : ℕ} {i : Items} → Proper s room i → allPortions (runAt (portionsOctet contents) (plain s i)) ≡ true
+      → Codes 1 (portionItems (values (runAt (portionsOctet contents) (plain s i)))) (bytesIn s (boundsAt (portionsOctet contents) i))
+  portions-at profile p only = no-list
+  portions-at (described needed types) p only = listed-at 0xA1 refl p only
+  portions-at (unit holders) p only = no-list
+  portions-at style p only = no-list
 
   -- the octets of the content
-  content-at : (shape : Shape) → WellMade shape → {i : Items} → Proper s (deepest - 1) i
-      → TellsContent s (boundsOf (contentOctet shape (plain s i)) i) (contentOf shape (plain s i))
-  unfolding contentOf contentOctet
-  content-at shape made {i} p =
-      cases (noneOf (shape .pieces) (plain s i))
-      (λ t. rw t (value-at s (shape .content) (made .content) p))
-      (λ t.
-      let present = eqb-false _ 0 t in
-      rw t (codes-at s (shape .pieces) (constructed-by (shape .pieces) (made .pieces) (λ z. present (zero-at s p (shape .pieces) z))) p present))
+  content-at : (holders : List ContentItem) → Formed holders → {i : Items} → Proper s (deepest - 1) i
+      → TellsContent s (boundsAt (holderIn holders (plain s i)) i) (contentIn holders (plain s i))
+  content-at [] w p = refl
+  content-at (whole octet ∷ others) w {i} p =
+      cases (noneOf octet (plain s i)) (λ t. rw t (content-at others (w .1) p)) (λ t. rw t (value-at s octet (w .0) p))
+  content-at (pieced octet ∷ others) w {i} p =
+      cases (noneOf octet (plain s i)) (λ t. rw t (content-at others (w .1) p)) (λ t. rw t (codes-at s octet (w .0) p (eqb-false _ 0 t)))
 
   abbrev shapeAt : ℕ → Shape
   shapeAt octet = shapeOf Of1988 (typeField octet)
@@ -265,26 +267,27 @@ module _ (s : List ℕ) where
   itemAt octet inside = record { type = typeField octet; run = plain s inside }
 
   row-tells : (octet first past : ℕ) (inside : Items) → Proper s (deepest - 1) inside
-      → allPortions (firstRun (shapeAt octet .portions) (bodyOf (shapeAt octet) (plain s inside))) ≡ true
+      → allPortions (runAt (portionsOctet (shapeAt octet .contents)) (bodyOf (shapeAt octet .contents) (plain s inside))) ≡ true
       → RowTells s (rowOf (shapeAt octet) s first past inside) (itemAt octet inside) (saysIn Of1988 (itemAt octet inside))
-  unfolding rowOf elementOf
+  unfolding rowOf elementOf contentOf contentOctet
   row-tells octet first past inside p only =
-      let shape = shapeAt octet in
-      let made = made Of1988 (typeField octet) in
-      let body = bodyIn shape inside in
-      let same : plain s body ≡ bodyOf shape (plain s inside) = body-at s shape made inside in
-      let q = body-proper s shape p .1 in
+      let contents = shapeAt octet .contents in
+      let body = bodyIn contents inside in
+      let same : plain s body ≡ bodyOf contents (plain s inside) = body-at s contents inside in
+      let q = body-proper s contents p .1 in
       record {
         kind = refl;
         object = refl;
-        identifier = subst (λ (t : Tree). TellsValue s (boundsOf (shape .identifier .octet) body) (firstValue (shape .identifier .octet) t)) same
-            (value-at s (shape .identifier .octet) (made .identifier) q);
-        logical = subst (λ (t : Tree). TellsValue s (boundsOf (shape .logical) body) (firstValue (shape .logical) t)) same
-            (value-at s (shape .logical) (made .logical) q);
-        portions = subst (λ (t : Tree). Codes 1 (portionItems (values (firstRun (shape .portions) t))) (bytesIn s (boundsOf (shape .portions) body))) same
-            (portions-at (shape .portions) (made .portions) q (subst (λ (t : Tree). allPortions (firstRun (shape .portions) t) ≡ true) (sym same) only));
-        no-portions = subst (λ (t : Tree). (boundsOf (shape .portions) body ≡ noSpan) ↔ (amount (shape .portions) t ≡ 0)) same (there-at s (shape .portions) q);
-        content = content-at shape made p;
+        identifier = subst (λ (t : Tree). TellsValue s (boundsAt (identifierOctet contents) body) (valueAt (identifierOctet contents) t)) same
+            (identifier-at s contents q);
+        logical = subst (λ (t : Tree). TellsValue s (boundsAt (logicalOctet contents) body) (valueAt (logicalOctet contents) t)) same
+            (logical-at s contents q);
+        portions = subst
+            (λ (t : Tree). Codes 1 (portionItems (values (runAt (portionsOctet contents) t))) (bytesIn s (boundsAt (portionsOctet contents) body))) same
+            (portions-at contents q (subst (λ (t : Tree). allPortions (runAt (portionsOctet contents) t) ≡ true) (sym same) only));
+        no-portions = subst (λ (t : Tree). (boundsAt (portionsOctet contents) body ≡ noSpan) ↔ (amountAt (portionsOctet contents) t ≡ 0)) same
+            (no-portions-at s contents q);
+        content = content-at (holdersOf contents) (holders-formed Of1988 (typeField octet)) p;
       }
 
   -- an element stands in the tree as the items inside its own
@@ -338,20 +341,20 @@ all-at (t ∷ tests) e zero test f = let p : t ≡ test = cc in sym p ∙ both t
 all-at (t ∷ tests) e (suc k) test f = all-at tests (both t (all tests) e .1) k test f
 
 -- contents as tabled: the portions are items 12
-tabled-portions : (shape : Shape) (run : Tree) → asTabled shape run ≡ true → allPortions (firstRun (shape .portions) (bodyOf shape run)) ≡ true
+tabled-portions : (contents : Contents) (run : Tree) → asTabled contents run ≡ true
+    → allPortions (runAt (portionsOctet contents) (bodyOf contents run)) ≡ true
 unfolding asTabled
-tabled-portions shape run e =
-    let body = bodyOf shape run in
-    all-at (ordered shape run
-    ∷ piecesAlone (contentOf shape run)
-    ∷ not (shape .identifier .needed && noneOf (shape .identifier .octet) body)
-    ∷ atMostOne (shape .identifier .octet) body
-    ∷ atMostOne (shape .logical) body
-    ∷ atMostOne (shape .portions) body
-    ∷ noneOf (shape .never) body
-    ∷ noneOf (shape .neither) body
-    ∷ allPortions (firstRun (shape .portions) body)
-    ∷ []) e 8 (allPortions (firstRun (shape .portions) body)) refl
+tabled-portions contents run e =
+    let body = bodyOf contents run in
+    let identifiers = amountAt (identifierOctet contents) body in
+    all-at (ordered contents run
+    ∷ piecesAlone (contentOf contents run)
+    ∷ not (identifierNeeded contents && eqb identifiers 0)
+    ∷ leb identifiers 1
+    ∷ leb (amountAt (logicalOctet contents) body) 1
+    ∷ leb (amountAt (portionsOctet contents) body) 1
+    ∷ allPortions (runAt (portionsOctet contents) body)
+    ∷ map (λ octet. noneOf octet body) (barred contents)) e 6 (allPortions (runAt (portionsOctet contents) body)) refl
 
 module _ (s : List ℕ) {i : Items} (p : Proper s deepest i) (elements : List Element) (judged : judge Of1988 (plain s i) ≡ accepted elements) where
   pub tops-counted : length (topItems (plain s i)) ≡ length elements
@@ -360,9 +363,9 @@ module _ (s : List ℕ) {i : Items} (p : Proper s deepest i) (elements : List El
   pub rows-counted : length (rowsOf Of1988 s i) ≡ length elements
   rows-counted = rows-count s p ∙ tops-counted
 
-  as-tabled : (j : ℕ) (top : TopItem) → getElem? (topItems (plain s i)) j ≡ some top → asTabled (shapeOf Of1988 (top .type)) (top .run) ≡ true
+  as-tabled : (j : ℕ) (top : TopItem) → getElem? (topItems (plain s i)) j ≡ some top → asTabled (contentsIn Of1988 top) (top .run) ≡ true
   as-tabled j top there =
-      cases (asTabled (shapeOf Of1988 (top .type)) (top .run))
+      cases (asTabled (contentsIn Of1988 top) (top .run))
       (λ t. t)
       (λ t. absurd (accepted-pass Of1988 (plain s i) elements judged j top there 12 (misshapen t)))
 
@@ -374,7 +377,7 @@ module _ (s : List ℕ) {i : Items} (p : Proper s deepest i) (elements : List El
       sym (said-at (topItems (plain s i)) j top there)
       ∙ ap (λ (es : List Element). getElem? es j) (sym (accepted-elements Of1988 (plain s i) elements judged)) ∙ f in
       let x : saysIn Of1988 top ≡ element = cc in
-      let tabled = subst (λ (y : TopItem). asTabled (shapeOf Of1988 (y .type)) (y .run) ≡ true) (sym (o .item-is)) (as-tabled j top there) in
+      let tabled = subst (λ (y : TopItem). asTabled (contentsIn Of1988 y) (y .run) ≡ true) (sym (o .item-is)) (as-tabled j top there) in
       let told = row-tells s (o .octet) (o .first) (o .past) (o .inside) (o .inside-proper) (tabled-portions _ _ tabled) in
       let at-item = subst (λ (y : TopItem). RowTells s (rowOf (shapeAt s (o .octet)) s (o .first) (o .past) (o .inside)) y (saysIn Of1988 y)) (o .item-is) told in
       subst (λ (r : Row). RowTells s r top element) (o .row-is)

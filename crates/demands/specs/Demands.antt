@@ -13,19 +13,18 @@ use Rattle.tree.specs.Tree.{Tree, empty, leaf, branch, treeOf, Codes}
 use Rattle.normal.specs.Normal.{normalForm}
 use Rattle.index.specs.Rows.{rowWidth}
 use Rattle.contents.specs.declared.Span.{Span}
-use Rattle.contents.specs.Search.{Value, absent, octets, amount}
+use Rattle.contents.specs.Search.{Value, absent, octets}
 use Rattle.elements.specs.Rows.{noSpan, bytesIn}
 use Rattle.elements.specs.declared.Row.{Row}
 use Rattle.elements.specs.declared.Edition.the-variants.{Of1988}
-use Rattle.elements.specs.Shape.{shapeOf}
-use Rattle.elements.specs.Judge.{bytesOf, Content, single, inPieces, joinedContent, Element, bodyOf, accepted, judge}
+use Rattle.elements.specs.Judge.{bodyOf, portionsOctet, amountAt, bytesOf, Content, single, inPieces, joinedContent, Element, accepted, judge}
 use Rattle.letters.specs.Letter.{letter, refusal, itemsOfStream, EndToEnd, PairsWithin}
 use Rattle.reading.specs.declared.Match.{Match}
 use Rattle.reading.specs.declared.Side.{Side}
 use Rattle.reading.specs.Match.{unitKind, matches, IsMatch, Before, units, portionsOn}
 use Rattle.answers.specs.Answers.{letterIn, rowsIn, onto, tableOf, refusedCheck, checked, checkedTable, written, writtenOutput, listed, listedTable, matchesIn}
 use Rattle.answers.specs.Answers.{listedList, handed, withheld, fetched, joinedIn, copied, copiedOutput}
-use Rattle.demands.specs.Refusals.{TopItem, topItems, RefusedWith}
+use Rattle.demands.specs.Refusals.{TopItem, topItems, contentsIn, RefusedWith}
 
 -- A number that a question may give, and its place: 0, one of 1 to 15, or one of the question's own, "where the question can give it". The
 -- place lies in the stream; it is 0 with 0 and from 16 on.
@@ -101,7 +100,7 @@ portionItems (portion ∷ portions) = leaf (0x12 ∷ []) portion (portionItems p
 
 -- an element has no item for portions, which is more than that it lists none
 abbrev pub NoPortions : TopItem → Type 0
-NoPortions item = let shape = shapeOf Of1988 (item .type) in amount (shape .portions) (bodyOf shape (item .run)) ≡ 0
+NoPortions item = let contents = contentsIn Of1988 item in amountAt (portionsOctet contents) (bodyOf contents (item .run)) ≡ 0
 
 -- a row tells what its element says: its kind and object type, and octets of the stream
 pub record RowTells (s : List ℕ) (row : Row) (item : TopItem) (element : Element) : Type 0 where

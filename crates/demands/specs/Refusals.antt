@@ -10,10 +10,10 @@ use lib.ListN.{length, take, getElem?}
 use Rattle.octets.specs.Walk.{Items, streamLimit, deepest, ends, stops}
 use Rattle.octets.specs.Rules.{Runs}
 use Rattle.tree.specs.Tree.{Tree, empty, leaf, branch, treeOf}
-use Rattle.contents.specs.Search.{is, firstValue}
+use Rattle.contents.specs.Search.{is}
 use Rattle.elements.specs.declared.Edition.{Edition}
-use Rattle.elements.specs.Shape.{shapeOf}
-use Rattle.elements.specs.Judge.{Element, elementOf, asTabled, typeFits, namesFit, mostElements, profileOctet, twice}
+use Rattle.elements.specs.Shape.{Contents, shapeOf}
+use Rattle.elements.specs.Judge.{typeOctet, typesOf, valueAt, Element, elementOf, asTabled, typeFits, namesFit, mostElements, profileOctet, twice}
 use Rattle.elements.specs.Rows.{placeOf}
 use Rattle.letters.specs.Letter.{itemsOfStream}
 
@@ -27,7 +27,10 @@ topItems empty = []
 topItems (leaf type value after) = record { type = type; run = empty } ∷ topItems after
 topItems (branch type inside after) = record { type = type; run = inside } ∷ topItems after
 
--- what it says, whether or not a rule refuses it
+-- what its shape says that it contains, and what it says, whether or not a rule refuses it
+abbrev pub contentsIn : Edition → TopItem → Contents
+contentsIn edition item = shapeOf edition (item .type) .contents
+
 abbrev pub saysIn : Edition → TopItem → Element
 saysIn edition item = elementOf (shapeOf edition (item .type)) (item .run)
 
@@ -42,9 +45,9 @@ pub data Refuses (edition : Edition) (before : List TopItem) (item : TopItem) : 
   -- "a later one is"
   later-profile : 0 < length before → is profileOctet (item .type) ≡ true → Refuses edition before item 11
   -- "contents not as tabled"
-  misshapen : asTabled (shapeOf edition (item .type)) (item .run) ≡ false → Refuses edition before item 12
+  misshapen : asTabled (contentsIn edition item) (item .run) ≡ false → Refuses edition before item 12
   -- "object type outside its range or not one octet"
-  mistyped : typeFits (shapeOf edition (item .type) .types) (firstValue (shapeOf edition (item .type) .object) (item .run)) ≡ false
+  mistyped : typeFits (typesOf (contentsIn edition item)) (valueAt (typeOctet (contentsIn edition item)) (item .run)) ≡ false
       → Refuses edition before item 13
   -- "identifier or portion misspelt, or a 65th portion"
   misspelt : namesFit (saysIn edition item) ≡ false → Refuses edition before item 14
