@@ -27,7 +27,8 @@ use Rattle.answers.specs.declared.Checked.{Checked}
 use Rattle.answers.specs.declared.Written.{Written}
 use Rattle.answers.specs.declared.Listed.{Listed}
 use Rattle.answers.specs.declared.Copied.{Copied}
-use Rattle.answers.specs.Answers.{letterIn, tooFewRows, checkedBy, checked, checkedTable, writtenBy, written, writtenOutput, listedBy, listed, listedTable, listedList, Fetched, fetchedOf, fetchedBy, partOf, fetched, allOf, joinedIn, copiedFrom, copied, copiedOutput}
+use Rattle.answers.specs.Table.{tooFewRows}
+use Rattle.answers.specs.Answers.{letterIn, checkedBy, checked, checkedTable, writtenBy, written, writtenOutput, listedBy, listed, listedTable, listedList, Fetched, fetchedOf, fetchedBy, partOf, fetched, allOf, joinedIn, copiedFrom, copied, copiedOutput}
 use Rattle.demands.specs.Demands.{Answered, Demand1}
 use Rattle.answers.proofs.Small.{Small, refusal-small}
 
