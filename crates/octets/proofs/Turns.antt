@@ -156,14 +156,3 @@ tree-ends room s limit true =
 tree-ends room s limit false =
     let e : run room s limit limit false ≡ ended limit = run-step room s limit limit false (omega arith) ∙ rw (le-leb limit limit (omega arith)) in
     ap (λ (w : Walked). w .items) e
-
-follow-counts : (at : ℕ) (h : Header) (inside : Items) (e : End) (more : ℕ → Walked) → suc (count inside) ≤ count (follow at h inside e more .items)
-follow-counts at h inside (ends next) more = omega arith
-follow-counts at h inside (stops number place) more = omega arith
-
--- an item and what is inside it are among the run's
-pub item-counts : (room : ℕ) (s : List ℕ) (at limit : ℕ) (marked : Bool) → at < limit → (h : Header) → headAt s at limit marked room ≡ Item h
-    → suc (count (valueOf room s h .items)) ≤ count (run room s at limit marked .items)
-item-counts room s at limit marked l h e =
-    rw (at-item room s at limit marked l h e)
-    (follow-counts at h (valueOf room s h .items) (valueOf room s h .how) (λ n. run room s n limit marked))
