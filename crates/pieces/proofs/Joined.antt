@@ -2,7 +2,7 @@
 -- Assumes nothing.
 use mathlib.Core.Path.{_≡_, ap, _∙_}
 use mathlib.Core.Bool.{Bool, true, false}
-use mathlib.Core.List.{List, [], _++_, append-nil}
+use mathlib.Core.List.{List, [], _++_}
 use Prim.Native.Nat.{ℕ, _+_, _-_, _≤_}
 use native.Mathlib.Omega.{arith}
 use lib.ListN.{length, length-append}
@@ -13,7 +13,7 @@ use Rattle.octets.specs.Rules.{Runs, at-limit, unclosed, closes, refuses, primi
 use Rattle.octets.proofs.Walks.{EndOk, run-ok}
 use Rattle.octets.proofs.Turns.{header-ok}
 use Rattle.octets.proofs.RulesHold.{derives}
-use Rattle.tree.specs.Tree.{empty, leaf, plain}
+use Rattle.tree.specs.Tree.{plain}
 use Rattle.tree.specs.Accepts.{Whole}
 use Rattle.runs.specs.declared.Run.{Run}
 use Rattle.runs.specs.Runs.{walkIn, itemsOf, treeIn, Fine, Meeting}
@@ -97,8 +97,3 @@ joined-within {s} {r} f =
 -- nor longer than the stream
 pub joined-fits : {s : List ℕ} {r : Run} → Fine s r → length (joined (treeIn s r)) ≤ length s
 joined-fits f = omega (arith, joined-within f, f .inside)
-
--- "a 04 being one piece"
-pub joined-one : (type value : List ℕ) → joined (leaf type value empty) ≡ value
-unfolding joined
-joined-one type value = append-nil value

@@ -12,7 +12,7 @@ use borrow.Author.Tests.{leb-true, le-leb}
 use Rattle.octets.specs.declared.Outcome.{Outcome}
 use Rattle.octets.specs.declared.Outcome.the-variants.{Ended, Refused}
 use Rattle.headers.specs.Head.{constructed, typeField}
-use Rattle.octets.specs.Walk.{Items, none, item, count, End, ends, stops, streamLimit, run, outcomeOf, answer, walkOf, startOf}
+use Rattle.octets.specs.Walk.{Items, none, item, count, End, ends, stops, streamLimit, outcomeOf, answer, walkOf, startOf}
 use Rattle.octets.specs.Rules.{Runs, at-limit, unclosed, closes, refuses, primitive, passes, breaks}
 use Rattle.octets.proofs.Walks.{EndOk, run-ok}
 use Rattle.octets.proofs.Turns.{answer-ends}
@@ -73,10 +73,6 @@ starts-at (breaks l p q v) m w = absurd w
 -- an unmarked run begins at its place: its first item stands there, or it is at its limit
 pub start-at : {s : List ℕ} {r : Run} → Fine s r → r .marked ≡ false → startOf (r .limit) (itemsOf s r) ≡ r .at
 start-at {s} {r} f m = starts-at (derives (r .room) s (r .at) (r .limit) (r .marked) (f .order)) m (f .whole)
-
--- an unmarked run with no item is at its limit
-pub end-at : {s : List ℕ} {r : Run} → Fine s r → r .marked ≡ false → itemsOf s r ≡ none → r .at ≡ r .limit
-end-at {s} {r} f m e = sym (start-at f m) ∙ ap (startOf (r .limit)) e
 
 -- what is met is the first item of the tree
 pub tree-meets : {s : List ℕ} {r : Run} {octet first past : ℕ} {inner rest : Run} → Meeting s r octet first past inner rest

@@ -1,6 +1,6 @@
 -- `portions::is_among` meets its contract. The loop's invariant: the value k stands after itself exactly if it stands from j on.
 -- Assumes nothing.
-use mathlib.Core.Path.{_≡_, refl, sym, ap, _∙_}
+use mathlib.Core.Path.{_≡_, refl, sym, _∙_}
 use Prim.Native.Nat.{_+_, _*_, _-_, _≤_}
 use native.Mathlib.Omega.{arith}
 use lib.Seq.{slice}
