@@ -1,7 +1,7 @@
 # Builds and installs the library, the command and their pages. `make` needs rt (for the proved library), gcc and cargo.
 #
 #   make                                      build all under target/install
-#   make install PREFIX=/usr DESTDIR=/tmp/p   header, archive, shared library, odif.pc, command, manual pages
+#   make install PREFIX=/usr DESTDIR=/tmp/p   header, archive, shared library, odif.pc, command, manual pages, completions
 #   make uninstall                            take away what install put there
 #
 # The archive is the proved one with odif_sentence beside it; the shared library is made of the same two.
@@ -18,9 +18,11 @@ series  := $(shell echo $(version) | cut -d. -f1,2)
 proved  := target/staticlib/libodif.a
 out     := target/install
 to      := $(DESTDIR)$(PREFIX)
+# where bash, zsh and fish look for them
+completions := $(addprefix $(to)/share/,bash-completion/completions zsh/site-functions fish/vendor_completions.d)
 
 .PHONY: all install uninstall clean
-all: $(out)/libodif.a $(out)/libodif.so $(out)/odif.pc $(out)/odif.1 $(out)/odif.3
+all: $(out)/libodif.a $(out)/libodif.so $(out)/odif.pc $(out)/odif $(out)/odif.3
 
 $(proved):
 	rt staticlib odif
@@ -44,20 +46,20 @@ $(out)/libodif.so: $(proved) $(out)/odif_sentence.o
 $(out)/odif.pc: packaging/odif.pc.in | $(out)
 	sed -e 's|@PREFIX@|$(PREFIX)|' -e 's|@VERSION@|$(version)|' $< > $@
 
-# rust/packages, if it is there, makes the crates ready that the command uses; cargo knows what has changed
+# rust/packages makes the crates ready that the command uses, and cargo knows what has changed; the command writes its own
+# manual page and completions
 .PHONY: $(out)/odif
 $(out)/odif: $(proved) | $(out)
 	cd rust && { [ ! -x packages ] || ./packages; } && cargo build --release --locked --workspace --bin odif
 	cp rust/target/release/odif $@
-
-$(out)/odif.1: $(out)/odif packaging/odif.1.in packaging/manual
-	packaging/manual $(version) $(out)/odif > $@
+	$@ man > $@.1
+	for shell in bash zsh fish; do $@ completions $$shell > $@.$$shell || exit 1; done
 
 $(out)/odif.3: include/odif.h packaging/odif.3.in packaging/manual | $(out)
 	packaging/manual $(version) > $@
 
 install: all
-	$(INSTALL) -d $(to)/include $(to)/lib/pkgconfig $(to)/bin $(to)/share/man/man1 $(to)/share/man/man3
+	$(INSTALL) -d $(to)/include $(to)/lib/pkgconfig $(to)/bin $(to)/share/man/man1 $(to)/share/man/man3 $(completions)
 	$(INSTALL) -m 644 include/odif.h $(to)/include/odif.h
 	$(INSTALL) -m 644 $(out)/libodif.a $(to)/lib/libodif.a
 	$(INSTALL) -m 755 $(out)/libodif.so $(to)/lib/libodif.so.$(version)
@@ -67,11 +69,15 @@ install: all
 	$(INSTALL) -m 755 -s $(out)/odif $(to)/bin/odif
 	$(INSTALL) -m 644 $(out)/odif.1 $(to)/share/man/man1/odif.1
 	$(INSTALL) -m 644 $(out)/odif.3 $(to)/share/man/man3/odif.3
+	$(INSTALL) -m 644 $(out)/odif.bash $(word 1,$(completions))/odif
+	$(INSTALL) -m 644 $(out)/odif.zsh $(word 2,$(completions))/_odif
+	$(INSTALL) -m 644 $(out)/odif.fish $(word 3,$(completions))/odif.fish
 
 uninstall:
 	rm -f $(to)/include/odif.h $(to)/lib/libodif.a $(to)/lib/libodif.so $(to)/lib/libodif.so.$(series) \
 	    $(to)/lib/libodif.so.$(version) $(to)/lib/pkgconfig/odif.pc $(to)/bin/odif \
-	    $(to)/share/man/man1/odif.1 $(to)/share/man/man3/odif.3
+	    $(to)/share/man/man1/odif.1 $(to)/share/man/man3/odif.3 \
+	    $(word 1,$(completions))/odif $(word 2,$(completions))/_odif $(word 3,$(completions))/odif.fish
 
 clean:
 	rm -rf $(out)

@@ -4,11 +4,11 @@ use std::ffi::OsString;
 use std::io;
 use std::process::ExitCode;
 
-use clap::{Args, Parser, Subcommand, ValueEnum};
+use clap::{Args, CommandFactory, Parser, Subcommand, ValueEnum};
 use odif::{Letter, Side};
 
 use crate::status::{Failure, Outcome, Status, tell};
-use crate::{check, list, normal, same, survey, text, tree};
+use crate::{check, export, list, man, normal, same, survey, text, tree};
 
 const EXAMPLES: &str = "\
 Examples:
@@ -20,9 +20,20 @@ Examples:
 Exit status: 0 all was accepted; 1 something was refused; 2 something could not be
 read or written, or the command was misused; 130 it was interrupted.";
 
+/// What `--version` tells: which library this is, and what proved it.
+const VERSION: &str = concat!(
+    env!("CARGO_PKG_VERSION"),
+    "\nlibrary   libodif.a, sha256 ",
+    env!("ODIF_LIBRARY"),
+    "\ncommit    ",
+    env!("ODIF_COMMIT"),
+    "\ntoolchain ",
+    env!("ODIF_TOOLCHAIN")
+);
+
 /// Reads letters in the Open Document Interchange Format (ODIF, 1988)
 #[derive(Parser)]
-#[command(name = "odif", version, after_help = EXAMPLES, max_term_width = 100)]
+#[command(name = "odif", version, long_version = VERSION, after_help = EXAMPLES, max_term_width = 100)]
 pub struct Cli {
     #[command(subcommand)]
     command: Command,
@@ -37,6 +48,10 @@ enum Command {
     Normal(normal::Words),
     Survey(survey::Words),
     Same(same::Words),
+    Export(export::Words),
+    Completions(man::Words),
+    /// Writes the manual page, for `man -l -`
+    Man,
 }
 
 /// The files of a subcommand.
@@ -70,6 +85,16 @@ enum Which {
 }
 
 impl Sides {
+    /// What was asked for, in a word.
+    pub fn word(&self) -> &'static str {
+        match self.side {
+            _ if self.logical => "logical",
+            Which::Layout => "layout",
+            Which::Logical => "logical",
+            Which::Auto => "auto",
+        }
+    }
+
     /// The side to read of this letter.
     pub fn of(&self, letter: &Letter<'_>) -> Side {
         let is_empty = |side| letter.reading_list(side).is_ok_and(|list| list.is_empty());
@@ -108,6 +133,9 @@ fn dispatch(command: Command) -> Outcome {
         Command::Normal(words) => normal::run(&words),
         Command::Survey(words) => survey::run(&words),
         Command::Same(words) => same::run(&words),
+        Command::Export(words) => export::run(&words),
+        Command::Completions(words) => man::completions(&words, Cli::command()),
+        Command::Man => man::run(Cli::command()),
     }
 }
 

@@ -4,6 +4,7 @@ use std::fs::{self, File, Permissions};
 use std::io::{self, BufWriter, Write};
 use std::os::unix::fs::PermissionsExt;
 use std::path::{Path, PathBuf};
+use std::sync::OnceLock;
 
 use nix::sys::stat::{Mode, umask};
 use tempfile::NamedTempFile;
@@ -39,10 +40,16 @@ impl Beside {
 
     /// Puts the finished file in its place, and on the disk.
     pub fn finish(self) -> Result<(), Failure> {
+        self.end(true)
+    }
+
+    fn end(self, sync: bool) -> Result<(), Failure> {
         let Beside { path, out } = self;
         let done = match out {
             Out::Through(mut out) => out.flush(),
-            Out::Beside(out) => out.into_inner().map_err(|error| error.into_error()).and_then(|file| put(file, &path)),
+            Out::Beside(out) => {
+                out.into_inner().map_err(|error| error.into_error()).and_then(|file| put(file, &path, sync))
+            }
         };
         done.map_err(|error| failure(&path, &error))
     }
@@ -76,28 +83,37 @@ pub fn write(path: &Path, octets: &[u8]) -> Result<(), Failure> {
     file.finish()
 }
 
+/// Writes a whole file, which the caller puts on the disk with many others.
+pub fn write_unsynced(path: &Path, octets: &[u8]) -> Result<(), Failure> {
+    let mut file = Beside::create(path)?;
+    file.add(octets)?;
+    file.end(false)
+}
+
 /// What can't be written, with its name.
 pub fn failure(path: &Path, error: &io::Error) -> Failure {
     Failure::File(format!("{}: {error}", show::name(path.as_os_str())))
 }
 
-fn put(file: NamedTempFile, path: &Path) -> io::Result<()> {
+fn put(file: NamedTempFile, path: &Path, sync: bool) -> io::Result<()> {
     file.as_file().set_permissions(permissions(path))?;
-    file.as_file().sync_all()?;
+    if sync {
+        file.as_file().sync_all()?;
+    }
     file.persist(path).map_err(|error| error.error)?;
-    File::open(folder(path))?.sync_all()
+    if sync { File::open(folder(path))?.sync_all() } else { Ok(()) }
 }
 
 /// Those of the file that is replaced, or those that a new file gets.
 fn permissions(path: &Path) -> Permissions {
-    fs::metadata(path).map_or_else(
-        |_| {
-            let mask = umask(Mode::empty());
-            umask(mask);
-            Permissions::from_mode(0o666 & !mask.bits())
-        },
-        |about| about.permissions(),
-    )
+    // The mask can be asked for only by setting it, so that is done once.
+    static MASK: OnceLock<u32> = OnceLock::new();
+    let mask = MASK.get_or_init(|| {
+        let mask = umask(Mode::empty());
+        umask(mask);
+        mask.bits()
+    });
+    fs::metadata(path).map_or_else(|_| Permissions::from_mode(0o666 & !mask), |about| about.permissions())
 }
 
 fn folder(path: &Path) -> &Path {

@@ -6,8 +6,7 @@
 use odif::{Kind, Refusal};
 use reader::{Item, Length, Reading, Why};
 
-use crate::tree::{self, Named};
-use crate::{foreign, show};
+use crate::{foreign, items, show};
 
 /// A refusal with all that is known of it.
 pub struct Fault {
@@ -81,8 +80,8 @@ impl<'a> Around<'a> {
             end > self.place || end == self.place && item.length() == Length::Indefinite
         };
         match elements.clone().last() {
-            Some(last) if is_around(last) => (Some(elements.count() - 1), tree::kind(last.octet())),
-            _ => (Some(elements.count()), self.octet().and_then(tree::kind)),
+            Some(last) if is_around(last) => (Some(elements.count() - 1), items::kind(last.octet())),
+            _ => (Some(elements.count()), self.octet().and_then(items::kind)),
         }
     }
 
@@ -90,7 +89,7 @@ impl<'a> Around<'a> {
     fn item(&self, number: u32) -> String {
         match self.octet() {
             Some(octet) if (2..=11).contains(&number) => show::hex(&[octet]),
-            Some(_) if number == 12 => tree::shape(self.items, self.place),
+            Some(_) if number == 12 => items::shape(self.items, self.place),
             _ => String::new(),
         }
     }
@@ -109,7 +108,7 @@ impl<'a> Around<'a> {
             Why::WrongForm => {
                 let form = if octet? & 0x20 == 0 { "primitive" } else { "constructed" };
                 let number = octet? & 0x1F;
-                let name = tree::universal(number).map_or(String::new(), |name| format!(" ({name})"));
+                let name = items::universal(number).map_or(String::new(), |name| format!(" ({name})"));
                 format!("universal {number}{name} stands in {form} form, which it never has")
             }
             Why::NoSuchElement => format!("no element begins with octet {:02X}", octet?),
@@ -170,24 +169,22 @@ impl<'a> Around<'a> {
     }
 
     fn identifier_again(&self) -> Option<String> {
-        let this = tree::kind(self.octet()?)?;
-        let mut number = 0;
-        let mut kind = this;
+        let this = items::kind(self.octet()?)?;
+        let mut around = (0, this);
         let mut earlier = Vec::new();
-        for Named { item, element, name, .. } in
-            tree::named(self.items).take_while(|named| named.item.first() < self.place)
-        {
-            (number, kind) =
-                element.map_or((number, kind), |element| (element, tree::kind(item.octet()).unwrap_or(kind)));
-            if let Some(name) = name.filter(|name| IDENTIFIERS.contains(name)) {
-                earlier.push((number, kind, name, &self.stream[item.value()]));
+        for named in items::named(self.items).take_while(|named| named.item.first() < self.place) {
+            if let Some(number) = named.element {
+                around = (number, items::kind(named.item.octet())?);
+            }
+            if let Some(name) = named.name().filter(|name| IDENTIFIERS.contains(name)) {
+                earlier.push((around, name, &self.stream[named.item.value()]));
             }
         }
         self.named(&IDENTIFIERS).find_map(|(name, value)| {
-            let same = |(_, kind, other, theirs): &&(usize, Kind, &str, &[u8])| {
+            let is_same = |((_, kind), other, theirs): &&((usize, Kind), &str, &[u8])| {
                 *theirs == value && *other == name && space(*kind) == space(this)
             };
-            let (number, kind, ..) = earlier.iter().find(same)?;
+            let ((number, kind), ..) = earlier.iter().find(is_same)?;
             let value = show::escaped(value);
             Some(format!("the {name} \"{value}\" is that of element {number}, a {kind}, already"))
         })
@@ -197,8 +194,9 @@ impl<'a> Around<'a> {
     fn named(&self, names: &'a [&'static str]) -> impl Iterator<Item = (&'static str, &'a [u8])> {
         let (stream, place) = (self.stream, self.place);
         let past = self.items.iter().find(|item| item.first() == place).map_or(0, |item| item.value().end);
-        let inside = tree::named(self.items).filter(move |named| (place..past).contains(&named.item.first()));
-        inside.filter_map(|named| Some((named.name.filter(|name| names.contains(name))?, &stream[named.item.value()])))
+        let inside = items::named(self.items).filter(move |named| (place..past).contains(&named.item.first()));
+        inside
+            .filter_map(|named| Some((named.name().filter(|name| names.contains(name))?, &stream[named.item.value()])))
     }
 }
 

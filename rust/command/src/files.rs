@@ -47,6 +47,11 @@ pub struct Entry {
 }
 
 impl Places {
+    /// One folder.
+    pub fn of(folder: &OsStr, hex: bool, jobs: Option<usize>) -> Places {
+        Places { folders: vec![folder.into()], files_from: None, null: false, hex, jobs }
+    }
+
     /// All files in the folders and their subfolders, sorted, each once, but for those that are to be written. A folder
     /// that is not there is among them, as one that can't be read.
     pub fn list(&self, written: &[PathBuf]) -> Result<Vec<Entry>, Failure> {
@@ -60,6 +65,9 @@ impl Places {
         let mut entries = Vec::new();
         for folder in self.folders.iter().map(PathBuf::from).chain(self.named_elsewhere()?) {
             add_folder(&folder, &mut entries, &progress);
+        }
+        if pool::is_ended() {
+            return Err(Failure::Cut("it was still looking for files, and nothing is written".into()));
         }
         let written: Vec<_> = written.iter().filter_map(|path| path.canonicalize().ok()).collect();
         entries.retain(|entry| !written.iter().any(|file| is_same_file(&entry.path, file)));

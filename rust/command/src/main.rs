@@ -2,13 +2,18 @@
 
 mod args;
 mod beside;
+mod charset;
 mod check;
 mod explain;
+mod export;
 mod faults;
 mod files;
 mod foreign;
 mod input;
+mod items;
 mod list;
+mod man;
+mod modules;
 mod names;
 mod normal;
 mod pool;

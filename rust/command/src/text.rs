@@ -4,16 +4,19 @@ use std::io::{self, BufWriter, IsTerminal, Write};
 
 use clap::Args;
 use odif::{Kind, Letter, Match, Side};
+use reader::{Item, Reading};
 
 use crate::args::{Files, Sides};
+use crate::charset::{self, Charset};
 use crate::input::{self, Source};
 use crate::status::{Outcome, Status, tell};
-use crate::{explain, show};
+use crate::{explain, items, show};
 
 const EXAMPLES: &str = "\
 Examples:
   odif text samples/letters/claim.odif
   odif text --raw letter.odif | sha256sum
+  odif text --utf8=t61 letter.odif
   odif text --strict inbox/*.odif > inbox.txt
 
 Exit status: 0 written; 1 a letter was refused, or with --strict has text that was left out; 2 a
@@ -30,20 +33,76 @@ pub struct Words {
     #[command(flatten)]
     files: Files,
     #[command(flatten)]
-    sides: Sides,
+    how: How,
     /// Exactly the octets of the file and nothing else, whatever they do to a terminal
-    #[arg(long)]
+    #[arg(long, conflicts_with = "utf8")]
     raw: bool,
     /// What is no printable ASCII or line end as \xHH, \r or \t, and \ as \\
-    #[arg(long, conflicts_with = "raw")]
+    #[arg(long, conflicts_with_all = ["raw", "utf8"])]
     escape: bool,
     /// Text units that are left out, since no object of the side names them, are a refusal
     #[arg(long)]
     strict: bool,
 }
 
+/// How a letter is read as text.
+#[derive(Args)]
+pub struct How {
+    #[command(flatten)]
+    sides: Sides,
+    /// The text in UTF-8, from this set of characters. An octet that can't be turned, as of a control function, is
+    /// written in hexadecimal, as ⟦1B⟧
+    #[arg(long, value_name = "SET", num_args = 0..=1, require_equals = true, default_missing_value = "auto")]
+    utf8: Option<Charset>,
+}
+
+/// A letter's text, each block ending a line.
+pub struct Text {
+    pub octets: Vec<u8>,
+    pub side: Side,
+    /// How many text units the letter has, and how many of them the text has.
+    pub units: usize,
+    pub shown: usize,
+}
+
+impl How {
+    /// The text of a letter.
+    pub fn text(&self, letter: &Letter<'_>) -> Text {
+        let side = self.sides.of(letter);
+        let list = letter.reading_list(side).unwrap_or_default();
+        let units = letter.elements().iter().filter(|element| element.kind == Kind::TextUnit).count();
+        let octets = in_blocks(letter, &list);
+        let octets = match self.utf8 {
+            None => octets,
+            Some(Charset::Auto) => {
+                let set = declared(letter.stream()).unwrap_or(Charset::Auto);
+                charset::to_utf8(&octets, set).into_bytes()
+            }
+            Some(set) => charset::to_utf8(&octets, set).into_bytes(),
+        };
+        Text { octets, side, units, shown: list.len() }
+    }
+
+    /// The same in words, to tell one way from another.
+    pub fn words(&self) -> String {
+        let side = self.sides.word();
+        self.utf8.map_or(side.into(), |set| format!("{side} utf8={set:?}").to_lowercase())
+    }
+}
+
+/// The set of characters that the presentation attributes of a letter declare.
+fn declared(stream: &[u8]) -> Option<Charset> {
+    let reading = Reading::of(stream);
+    let items = reading.tree().items();
+    let attributes = items::named(items).filter(|named| named.name() == Some("presentation-attributes"));
+    let attributes: Vec<_> = attributes.map(|named| named.item.value()).collect();
+    let is_in = |item: &&Item| attributes.iter().any(|around| around.contains(&item.first()));
+    let values = items.iter().filter(is_in).filter(|item| !item.is_constructed());
+    charset::declared(values.map(|item| &stream[item.value()]))
+}
+
 pub fn run(words: &Words) -> Outcome {
-    let escape = words.escape || !words.raw && io::stdout().is_terminal();
+    let escape = words.escape || !words.raw && words.how.utf8.is_none() && io::stdout().is_terminal();
     input::each(&words.files, false, |source| {
         let letter = match Letter::read(&source.stream) {
             Ok(letter) => letter,
@@ -52,20 +111,16 @@ pub fn run(words: &Words) -> Outcome {
                 return Ok(Status::Refused);
             }
         };
-        let side = words.sides.of(&letter);
-        let list = letter.reading_list(side).unwrap_or_default();
+        let Text { octets, side, shown, .. } = words.how.text(&letter);
         let mut out = BufWriter::new(io::stdout().lock());
-        if !words.raw {
-            input::heading(&mut out, &words.files.files, source)?;
-        }
-        let text = if words.raw { joined(&letter, &list) } else { in_blocks(&letter, &list) };
-        if escape {
-            out.write_all(show::escaped_lines(&text).as_bytes())?;
+        if words.raw {
+            out.write_all(&joined(&letter, &letter.reading_list(side).unwrap_or_default()))?;
         } else {
-            out.write_all(&text)?;
+            input::heading(&mut out, &words.files.files, source)?;
+            out.write_all(&if escape { show::escaped_lines(&octets).into_bytes() } else { octets })?;
         }
         out.flush()?;
-        let all = note_units_left_out(source, &letter, side, list.len());
+        let all = note_units_left_out(source, &letter, side, shown);
         Ok(if all || !words.strict { Status::Accepted } else { Status::Refused })
     })
 }
@@ -76,7 +131,7 @@ fn joined(letter: &Letter<'_>, list: &[Match]) -> Vec<u8> {
 }
 
 /// The contents of the matches, each block ending a line.
-pub fn in_blocks(letter: &Letter<'_>, list: &[Match]) -> Vec<u8> {
+fn in_blocks(letter: &Letter<'_>, list: &[Match]) -> Vec<u8> {
     let mut text = Vec::new();
     for block in list.chunk_by(|one, other| one.element == other.element) {
         text.extend(joined(letter, block));

@@ -1,13 +1,17 @@
 //! Help, the version, and misuse.
 
-use super::support::{CLAIM, CUT_SHORT, odif};
+use std::path::PathBuf;
+use std::process::Command;
+
+use super::support::{CLAIM, CUT_SHORT, odif, repository};
 
 #[test]
 fn the_overview_names_every_subcommand() {
     for words in [&["--help"][..], &["-h"], &["help"]] {
         let run = odif(words);
         assert_eq!(run.status, 0);
-        for name in ["check", "text", "tree", "normal", "list", "survey", "same", "Examples:", "Exit status:"] {
+        for name in ["check", "text", "tree", "normal", "list", "survey", "same", "export", "Examples:", "Exit status:"]
+        {
             assert!(run.text().contains(name), "{name}");
         }
     }
@@ -15,7 +19,7 @@ fn the_overview_names_every_subcommand() {
 
 #[test]
 fn every_subcommand_has_help_with_examples() {
-    for name in ["check", "text", "tree", "normal", "list", "survey", "same"] {
+    for name in ["check", "text", "tree", "normal", "list", "survey", "same", "export"] {
         for words in [[name, "--help"], ["help", name]] {
             let run = odif(&words);
             assert_eq!(run.status, 0);
@@ -27,7 +31,32 @@ fn every_subcommand_has_help_with_examples() {
 
 #[test]
 fn the_version() {
-    assert!(odif(&["--version"]).text().starts_with("odif "));
+    let run = odif(&["--version"]);
+    let lines: Vec<&str> = run.text().lines().collect();
+    assert_eq!((lines.len(), lines[0]), (4, concat!("odif ", env!("CARGO_PKG_VERSION"))));
+    let library = std::env::var_os("ODIF_LIB_DIR").map_or_else(|| repository().join("target/staticlib"), PathBuf::from);
+    let hash = Command::new("sha256sum").arg(library.join("libodif.a")).output().unwrap().stdout;
+    let hash = String::from_utf8(hash).unwrap();
+    assert_eq!(lines[1], format!("library   libodif.a, sha256 {}", hash.split(' ').next().unwrap()));
+    assert!(lines[2].starts_with("commit    ") && lines[3].starts_with("toolchain "), "{}", run.text());
+    assert_eq!(odif(&["-V"]).text().lines().count(), 1);
+}
+
+#[test]
+fn completions_and_a_manual_page() {
+    for shell in ["bash", "zsh", "fish"] {
+        let run = odif(&["completions", shell]);
+        assert!(run.status == 0 && run.text().contains("survey") && run.text().contains("files-from"), "{shell}");
+    }
+    assert_eq!(odif(&["completions", "none"]).status, 2);
+    let run = odif(&["man"]);
+    assert!(run.text().starts_with(".TH ODIF 1\n.SH NAME\nodif \\- Reads letters"), "{}", run.text());
+    for part in [".SH odif survey\n", ".B \\-\\-files\\-from FILE\n", ".SH odif export\n", "Exit status: 0 all were"] {
+        assert!(run.text().contains(part), "{part}");
+    }
+    let odd = run.text().lines().filter(|line| line.starts_with('.'));
+    let known = [".TH", ".SH", ".TP", ".B", ".PP", ".nf", ".fi"];
+    assert!(odd.map(|line| line.split(' ').next().unwrap()).all(|request| known.contains(&request)));
 }
 
 #[test]

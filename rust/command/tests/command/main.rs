@@ -1,6 +1,8 @@
 //! The command as a user meets it: each subcommand on good, refused, empty, huge and unreadable files.
 
 mod check;
+mod export;
+mod faults;
 mod help;
 mod list;
 mod names;

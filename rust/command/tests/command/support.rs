@@ -3,6 +3,7 @@
 use std::ffi::OsStr;
 use std::fs;
 use std::io::Write;
+use std::os::unix::fs::symlink;
 use std::path::{Path, PathBuf};
 use std::process::{Command, Stdio};
 
@@ -123,6 +124,17 @@ impl Scratch {
         fs::create_dir_all(path.parent().unwrap()).unwrap();
         fs::write(&path, octets).unwrap();
         self.word(name)
+    }
+
+    /// A letter that takes some milliseconds, and a folder with so many links to it, named 0000 and so on.
+    pub fn write_slow(&self, name: &str, folder: &str, links: usize) {
+        let mut stream = vec![0xA0, 0x83, 0x03, 0xFF, 0xF0];
+        stream.extend([0x05, 0x00].repeat(0x03_FFF0 / 2));
+        self.write(name, &stream);
+        fs::create_dir(self.path(folder)).unwrap();
+        for number in 0..links {
+            symlink(self.path(name), self.path(folder).join(format!("{number:04}"))).unwrap();
+        }
     }
 
     /// A file of eight gigabytes that takes no room, and is refused for its length.

@@ -200,28 +200,19 @@ fn a_failing_write_leaves_the_csv_as_it_was() {
 #[test]
 fn an_interrupt_leaves_the_csv_as_it_was_and_is_told() {
     let scratch = Scratch::new("survey-interrupt");
-    let mut slow = vec![0xA0, 0x83, 0x0F, 0xFF, 0xF0];
-    slow.extend([0x05, 0x00].repeat(0x0F_FFF0 / 2));
-    scratch.write("slow.odif", &slow);
-    for number in 0..5_000 {
-        symlink("../slow.odif", scratch.path("in").join(number.to_string()))
-            .or_else(|_| {
-                fs::create_dir(scratch.path("in"))?;
-                symlink("../slow.odif", scratch.path("in").join(number.to_string()))
-            })
-            .unwrap();
-    }
+    scratch.write_slow("slow.odif", "in", 5_000);
     for subcommand in ["survey", "same"] {
         let csv = scratch.write("out.csv", b"as it was");
         let words = [subcommand, &scratch.word("in"), "--csv", &csv, "--jobs", "1"];
         let child = command(&words).stdout(Stdio::null()).stderr(Stdio::piped()).spawn().unwrap();
-        thread::sleep(Duration::from_millis(300));
+        thread::sleep(Duration::from_millis(500));
         assert!(Command::new("kill").args(["-INT", &child.id().to_string()]).status().unwrap().success());
         let output = child.wait_with_output().unwrap();
         let told = String::from_utf8(output.stderr).unwrap();
         assert_eq!(output.status.code(), Some(130), "{told}");
-        assert!(told.starts_with("odif: interrupted: ") && told.contains(" of 5,000 files"), "{told}");
-        assert!(told.contains("out.csv is as it was before"), "{told}");
+        let is_under_way = told.contains(" of 5,000 files") && told.contains("out.csv is as it was before");
+        let is_looking = told.contains("still looking for files, and nothing is written");
+        assert!(told.starts_with("odif: interrupted: ") && (is_under_way || is_looking), "{told}");
         assert_eq!(fs::read(&csv).unwrap(), b"as it was");
         assert_eq!(scratch.names(), ["in", "out.csv", "slow.odif"]);
     }

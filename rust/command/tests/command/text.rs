@@ -103,3 +103,18 @@ fn refused_empty_huge_and_unreadable_files() {
     assert_eq!(run.status, 2);
     assert!(run.stderr.starts_with("odif: none: No such file"), "{}", run.stderr);
 }
+
+#[test]
+fn utf8_by_a_flag_or_by_what_is_declared() {
+    let scratch = Scratch::new("text-utf8");
+    let plain = scratch.write("plain", &letter(b"M\xC8uller \xA4 $\x1B[1m"));
+    assert_eq!(odif(&["text", "--utf8", &plain]).text(), "Müller $ $⟦1B⟧[1m\n");
+    assert_eq!(odif(&["text", "--utf8=t61", &plain]).text(), "Müller $ ¤⟦1B⟧[1m\n");
+    assert_eq!(odif(&["text", "--utf8=latin1", &plain]).text(), "MÈuller ¤ $⟦1B⟧[1m\n");
+    assert_eq!(on_terminal(&["text", "--utf8", &plain]), "Müller $ $⟦1B⟧[1m\n", "nothing for a terminal to obey");
+    // a presentation style whose character attributes designate ISO 8859-1
+    let style = b"\xA7\x0C\x45\x011\xA3\x07\xA0\x05\x8D\x03\x1B-A";
+    let declared = scratch.write("declared", &[&letter(b"M\xFCller")[..], style].concat());
+    assert_eq!(odif(&["text", "--utf8", &declared]).text(), "Müller\n");
+    assert_eq!(odif(&["text", "--utf8=iso6937", &declared]).text(), "Mþller\n");
+}

@@ -1,0 +1,166 @@
+//! Text of around 1990 as UTF-8: T.61, ISO 6937 and ISO 8859-1.
+//!
+//! What can't be turned is marked as its octet in brackets that none of the sets has, `⟦C8⟧`, and never dropped.
+
+use clap::ValueEnum;
+use unicode_normalization::char::compose;
+
+/// A set of characters.
+#[derive(Clone, Copy, Debug, PartialEq, Eq, ValueEnum)]
+pub enum Charset {
+    /// What the letter's presentation attributes declare, or else ISO 6937
+    Auto,
+    /// The primary and supplementary sets of T.61 (24 is the currency sign)
+    T61,
+    /// ISO 6937: ASCII and the supplementary set, with an accent before its letter
+    Iso6937,
+    /// ISO 8859-1
+    #[value(alias = "iso8859-1")]
+    Latin1,
+}
+
+/// The supplementary set from A0 on, as of 1983 and 1992 together; a blank is none, and C1 to CF are accents.
+const SUPPLEMENT: &str =
+    "\u{A0}¡¢£$¥#§¤‘“«←↑→↓°±²³×µ¶·÷’”»¼½¾¿                ―¹®©™♪¬¦    ⅛⅜⅝⅞ΩÆĐªĦ ĲĿŁØŒºÞŦŊŉĸæđðħıĳŀłøœßþŧŋ\u{AD}";
+
+/// The accents from C1 on, as they stand over a letter, and alone.
+const ACCENTS: [(char, char); 15] = [
+    ('\u{300}', '`'),
+    ('\u{301}', '´'),
+    ('\u{302}', '^'),
+    ('\u{303}', '~'),
+    ('\u{304}', '¯'),
+    ('\u{306}', '˘'),
+    ('\u{307}', '˙'),
+    ('\u{308}', '¨'),
+    ('\u{308}', '¨'),
+    ('\u{30A}', '˚'),
+    ('\u{327}', '¸'),
+    ('\u{332}', '_'),
+    ('\u{30B}', '˝'),
+    ('\u{328}', '˛'),
+    ('\u{30C}', 'ˇ'),
+];
+
+/// Escape sequences that put a set in the place of the right half (ISO 2022, with the finals of the register).
+const DESIGNATIONS: [(&[u8], Charset); 6] = [
+    (b"\x1B-A", Charset::Latin1),
+    (b"\x1B.A", Charset::Latin1),
+    (b"\x1B)v", Charset::T61),
+    (b"\x1B)l", Charset::Iso6937),
+    (b"\x1B-J", Charset::Iso6937),
+    (b"\x1B-R", Charset::Iso6937),
+];
+
+/// The set that some octets declare by an escape sequence, and how long that is.
+fn designated(octets: &[u8]) -> Option<(Charset, usize)> {
+    let known = DESIGNATIONS.iter().find(|(sequence, _)| octets.starts_with(sequence));
+    known.map(|(sequence, set)| (*set, sequence.len()))
+}
+
+/// The one set that presentation attributes declare among these values.
+pub fn declared<'a>(values: impl Iterator<Item = &'a [u8]>) -> Option<Charset> {
+    let mut sets = values.flat_map(|value| (0..value.len()).filter_map(|at| Some(designated(&value[at..])?.0)));
+    let first = sets.next()?;
+    sets.all(|set| set == first).then_some(first)
+}
+
+/// Turns octets into text. An escape sequence in them that designates another of the sets is heeded.
+pub fn to_utf8(octets: &[u8], set: Charset) -> String {
+    let mut set = if set == Charset::Auto { Charset::Iso6937 } else { set };
+    let mut text = String::with_capacity(octets.len() + octets.len() / 8);
+    let mut at = 0;
+    while let Some(&octet) = octets.get(at) {
+        let next = octets.get(at + 1).copied();
+        at += 1;
+        match octet {
+            b'\n' | b'\t' | 0x0C => text.push(octet as char),
+            b'\r' if next == Some(b'\n') => text.push('\r'),
+            0x1B if designated(&octets[at - 1..]).is_some() => {
+                let (other, length) = designated(&octets[at - 1..]).expect("just seen");
+                set = other;
+                at += length - 1;
+            }
+            0xC1..=0xCF if set != Charset::Latin1 => match accented(octet, next.and_then(|next| letter(next, set))) {
+                Some(letter) => {
+                    text.extend(letter);
+                    at += 1;
+                }
+                None => mark(&mut text, octet),
+            },
+            _ => match letter(octet, set) {
+                Some(letter) => text.push(letter),
+                None => mark(&mut text, octet),
+            },
+        }
+    }
+    text
+}
+
+fn mark(text: &mut String, octet: u8) {
+    text.push_str(&format!("⟦{octet:02X}⟧"));
+}
+
+/// The letter with the accent, as one where there is one; over a space it is the accent alone.
+fn accented(accent: u8, letter: Option<char>) -> Option<impl Iterator<Item = char>> {
+    let (over, alone) = ACCENTS[usize::from(accent - 0xC1)];
+    let pair = match letter? {
+        ' ' => (alone, None),
+        letter if letter.is_alphabetic() => compose(letter, over).map_or((letter, Some(over)), |one| (one, None)),
+        _ => return None,
+    };
+    Some(std::iter::once(pair.0).chain(pair.1))
+}
+
+/// The character of one octet that is no accent.
+fn letter(octet: u8, set: Charset) -> Option<char> {
+    match (octet, set) {
+        (b'$', Charset::T61) => Some('¤'),
+        (b' '..=b'~', _) => Some(octet as char),
+        (0xA0.., Charset::Latin1) => Some(octet as char),
+        (0xA0.., _) => SUPPLEMENT.chars().nth(usize::from(octet - 0xA0)).filter(|&letter| letter != ' '),
+        _ => None,
+    }
+}
+
+#[cfg(test)]
+mod tests {
+    use super::*;
+
+    #[test]
+    fn accents_stand_before_their_letters() {
+        for set in [Charset::T61, Charset::Iso6937, Charset::Auto] {
+            assert_eq!(to_utf8(b"M\xC8uller, Fran\xCBcois, \xCAAngstr\xC8om", set), "Müller, François, Ångström");
+            assert_eq!(to_utf8(b"\xC2\x20\xC2q", set), "´q\u{301}", "alone, and over a letter that has no such form");
+            assert_eq!(to_utf8(b"stra\xFBe \xE9re \xE1 \xF1", set), "straße Øre Æ æ");
+        }
+        assert_eq!(to_utf8(b"M\xFCller 5$", Charset::Latin1), "Müller 5$");
+        assert_eq!(to_utf8(b"5$ \xA45", Charset::T61), "5¤ $5");
+    }
+
+    #[test]
+    fn what_cannot_be_turned_is_marked() {
+        assert_eq!(to_utf8(b"a\x1B[31mb\x07\xE5", Charset::Iso6937), "a⟦1B⟧[31mb⟦07⟧⟦E5⟧");
+        assert_eq!(to_utf8(b"x\xC8", Charset::Iso6937), "x⟦C8⟧");
+        assert_eq!(to_utf8(b"\xC8\xC8u \xC8;", Charset::Iso6937), "⟦C8⟧ü ⟦C8⟧;");
+        assert_eq!(to_utf8(b"a\rb\r\n\x85", Charset::Latin1), "a⟦0D⟧b\r\n⟦85⟧");
+    }
+
+    #[test]
+    fn no_octet_is_lost() {
+        for set in [Charset::T61, Charset::Iso6937, Charset::Latin1] {
+            for octet in 0..=0xFF {
+                assert!(to_utf8(&[b'a', octet, b'.'], set).chars().count() >= 3, "{set:?} {octet:02X}");
+            }
+        }
+        assert_eq!(SUPPLEMENT.chars().count(), 96);
+    }
+
+    #[test]
+    fn declared_sets() {
+        assert_eq!(to_utf8(b"\xC8u\x1B-A\xFC", Charset::Auto), "üü");
+        assert_eq!(declared([&b"xx\x1B-A"[..], b"\x1B.A"].into_iter()), Some(Charset::Latin1));
+        assert_eq!(declared([&b"\x1B-A"[..], b"\x1B)v"].into_iter()), None, "two of them");
+        assert_eq!(declared([&b"abc"[..]].into_iter()), None);
+    }
+}
