@@ -79,7 +79,7 @@ impl<'a> Around<'a> {
             let end = item.value().end;
             end > self.place || end == self.place && item.length() == Length::Indefinite
         };
-        match elements.clone().last() {
+        match elements.clone().next_back() {
             Some(last) if is_around(last) => (Some(elements.count() - 1), items::kind(last.octet())),
             _ => (Some(elements.count()), self.octet().and_then(items::kind)),
         }

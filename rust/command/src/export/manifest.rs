@@ -21,7 +21,7 @@ pub const COLUMNS: [&str; 14] = [
 ];
 
 /// A file of the archive. The fields are the columns, in their order.
-#[derive(Clone, Serialize, Deserialize)]
+#[derive(Clone, Default, Serialize, Deserialize)]
 pub struct Line {
     /// The name below the archive's folder. Its text, if it is a letter, has the same name with `.txt` behind it.
     pub file: String,
@@ -46,27 +46,8 @@ impl Line {
     /// What is known of a file before it is read.
     pub fn new(file: &Path, about: Option<&Metadata>, how: &str) -> Line {
         let Name { file, file_octets } = Name::of(file.as_os_str());
-        let [outcome, side, text_sha256, reason] = [const { String::new() }; 4];
-        let [place, units, left_out] = [None; 3];
-        let octets = about.map(Metadata::len);
-        let modified = about.map_or(String::new(), modified);
-        let (number, text_octets, how) = (None, None, how.into());
-        Line {
-            file,
-            outcome,
-            number,
-            place,
-            octets,
-            modified,
-            how,
-            side,
-            units,
-            left_out,
-            text_octets,
-            text_sha256,
-            reason,
-            file_octets,
-        }
+        let (octets, modified) = (about.map(Metadata::len), about.map_or(String::new(), modified));
+        Line { file, octets, modified, how: how.into(), file_octets, ..Line::default() }
     }
 
     /// Was the same file, not written since, exported in the same way, and is its text there?

@@ -12,6 +12,7 @@ use sha2::{Digest, Sha256};
 
 use self::manifest::{COLUMNS, Journal, Line};
 use crate::beside;
+use crate::faults::Fault;
 use crate::files::{Entry, Places, at_least_one};
 use crate::pool::Pool;
 use crate::progress::Progress;
@@ -157,7 +158,8 @@ fn export(words: &Words, entry: &Entry, file: &Path, line: Line) -> Result<Line,
         Err(refusal) => {
             // The text of what stood there before is not that of this file.
             let _ = fs::remove_file(&target);
-            let (number, place, reason) = (Some(refusal.number()), Some(refusal.place), refusal.rule.to_string());
+            let Fault { number, place, detail: reason, .. } = Fault::of(&stream.octets, &refusal);
+            let (number, place) = (Some(number), Some(place));
             return Ok(Line { outcome: "refused".into(), number, place, reason, ..line });
         }
     };

@@ -10,11 +10,12 @@ use crate::files::Entry;
 use crate::input;
 use crate::names::Name;
 
-#[derive(Clone, Copy, Debug, PartialEq, Eq, Serialize, Deserialize)]
+#[derive(Clone, Copy, Debug, Default, PartialEq, Eq, Serialize, Deserialize)]
 #[serde(rename_all = "lowercase")]
 pub enum Verdict {
     Accepted,
     Refused,
+    #[default]
     Unreadable,
 }
 
@@ -36,7 +37,7 @@ pub const COLUMNS: [&str; 13] = [
 ];
 
 /// One file. The fields are the columns, in their order.
-#[derive(Serialize, Deserialize)]
+#[derive(Default, Serialize, Deserialize)]
 pub struct Record {
     pub file: String,
     pub outcome: Verdict,
@@ -85,24 +86,7 @@ impl Record {
 
     fn new(path: &Path, outcome: Verdict) -> Record {
         let Name { file, file_octets } = Name::of(path.as_os_str());
-        let [number, place, octets, headers, elements] = [None; 5];
-        let (number, octets) = (number.map(|_: usize| 0), octets.map(|_: usize| 0));
-        let [reason, detail, kind, item, foreign] = [const { String::new() }; 5];
-        Record {
-            file,
-            outcome,
-            number,
-            place,
-            octets,
-            headers,
-            elements,
-            reason,
-            detail,
-            kind,
-            item,
-            foreign,
-            file_octets,
-        }
+        Record { file, outcome, file_octets, ..Record::default() }
     }
 
     fn refused(self, stream: &[u8], refusal: &Refusal) -> Record {
