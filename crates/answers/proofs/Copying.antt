@@ -7,7 +7,7 @@ use native.Mathlib.Omega.{arith}
 use lib.Dec.{eqb, ltb}
 use lib.ListN.{length, drop}
 use borrow.Author.Tests.{ne-eqb, lt-ltb, le-ltb, ltb-false}
-use Rattle.headers.proofs.Lies.{cond-holds}
+use Rattle.laws.proofs.Tests.{cond-holds}
 use Rattle.answers.specs.declared.Copied.{Copied}
 use Rattle.answers.specs.Answers.{onto, Fetched, handed, withheld, joinedIn, copied, copiedOutput, JoinedOutcome}
 use Rattle.answers.specs.Asking.{Copies}

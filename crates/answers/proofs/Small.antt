@@ -13,7 +13,7 @@ use borrow.Table.Steps.{cases}
 use Rattle.octets.specs.declared.Outcome.{Outcome}
 use Rattle.octets.specs.declared.Outcome.the-variants.{Ended, Refused}
 use Rattle.octets.specs.Walk.{Items, count, streamLimit, deepest, End, ends, stops, run, outcomeOf, walkOf}
-use Rattle.headers.proofs.Lies.{cond-holds}
+use Rattle.laws.proofs.Tests.{cond-holds}
 use Rattle.octets.proofs.Walks.{EndOk, run-ok}
 use Rattle.octets.proofs.Numbers.{Stops, run-stops, Before, nothing, stands, run-before}
 use Rattle.tree.specs.Tree.{Tree, empty, leaf, branch, treeOf}

@@ -10,7 +10,7 @@ use lib.ListN.{length}
 use borrow.Author.Tests.{eqb-true, eqb-false}
 use Rattle.headers.specs.Head.{constructed}
 use Rattle.octets.specs.Walk.{none, run, runFor}
-use Rattle.headers.proofs.Lies.{cond-holds}
+use Rattle.laws.proofs.Tests.{cond-holds}
 use Rattle.runs.specs.declared.Run.{Run}
 use Rattle.runs.specs.Runs.{itemsOf, treeIn, Fine}
 use Rattle.contents.specs.declared.Part.{Part}

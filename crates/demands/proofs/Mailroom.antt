@@ -13,7 +13,7 @@ use borrow.Table.Steps.{cases}
 use Rattle.octets.specs.Walk.{streamLimit, deepest, Walked}
 use Rattle.octets.proofs.RulesHold.{derived}
 use Rattle.octets.proofs.Numbers.{Stops, run-stops}
-use Rattle.headers.proofs.Lies.{cond-holds}
+use Rattle.laws.proofs.Tests.{cond-holds}
 use Rattle.tree.specs.Tree.{Tree, treeOf}
 use Rattle.tree.proofs.Meaning.{means}
 use Rattle.normal.specs.Normal.{Octets, normalForm}

@@ -7,7 +7,7 @@ use native.Mathlib.Nat.{mod-lt}
 use native.Mathlib.Omega.{arith}
 use lib.Dec.{eqb}
 use borrow.Author.Tests.{eqb-true, eqb-false}
-use Rattle.headers.proofs.Lies.{cond-holds}
+use Rattle.laws.proofs.Tests.{cond-holds}
 use Rattle.runs.specs.declared.Run.{Run}
 use Rattle.runs.specs.Runs.{treeIn}
 use Rattle.contents.specs.declared.Gathered.{Gathered}

@@ -1,7 +1,7 @@
 -- What an item's type field is that was read, and that a header that is read lies between its place and the limit, in the order of its
 -- parts; and so does a closing mark. Assumes nothing.
-use mathlib.Core.Path.{_≡_, refl}
-use mathlib.Core.Bool.{Bool, true, false, cond, false≢true}
+use mathlib.Core.Path.{_≡_}
+use mathlib.Core.Bool.{Bool, true, false≢true}
 use mathlib.Core.List.{List}
 use Prim.Native.Nat.{ℕ, _+_, _-_, _<_, _≤_}
 use native.Mathlib.Omega.{arith}
@@ -12,11 +12,7 @@ use Rattle.headers.specs.declared.Head.{Head}
 use Rattle.headers.specs.declared.Head.the-variants.{Item, ClosingMark, Refusal}
 use Rattle.headers.specs.declared.Field.{Field}
 use Rattle.headers.specs.Head.{number, constructed, formAllowed, misfits, octetAt, definiteAt, indefiniteAt, longAt, byFirst, lengthAt, afterField, closingAt, itemAt, headAt}
-
--- what holds of both cases holds of the one that a test picks
-pub cond-holds : {A : Type 0} (P : A → Type 0) (b : Bool) {x y : A} → (b ≡ true → P x) → (b ≡ false → P y) → P (cond b x y)
-cond-holds P true f g = f refl
-cond-holds P false f g = g refl
+use Rattle.laws.proofs.Tests.{cond-holds}
 
 -- a type field that was read at `at`, from this octet on: its code, and the place past it
 pub data FieldRead (octet at : ℕ) : (code past : ℕ) → Type 0 where

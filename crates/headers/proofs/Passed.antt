@@ -10,7 +10,8 @@ use borrow.Author.Tests.{leb-true, ltb-true, eq-eqb, ne-eqb, lt-ltb, le-ltb}
 use Rattle.headers.specs.declared.Head.{Head}
 use Rattle.headers.specs.declared.Head.the-variants.{Item, ClosingMark}
 use Rattle.headers.specs.Head.{constructed, bigEndian, misfits, octetAt, definiteAt, indefiniteAt, longAt, byFirst, lengthAt, closingAt, headAt, Passed}
-use Rattle.headers.proofs.Lies.{cond-holds, FieldRead, in-one, item-holds}
+use Rattle.headers.proofs.Lies.{FieldRead, in-one, item-holds}
+use Rattle.laws.proofs.Tests.{cond-holds}
 
 -- a header with a definite length, from start on
 abbrev pub definite : (octet start n : ℕ) → Head

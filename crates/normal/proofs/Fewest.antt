@@ -8,7 +8,7 @@ use lib.Dec.{ltb, lit<}
 use lib.ListN.{length}
 use borrow.Author.Tests.{ltb-false, lt-ltb}
 use Rattle.headers.specs.Head.{bigEndian, bigEndianFrom}
-use Rattle.headers.proofs.Lies.{cond-holds}
+use Rattle.laws.proofs.Tests.{cond-holds}
 use Rattle.tree.specs.Tree.{Length, short, long}
 use Rattle.normal.specs.Normal.{furtherOctets, lengthOctets, Octets}
 use Rattle.normal.proofs.Lengths.{length-length}

@@ -1,9 +1,9 @@
 -- How many octets a length takes, what its leading zeros tell of that, and that its octets are written one after another. Assumes nothing.
 use mathlib.Core.Path.{_≡_, refl, ap, sym, _∙_}
-use mathlib.Core.List.{List, [], _∷_, _++_}
+use mathlib.Core.List.{List, [], _∷_}
 use Prim.Native.Nat.{ℕ, zero, suc, _+_, _-_, _*_, _^_, _/_, _%_, _<_, _≤_}
 use native.Mathlib.Omega.{arith}
-use native.Mathlib.Nat.{add-zero, lt-of-lt-of-le, lt-of-not-le, le-trans, pow-suc}
+use native.Mathlib.Nat.{lt-of-lt-of-le, lt-of-not-le, le-trans, pow-suc}
 use native.Mathlib.Numerals.{add-one}
 use lib.Count.{leadingZeros, leading-length}
 use lib.Dec.{ltb, lit≤}
@@ -11,8 +11,9 @@ use lib.ListN.{length, set, length-append}
 use lib.Pow.{pow-mono}
 use lib.Seq.{sets}
 use borrow.Author.Tests.{le-ltb}
-use Rattle.headers.proofs.Lies.{cond-holds}
+use Rattle.laws.proofs.Tests.{cond-holds}
 use Rattle.normal.specs.Normal.{furtherOctets, numberOctets, lengthBy, lengthOctets}
+use Rattle.laws.proofs.Writes.{sets-append}
 
 -- a number whose leading zeros and k digits make 32 is below 2 ^ k
 pub zeros-lt : (n k : ℕ) → n < 2 ^ 32 → 32 ≤ leadingZeros 32 n + k → n < 2 ^ k
@@ -57,12 +58,6 @@ further-none n e = lt-of-not-le (λ (h : 0x80 ≤ n).
     (λ _. cond-holds P (ltb n 0x10000) (λ _. lit≤ tt)
     (λ _. cond-holds P (ltb n 0x1000000) (λ _. lit≤ tt) (λ _. lit≤ tt)))) in
     omega arith)
-
--- what is written one after another is written in one
-pub sets-append : (l : List ℕ) (i : ℕ) (xs ys : List ℕ) → sets l i (xs ++ ys) ≡ sets (sets l i xs) (i + length xs) ys
-sets-append l i [] ys = rw add-zero
-sets-append l i (x ∷ xs) ys =
-    sets-append (set l i x) (suc i) xs ys ∙ ap (λ (k : ℕ). sets (sets (set l i x) (suc i) xs) k ys) (omega arith)
 
 -- the digits above the last, and then the last
 pub put-digit : (l : List ℕ) (at k n : ℕ) → 0 < k → set (sets l at (numberOctets (k - 1) (n / 256))) (at + (k - 1)) (n % 256) ≡ sets l at (numberOctets k n)

@@ -10,7 +10,7 @@ use lib.ListN.{length, length-append}
 use borrow.Author.Tests.{ltb-true}
 use Rattle.headers.specs.Head.{bigEndian, bigEndianFrom}
 use Rattle.headers.proofs.Lengths.{be-snoc}
-use Rattle.headers.proofs.Lies.{cond-holds}
+use Rattle.laws.proofs.Tests.{cond-holds}
 use Rattle.tree.specs.Tree.{Tree, TypeField, oneOctet, Length, short, long, Codes, nothing, primitive, definite, indefinite}
 use Rattle.normal.specs.Normal.{furtherOctets, numberOctets, lengthBy, lengthOctets, coded, normalOf}
 use Rattle.normal.specs.Forms.{Definite}

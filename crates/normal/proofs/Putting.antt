@@ -9,12 +9,13 @@ use lib.ListN.{length, drop}
 use lib.Seq.{slice, sets, length-sets, sets-eq}
 use Rattle.headers.specs.declared.Header.{Header}
 use Rattle.octets.specs.Walk.{pastOf}
-use Rattle.headers.proofs.Lies.{cond-holds}
+use Rattle.laws.proofs.Tests.{cond-holds}
 use Rattle.normal.specs.declared.Measured.{Measured}
 use Rattle.normal.specs.declared.Ahead.the-variants.{Last}
 use Rattle.normal.specs.Normal.{lengthOctets, coded}
 use Rattle.normal.specs.Passes.{RunEnds, ValueEnds, normalFrom, normalIn, headerSize, ValueMeasures, PutsOctets}
-use Rattle.normal.proofs.Lengths.{length-length, sets-append}
+use Rattle.normal.proofs.Lengths.{length-length}
+use Rattle.laws.proofs.Writes.{sets-append}
 use Rattle.normal.proofs.Passes.{Turn, Meets, turned, run-left, form-small, value-past}
 
 -- a value that is its own normal form is copied from within its bounds

@@ -9,7 +9,7 @@ use lib.Dec.{ltb}
 use lib.ListN.{length, length-append}
 use borrow.Author.Tests.{ltb-true, lt-ltb}
 use Rattle.octets.specs.Walk.{deepest}
-use Rattle.headers.proofs.Lies.{cond-holds}
+use Rattle.laws.proofs.Tests.{cond-holds}
 use Rattle.tree.specs.Tree.{Tree, Codes, nothing, primitive, definite, indefinite}
 use Rattle.normal.specs.Normal.{furtherOctets, Octets, normalOf}
 use Rattle.normal.specs.Forms.{Definite}

@@ -11,7 +11,8 @@ use Rattle.headers.specs.declared.Head.the-variants.{Item, ClosingMark, Refusal
 use Rattle.headers.specs.Head.{constructed, misfits, octetAt, definiteAt, indefiniteAt, longAt, byFirst, lengthAt, itemAt, closingAt, headAt}
 use Rattle.octets.specs.Walk.{Items, none, item, End, ends, stops, run}
 use Rattle.octets.specs.Rules.{Runs, at-limit, unclosed, closes, refuses, primitive, passes, breaks}
-use Rattle.headers.proofs.Lies.{cond-holds, item-holds}
+use Rattle.headers.proofs.Lies.{item-holds}
+use Rattle.laws.proofs.Tests.{cond-holds}
 use Rattle.octets.proofs.Turns.{header-ok}
 use Rattle.octets.proofs.RulesHold.{derives}
 

@@ -6,13 +6,14 @@ use Prim.Native.Nat.{ℕ, zero, suc, _+_, _*_, _<_, _≤_}
 use native.Mathlib.Omega.{arith}
 use native.Mathlib.Numerals.{add-one}
 use lib.ListN.{length, getD, set, take, drop, length-append}
-use lib.Seq.{sets, sets-eq, length-sets, take-suc, take-all}
+use lib.Seq.{sets-eq, length-sets, take-suc, take-all}
 use Rattle.index.specs.declared.RowFound.{RowFound}
 use Rattle.index.specs.declared.RowFound.the-variants.{At, Nothing}
 use Rattle.reading.specs.declared.Match.{Match}
 use Rattle.reading.specs.Records.{numbersOf, recordAt, records, PutsRecords}
 use Rattle.reading.specs.Ready.{foundMatches, FoundBelow}
 use Rattle.reading.proofs.Made.{noMatch}
+use Rattle.laws.proofs.Writes.{sets-append}
 
 pub length-numbers : (ms : List Match) → length (numbersOf ms) ≡ 3 * length ms
 unfolding numbersOf
@@ -23,11 +24,6 @@ numbers-append : (ms ns : List Match) → numbersOf (ms ++ ns) ≡ numbersOf ms 
 unfolding numbersOf
 numbers-append [] ns = refl
 numbers-append (m ∷ ms) ns = rw (numbers-append ms ns)
-
-sets-append : (l : List ℕ) (i : ℕ) (xs ys : List ℕ) → sets l i (xs ++ ys) ≡ sets (sets l i xs) (i + length xs) ys
-sets-append l i [] ys = let e : i + 0 ≡ i = omega arith in rw e
-sets-append l i (x ∷ xs) ys =
-    let e : i + suc (length xs) ≡ suc i + length xs = omega arith in rw e (sets-append (set l i x) (suc i) xs ys)
 
 -- nothing is put
 pub puts-none : (l : List ℕ) (count : ℕ) → PutsRecords l count [] l count

@@ -7,14 +7,15 @@ use Prim.Native.Nat.{ℕ, _+_, _-_, _<_, _≤_}
 use native.Mathlib.Omega.{arith}
 use lib.Dec.{leb, ltb, eqb}
 use lib.ListN.{take, drop}
-use borrow.Author.Tests.{le-leb, lt-ltb, eqb-false, ne-eqb}
+use borrow.Author.Tests.{le-leb, lt-ltb, ne-eqb}
 use Rattle.headers.specs.declared.Header.{Header}
 use Rattle.headers.specs.declared.Head.{Head}
 use Rattle.headers.specs.declared.Head.the-variants.{Item, ClosingMark, Refusal}
-use Rattle.headers.specs.Head.{number, constructed, formAllowed, misfits, bigEndian, octetAt, definiteAt, indefiniteAt, longAt, byFirst, lengthAt, closingAt, itemAt, headAt}
-use Rattle.octets.specs.Walk.{Items, none, item, End, ends, Walked, pastOf, run}
+use Rattle.headers.specs.Head.{number, constructed, misfits, bigEndian, octetAt, definiteAt, indefiniteAt, longAt, byFirst, lengthAt, closingAt, itemAt, headAt}
+use Rattle.octets.specs.Walk.{Items, End, ends, Walked, pastOf, run}
 use Rattle.octets.specs.Rules.{Runs, at-limit, unclosed, closes, refuses, primitive, passes, breaks}
-use Rattle.headers.proofs.Lies.{cond-holds, FieldRead, in-one, item-holds}
+use Rattle.headers.proofs.Lies.{FieldRead, in-one, item-holds}
+use Rattle.laws.proofs.Tests.{cond-holds}
 use Rattle.octets.proofs.Turns.{header-ok}
 use Rattle.octets.proofs.RulesHold.{derived, derives}
 use Rattle.tree.specs.Tree.{plain}

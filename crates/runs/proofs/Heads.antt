@@ -10,7 +10,8 @@ use Rattle.headers.specs.declared.Header.{Header}
 use Rattle.headers.specs.declared.Head.{Head}
 use Rattle.headers.specs.declared.Head.the-variants.{Item, ClosingMark, Refusal}
 use Rattle.headers.specs.Head.{constructed, misfits, octetAt, definiteAt, indefiniteAt, longAt, byFirst, lengthAt, closingAt, itemAt, headAt}
-use Rattle.headers.proofs.Lies.{cond-holds, FieldRead, in-one, item-holds}
+use Rattle.headers.proofs.Lies.{FieldRead, in-one, item-holds}
+use Rattle.laws.proofs.Tests.{cond-holds}
 
 -- an item with this octet, or a refusal
 abbrev Has : (octet : ℕ) → Head → Type 0

@@ -12,7 +12,8 @@ use Rattle.headers.specs.declared.Header.{Header}
 use Rattle.headers.specs.declared.Head.{Head}
 use Rattle.headers.specs.declared.Head.the-variants.{Item, ClosingMark, Refusal}
 use Rattle.headers.specs.Head.{constructed, typeField, misfits, bigEndian, octetAt, definiteAt, indefiniteAt, longAt, byFirst, lengthAt, closingAt, itemAt, headAt}
-use Rattle.headers.proofs.Lies.{cond-holds, FieldRead, in-one, item-holds}
+use Rattle.headers.proofs.Lies.{FieldRead, in-one, item-holds}
+use Rattle.laws.proofs.Tests.{cond-holds}
 use Rattle.tree.specs.Tree.{TypeField, oneOctet, Length, short, long}
 use Rattle.tree.proofs.Here.{Here, one, some, joined, moved}
 

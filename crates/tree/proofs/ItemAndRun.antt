@@ -46,12 +46,6 @@ codes-run (indefinite {type = type} {value} {rest} g i c) =
     further (indefinitely g (codes-run i) refl) (codes-run c)
     (ap (λ (l : List ℕ). type ++ (0x80 ∷ l)) (sym (append-assoc value mark rest)) ∙ sym (append-assoc type (0x80 ∷ (value ++ mark)) rest))
 
--- The two shapes hold the same: there and back is where one was.
-pub tree-and-back : (t : Tree) → treeOfRun (runOfTree t) ≡ t
-tree-and-back empty = refl
-tree-and-back (leaf type value after) = ap (leaf type value) (tree-and-back after)
-tree-and-back (branch type inside after) = rw (tree-and-back inside, tree-and-back after)
-
 mutual
   item-and-back : (i : Item) (after : Tree) → runOfTree (treeThen i after) ≡ more i (runOfTree after)
   item-and-back (primitive type value) after = refl
