@@ -322,7 +322,8 @@ pub fn work(
     requires { ⌜ walkOf (now stream) ≡ Outcome.Ended (length (now stream)) headers ⌝ }
     requires { ⌜ Filled Edition.Of1988 (now stream) (now rows) (now head) (now next) (now head2) (now next2) count ⌝ }
     requires { ⌜ Roomy question (now stream) (length (now flat)) ⌝ }
-    ensures { λ r. ⌜ Leaves question (now (stream .entry)) (now (table .entry)) (now (out .entry)) r (now (table .exit)) (now (flat .exit)) (now (out .exit)) ⌝ }
+    ensures { λ r. ⌜ Leaves question (now (stream .entry)) (now (table .entry)) (now (out .entry)) r (now (table .exit)) (now (flat .exit))
+        (now (out .exit)) ⌝ }
 {
     match question {
         Question::Rules => tell_reason(Reason {

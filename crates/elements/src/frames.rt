@@ -77,7 +77,8 @@ fn held_in_pieces(p: Part) -> Holder
 
 // Where there are no pieces, it is held by the item with the content, if that is there.
 fn held_whole(found: PartFound) -> Holder
-    ensures { λ holder. ⌜ ((s : List ℕ) (shape : Slots) (r : Run) → WellMade shape → Lacks s r (shape .pieces) → FoundIn s r (shape .content) found → HoldingSlots s shape r holder) ⌝ }
+    ensures { λ holder. ⌜ ((s : List ℕ) (shape : Slots) (r : Run) → WellMade shape → Lacks s r (shape .pieces) → FoundIn s r (shape .content) found
+        → HoldingSlots s shape r holder) ⌝ }
 {
     Holder {
         value: bounds_of(found),

@@ -147,7 +147,8 @@ fn sought_of(shape: Slots) -> Sought
 // The portions of an element, read if there are any.
 fn listed_of(s: &[u8], g: Gathered, bounds: &mut [u32]) -> PortionList
     requires { ⌜ Fine (now s) (g .list) × (length (now s) ≤ streamLimit) × (128 ≤ length (now bounds)) ⌝ }
-    ensures { λ listed. ⌜ ((g .lists ≡ 0 → itemsOf (now (s .entry)) (g .list) ≡ none) → ListsPortions (now (s .entry)) (g .list) listed (now (bounds .exit))) ⌝ }
+    ensures { λ listed. ⌜ ((g .lists ≡ 0 → itemsOf (now (s .entry)) (g .list) ≡ none)
+        → ListsPortions (now (s .entry)) (g .list) listed (now (bounds .exit))) ⌝ }
 {
     if g.lists == 0 {
         return PortionList {
@@ -183,7 +184,8 @@ fn row_of(shape: Slots, frame: Frame, object: usize, g: Gathered, whole: Span) -
 // What is seen of an element whose items stand as tabled. What names it is gathered once, and its portions are read once.
 fn see_body(s: &[u8], shape: Slots, frame: Frame, whole: Span, bounds: &mut [u32]) -> Seen
     requires { ⌜ Lookable (now s) shape frame whole × (128 ≤ length (now bounds)) ⌝ }
-    ensures { λ seen. ⌜ ((r : Run) → Framed (now (s .entry)) shape r frame → piecesAlone (slotContent shape (treeIn (now (s .entry)) r)) ≡ true → SeesSlots (now (s .entry)) shape r (whole .first) (whole .past) (now (bounds .exit)) seen) ⌝ }
+    ensures { λ seen. ⌜ ((r : Run) → Framed (now (s .entry)) shape r frame → piecesAlone (slotContent shape (treeIn (now (s .entry)) r)) ≡ true
+        → SeesSlots (now (s .entry)) shape r (whole .first) (whole .past) (now (bounds .exit)) seen) ⌝ }
 {
     let body = frame.body;
     let g = contents::gather(s, body, sought_of(shape));

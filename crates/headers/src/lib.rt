@@ -266,7 +266,8 @@ fn read_head(s: &[u8], at: usize, limit: usize, marked: bool, room: usize) -> He
 // Whether an item passes 2 to 8 for sure: one of the octets that letters are made of, with one length octet and room for its value
 // among the octets that are left from there.
 fn is_usual(octet: u8, len: u8, left: usize, room: usize) -> bool
-    ensures { λ r. ⌜ (r ≡ true → (0 < room) × (len < left) × (len < 128) × ((octet ≡ 0 → ⊥) × (number octet ≡ 31 → ⊥) × (formAllowed octet ≡ true) × (misfits octet len ≡ false))) ⌝ }
+    ensures { λ r. ⌜ (r ≡ true → (0 < room) × (len < left) × (len < 128)
+        × ((octet ≡ 0 → ⊥) × (number octet ≡ 31 → ⊥) × (formAllowed octet ≡ true) × (misfits octet len ≡ false))) ⌝ }
 {
     if room == 0 {
         return false;
@@ -310,7 +311,13 @@ pub fn head_at(s: &[u8], at: usize, limit: usize, marked: bool, room: usize) -> 
 // The header of an item with k length octets after the first, which is at `from`, that was passed before.
 fn passed_long(s: &[u8], octet: usize, from: usize, k: usize) -> Head
     requires { ⌜ (from + 1 + k + bigEndian (take k (drop (from + 1) (now s))) ≤ length (now s)) × (k ≤ 4) ⌝ }
-    ensures { λ r. ⌜ r ≡ Item (record { octet = octet; start = from + 1 + k; bound = from + 1 + k + bigEndian (take k (drop (from + 1) (now (s .entry)))); marked = false }) ⌝ }
+    ensures { λ r. ⌜ r ≡ Item (record {
+      octet = octet;
+      start = from + 1 + k;
+      bound = from + 1 + k + bigEndian
+          (take k (drop (from + 1) (now (s .entry))));
+      marked = false;
+    }) ⌝ }
 {
     let first = from + 1;
     let start = first + k;

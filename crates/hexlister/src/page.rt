@@ -182,7 +182,8 @@ fn put_unreadable(page: &mut [u8], number: u64) -> usize
 // All lines of a stream that the check has accepted, by the check's answer and the table that it filled.
 fn put_letter(page: &mut [u8], stream: &[u8], answer: Checked, table: &mut [u32]) -> usize
     requires { ⌜ (length (now page) ≡ pageRoom) × (answer .number ≡ 0) × CheckOutcome (now stream) lentTable answer (now table) ⌝ }
-    ensures { λ r. ⌜ PutsOnPage (acceptedLines (answer .elements) (answer .headers) (now (stream .entry))) (now (page .entry)) 0 r (now (page .exit)) pageRoom ⌝ }
+    ensures { λ r. ⌜ PutsOnPage (acceptedLines (answer .elements) (answer .headers) (now (stream .entry))) (now (page .entry)) 0 r
+        (now (page .exit)) pageRoom ⌝ }
 {
     let head = put_accepted(page, answer.elements, answer.headers);
     let elements = put_elements(page, head, table, answer.elements as usize);

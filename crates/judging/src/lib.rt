@@ -133,7 +133,8 @@ fn has_double(
     requires { ⌜ Indexes (now s) (now rows) (now head) (now next) (now head2) (now next2) n ⌝ }
     requires { ⌜ RowPlaced (now s) (seen .row) × (hashes ≡ hashesOf (now s) (seen .row)) ⌝ }
     requires { ⌜ (2 * seen .count ≤ length (now bounds)) × Inside (now s) (take (2 * seen .count) (now bounds)) ⌝ }
-    ensures { λ r. ⌜ TellsTwice (now (s .entry)) (now (rows .entry)) (now (head .entry)) (now (next .entry)) (now (head2 .entry)) (now (next2 .entry)) n (seen .row) (bounded (now (s .entry)) (take (2 * seen .count) (now (bounds .entry)))) r ⌝ }
+    ensures { λ r. ⌜ TellsTwice (now (s .entry)) (now (rows .entry)) (now (head .entry)) (now (next .entry)) (now (head2 .entry)) (now (next2 .entry)) n
+        (seen .row) (bounded (now (s .entry)) (take (2 * seen .count) (now (bounds .entry)))) r ⌝ }
 {
     let row = seen.row;
     let space = index::space_of(row.kind);
@@ -179,7 +180,8 @@ fn may_be_bare(octet: usize) -> bool
 // Rules 9 to 15 for element n, in which nothing stands and nothing has to: it has no name, so it shares none.
 fn judge_bare(n: usize, item: PlacedItem) -> Judgement
     requires { ⌜ ((edition : Edition) → MayBeBare edition (item .octet)) × (item .first ≤ item .past) ⌝ }
-    ensures { λ r. ⌜ ((edition : Edition) (s scratch head next head2 next2 : List ℕ) → itemsOf s (item .inner) ≡ none → item .past ≤ length s → JudgesAfter edition s scratch head next head2 next2 n item r) ⌝ }
+    ensures { λ r. ⌜ ((edition : Edition) (s scratch head next head2 next2 : List ℕ) → itemsOf s (item .inner) ≡ none → item .past ≤ length s
+        → JudgesAfter edition s scratch head next head2 next2 n item r) ⌝ }
 {
     let number = early(n, item.octet, item.octet);
     if number != 0 {
@@ -219,8 +221,10 @@ fn judge_any(
     item: PlacedItem,
 ) -> Judgement
     requires { ⌜ Indexes (now s) (now rows) (now head) (now next) (now head2) (now next2) n ⌝ }
-    requires { ⌜ Fine (now s) (item .inner) × (length (now s) ≤ streamLimit) × (item .first ≤ item .past) × (item .past ≤ length (now s)) × (2 * mostPortions ≤ length (now bounds)) ⌝ }
-    ensures { λ r. ⌜ JudgesAfter edition (now (s .entry)) (now (rows .entry)) (now (head .entry)) (now (next .entry)) (now (head2 .entry)) (now (next2 .entry)) n item r ⌝ }
+    requires { ⌜ Fine (now s) (item .inner) × (length (now s) ≤ streamLimit) × (item .first ≤ item .past) × (item .past ≤ length (now s))
+        × (2 * mostPortions ≤ length (now bounds)) ⌝ }
+    ensures { λ r. ⌜ JudgesAfter edition (now (s .entry)) (now (rows .entry)) (now (head .entry)) (now (next .entry)) (now (head2 .entry))
+        (now (next2 .entry)) n item r ⌝ }
 {
     let shape = elements::shape_of(edition, item.octet);
     let number = early(n, item.octet, shape.octet);
@@ -255,8 +259,10 @@ pub fn judge_element(
     item: PlacedItem,
 ) -> Judgement
     requires { ⌜ Indexes (now s) (now rows) (now head) (now next) (now head2) (now next2) n ⌝ }
-    requires { ⌜ Fine (now s) (item .inner) × (length (now s) ≤ streamLimit) × (item .first ≤ item .past) × (item .past ≤ length (now s)) × (2 * mostPortions ≤ length (now bounds)) ⌝ }
-    ensures { λ r. ⌜ JudgesAfter edition (now (s .entry)) (now (rows .entry)) (now (head .entry)) (now (next .entry)) (now (head2 .entry)) (now (next2 .entry)) n item r ⌝ }
+    requires { ⌜ Fine (now s) (item .inner) × (length (now s) ≤ streamLimit) × (item .first ≤ item .past) × (item .past ≤ length (now s))
+        × (2 * mostPortions ≤ length (now bounds)) ⌝ }
+    ensures { λ r. ⌜ JudgesAfter edition (now (s .entry)) (now (rows .entry)) (now (head .entry)) (now (next .entry)) (now (head2 .entry))
+        (now (next2 .entry)) n item r ⌝ }
 {
     if runs::is_over(s, item.inner) {
         if may_be_bare(item.octet) {

@@ -85,7 +85,8 @@ pub fn judge_stream(
 ) -> Verdict
     requires { ⌜ Fine (now s) (wholeStream (now s)) × (length (now s) ≤ streamLimit) ⌝ }
     requires { ⌜ Lent (now s) (now rows) (now head) (now next) (now head2) (now next2) (now bounds) ⌝ }
-    ensures { λ r. ⌜ GivesVerdict edition (now (s .entry)) (now (rows .exit)) (now (head .exit)) (now (next .exit)) (now (head2 .exit)) (now (next2 .exit)) r ⌝ }
+    ensures { λ r. ⌜ GivesVerdict edition (now (s .entry)) (now (rows .exit)) (now (head .exit)) (now (next .exit)) (now (head2 .exit))
+        (now (next2 .exit)) r ⌝ }
 {
     let mut cur = runs::whole_stream(s);
     let mut n: usize = 0;

@@ -252,7 +252,8 @@ fn put_run(
 // Writes the normal form of a stream whose walk ended: refusals 17 and 18 alone. A caller that has other refusals to give has given them.
 pub fn write(s: &[u8], out: &mut [u8]) -> Answer
     requires { ⌜ (length (now s) ≤ streamLimit) × Whole (run deepest (now s) 0 (length (now s)) false .how) ⌝ }
-    ensures { λ r. ⌜ GivesAnswer (answerOf (normalForm (now (s .entry))) (now (out .entry))) (normalForm (now (s .entry))) (now (out .entry)) r (now (out .exit)) ⌝ }
+    ensures { λ r. ⌜ GivesAnswer (answerOf (normalForm (now (s .entry))) (now (out .entry))) (normalForm (now (s .entry))) (now (out .entry)) r
+        (now (out .exit)) ⌝ }
 {
     let m = measure_run(s, 0, s.len(), false, DEEPEST);
     let length = m.size;

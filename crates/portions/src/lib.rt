@@ -112,7 +112,8 @@ fn bounds_of(bounds: &[u32], k: usize) -> Span
 // Whether the value k stands again among those after it.
 fn is_among(s: &[u8], bounds: &[u32], k: usize, count: usize) -> bool
     requires { ⌜ (k < count) × (2 * count ≤ length (now bounds)) × Inside (now s) (slice (2 * k) (2 * count) (now bounds)) ⌝ }
-    ensures { λ r. ⌜ r ≡ among (boundedAt (now (s .entry)) (now (bounds .entry)) k) (bounded (now (s .entry)) (slice (2 * (k + 1)) (2 * count) (now (bounds .entry)))) ⌝ }
+    ensures { λ r. ⌜ r ≡ among (boundedAt (now (s .entry)) (now (bounds .entry)) k)
+        (bounded (now (s .entry)) (slice (2 * (k + 1)) (2 * count) (now (bounds .entry)))) ⌝ }
 {
     let one = bounds_of(bounds, k);
     let mut j = k + 1;
@@ -130,7 +131,8 @@ fn is_among(s: &[u8], bounds: &[u32], k: usize, count: usize) -> bool
 fn is_again(s: &[u8], bounds: &[u32], k: usize, count: usize, mark: u8) -> bool
     requires { ⌜ (k < count) × (2 * count ≤ length (now bounds)) × Inside (now s) (slice (2 * k) (2 * count) (now bounds)) ⌝ }
     requires { ⌜ (mark ≡ 0 → among (boundedAt (now s) (now bounds) k) (bounded (now s) (slice (2 * (k + 1)) (2 * count) (now bounds))) ≡ false) ⌝ }
-    ensures { λ r. ⌜ r ≡ among (boundedAt (now (s .entry)) (now (bounds .entry)) k) (bounded (now (s .entry)) (slice (2 * (k + 1)) (2 * count) (now (bounds .entry)))) ⌝ }
+    ensures { λ r. ⌜ r ≡ among (boundedAt (now (s .entry)) (now (bounds .entry)) k)
+        (bounded (now (s .entry)) (slice (2 * (k + 1)) (2 * count) (now (bounds .entry)))) ⌝ }
 {
     if mark == 0 {
         return false;

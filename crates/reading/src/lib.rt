@@ -168,7 +168,8 @@ fn unit_of(
     requires { ⌜ Indexed (now s) (now rows) column (now head) (now next) n ⌝ }
     requires { ⌜ (hashed ≡ hashFrom (hash (bytesIn (now s) name)) (spaceByte ∷ [])) × (hashed < hashes) ⌝ }
     requires { ⌜ Placed (now s) name × Placed (now s) portion ⌝ }
-    ensures { λ r. ⌜ FindsRow (now (s .entry)) (now (rows .entry)) column n unitSpace (bytesIn (now (s .entry)) name ++ spaceByte ∷ bytesIn (now (s .entry)) portion) r ⌝ }
+    ensures { λ r. ⌜ FindsRow (now (s .entry)) (now (rows .entry)) column n unitSpace
+        (bytesIn (now (s .entry)) name ++ spaceByte ∷ bytesIn (now (s .entry)) portion) r ⌝ }
 {
     let asked = Asked {
         first: name.first,
@@ -317,7 +318,8 @@ pub fn list_matches(
 ) -> usize
     requires { ⌜ ((edition : Edition) × Filled edition (now s) (now rows) (now head) (now next) (now head2) (now next2) n) ⌝ }
     requires { ⌜ 3 * n ≤ length (now flat) ⌝ }
-    ensures { λ r. ⌜ ListsFilled side (now (s .entry)) (now (rows .entry)) (now (head .entry)) (now (next .entry)) (now (head2 .entry)) (now (next2 .entry)) n (now (flat .entry)) (now (flat .exit)) r ⌝ }
+    ensures { λ r. ⌜ ListsFilled side (now (s .entry)) (now (rows .entry)) (now (head .entry)) (now (next .entry)) (now (head2 .entry)) (now (next2 .entry)) n
+        (now (flat .entry)) (now (flat .exit)) r ⌝ }
 {
     match side {
         Side::Layout => list_side(s, rows, head, next, n, Side::Layout, flat),

@@ -64,7 +64,8 @@ pub fn ask(
     out: &mut [u8],
 ) -> Told
     requires { ⌜ Roomy question (now stream) (length (now flat)) ⌝ }
-    ensures { λ r. ⌜ Leaves question (now (stream .entry)) (now (table .entry)) (now (out .entry)) r (now (table .exit)) (now (flat .exit)) (now (out .exit)) ⌝ }
+    ensures { λ r. ⌜ Leaves question (now (stream .entry)) (now (table .entry)) (now (out .entry)) r (now (table .exit)) (now (flat .exit))
+        (now (out .exit)) ⌝ }
 {
     match octets::walk(stream) {
         Outcome::Ended { at: _, count } => {
