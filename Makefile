@@ -50,7 +50,7 @@ $(out)/odif.pc: packaging/odif.pc.in | $(out)
 # manual page and completions
 .PHONY: $(out)/odif
 $(out)/odif: $(proved) | $(out)
-	cd rust && { [ ! -x packages ] || ./packages; } && cargo build --release --locked --workspace --bin odif
+	cd rust && ./packages && cargo build --release --locked --workspace --bin odif
 	cp rust/target/release/odif $@
 	$@ man > $@.1
 	for shell in bash zsh fish; do $@ completions $$shell > $@.$$shell || exit 1; done
