@@ -28,8 +28,9 @@
     2   00 where no indefinite item is innermost, or 00 followed within the limit     the 00
         by another octet than 00
     3   an item at level 17                                                           the item
-    4   number bits 11111                                                             the item
-    5   a universal number in a form that it never has                                the item
+    4   a number over 16,383, under 31 in octets after the first, or with 80 as       the item
+        the first of these
+    5   a universal number in a form that it never has, or above 30                   the item
     6   a first length octet of 85 to FF, or 80 on a primitive                        the item
     7   a header, a value or the second 00 of a closing mark passes the limit;        the item, the 00,
         or an indefinite item reaches it unclosed                                     or the limit

@@ -22,7 +22,7 @@ spanOf p = record { first = p .first; past = p .past }
 pub record IsFirst (s : List ℕ) (r : Run) (octet : ℕ) (p : Part) : Type 0 where
   pub octet-is : p .octet ≡ octet
   pub octet-not-zero : octet ≡ 0 → ⊥
-  pub octet-small : octet < 256
+  pub octet-small : octet < 16777216
   pub there : amount octet (treeIn s r) ≡ 0 → ⊥
   pub starts : 0 < p .first
   pub order : p .first ≤ p .past

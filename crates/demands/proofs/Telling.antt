@@ -16,7 +16,7 @@ use Rattle.headers.specs.Head.{constructed, misfits, codeOf, typeField}
 use Rattle.octets.specs.Walk.{Items, none, item, count, End, ends, pastOf, deepest, startOf}
 use Rattle.octets.specs.Rules.{Runs, at-limit, unclosed, closes, refuses, primitive, passes, breaks}
 use Rattle.octets.proofs.Turns.{header-ok}
-use Rattle.tree.specs.Tree.{Tree, empty, leaf, branch, formed, plain, TypeField, oneOctet, Codes, nothing, primitive as flat, definite, indefinite}
+use Rattle.tree.specs.Tree.{Tree, empty, leaf, branch, formed, plain, TypeField, oneOctet, twoOctets, threeOctets, Codes, nothing, primitive as flat, definite, indefinite}
 use Rattle.tree.specs.Accepts.{Whole}
 use Rattle.tree.proofs.Here.{sliced}
 use Rattle.tree.proofs.Sound.{Past, sound}
@@ -79,14 +79,14 @@ proper {s} (primitive {room} {at} {limit} {marked} {h} {after} l p q r) w f =
     let o = item-octet s at limit marked room h p in
     let past = past-between (h .marked) (h .start) (h .bound) (head .order) (λ m. absurd (false≢true (sym q ∙ head .mark m))) in
     let there : 0 < pastOf (h .marked) (h .bound) = omega (arith, head .header, past .0) in
-    more there (λ z. o .1 (sym (o .0) ∙ z)) (λ _. refl) (λ c. absurd (false≢true (sym q ∙ c))) no-more (proper r w f)
+    more there (o .0) (λ _. refl) (λ c. absurd (false≢true (sym q ∙ c))) no-more (proper r w f)
 proper {s} (passes {room} {at} {limit} {marked} {h} {inside} {after} {next} l p q v r) w f =
     let head = header-ok s at limit room marked h p in
     let o = item-octet s at limit marked room h p in
     let within = stays v next refl in
     let past = past-between (h .marked) (h .start) next (within .order) (within .mark) in
     let there : 0 < pastOf (h .marked) next = omega (arith, head .header, past .0) in
-    more there (λ z. o .1 (sym (o .0) ∙ z)) (λ c. absurd (true≢false (sym q ∙ c)))
+    more there (o .0) (λ c. absurd (true≢false (sym q ∙ c)))
     (λ _. value-codes v (omega (arith, head .within))) (proper v tt (omega (arith, head .within))) (proper r w f)
 proper (breaks l p q v) w f = absurd w
 
@@ -197,8 +197,10 @@ module _ (s : List ℕ) where
   no-portions-at style p = (λ _. refl, λ _. refl)
 
 -- a type field with the code of one octet is that octet
-is-octet : (octet : ℕ) {type : List ℕ} {form : Bool} → TypeField type form → is octet type ≡ true → type ≡ octet ∷ []
-is-octet octet (oneOctet {octet = first} n a c) e = let same = eqb-true _ octet e in ap (λ (k : ℕ). k ∷ []) (omega arith)
+is-octet : (octet : ℕ) → octet < 256 → {type : List ℕ} {form : Bool} → TypeField type form → is octet type ≡ true → type ≡ octet ∷ []
+is-octet octet low (oneOctet n a c) e = let same = eqb-true _ octet e in ap (λ (k : ℕ). k ∷ []) (omega arith)
+is-octet octet low (twoOctets n c l h) e = let same = eqb-true _ octet e in absurd (omega arith)
+is-octet octet low (threeOctets n c l h t) e = let same = eqb-true _ octet e in absurd (omega arith)
 
 both : (a b : Bool) → a && b ≡ true → (a ≡ true) × (b ≡ true)
 both true b e = (refl, e)
@@ -210,7 +212,7 @@ unfolding allPortions values
 one-level nothing e = nothing
 one-level (flat {type = type} {len} {value} {rest} {after} f m l c) e =
     let (a, b) = both (is 0x12 type) (allPortions after) e in
-    let k = is-octet 0x12 f a in
+    let k = is-octet 0x12 (omega arith) f a in
     subst (λ (field : List ℕ). Codes 1 (portionItems (value ∷ values after)) (field ++ (len ++ (value ++ rest)))) (sym k)
     (flat (subst (λ (field : List ℕ). TypeField field false) k f)
     (subst (λ (field : List ℕ). misfits (codeOf field) (length value) ≡ false) k m) l (one-level c b))

@@ -35,7 +35,7 @@ choose s false v w i j f g = g refl
 -- no primitive item has the octet of portions
 not-primitive : (s : List ℕ) (room at limit : ℕ) (marked : Bool) (h : Header) → headAt s at limit marked room ≡ Item h
     → constructed (h .octet) ≡ false → (octet : ℕ) → (octet ≡ 0) ⊎ (constructed octet ≡ true) → h .octet ≡ octet → ⊥
-not-primitive s room at limit marked h p q octet (inl z) e = let o = item-octet s at limit marked room h p in o .1 (sym (o .0) ∙ e ∙ z)
+not-primitive s room at limit marked h p q octet (inl z) e = item-octet s at limit marked room h p .0 (e ∙ z)
 not-primitive s room at limit marked h p q octet (inr c) e = false≢true (sym q ∙ ap constructed e ∙ c)
 
 again-in : {s : List ℕ} {room at limit : ℕ} {marked : Bool} {i : Items} {e : End} → Runs s room at limit marked i e → Whole e

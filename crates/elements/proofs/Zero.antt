@@ -41,13 +41,13 @@ run-of octet type value inside after true here later =
     cases (eqb type octet) (λ t. rw (is-field octet type, t) here) (λ t. rw (is-field octet type, t) later)
 run-of octet type value inside after false here later = later
 
--- an item has the octet that stands at its place
+-- no item has the octet 0
 without-item : (s : List ℕ) (room at limit : ℕ) (marked : Bool) (h : Header) → headAt s at limit marked room ≡ Item h
     → {start past : ℕ} {inside after : Items} → Without s inside → Without s after → Without s (item at (h .octet) start past inside after)
 unfolding itemsIn
 without-item s room at limit marked h e {start} {past} {inside} {after} v w =
     let o = item-octet s at limit marked room h e in
-    let other = ne-eqb (h .octet) 0 (λ z. o .1 (sym (o .0) ∙ z)) in
+    let other = ne-eqb (h .octet) 0 (o .0) in
     let value = slice start past s in
     let counted = amount-formed 0 (h .octet) value (plain s inside) (plain s after) (constructed (h .octet)) in
     record {

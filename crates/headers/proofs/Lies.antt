@@ -1,40 +1,73 @@
 -- What an item's type field is that was read, and that a header that is read lies between its place and the limit, in the order of its
 -- parts; and so does a closing mark. Assumes nothing.
-use mathlib.Core.Path.{_≡_}
-use mathlib.Core.Bool.{Bool, true, false≢true}
-use mathlib.Core.List.{List}
+use mathlib.Core.Path.{_≡_, refl}
+use mathlib.Core.Bool.{Bool, true, false, cond, false≢true}
+use mathlib.Core.List.{List, [], _∷_}
 use Prim.Native.Nat.{ℕ, _+_, _-_, _<_, _≤_}
 use native.Mathlib.Omega.{arith}
 use lib.Dec.{leb, ltb, eqb}
-use borrow.Author.Tests.{leb-true, ltb-true, eqb-false}
+use borrow.Author.Tests.{leb-true, ltb-true, ltb-false, eqb-true, eqb-false}
 use Rattle.headers.specs.declared.Header.{Header}
 use Rattle.headers.specs.declared.Head.{Head}
 use Rattle.headers.specs.declared.Head.the-variants.{Item, ClosingMark, Refusal}
 use Rattle.headers.specs.declared.Field.{Field}
-use Rattle.headers.specs.Head.{number, constructed, formAllowed, misfits, octetAt, definiteAt, indefiniteAt, longAt, byFirst, lengthAt, afterField, closingAt, itemAt, headAt}
+use Rattle.headers.specs.Head.{number, constructed, isIn, formAllowed, aboveThirty, codeOf, misfits, octetAt, definiteAt, indefiniteAt, longAt, byFirst, lengthAt, afterField, closingAt, itemAt, headAt}
 use Rattle.laws.proofs.Tests.{cond-holds}
 
 -- a type field that was read at `at`, from this octet on: its code, and the place past it
-pub data FieldRead (octet at : ℕ) : (code past : ℕ) → Type 0 where
-  in-one : (number octet ≡ 31 → ⊥) → formAllowed octet ≡ true → FieldRead octet at octet (at + 1)
+pub data FieldRead (s : List ℕ) (octet at limit : ℕ) : (code past : ℕ) → Type 0 where
+  in-one : (number octet ≡ 31 → ⊥) → formAllowed octet ≡ true → FieldRead s octet at limit octet (at + 1)
+  in-two : number octet ≡ 31 → isIn octet aboveThirty ≡ true → at + 1 < limit → 31 ≤ octetAt s (at + 1) → octetAt s (at + 1) < 0x80
+      → FieldRead s octet at limit (codeOf (octet ∷ octetAt s (at + 1) ∷ [])) (at + 2)
+  in-three : number octet ≡ 31 → isIn octet aboveThirty ≡ true → at + 2 < limit → 0x80 < octetAt s (at + 1) → octetAt s (at + 1) < 0x100
+      → octetAt s (at + 2) < 0x80 → FieldRead s octet at limit (codeOf (octet ∷ octetAt s (at + 1) ∷ octetAt s (at + 2) ∷ [])) (at + 3)
 
 -- What holds of a refusal by 3 to 7, and of the length octets after any type field that can be read there, holds of an item.
 pub item-holds : (P : Head → Type 0) (s : List ℕ) (octet at limit room : ℕ) → ((n : ℕ) → 3 ≤ n → n ≤ 7 → P (Refusal n at))
-    → (0 < room → (code past : ℕ) → FieldRead octet at code past → P (lengthAt s code at past limit)) → P (itemAt s octet at limit room)
+    → (0 < room → (code past : ℕ) → FieldRead s octet at limit code past → P (lengthAt s code at past limit)) → P (itemAt s octet at limit room)
 unfolding itemAt
 item-holds P s octet at limit room refused read =
     let Q : Field → Type 0 = λ f. P (afterField s at limit f) in
+    let four = refused 4 (omega arith) (omega arith) in
+    let five = refused 5 (omega arith) (omega arith) in
+    let seven = refused 7 (omega arith) (omega arith) in
+    let second = octetAt s (at + 1) in
+    let third = octetAt s (at + 2) in
     cond-holds P (eqb room 0) (λ _. refused 3 (omega arith) (omega arith))
     (λ e.
     let deep : 0 < room = let ne = eqb-false room 0 e in omega arith in
-    cond-holds Q (eqb (number octet) 31) (λ _. refused 4 (omega arith) (omega arith))
+    cond-holds Q (eqb (number octet) 31)
+    (λ n. let bits = eqb-true (number octet) 31 n in
+    cond-holds Q (ltb (at + 1) limit)
+    (λ a. let there = ltb-true (at + 1) limit a in
+    cond-holds Q (ltb second 31) (λ _. four)
+    (λ b. let low = ltb-false second 31 b in
+    cond-holds Q (ltb second 0x80)
+    (λ c. cond-holds Q (isIn octet aboveThirty)
+    (λ k. read deep (codeOf (octet ∷ second ∷ [])) (at + 2) (in-two bits k there low (ltb-true second 0x80 c)))
+    (λ _. five))
+    (λ c. cond-holds Q (eqb second 0x80) (λ _. four)
+    (λ d. let above : 0x80 < second = let ne = eqb-false second 0x80 d in let ge = ltb-false second 0x80 c in omega arith in
+    cond-holds Q (ltb second 0x100)
+    (λ f. cond-holds Q (ltb (at + 2) limit)
+    (λ g. cond-holds Q (ltb third 0x80)
+    (λ h. cond-holds Q (isIn octet aboveThirty)
+    (λ k. read deep (codeOf (octet ∷ second ∷ third ∷ [])) (at + 3)
+    (in-three bits k (ltb-true (at + 2) limit g) above (ltb-true second 0x100 f) (ltb-true third 0x80 h)))
+    (λ _. five))
+    (λ _. four))
+    (λ _. seven))
+    (λ _. four)))))
+    (λ _. seven))
     (λ a. cond-holds Q (formAllowed octet)
     (λ b. read deep octet (at + 1) (in-one (eqb-false (number octet) 31 a) b))
-    (λ _. refused 5 (omega arith) (omega arith))))
+    (λ _. five)))
 
 -- the place past a type field
-pub field-past : {octet at code past : ℕ} → FieldRead octet at code past → at < past
+pub field-past : {s : List ℕ} {octet at limit code past : ℕ} → FieldRead s octet at limit code past → at < past
 field-past (in-one n f) = omega arith
+field-past (in-two n f l a b) = omega arith
+field-past (in-three n f l a b c) = omega arith
 
 -- a header lies between `at` and the limit, there is room for its item, and only a constructed item is indefinite
 pub record Lies (at limit room : ℕ) (h : Header) : Type 0 where

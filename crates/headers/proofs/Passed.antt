@@ -1,7 +1,7 @@
 -- What stands where nothing is refused: each test of `headAt` that could have refused went the other way. Assumes nothing.
 use mathlib.Core.Path.{_≡_, refl, _∙_}
 use mathlib.Core.Bool.{Bool, true, false}
-use mathlib.Core.List.{List}
+use mathlib.Core.List.{List, [], _∷_}
 use Prim.Native.Nat.{ℕ, _+_, _-_, _<_, _≤_}
 use native.Mathlib.Omega.{arith}
 use lib.Dec.{leb, ltb, eqb}
@@ -9,13 +9,13 @@ use lib.ListN.{take, drop}
 use borrow.Author.Tests.{leb-true, ltb-true, eq-eqb, ne-eqb, lt-ltb, le-ltb}
 use Rattle.headers.specs.declared.Head.{Head}
 use Rattle.headers.specs.declared.Head.the-variants.{Item, ClosingMark}
-use Rattle.headers.specs.Head.{constructed, bigEndian, misfits, octetAt, definiteAt, indefiniteAt, longAt, byFirst, lengthAt, closingAt, headAt, Passed}
-use Rattle.headers.proofs.Lies.{FieldRead, in-one, item-holds}
+use Rattle.headers.specs.Head.{number, constructed, codeOf, numberOf, bigEndian, misfits, octetAt, definiteAt, indefiniteAt, longAt, byFirst, lengthAt, closingAt, headAt, Passed}
+use Rattle.headers.proofs.Lies.{FieldRead, in-one, in-two, in-three, item-holds}
 use Rattle.laws.proofs.Tests.{cond-holds}
 
 -- a header with a definite length, from start on
 abbrev pub definite : (octet start n : ℕ) → Head
-definite octet start n = Item (record { octet = octet; start = start; bound = start + n; marked = false })
+definite octet start n = Item (record { octet = octet; number = numberOf octet; start = start; bound = start + n; marked = false })
 
 module _ (s : List ℕ) (at limit : ℕ) (marked : Bool) (room : ℕ) where
   -- a 00 is a closing mark
@@ -29,22 +29,67 @@ module _ (s : List ℕ) (at limit : ℕ) (marked : Bool) (room : ℕ) where
 
   -- another octet is an item's: its type field was read, and its length octets follow
   pub passed-item : (octetAt s at ≡ 0 → ⊥) → Passed (headAt s at limit marked room)
-      → (code past : ℕ) × FieldRead (octetAt s at) at code past × (headAt s at limit marked room ≡ lengthAt s code at past limit)
+      → (code past : ℕ) × FieldRead s (octetAt s at) at limit code past × (headAt s at limit marked room ≡ lengthAt s code at past limit)
   unfolding headAt
   passed-item n =
       let octet = octetAt s at in
-      let P : Head → Type 0 = λ x. Passed x → (code past : ℕ) × FieldRead octet at code past × (x ≡ lengthAt s code at past limit) in
+      let P : Head → Type 0 = λ x. Passed x → (code past : ℕ) × FieldRead s octet at limit code past × (x ≡ lengthAt s code at past limit) in
       rw (ne-eqb octet 0 n) (item-holds P s octet at limit room (λ _ _ _ p. absurd p) (λ _ code past f _. (code, past, f, refl)))
 
--- a type field of one octet
-one-field : (s : List ℕ) (octet at limit code past : ℕ) → FieldRead octet at code past → lengthAt s code at past limit ≡ lengthAt s octet at (at + 1) limit
-one-field s octet at limit _ _ (in-one n f) = refl
+-- which type field was passed: the first octet tells whether it is one octet, and else the second how many follow
+module _ (s : List ℕ) (octet at limit : ℕ) where
+  one-field : {code past : ℕ} → FieldRead s octet at limit code past → (number octet ≡ 31 → ⊥)
+      → lengthAt s code at past limit ≡ lengthAt s octet at (at + 1) limit
+  one-field (in-one n f) ne = refl
+  one-field (in-two n f l a b) ne = absurd (ne n)
+  one-field (in-three n f l a b c) ne = absurd (ne n)
 
-pub passed-one : (s : List ℕ) (at limit : ℕ) (marked : Bool) (room : ℕ) → (octetAt s at ≡ 0 → ⊥) → Passed (headAt s at limit marked room)
-    → headAt s at limit marked room ≡ lengthAt s (octetAt s at) at (at + 1) limit
-passed-one s at limit marked room n p =
-    let (code, past, f, e) = passed-item s at limit marked room n p in
-    e ∙ one-field s (octetAt s at) at limit code past f
+  two-field : {code past : ℕ} → FieldRead s octet at limit code past → number octet ≡ 31 → octetAt s (at + 1) < 0x80
+      → lengthAt s code at past limit ≡ lengthAt s (codeOf (octet ∷ octetAt s (at + 1) ∷ [])) at (at + 2) limit
+  two-field (in-one n f) e l = absurd (n e)
+  two-field (in-two n f p a b) e l = refl
+  two-field (in-three n f p a b c) e l = absurd (omega arith)
+
+  three-field : {code past : ℕ} → FieldRead s octet at limit code past → number octet ≡ 31 → 0x80 ≤ octetAt s (at + 1)
+      → lengthAt s code at past limit ≡ lengthAt s (codeOf (octet ∷ octetAt s (at + 1) ∷ octetAt s (at + 2) ∷ [])) at (at + 3) limit
+  three-field (in-one n f) e l = absurd (n e)
+  three-field (in-two n f p a b) e l = absurd (omega arith)
+  three-field (in-three n f p a b c) e l = refl
+
+  -- the octets after the first are within the limit
+  second-within : {code past : ℕ} → FieldRead s octet at limit code past → number octet ≡ 31
+      → (at + 1 < limit) × (0x80 ≤ octetAt s (at + 1) → at + 2 < limit)
+  second-within (in-one n f) e = absurd (n e)
+  second-within (in-two n f p a b) e = (p, λ l. absurd (omega arith))
+  second-within (in-three n f p a b c) e = (omega arith, λ _. p)
+
+module _ (s : List ℕ) (at limit : ℕ) (marked : Bool) (room : ℕ) (p : Passed (headAt s at limit marked room)) where
+  pub passed-one : (octetAt s at ≡ 0 → ⊥) → (number (octetAt s at) ≡ 31 → ⊥)
+      → headAt s at limit marked room ≡ lengthAt s (octetAt s at) at (at + 1) limit
+  passed-one n o =
+      let (code, past, f, e) = passed-item s at limit marked room n p in
+      e ∙ one-field s (octetAt s at) at limit f o
+
+  module _ (o : number (octetAt s at) ≡ 31) where
+    no-zero : octetAt s at ≡ 0 → ⊥
+    no-zero z = omega arith
+
+    pub passed-within : (at + 1 < limit) × (0x80 ≤ octetAt s (at + 1) → at + 2 < limit)
+    passed-within =
+        let (code, past, f, e) = passed-item s at limit marked room no-zero p in
+        second-within s (octetAt s at) at limit f o
+
+    pub passed-two : octetAt s (at + 1) < 0x80
+        → headAt s at limit marked room ≡ lengthAt s (codeOf (octetAt s at ∷ octetAt s (at + 1) ∷ [])) at (at + 2) limit
+    passed-two l =
+        let (code, past, f, e) = passed-item s at limit marked room no-zero p in
+        e ∙ two-field s (octetAt s at) at limit f o l
+
+    pub passed-three : 0x80 ≤ octetAt s (at + 1)
+        → headAt s at limit marked room ≡ lengthAt s (codeOf (octetAt s at ∷ octetAt s (at + 1) ∷ octetAt s (at + 2) ∷ [])) at (at + 3) limit
+    passed-three l =
+        let (code, past, f, e) = passed-item s at limit marked room no-zero p in
+        e ∙ three-field s (octetAt s at) at limit f o l
 
 module _ (s : List ℕ) (octet at from limit : ℕ) where
   -- the first length octet decides
@@ -67,10 +112,10 @@ module _ (s : List ℕ) (octet at from limit : ℕ) where
   passed-short first l = rw (lt-ltb first 0x80 l) (passed-definite (from + 1) first)
 
   pub passed-open : (first : ℕ) → first ≡ 0x80 → Passed (byFirst s octet at from first limit)
-      → byFirst s octet at from first limit ≡ Item (record { octet = octet; start = from + 1; bound = limit; marked = true })
+      → byFirst s octet at from first limit ≡ Item (record { octet = octet; number = numberOf octet; start = from + 1; bound = limit; marked = true })
   unfolding byFirst indefiniteAt
   passed-open first e =
-      let P : Head → Type 0 = λ x. Passed x → x ≡ Item (record { octet = octet; start = from + 1; bound = limit; marked = true }) in
+      let P : Head → Type 0 = λ x. Passed x → x ≡ Item (record { octet = octet; number = numberOf octet; start = from + 1; bound = limit; marked = true }) in
       rw (le-ltb first 0x80 (omega arith), eq-eqb first 0x80 e) (cond-holds P (constructed octet) (λ _ _. refl) (λ _ p. absurd p))
 
   pub passed-long : (first : ℕ) → 0x80 < first → Passed (byFirst s octet at from first limit) →

@@ -20,7 +20,7 @@ universal octet = ltb octet 64
 abbrev pub constructed : ℕ → Bool
 constructed octet = eqb (octet / 32 % 2) 1
 
--- "number in bits 5 to 1"
+-- "number in bits 5 to 1", of the first octet
 abbrev pub number : ℕ → ℕ
 number octet = octet % 32
 
@@ -50,14 +50,30 @@ permits n false = isIn n primitiveOnly || isIn n eitherForm
 unfoldable pub formAllowed : ℕ → Bool
 formAllowed octet = cond (universal octet) (permits (number octet) (constructed octet)) true
 
+-- The octets with number bits 11111 whose class is not universal: "5 also for a universal number above 30".
+abbrev pub aboveThirty : List ℕ
+aboveThirty = 0x5F ∷ 0x7F ∷ 0x9F ∷ 0xBF ∷ 0xDF ∷ 0xFF ∷ []
+
 -- A type field is held as one number, its code: the first octet, and 256 times the octets after it. So the code of one octet is that octet.
 abbrev pub codeOf : (type : List ℕ) → ℕ
 codeOf [] = 0
 codeOf (octet ∷ octets) = octet + 256 * codeOf octets
 
--- the type field that a code stands for: one octet in the streams that are read now
+-- one or two octets after the first, by their code: the first of two has bit 8 set
+abbrev pub fieldAfter : (first rest : ℕ) → List ℕ
+fieldAfter first rest = cond (ltb rest 0x80) (first ∷ rest ∷ []) (first ∷ rest % 256 ∷ rest / 256 ∷ [])
+
+-- the type field that a code stands for: more octets follow where the number bits are 11111
 abbrev pub typeField : (code : ℕ) → List ℕ
-typeField code = code ∷ []
+typeField code = cond (eqb (number code) 31) (fieldAfter (code % 256) (code / 256)) (code ∷ [])
+
+-- "seven bits each, bit 8 set on all but the last"
+abbrev pub numberAfter : (rest : ℕ) → ℕ
+numberAfter rest = cond (ltb rest 0x80) rest (rest % 128 * 128 + rest / 256)
+
+-- the number of a type field: that of its first octet, or of those after it
+abbrev pub numberOf : (code : ℕ) → ℕ
+numberOf code = cond (eqb (number code) 31) (numberAfter (code / 256)) (number code)
 
 -- the number whose octets go on with these, where those before them are n
 unfoldable pub bigEndianFrom : ℕ → List ℕ → ℕ
@@ -85,13 +101,13 @@ unfoldable pub definiteAt : (octet at start len limit : ℕ) → Head
 definiteAt octet at start len limit =
     cond (leb (start + len) limit)
     (cond (misfits octet len) (Refusal 8 at)
-    (Item (record { octet = octet; start = start; bound = start + len; marked = false })))
+    (Item (record { octet = octet; number = numberOf octet; start = start; bound = start + len; marked = false })))
     (Refusal 7 at)
 
 -- An item with the length octet 80, at `from`: indefinite; 6 "80 on a primitive".
 unfoldable pub indefiniteAt : (octet at from limit : ℕ) → Head
 indefiniteAt octet at from limit =
-    cond (constructed octet) (Item (record { octet = octet; start = from + 1; bound = limit; marked = true })) (Refusal 6 at)
+    cond (constructed octet) (Item (record { octet = octet; number = numberOf octet; start = from + 1; bound = limit; marked = true })) (Refusal 6 at)
 
 -- An item with k length octets after the first, which is at `from`: 7 if one of them passes the limit.
 unfoldable pub longAt : List ℕ → (octet at from k limit : ℕ) → Head
@@ -111,10 +127,33 @@ byFirst s octet at from first limit =
 unfoldable pub lengthAt : List ℕ → (octet at from limit : ℕ) → Head
 lengthAt s octet at from limit = cond (ltb from limit) (byFirst s octet at from (octetAt s from) limit) (Refusal 7 at)
 
--- The type field at `at`, which begins with this octet: 4 "number bits 11111", 5 "universal form not in the table".
-abbrev pub fieldAt : (octet at : ℕ) → Field
-fieldAt octet at =
-    cond (eqb (number octet) 31) (Wrong 4)
+-- A type field whose number was read: 5 "for a universal number above 30, read whole".
+abbrev pub numberedField : (first code past : ℕ) → Field
+numberedField first code past = cond (isIn first aboveThirty) (Read code past) (Wrong 5)
+
+-- The second octet after the first ends the number: 4 "over 16,383" if it has bit 8 set.
+abbrev pub byThird : (first second third at : ℕ) → Field
+byThird first second third at =
+    cond (ltb third 0x80) (numberedField first (codeOf (first ∷ second ∷ third ∷ [])) (at + 3)) (Wrong 4)
+
+-- The octet after the first decides: 1F to 7F is the number; 81 to FF say that one octet more follows; 4 "a first following octet of 80,
+-- or a number under 31". 7 if the one more passes the limit.
+abbrev pub bySecond : List ℕ → (first second at limit : ℕ) → Field
+bySecond s first second at limit =
+    cond (ltb second 31) (Wrong 4)
+    (cond (ltb second 0x80) (numberedField first (codeOf (first ∷ second ∷ [])) (at + 2))
+    (cond (eqb second 0x80) (Wrong 4)
+    (cond (ltb second 0x100) (cond (ltb (at + 2) limit) (byThird first second (octetAt s (at + 2)) at) (Wrong 7))
+    (Wrong 4))))
+
+-- A type field with number bits 11111: 7 if the octet after the first passes the limit.
+abbrev pub longField : List ℕ → (first at limit : ℕ) → Field
+longField s first at limit = cond (ltb (at + 1) limit) (bySecond s first (octetAt s (at + 1)) at limit) (Wrong 7)
+
+-- The type field at `at`, which begins with this octet: 5 "universal form not in the table".
+abbrev pub fieldAt : List ℕ → (octet at limit : ℕ) → Field
+fieldAt s octet at limit =
+    cond (eqb (number octet) 31) (longField s octet at limit)
     (cond (formAllowed octet) (Read octet (at + 1))
     (Wrong 5))
 
@@ -125,7 +164,7 @@ afterField s at limit (Wrong number) = Refusal number at
 
 -- An item: 3 "item at level 17", then its type field and its length octets.
 unfoldable pub itemAt : List ℕ → (octet at limit room : ℕ) → Head
-itemAt s octet at limit room = cond (eqb room 0) (Refusal 3 at) (afterField s at limit (fieldAt octet at))
+itemAt s octet at limit room = cond (eqb room 0) (Refusal 3 at) (afterField s at limit (fieldAt s octet at limit))
 
 -- A 00: "The closing mark is 00 00 and ends the innermost open item if that is indefinite." 2 "00 where no indefinite item is
 -- innermost, or 00 followed within the limit by another byte than 00"; 7 "second 00 passes the limit".

@@ -3,15 +3,19 @@ ghost use mathlib.Core.Path.{_≡_};
 ghost use mathlib.Core.Bool.{true, false};
 ghost use Prim.Native.Nat.{_+_, _<_, _≤_};
 ghost use lib.ListN.{length, take, drop};
-ghost use Rattle.headers.specs.Head.{number, permits, formAllowed, misfits, bigEndian, definiteAt, indefiniteAt, longAt, lengthAt, fieldAt, closingAt};
-ghost use Rattle.headers.specs.Head.{headAt, Passed};
+ghost use Rattle.headers.specs.Head.{number, formAllowed, typeField, numberOf, misfits, bigEndian, definiteAt, indefiniteAt, longAt, lengthAt, closingAt};
+ghost use Rattle.headers.specs.Head.{octetAt, headAt, Passed};
 ghost use Rattle.headers.specs.declared.Head.the-variants.{Item};
 
-// A header that passed. The value starts at `start`. A definite value ends at `bound`; an indefinite one (`marked`) ends at its
+mod types; // types.rt: the type field
+
+// A header that passed. `octet` is the code of its type field: its first octet, and 256 times the octets after it; `number` is the number
+// that the field says. The value starts at `start`. A definite value ends at `bound`; an indefinite one (`marked`) ends at its
 // closing mark, before `bound`, which is then the limit. (The octet is as wide as the rest: a narrow field of an enum goes through
 // memory where two paths meet.)
 pub struct Header {
     pub octet: usize,
+    pub number: usize,
     pub start: usize,
     pub bound: usize,
     pub marked: bool,
@@ -30,67 +34,17 @@ pub enum Field {
     Wrong { number: usize },
 }
 
-// The forms that each universal number may have: 0 never, 1 primitive, 2 constructed, 3 either.
-const FORMS: [u8; 31] = [
-    0, // 0
-    1, // 1
-    1, // 2
-    3, // 3
-    3, // 4
-    1, // 5
-    1, // 6
-    3, // 7
-    2, // 8
-    1, // 9
-    1, // 10
-    3, // 11
-    0, // 12
-    0, // 13
-    0, // 14
-    0, // 15
-    2, // 16
-    2, // 17
-    3, // 18
-    3, // 19
-    3, // 20
-    3, // 21
-    3, // 22
-    3, // 23
-    3, // 24
-    3, // 25
-    3, // 26
-    3, // 27
-    0, // 28
-    0, // 29
-    0, // 30
-];
+// How many octets a type field has.
+pub fn field_size(octet: usize) -> usize
+    ensures { λ r. ⌜ r ≡ length (typeField octet) ⌝ }
+{
+    types::size_of(octet)
+}
 
 fn wide(x: u8) -> usize
     ensures { λ r. ⌜ r ≡ x ⌝ }
 {
     x as usize
-}
-
-fn permitted(number: usize, constructed: bool) -> bool
-    requires { ⌜ number < 31 ⌝ }
-    ensures { λ r. ⌜ r ≡ permits number constructed ⌝ }
-{
-    let form = FORMS[number];
-    if constructed {
-        form / 2 == 1
-    } else {
-        form % 2 == 1
-    }
-}
-
-fn form_allowed(octet: u8) -> bool
-    requires { ⌜ (number octet ≡ 31 → ⊥) ⌝ }
-    ensures { λ r. ⌜ r ≡ formAllowed octet ⌝ }
-{
-    if octet < 64 {
-        return permitted(wide(octet % 32), octet / 32 % 2 == 1);
-    }
-    true
 }
 
 // The number that the k octets from `from` are, most significant first. They are gathered with shifts and sums, as not every machine
@@ -137,6 +91,7 @@ fn definite_at(octet: usize, at: usize, start: usize, len: usize, limit: usize) 
     }
     Head::Item(Header {
         octet,
+        number: types::number_of(octet),
         start,
         bound: start + len,
         marked: false,
@@ -155,6 +110,7 @@ fn indefinite_at(octet: usize, at: usize, from: usize, limit: usize) -> Head
     }
     Head::Item(Header {
         octet,
+        number: types::number_of(octet),
         start: from + 1,
         bound: limit,
         marked: true,
@@ -196,23 +152,6 @@ fn length_at(s: &[u8], octet: usize, at: usize, from: usize, limit: usize) -> He
             place: at,
         },
     }
-}
-
-// The type field at `at`, which begins with this octet.
-fn field_at(octet: u8, at: usize) -> Field
-    requires { ⌜ at < 18446744073709551615 ⌝ }
-    ensures { λ r. ⌜ r ≡ fieldAt octet at ⌝ }
-{
-    if octet % 32 == 31 {
-        return Field::Wrong { number: 4 };
-    }
-    if form_allowed(octet) {
-        return Field::Read {
-            octet: wide(octet),
-            past: at + 1,
-        };
-    }
-    Field::Wrong { number: 5 }
 }
 
 // A 00 at `at`.
@@ -257,7 +196,7 @@ fn read_head(s: &[u8], at: usize, limit: usize, marked: bool, room: usize) -> He
             place: at,
         };
     }
-    match field_at(octet, at) {
+    match types::field_at(s, octet, at, limit) {
         Field::Read { octet, past } => length_at(s, octet, at, past, limit),
         Field::Wrong { number } => Head::Refusal { number, place: at },
     }
@@ -299,6 +238,7 @@ pub fn head_at(s: &[u8], at: usize, limit: usize, marked: bool, room: usize) -> 
         if is_usual(octet, len, limit - next, room) {
             return Head::Item(Header {
                 octet: wide(octet),
+                number: wide(octet % 32),
                 start: next + 1,
                 bound: next + 1 + wide(len),
                 marked: false,
@@ -313,6 +253,7 @@ fn passed_long(s: &[u8], octet: usize, from: usize, k: usize) -> Head
     requires { ⌜ (from + 1 + k + bigEndian (take k (drop (from + 1) (now s))) ≤ length (now s)) × (k ≤ 4) ⌝ }
     ensures { λ r. ⌜ r ≡ Item (record {
       octet = octet;
+      number = numberOf octet;
       start = from + 1 + k;
       bound = from + 1 + k + bigEndian
           (take k (drop (from + 1) (now (s .entry))));
@@ -323,6 +264,7 @@ fn passed_long(s: &[u8], octet: usize, from: usize, k: usize) -> Head
     let start = first + k;
     Head::Item(Header {
         octet,
+        number: types::number_of(octet),
         start,
         bound: start + big_endian(s, first, k),
         marked: false,
@@ -338,6 +280,7 @@ fn passed_length(s: &[u8], octet: usize, at: usize, from: usize, limit: usize) -
     if first < 0x80 {
         return Head::Item(Header {
             octet,
+            number: types::number_of(octet),
             start: from + 1,
             bound: from + 1 + wide(first),
             marked: false,
@@ -346,12 +289,32 @@ fn passed_length(s: &[u8], octet: usize, at: usize, from: usize, limit: usize) -
     if first == 0x80 {
         return Head::Item(Header {
             octet,
+            number: types::number_of(octet),
             start: from + 1,
             bound: limit,
             marked: true,
         });
     }
     passed_long(s, octet, from, wide(first - 0x80))
+}
+
+// A type field of several octets, and what follows it, of an item that was passed before.
+fn passed_wide(s: &[u8], at: usize, limit: usize, marked: bool, room: usize) -> Head
+    requires { ⌜ (at < limit) × (limit ≤ length (now s)) × (number (octetAt (now s) at) ≡ 31) × Passed (headAt (now s) at limit marked room) ⌝ }
+    ensures { λ r. ⌜ r ≡ headAt (now (s .entry)) at limit marked room ⌝ }
+{
+    let first = s[at];
+    let second = s[at + 1];
+    if second < 0x80 {
+        return passed_length(s, types::code_of(first, second, 0), at, at + 2, limit);
+    }
+    passed_length(
+        s,
+        types::code_of(first, second, s[at + 2]),
+        at,
+        at + 3,
+        limit,
+    )
 }
 
 // What stands at `at` in a run whose walk ended: `head_at` again, for later passes, with nothing left to judge.
@@ -362,6 +325,9 @@ pub fn passed_head(s: &[u8], at: usize, limit: usize, marked: bool, room: usize)
     let octet = s[at];
     if octet == 0 {
         return Head::ClosingMark;
+    }
+    if octet % 32 == 31 {
+        return passed_wide(s, at, limit, marked, room);
     }
     passed_length(s, wide(octet), at, at + 1, limit)
 }

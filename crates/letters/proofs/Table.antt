@@ -1,7 +1,7 @@
 -- The table of a walked stream: its elements meet end to end, each pair lies in its element, and rows say what the elements of an
 -- accepted letter say. Assumes nothing.
 use mathlib.Core.Path.{_≡_, refl, subst}
-use mathlib.Core.List.{List, [], _∷_}
+use mathlib.Core.List.{List}
 use mathlib.Core.Option.{some}
 use Prim.Native.Nat.{ℕ, zero, suc}
 use native.Mathlib.Omega.{arith}

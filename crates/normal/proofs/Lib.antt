@@ -1,3 +1,5 @@
+-- a type field as it is written
+pub mod Fields
 -- length octets: how many, by the leading zeros, and how they are written
 pub mod Lengths
 -- the normal form codes the same tree

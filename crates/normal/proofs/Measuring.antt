@@ -1,13 +1,13 @@
 -- The measuring of a run: what is counted so far, with what is left from `at`, is all of it, and a turn keeps that. Assumes nothing.
 use mathlib.Core.Path.{_≡_, refl, ap, sym, _∙_}
 use mathlib.Core.Bool.{Bool, true, false, false≢true}
-use mathlib.Core.List.{List, _∷_, _++_, append-assoc, append-nil}
+use mathlib.Core.List.{List, _++_, append-assoc, append-nil}
 use Prim.Native.Nat.{ℕ, _+_, _-_, _*_, _≤_}
 use native.Mathlib.Omega.{arith}
 use lib.ListN.{length}
 use lib.Seq.{slice, slice-empty, length-slice}
 use Rattle.headers.specs.declared.Header.{Header}
-use Rattle.headers.specs.Head.{constructed}
+use Rattle.headers.specs.Head.{constructed, typeField}
 use Rattle.octets.specs.Walk.{pastOf, run}
 use Rattle.normal.specs.declared.Measured.{Measured}
 use Rattle.normal.specs.Normal.{lengthOctets, Octets}
@@ -62,11 +62,11 @@ module _ (room : ℕ) (s : List ℕ) (from limit : ℕ) (marked : Bool) where
 
     module _ (h : Header) (u : Turn room s at limit marked h) (m : Measured) (v : ValueMeasures room s h m) where
       -- what is counted then is bounded
-      pub bounded : RunEnds room s from limit marked → size + (headerSize (m .size) + m .size) ≤ 3 * length s
+      pub bounded : RunEnds room s from limit marked → size + (headerSize (h .octet) (m .size) + m .size) ≤ 3 * length s
       bounded r = let t = turned room s at limit marked h u m v in omega (arith, form-small room s from limit marked r, c .sum)
 
       -- an item that stands as in the normal form
-      item-own : Octets s → h .marked ≡ false → m .shortest ≡ true → h .start ≡ at + headerSize (m .size)
+      item-own : Octets s → h .marked ≡ false → m .shortest ≡ true → h .start ≡ at + headerSize (h .octet) (m .size)
           → normalFrom room s at limit marked ≡ slice at (m .next) s ++ normalFrom room s (m .next) limit marked
       item-own o n b p =
           let (form, z) = v .measures .own b in
@@ -74,19 +74,20 @@ module _ (room : ℕ) (s : List ℕ) (from limit : ℕ) (marked : Bool) where
           let bound : h .bound ≡ h .start + m .size = sym (next ∙ v .measures .past ∙ u .definite n) in
           let rest = normalFrom room s (m .next) limit marked in
           let value = slice (h .start) (m .next) s in
-          let head : slice at (h .start) s ≡ h .octet ∷ lengthOctets (m .size) = own-header s at limit room h o (u .read) n (m .size) bound p in
+          let head : slice at (h .start) s ≡ typeField (h .octet) ++ lengthOctets (m .size) = own-header s at limit room h o (u .read) n (m .size) bound p in
           let inner : normalIn room s h ≡ value = form ∙ ap (λ (k : ℕ). slice (h .start) k s) next in
           let len : lengthOctets (length (normalIn room s h)) ≡ lengthOctets (m .size) = ap lengthOctets (sym (v .measures .size)) in
           turned room s at limit marked h u m v .3
-          ∙ ap (λ (l : List ℕ). h .octet ∷ (l ++ (normalIn room s h ++ rest))) len
-          ∙ ap (λ (l : List ℕ). h .octet ∷ (lengthOctets (m .size) ++ (l ++ rest))) inner
+          ∙ ap (λ (l : List ℕ). typeField (h .octet) ++ (l ++ (normalIn room s h ++ rest))) len
+          ∙ ap (λ (l : List ℕ). typeField (h .octet) ++ (lengthOctets (m .size) ++ (l ++ rest))) inner
+          ∙ sym (append-assoc (typeField (h .octet)) (lengthOctets (m .size)) (value ++ rest))
           ∙ ap (λ (l : List ℕ). l ++ (value ++ rest)) (sym head)
           ∙ sym (append-assoc (slice at (h .start) s) value rest)
           ∙ ap (λ (l : List ℕ). l ++ rest) (slice-join s at (h .start) (m .next) (omega arith) (omega arith))
 
       -- a turn counts the item
-      pub item-counted : Octets s → (size′ : ℕ) (shortest′ : Bool) → size′ ≡ size + headerSize (m .size) + m .size
-          → (shortest′ ≡ true → (shortest ≡ true) × (h .marked ≡ false) × (m .shortest ≡ true) × (h .start ≡ at + headerSize (m .size)))
+      pub item-counted : Octets s → (size′ : ℕ) (shortest′ : Bool) → size′ ≡ size + headerSize (h .octet) (m .size) + m .size
+          → (shortest′ ≡ true → (shortest ≡ true) × (h .marked ≡ false) × (m .shortest ≡ true) × (h .start ≡ at + headerSize (h .octet) (m .size)))
           → Counted (m .next) size′ shortest′
       item-counted o size′ shortest′ e k =
           let (later, within, rest, form, len) = turned room s at limit marked h u m v in

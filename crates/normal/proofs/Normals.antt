@@ -1,6 +1,5 @@
 -- The normal form codes the tree that it is made of: its lengths say what they should, and nothing else of an item changes. Assumes nothing.
 use mathlib.Core.Path.{_≡_, _∙_, subst}
-use mathlib.Core.Bool.{Bool}
 use mathlib.Core.List.{List, _∷_}
 use Prim.Native.Nat.{ℕ, zero, suc, _+_, _*_, _^_, _/_, _%_, _<_, _≤_}
 use native.Mathlib.Omega.{arith}
@@ -11,7 +10,8 @@ use borrow.Author.Tests.{ltb-true}
 use Rattle.headers.specs.Head.{bigEndian, bigEndianFrom}
 use Rattle.headers.proofs.Lengths.{be-snoc}
 use Rattle.laws.proofs.Tests.{cond-holds}
-use Rattle.tree.specs.Tree.{Tree, TypeField, oneOctet, Length, short, long, Codes, nothing, primitive, definite, indefinite}
+use Rattle.tree.specs.Tree.{Tree, Length, short, long, Codes, nothing, primitive, definite, indefinite}
+use Rattle.tree.proofs.Types.{field-some}
 use Rattle.normal.specs.Normal.{furtherOctets, numberOctets, lengthBy, lengthOctets, coded, normalOf}
 use Rattle.normal.specs.Forms.{Definite}
 use Rattle.normal.proofs.Lengths.{length-digits, length-length, further-le}
@@ -68,9 +68,6 @@ pub normal-codes : {room : ℕ} {t : Tree} {xs : List ℕ} → Codes room t xs �
 normal-codes c l = normal-definite c l .0
 
 -- A normal form is never more than three times as long as what codes the same tree.
-some-type : {type : List ℕ} {form : Bool} → TypeField type form → 1 ≤ length type
-some-type (oneOctet a b c) = omega arith
-
 some-length : {n : ℕ} {len : List ℕ} → Length n len → 1 ≤ length len
 some-length (short l) = omega arith
 some-length (long a b) = omega arith
@@ -79,8 +76,8 @@ pub small : {room : ℕ} {t : Tree} {xs : List ℕ} → Codes room t xs → leng
 unfolding normalOf
 small nothing = omega arith
 small (primitive {type = type} {len} {value} {rest} {after} g m l c) =
-    simp length-append (omega (arith, length-length (length value), further-le (length value), some-type g, some-length l, small c))
+    simp length-append (omega (arith, length-length (length value), further-le (length value), field-some g, some-length l, small c))
 small (definite {type = type} {len} {value} {rest} {inside} {after} g l j c) =
-    simp length-append (omega (arith, length-length (length (normalOf inside)), further-le (length (normalOf inside)), some-type g, some-length l, small c, small j))
+    simp length-append (omega (arith, length-length (length (normalOf inside)), further-le (length (normalOf inside)), field-some g, some-length l, small c, small j))
 small (indefinite {type = type} {value} {rest} {inside} {after} g j c) =
-    simp length-append (omega (arith, length-length (length (normalOf inside)), further-le (length (normalOf inside)), some-type g, small c, small j))
+    simp length-append (omega (arith, length-length (length (normalOf inside)), further-le (length (normalOf inside)), field-some g, small c, small j))

@@ -7,11 +7,11 @@ use Prim.Native.Nat.{ℕ, suc, _+_, _-_, _*_, _/_, _%_, _<_, _≤_}
 use native.Mathlib.Omega.{arith}
 use native.Mathlib.Nat.{zero-add}
 use lib.Dec.{ltb}
-use lib.ListN.{length, take, drop, List·getD-append, List·getD-eq-default}
+use lib.ListN.{length, take, drop, length-append, List·getD-append, List·getD-eq-default}
 use lib.Seq.{getD-drop, getD-append-add, take-add, drop-drop, slice}
 use borrow.Author.Tests.{ltb-true, ltb-false, lt-ltb}
 use Rattle.headers.specs.declared.Header.{Header}
-use Rattle.headers.specs.Head.{bigEndian, bigEndianFrom, octetAt}
+use Rattle.headers.specs.Head.{typeField, bigEndian, bigEndianFrom, octetAt}
 use Rattle.tree.specs.Tree.{Length, short, long}
 use Rattle.tree.proofs.Here.{Here, slice-is, sliced}
 use Rattle.tree.proofs.Heads.{Sized, ReadFrom}
@@ -34,6 +34,10 @@ octets-second xs ys o i = rw (← getD-append-add xs ys i 0) (o (length xs + i))
 octets-here : (s : List ℕ) (at : ℕ) (xs : List ℕ) → Octets s → Here s at xs → Octets xs
 octets-here s at xs o (rest, e) =
     octets-first xs rest (λ i. subst (λ (l : List ℕ). octetAt l i < 256) e (rw (getD-drop at s i 0) (o (at + i))))
+
+-- the type field of an item is octets
+pub octets-field : (s : List ℕ) (at limit room : ℕ) (h : Header) → Octets s → ReadFrom s at limit room h → Octets (typeField (h .octet))
+octets-field s at limit room h o r = octets-first (typeField (h .octet)) (r .len) (octets-here s at (typeField (h .octet) ++ r .len) o (r .here))
 
 -- the digits of a number that octets say, are these octets
 digits-of : (k n : ℕ) (ds : List ℕ) → Octets ds → numberOctets (k + length ds) (bigEndianFrom n ds) ≡ numberOctets k n ++ ds
@@ -61,14 +65,16 @@ only (long {octets} a b) o e =
 
 -- a definite header that is as short as it can be
 pub own-header : (s : List ℕ) (at limit room : ℕ) (h : Header) → Octets s → ReadFrom s at limit room h → h .marked ≡ false
-    → (size : ℕ) → h .bound ≡ h .start + size → h .start ≡ at + headerSize size → slice at (h .start) s ≡ h .octet ∷ lengthOctets size
+    → (size : ℕ) → h .bound ≡ h .start + size → h .start ≡ at + headerSize (h .octet) size
+    → slice at (h .start) s ≡ typeField (h .octet) ++ lengthOctets size
 own-header s at limit room h o r m size b p =
     let (n, w, l, _) = subst (λ (x : Bool). Sized x (h .octet) (h .start) (h .bound) limit (r .len)) m (r .sized) in
     let e : n ≡ size = omega arith in
-    let k = octets-second (h .octet ∷ []) (r .len) (octets-here s at (h .octet ∷ r .len) o (r .here)) in
-    let count : length (r .len) ≡ furtherOctets size + 1 = omega (arith, r .past) in
-    sliced s at (h .octet ∷ r .len) (h .start) (r .past) (r .here)
-    ∙ ap (λ (l : List ℕ). h .octet ∷ l) (only (subst (λ (j : ℕ). Length j (r .len)) e l) k count)
+    let type = typeField (h .octet) in
+    let k = octets-second type (r .len) (octets-here s at (type ++ r .len) o (r .here)) in
+    let count : length (r .len) ≡ furtherOctets size + 1 = omega (arith, r .past, length-append type (r .len)) in
+    sliced s at (type ++ r .len) (h .start) (r .past) (r .here)
+    ∙ ap (λ (l : List ℕ). type ++ l) (only (subst (λ (j : ℕ). Length j (r .len)) e l) k count)
 
 -- two parts that meet are one
 pub slice-join : (s : List ℕ) (a b c : ℕ) → a ≤ b → b ≤ c → slice a b s ++ slice b c s ≡ slice a c s

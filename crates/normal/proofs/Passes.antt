@@ -2,7 +2,7 @@
 -- the run. The walk's equation at the place says so. Assumes nothing.
 use mathlib.Core.Path.{_≡_, refl, ap, sym, _∙_, subst}
 use mathlib.Core.Bool.{Bool, true, false, cond, false≢true}
-use mathlib.Core.List.{List, [], _∷_}
+use mathlib.Core.List.{List, []}
 use Prim.Native.Nat.{ℕ, _+_, _-_, _*_, _<_, _≤_}
 use native.Mathlib.Omega.{arith}
 use lib.Dec.{leb}
@@ -208,7 +208,7 @@ pub turned : (room : ℕ) (s : List ℕ) (at limit : ℕ) (marked : Bool) (h : H
     → (m : Measured) → ValueMeasures room s h m
     → (at + 2 ≤ m .next) × (m .next ≤ limit) × (run room s at limit marked .how ≡ run room s (m .next) limit marked .how)
     × (normalFrom room s at limit marked ≡ coded (typeField (h .octet)) (normalIn room s h) (normalFrom room s (m .next) limit marked))
-    × (length (normalFrom room s at limit marked) ≡ headerSize (m .size) + m .size + length (normalFrom room s (m .next) limit marked))
+    × (length (normalFrom room s at limit marked) ≡ headerSize (h .octet) (m .size) + m .size + length (normalFrom room s (m .next) limit marked))
 turned room s at limit marked h u m v =
     let e = ap length (u .form) ∙ coded-length (typeField (h .octet)) (normalIn room s h) (normalFrom room s (endOf (valueOf room s h .how)) limit marked) in
     rw (v .measures .past, v .measures .size) (u .later, u .within, u .rest, u .form, omega arith)

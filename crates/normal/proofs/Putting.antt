@@ -2,12 +2,13 @@
 -- that. Assumes nothing.
 use mathlib.Core.Path.{_≡_, refl, ap, sym, _∙_, subst}
 use mathlib.Core.Bool.{Bool, true}
-use mathlib.Core.List.{List, [], _∷_, _++_}
+use mathlib.Core.List.{List, _++_, append-assoc}
 use Prim.Native.Nat.{ℕ, _+_, _*_, _≤_}
 use native.Mathlib.Omega.{arith}
-use lib.ListN.{length, drop}
+use lib.ListN.{length, drop, length-append}
 use lib.Seq.{slice, sets, length-sets, sets-eq}
 use Rattle.headers.specs.declared.Header.{Header}
+use Rattle.headers.specs.Head.{typeField}
 use Rattle.octets.specs.Walk.{pastOf}
 use Rattle.laws.proofs.Tests.{cond-holds}
 use Rattle.normal.specs.declared.Measured.{Measured}
@@ -28,12 +29,13 @@ copies room s h w m v b =
     (omega (arith, v .measures .past), form)
 
 -- an item: its header, its value, and what follows it
-put-coded : (out mid last : List ℕ) (pos octet : ℕ) (value after : List ℕ) (past next : ℕ)
-    → PutsOctets out pos (octet ∷ lengthOctets (length value)) past mid → PutsOctets mid past value next last
-    → sets out pos (coded (octet ∷ []) value after) ≡ sets last next after
-put-coded out mid last pos octet value after past next p q =
-    let head = octet ∷ lengthOctets (length value) in
-    sets-append out pos head (value ++ after)
+put-coded : (out mid last : List ℕ) (pos : ℕ) (type value after : List ℕ) (past next : ℕ)
+    → PutsOctets out pos (type ++ lengthOctets (length value)) past mid → PutsOctets mid past value next last
+    → sets out pos (coded type value after) ≡ sets last next after
+put-coded out mid last pos type value after past next p q =
+    let head = type ++ lengthOctets (length value) in
+    ap (sets out pos) (sym (append-assoc type (lengthOctets (length value)) (value ++ after)))
+    ∙ sets-append out pos head (value ++ after)
     ∙ ap (λ (k : ℕ). sets (sets out pos head) k (value ++ after)) (sym (p .to))
     ∙ ap (λ (l : List ℕ). sets l past (value ++ after)) (sym (p .written))
     ∙ sets-append mid past value after
@@ -62,29 +64,28 @@ module _ (room : ℕ) (s : List ℕ) (from limit : ℕ) (marked : Bool) (out₀ 
     module _ (h : Header) (u : Turn room s at limit marked h) (m : Measured) (v : ValueMeasures room s h m) where
       -- there is room for the item, and it is not too long
       pub fits : begin + length (normalFrom room s from limit marked) ≤ length out₀
-          → (pos + (headerSize (m .size) + m .size) ≤ length out) × (m .size ≤ 3 * length s)
+          → (pos + (headerSize (h .octet) (m .size) + m .size) ≤ length out) × (m .size ≤ 3 * length s)
       fits l =
           let t = turned room s at limit marked h u m v in
           let k = form-small room s at limit marked (c .left) in
           (omega (arith, c .to, c .kept), omega arith)
 
       -- a turn writes the item
-      pub item-put : (octet : ℕ) → octet ≡ h .octet → (past pos′ : ℕ) (mid out′ : List ℕ)
-          → PutsOctets out pos (octet ∷ lengthOctets (m .size)) past mid → PutsOctets mid past (normalIn room s h) pos′ out′ → PutSoFar (m .next) pos′ out′
-      item-put octet o past pos′ mid out′ p q =
+      pub item-put : (past pos′ : ℕ) (mid out′ : List ℕ)
+          → PutsOctets out pos (typeField (h .octet) ++ lengthOctets (m .size)) past mid → PutsOctets mid past (normalIn room s h) pos′ out′
+          → PutSoFar (m .next) pos′ out′
+      item-put past pos′ mid out′ p q =
           let (later, within, rest, form, len) = turned room s at limit marked h u m v in
-          let p′ = subst (λ (k : ℕ). PutsOctets out pos (octet ∷ lengthOctets k) past mid) (v .measures .size) p in
-          let after = normalFrom room s (m .next) limit marked in
-          let same : normalFrom room s at limit marked ≡ coded (octet ∷ []) (normalIn room s h) after =
-          form ∙ ap (λ (k : ℕ). coded (k ∷ []) (normalIn room s h) after) (sym o) in
-          let put = put-coded out mid out′ pos octet (normalIn room s h) after past pos′ p′ q in
+          let type = typeField (h .octet) in
+          let p′ = subst (λ (k : ℕ). PutsOctets out pos (type ++ lengthOctets k) past mid) (v .measures .size) p in
+          let put = put-coded out mid out′ pos type (normalIn room s h) (normalFrom room s (m .next) limit marked) past pos′ p′ q in
           record {
             left = run-left room s at limit marked (c .left) (m .next) within rest;
             kept = ap length (q .written ∙ ap (λ (l : List ℕ). sets l past (normalIn room s h)) (p .written))
-                ∙ length-sets (sets out pos (octet ∷ lengthOctets (m .size))) past (normalIn room s h)
-                ∙ length-sets out pos (octet ∷ lengthOctets (m .size)) ∙ c .kept;
-            to = omega (arith, c .to, p .to, q .to, v .measures .size, length-length (m .size));
-            written = c .written ∙ ap (sets out pos) same ∙ put;
+                ∙ length-sets (sets out pos (type ++ lengthOctets (m .size))) past (normalIn room s h)
+                ∙ length-sets out pos (type ++ lengthOctets (m .size)) ∙ c .kept;
+            to = omega (arith, c .to, p .to, q .to, v .measures .size, length-append type (lengthOctets (m .size)), length-length (m .size));
+            written = c .written ∙ ap (sets out pos) form ∙ put;
           }
 
 -- what is written from the start on

@@ -10,7 +10,7 @@ use lib.Seq.{slice, sets}
 use Rattle.headers.specs.declared.Header.{Header}
 use Rattle.headers.specs.declared.Head.{Head}
 use Rattle.headers.specs.declared.Head.the-variants.{Item, ClosingMark, Refusal}
-use Rattle.headers.specs.Head.{constructed, headAt}
+use Rattle.headers.specs.Head.{constructed, typeField, headAt}
 use Rattle.octets.specs.Walk.{streamLimit, End, ends, stops, pastOf, run}
 use Rattle.octets.specs.Further.{valueOf}
 use Rattle.tree.specs.Tree.{plain}
@@ -59,9 +59,9 @@ aheadBy at (Refusal number place) = Last at
 unfoldable pub aheadAt : (room : ℕ) → List ℕ → (at limit : ℕ) → (marked : Bool) → Ahead
 aheadAt room s at limit marked = cond (leb limit at) (Last limit) (aheadBy at (headAt s at limit marked room))
 
--- how many octets come before a value of so many in the normal form of an item
-abbrev pub headerSize : (size : ℕ) → ℕ
-headerSize size = 2 + furtherOctets size
+-- how many octets come before a value of so many in the normal form of an item: its type field and its length octets
+abbrev pub headerSize : (octet size : ℕ) → ℕ
+headerSize octet size = length (typeField octet) + 1 + furtherOctets size
 
 -- Octets from `from` on, whose walk ended so, were measured: where they end, how long their normal form is, and perhaps that they are
 -- their own normal form already.

@@ -6,13 +6,14 @@ use octets::Outcome;
 use octets::STREAM_LIMIT;
 ghost use mathlib.Core.Path.{_≡_};
 ghost use mathlib.Core.Bool.{true, false};
-ghost use mathlib.Core.List.{List, _∷_};
+ghost use mathlib.Core.List.{List, _++_};
 ghost use Prim.Native.Nat.{ℕ, _+_, _-_, _<_, _≤_};
 ghost use lib.ListN.{length};
 ghost use lib.Seq.{slice, sets};
+ghost use Rattle.headers.specs.Head.{typeField};
 ghost use Rattle.octets.specs.Walk.{streamLimit, deepest, run};
 ghost use Rattle.tree.specs.Accepts.{Whole};
-ghost use Rattle.normal.specs.Normal.{furtherOctets, numberOctets, lengthOctets, normalForm};
+ghost use Rattle.normal.specs.Normal.{furtherOctets, numberOctets, lengthOctets, Octets, normalForm};
 ghost use Rattle.normal.specs.Passes.{RunEnds, ValueEnds, normalFrom, normalIn, aheadAt, headerSize, RunMeasures, ValueMeasures, PutsOctets};
 ghost use Rattle.normal.specs.Writes.{answerOf, answerFor, GivesAnswer};
 
@@ -88,11 +89,11 @@ fn put_length(out: &mut [u8], at: usize, len: u32) -> usize
 }
 
 // How many octets come before a value of `size` octets.
-fn header_size(size: usize) -> usize
+fn header_size(octet: usize, size: usize) -> usize
     requires { ⌜ size < 4294967296 ⌝ }
-    ensures { λ r. ⌜ r ≡ headerSize size ⌝ }
+    ensures { λ r. ⌜ r ≡ headerSize octet size ⌝ }
 {
-    2 + further_octets(size as u32)
+    headers::field_size(octet) + 1 + further_octets(size as u32)
 }
 
 // What stands at `at` in a run that was walked to its end.
@@ -165,7 +166,7 @@ fn measure_run(s: &[u8], from: usize, limit: usize, marked: bool, room: usize) -
         match meet(s, at, limit, marked, room) {
             Ahead::Item(h) => {
                 let m = measure_item(s, h, room);
-                let head = header_size(m.size);
+                let head = header_size(h.octet, m.size);
                 shortest = stays_shortest(shortest, at, h, m, head);
                 size = size + head + m.size;
                 at = m.next;
@@ -194,13 +195,31 @@ fn put_value(s: &[u8], start: usize, bound: usize, out: &mut [u8], begin: usize)
     pos
 }
 
-// Writes a type field and the length octets of a value of `size` octets, and says the place past them.
-fn put_header(out: &mut [u8], begin: usize, octet: u8, size: usize) -> usize
-    requires { ⌜ (size < 4294967296) × (begin + headerSize size ≤ length (now out)) ⌝ }
-    ensures { λ r. ⌜ PutsOctets (now (out .entry)) begin (octet ∷ lengthOctets size) r (now (out .exit)) ⌝ }
+// Writes a type field as it was read, and says the place past it.
+fn put_field(out: &mut [u8], at: usize, octet: usize) -> usize
+    requires { ⌜ Octets (typeField octet) × (at + length (typeField octet) ≤ length (now out)) ⌝ }
+    ensures { λ r. ⌜ PutsOctets (now (out .entry)) at (typeField octet) r (now (out .exit)) ⌝ }
 {
-    out[begin] = octet;
-    put_length(out, begin + 1, size as u32)
+    out[at] = (octet % 256) as u8;
+    if octet % 32 != 31 {
+        return at + 1;
+    }
+    let rest = octet / 256;
+    out[at + 1] = (rest % 256) as u8;
+    if rest < 0x80 {
+        return at + 2;
+    }
+    out[at + 2] = (rest / 256 % 256) as u8;
+    at + 3
+}
+
+// Writes a type field and the length octets of a value of `size` octets, and says the place past them.
+fn put_header(out: &mut [u8], begin: usize, octet: usize, size: usize) -> usize
+    requires { ⌜ (size < 4294967296) × Octets (typeField octet) × (begin + headerSize octet size ≤ length (now out)) ⌝ }
+    ensures { λ r. ⌜ PutsOctets (now (out .entry)) begin (typeField octet ++ lengthOctets size) r (now (out .exit)) ⌝ }
+{
+    let past = put_field(out, begin, octet);
+    put_length(out, past, size as u32)
 }
 
 // Writes the normal form of the value of the item with the header h, which was measured as m.
@@ -239,8 +258,7 @@ fn put_run(
         match meet(s, at, limit, marked, room) {
             Ahead::Item(h) => {
                 let m = measure_item(s, h, room);
-                let octet = s[at];
-                let past = put_header(out, pos, octet, m.size);
+                let past = put_header(out, pos, h.octet, m.size);
                 pos = put_item(s, h, m, room, out, past);
                 at = m.next;
             }

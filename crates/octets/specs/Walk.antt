@@ -14,7 +14,8 @@ use Rattle.octets.specs.declared.Outcome.{Outcome}
 use Rattle.octets.specs.declared.Outcome.the-variants.{Ended, Refused}
 
 -- "An item is a header with a value; a constructed value is a run of items, each with a value of its own." A run is none, or an
--- item with its place, its first octet, its value from start to past, the run inside it (none in a primitive) and the items after it.
+-- item with its place, its octet, which is the code of its type field, its value from start to past, the run inside it (none in a
+-- primitive) and the items after it.
 pub data Items : Type 0 where
   none : Items
   item : (at octet start past : ℕ) → (inside after : Items) → Items

@@ -7,14 +7,14 @@ use Prim.Native.Nat.{ℕ, _+_, _-_, _<_, _≤_}
 use native.Mathlib.Omega.{arith}
 use lib.Dec.{leb, ltb, eqb}
 use lib.ListN.{take, drop}
-use borrow.Author.Tests.{le-leb, lt-ltb, ne-eqb}
+use borrow.Author.Tests.{le-leb, lt-ltb, le-ltb, eq-eqb, ne-eqb}
 use Rattle.headers.specs.declared.Header.{Header}
 use Rattle.headers.specs.declared.Head.{Head}
 use Rattle.headers.specs.declared.Head.the-variants.{Item, ClosingMark, Refusal}
 use Rattle.headers.specs.Head.{number, constructed, misfits, bigEndian, octetAt, definiteAt, indefiniteAt, longAt, byFirst, lengthAt, closingAt, itemAt, headAt}
-use Rattle.octets.specs.Walk.{Items, End, ends, Walked, pastOf, run}
+use Rattle.octets.specs.Walk.{Items, none, item, End, ends, Walked, pastOf, run}
 use Rattle.octets.specs.Rules.{Runs, at-limit, unclosed, closes, refuses, primitive, passes, breaks}
-use Rattle.headers.proofs.Lies.{FieldRead, in-one, item-holds}
+use Rattle.headers.proofs.Lies.{FieldRead, in-one, in-two, in-three, item-holds}
 use Rattle.laws.proofs.Tests.{cond-holds}
 use Rattle.octets.proofs.Turns.{header-ok}
 use Rattle.octets.proofs.RulesHold.{derived, derives}
@@ -70,11 +70,40 @@ closing-kept s at limit past marked other =
     (λ _. tt))
     (λ _. tt)
 
--- a type field that was read is read again
-item-again : (s : List ℕ) (octet at past levels : ℕ) → 0 < levels → {code from : ℕ} → FieldRead octet at code from
+-- a type field that was read is read again, before another limit that is past it
+item-again : (s : List ℕ) (octet at limit past levels : ℕ) → 0 < levels → {code from : ℕ} → FieldRead s octet at limit code from → from < past
     → itemAt s octet at past levels ≡ lengthAt s code at from past
 unfolding itemAt
-item-again s octet at past levels some (in-one low tabled) = rw (ne-eqb levels 0 (λ z. omega arith), ne-eqb (number octet) 31 low, tabled)
+item-again s octet at limit past levels some (in-one low tabled) w =
+    rw (ne-eqb levels 0 (λ z. omega arith), ne-eqb (number octet) 31 low, tabled)
+item-again s octet at limit past levels some (in-two n k l a b) w =
+    let there : at + 1 < past = omega arith in
+    rw (
+      ne-eqb levels 0 (λ z. omega arith),
+      eq-eqb (number octet) 31 n,
+      lt-ltb (at + 1) past there,
+      le-ltb (octetAt s (at + 1)) 31 a,
+      lt-ltb (octetAt s (at + 1)) 0x80 b,
+      k,
+    )
+item-again s octet at limit past levels some (in-three n k l a b c) w =
+    let second = octetAt s (at + 1) in
+    let there : at + 1 < past = omega arith in
+    let further : at + 2 < past = omega arith in
+    let under : 31 ≤ second = omega arith in
+    let above : 0x80 ≤ second = omega arith in
+    rw (
+      ne-eqb levels 0 (λ z. omega arith),
+      eq-eqb (number octet) 31 n,
+      lt-ltb (at + 1) past there,
+      le-ltb second 31 under,
+      le-ltb second 0x80 above,
+      ne-eqb second 0x80 (λ z. omega arith),
+      lt-ltb second 0x100 b,
+      lt-ltb (at + 2) past further,
+      lt-ltb (octetAt s (at + 2)) 0x80 c,
+      k,
+    )
 
 -- an item's header is kept where the run is definite, ends within another limit and has a level left
 head-kept : (s : List ℕ) (at limit past : ℕ) (marked : Bool) (room levels : ℕ) → (0 < room → 0 < levels)
@@ -87,7 +116,7 @@ head-kept s at limit past marked room levels deep =
     (λ z. item-holds (Kept other past) s octet at limit room (λ _ _ _. tt)
     (λ some code from read.
     length-kept code at limit past other s from
-    (λ _. rw z (item-again s octet at past levels (deep some) read))))
+    (λ w. rw z (item-again s octet at limit past levels (deep some) read w))))
 
 -- a primitive item is definite
 definite : (s : List ℕ) (at limit : ℕ) (marked : Bool) (room : ℕ) (h : Header) → headAt s at limit marked room ≡ Item h → constructed (h .octet) ≡ false

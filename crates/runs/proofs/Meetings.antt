@@ -165,7 +165,7 @@ module _ (s : List ℕ) (r : Run) (fine : Fine s r) (l : r .at < r .limit) (h : 
         let k : run (r .room - 1) s (h .start) (h .bound) (h .marked) .how ≡ ends next = rw c at v in
         rw c (record { from = refl; to = k ∙ ap ends (past-next (h .marked) (h .start) (h .bound) next (right-end (h .marked) refl)) })
 
-    -- the item is met: the code has its octet below 256, its value's end as a number and the run inside as a value
+    -- the item is met: what is read has octets below 256, its value's end as a number and the run inside as a value
     pub meets : octetAt s (r .at) < 256 → (past : ℕ) → past ≡ pastOf (h .marked) next → (inner : Run) → inner ≡ insideOf h (r .room)
         → Meeting s r (h .octet) (h .start) past inner (record { at = next; limit = r .limit; marked = r .marked; room = r .room })
     meets small past p inner i =
@@ -176,8 +176,8 @@ module _ (s : List ℕ) (r : Run) (fine : Fine s r) (l : r .at < r .limit) (h : 
         let deep : h .bound ≤ length s = omega (arith, lies .within, fine .inside) in
         record {
           tree = items-met ∙ rw (p, i, inside-items s h (r .room) (constructed (h .octet)) refl);
-          octet-not-zero = λ z. o .1 (sym (o .0) ∙ z);
-          octet-small = omega arith;
+          octet-not-zero = o .0;
+          octet-small = o .1 small;
           starts = lies .header;
           value-order = omega arith;
           value-before = omega arith;

@@ -63,12 +63,12 @@ pub record Spans (s : List ℕ) (r : Run) (first past : ℕ) : Type 0 where
   pub from : r .at ≡ first
   pub to : walkIn s r .how ≡ ends (cond (r .marked) (past + 2) past)
 
--- What is met at the start of a run: an item with its octet and its value from first to past, the run inside it, and the rest of the
+-- What is met at the start of a run: an item with the code of its type field and its value from first to past, the run inside it, and the rest of the
 -- run, which is shorter and begins where the item ends. "Closing marks lie in the element and in no value."
 pub record Meeting (s : List ℕ) (r : Run) (octet first past : ℕ) (inner rest : Run) : Type 0 where
   pub tree : itemsOf s r ≡ item (r .at) octet first past (itemsOf s inner) (itemsOf s rest)
   pub octet-not-zero : octet ≡ 0 → ⊥
-  pub octet-small : octet < 256
+  pub octet-small : octet < 16777216
   pub starts : r .at + 2 ≤ first
   pub value-order : first ≤ past
   pub value-before : past ≤ rest .at

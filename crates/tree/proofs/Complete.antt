@@ -6,15 +6,16 @@ use Prim.Native.Nat.{ℕ, suc, _+_, _-_, _*_, _/_, _%_, _<_, _≤_}
 use native.Mathlib.Omega.{arith}
 use lib.ListN.{length, take, drop, length-append}
 use lib.Seq.{slice}
-use borrow.Author.Tests.{le-leb, lt-ltb, le-ltb, ne-eqb, eqb-true}
+use borrow.Author.Tests.{le-leb, lt-ltb, le-ltb, eq-eqb, ne-eqb, eqb-true}
 use Rattle.headers.specs.declared.Header.{Header}
 use Rattle.headers.specs.declared.Head.the-variants.{Item, ClosingMark}
 use Rattle.headers.specs.declared.Field.the-variants.{Read}
-use Rattle.headers.specs.Head.{number, constructed, permits, formAllowed, codeOf, typeField, misfits, bigEndian, octetAt, definiteAt, indefiniteAt, longAt, byFirst, lengthAt, fieldAt, closingAt, itemAt, headAt}
+use Rattle.headers.specs.Head.{number, constructed, permits, formAllowed, codeOf, typeField, numberOf, misfits, bigEndian, octetAt, definiteAt, indefiniteAt, longAt, byFirst, lengthAt, fieldAt, closingAt, itemAt, headAt}
+use Rattle.headers.proofs.Fields.{above-thirty}
 use Rattle.octets.specs.Walk.{Items, none, item, End, ends, pastOf}
 use Rattle.octets.specs.Rules.{Runs, at-limit, closes, primitive, passes}
-use Rattle.tree.specs.Tree.{Tree, empty, leaf, branch, plain, TypeField, oneOctet, Length, short, long, Codes, nothing, primitive as leaf-coding, definite, indefinite}
-use Rattle.tree.proofs.Here.{Here, first, second, tail, octet-at, taken, sliced, item-length, apart}
+use Rattle.tree.specs.Tree.{Tree, empty, leaf, branch, plain, TypeField, oneOctet, twoOctets, threeOctets, Length, short, long, Codes, nothing, primitive as leaf-coding, definite, indefinite}
+use Rattle.tree.proofs.Here.{Here, first, second, tail, octet-at, taken, sliced, moved, item-length, apart}
 use Rattle.tree.proofs.Types.{field-of, form-of, field-some}
 
 -- no type field begins with 00
@@ -30,12 +31,45 @@ fits octet n c =
     rw (ne-eqb octet 1 (λ z. omega arith), ne-eqb octet 5 (λ z. omega arith), ne-eqb octet 2 (λ z. omega arith), ne-eqb octet 10 (λ z. omega arith))
 
 -- a type field that stands at a place is read there
-field-is : {type : List ℕ} {form : Bool} (s : List ℕ) (at : ℕ) → TypeField type form → Here s at type
-    → (octetAt s at ≡ 0 → ⊥) × (fieldAt (octetAt s at) at ≡ Read (codeOf type) (at + length type))
-field-is s at (oneOctet {octet} low tabled q) here =
+field-is : {type : List ℕ} {form : Bool} (s : List ℕ) (at limit : ℕ) → TypeField type form → Here s at type → at + length type ≤ limit
+    → (octetAt s at ≡ 0 → ⊥) × (fieldAt s (octetAt s at) at limit ≡ Read (codeOf type) (at + length type))
+field-is s at limit (oneOctet {octet} low tabled q) here l =
     let e = octet-at s at octet [] here in
     let same : octet + 256 * 0 ≡ octet = omega arith in
     rw (e, same) (some-octet octet tabled, rw (ne-eqb (number octet) 31 low, tabled))
+field-is s at limit (twoOctets {first} {second} k q a b) here l =
+    let e = octet-at s at first (second ∷ []) here in
+    let e2 = octet-at s (at + 1) second [] (tail s at first (second ∷ []) here) in
+    let (some, small, bits) = above-thirty first k in
+    let there : at + 1 < limit = omega arith in
+    rw e (λ z. omega arith, rw (eq-eqb (number first) 31 bits, lt-ltb (at + 1) limit there, e2, le-ltb second 31 a, lt-ltb second 0x80 b, k))
+field-is s at limit (threeOctets {first} {second} {third} k q a b c) here l =
+    let e = octet-at s at first (second ∷ third ∷ []) here in
+    let after = tail s at first (second ∷ third ∷ []) here in
+    let e2 = octet-at s (at + 1) second (third ∷ []) after in
+    let two : at + 1 + 1 ≡ at + 2 = omega arith in
+    let e3 = octet-at s (at + 2) third [] (moved s (third ∷ []) two (tail s (at + 1) second (third ∷ []) after)) in
+    let (some, small, bits) = above-thirty first k in
+    let there : at + 1 < limit = omega arith in
+    let further : at + 2 < limit = omega arith in
+    let under : 31 ≤ second = omega arith in
+    let above : 0x80 ≤ second = omega arith in
+    rw e (
+      λ z. omega arith,
+      rw (
+        eq-eqb (number first) 31 bits,
+        lt-ltb (at + 1) limit there,
+        e2,
+        le-ltb second 31 under,
+        le-ltb second 0x80 above,
+        ne-eqb second 0x80 (λ z. omega arith),
+        lt-ltb second 0x100 b,
+        lt-ltb (at + 2) limit further,
+        e3,
+        lt-ltb third 0x80 c,
+        k,
+      ),
+    )
 
 module _ (s : List ℕ) (at limit room : ℕ) (marked : Bool) {type : List ℕ} {form : Bool} (g : TypeField type form) where
   abbrev code : ℕ
@@ -45,14 +79,14 @@ module _ (s : List ℕ) (at limit room : ℕ) (marked : Bool) {type : List ℕ} 
   from = at + length type
 
   definite-is : (start n : ℕ) → start + n ≤ limit → misfits code n ≡ false
-      → definiteAt code at start n limit ≡ Item (record { octet = code; start = start; bound = start + n; marked = false })
+      → definiteAt code at start n limit ≡ Item (record { octet = code; number = numberOf code; start = start; bound = start + n; marked = false })
   unfolding definiteAt
   definite-is start n l m = rw (le-leb (start + n) limit l, m)
 
-  head-is : Here s at type → headAt s at limit marked (suc room) ≡ lengthAt s code at from limit
+  head-is : Here s at type → from ≤ limit → headAt s at limit marked (suc room) ≡ lengthAt s code at from limit
   unfolding headAt itemAt
-  head-is here =
-      let (some, read) = field-is s at g here in
+  head-is here l =
+      let (some, read) = field-is s at limit g here l in
       rw (ne-eqb (octetAt s at) 0 some, ne-eqb (suc room) 0 (λ z. omega arith), read)
 
   length-is : (fst : ℕ) → from < limit → octetAt s from ≡ fst → lengthAt s code at from limit ≡ byFirst s code at from fst limit
@@ -63,7 +97,7 @@ module _ (s : List ℕ) (at limit room : ℕ) (marked : Bool) {type : List ℕ} 
   unfolding byFirst
   short-is n l = rw (lt-ltb n 0x80 l)
 
-  marked-is : constructed code ≡ true → byFirst s code at from 0x80 limit ≡ Item (record { octet = code; start = from + 1; bound = limit; marked = true })
+  marked-is : constructed code ≡ true → byFirst s code at from 0x80 limit ≡ Item (record { octet = code; number = numberOf code; start = from + 1; bound = limit; marked = true })
   unfolding byFirst indefiniteAt
   marked-is c = rw c
 
@@ -77,10 +111,10 @@ module _ (s : List ℕ) (at limit room : ℕ) (marked : Bool) {type : List ℕ} 
   -- the header of an item with a definite length
   headed : {n : ℕ} {len : List ℕ} → Length n len → Here s at (type ++ len) → (start : ℕ) → start ≡ at + length (type ++ len)
       → start + n ≤ limit → misfits code n ≡ false
-      → headAt s at limit marked (suc room) ≡ Item (record { octet = code; start = start; bound = start + n; marked = false })
+      → headAt s at limit marked (suc room) ≡ Item (record { octet = code; number = numberOf code; start = start; bound = start + n; marked = false })
   headed (short {n} l) here start p f m =
       let e : start ≡ from + 1 = omega (arith, length-append type (n ∷ [])) in
-      head-is (first s at type (n ∷ []) here)
+      head-is (first s at type (n ∷ []) here) (omega arith)
       ∙ length-is n (omega arith) (octet-at s from n [] (second s at type (n ∷ []) here))
       ∙ short-is n l
       ∙ rw (← e) (definite-is start n f m)
@@ -90,17 +124,17 @@ module _ (s : List ℕ) (at limit room : ℕ) (marked : Bool) {type : List ℕ} 
       let there = second s at type len here in
       let e : start ≡ from + 1 + k = omega (arith, length-append type len) in
       let ts : take k (drop (from + 1) s) ≡ octets = taken s (from + 1) octets (tail s from (0x80 + k) octets there) in
-      head-is (first s at type len here)
+      head-is (first s at type len here) (omega arith)
       ∙ length-is (0x80 + k) (omega arith) (octet-at s from (0x80 + k) octets there)
       ∙ long-is k a b (omega arith)
       ∙ rw (ts, ← e) (definite-is start (bigEndian octets) f m)
 
   -- the header of one with the length octet 80
   headed-open : constructed code ≡ true → Here s at (type ++ (0x80 ∷ [])) → (start : ℕ) → start ≡ at + length (type ++ (0x80 ∷ [])) → start ≤ limit
-      → headAt s at limit marked (suc room) ≡ Item (record { octet = code; start = start; bound = limit; marked = true })
+      → headAt s at limit marked (suc room) ≡ Item (record { octet = code; number = numberOf code; start = start; bound = limit; marked = true })
   headed-open c here start p f =
       let e : start ≡ from + 1 = omega (arith, length-append type (0x80 ∷ [])) in
-      head-is (first s at type (0x80 ∷ []) here)
+      head-is (first s at type (0x80 ∷ []) here) (omega arith)
       ∙ length-is 0x80 (omega arith) (octet-at s from 0x80 [] (second s at type (0x80 ∷ []) here))
       ∙ rw e (marked-is c)
 
@@ -158,7 +192,7 @@ complete (leaf-coding {room} {type} {len} {value} {rest} {after} g m l c) s at l
     let q = form-of g in
     record {
       items = item at (codeOf type) start bound none (o .items);
-      runs = primitive {h = record { octet = codeOf type; start = start; bound = bound; marked = false }} lt
+      runs = primitive {h = record { octet = codeOf type; number = numberOf (codeOf type); start = start; bound = bound; marked = false }} lt
           (headed s at limit room marked g l head start refl (omega arith) m) q (o .runs);
       same = rw (q, field-of g) (ap (λ (x : List ℕ). leaf type x (plain s (o .items))) v ∙ ap (leaf type value) (o .same));
     }
@@ -170,7 +204,7 @@ complete (definite {room} {type} {len} {value} {rest} {inside} {after} g l ci c)
     let lt : at < limit = omega (arith, length-append type len, field-some g) in
     let q = form-of g in
     subst (λ (t : List ℕ). Reaches s (suc room) at limit marked (branch t inside after) i e) (field-of g)
-    (branch-reaches s room at limit marked (record { octet = codeOf type; start = start; bound = bound; marked = false }) lt
+    (branch-reaches s room at limit marked (record { octet = codeOf type; number = numberOf (codeOf type); start = start; bound = bound; marked = false }) lt
     (headed s at limit room marked g l head start refl (omega arith) (fits (codeOf type) (length value) q))
     q bound inside after i e
     (complete ci s start bound false there (omega arith) none (ends bound) (at-limit refl))
@@ -188,7 +222,7 @@ complete (indefinite {room} {type} {value} {rest} {inside} {after} g ci c) s at 
     let before : to < limit = omega arith in
     let q = form-of g in
     subst (λ (t : List ℕ). Reaches s (suc room) at limit marked (branch t inside after) i e) (field-of g)
-    (branch-reaches s room at limit marked (record { octet = codeOf type; start = start; bound = limit; marked = true }) lt
+    (branch-reaches s room at limit marked (record { octet = codeOf type; number = numberOf (codeOf type); start = start; bound = limit; marked = true }) lt
     (headed-open s at limit room marked g q head start refl (omega arith))
     q (to + 2) inside after i e
     (complete ci s start limit true there (omega arith) none (ends (to + 2))

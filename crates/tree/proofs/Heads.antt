@@ -1,6 +1,6 @@
 -- What a header that was read tells of the octets that stand there: each refusal that was passed over is a fact (`head-tells`).
 -- Assumes nothing.
-use mathlib.Core.Path.{_≡_, refl, ap, sym, subst}
+use mathlib.Core.Path.{_≡_, refl, ap, sym, _∙_, subst}
 use mathlib.Core.Bool.{Bool, true, false}
 use mathlib.Core.List.{List, [], _∷_, _++_, append-assoc}
 use Prim.Native.Nat.{ℕ, _+_, _-_, _<_, _≤_}
@@ -11,10 +11,12 @@ use borrow.Author.Tests.{leb-true, ltb-true, ltb-false, eqb-true, eqb-false}
 use Rattle.headers.specs.declared.Header.{Header}
 use Rattle.headers.specs.declared.Head.{Head}
 use Rattle.headers.specs.declared.Head.the-variants.{Item, ClosingMark, Refusal}
-use Rattle.headers.specs.Head.{constructed, typeField, misfits, bigEndian, octetAt, definiteAt, indefiniteAt, longAt, byFirst, lengthAt, closingAt, itemAt, headAt}
-use Rattle.headers.proofs.Lies.{FieldRead, in-one, item-holds}
+use Rattle.headers.specs.Head.{constructed, codeOf, typeField, misfits, bigEndian, octetAt, definiteAt, indefiniteAt, longAt, byFirst, lengthAt, closingAt, itemAt, headAt}
+use Rattle.headers.proofs.Fields.{field-one}
+use Rattle.headers.proofs.Lies.{FieldRead, in-one, in-two, in-three, item-holds}
+use Rattle.tree.specs.Tree.{TypeField, oneOctet, twoOctets, threeOctets, Length, short, long}
+use Rattle.tree.proofs.Types.{field-of, form-of}
 use Rattle.laws.proofs.Tests.{cond-holds}
-use Rattle.tree.specs.Tree.{TypeField, oneOctet, Length, short, long}
 use Rattle.tree.proofs.Here.{Here, one, some, joined, moved}
 
 long-of : (first : ℕ) (octets : List ℕ) → first ≡ 0x80 + length octets → 1 ≤ length octets → length octets ≤ 4
@@ -32,9 +34,35 @@ pub record FieldHere (s : List ℕ) (at code past : ℕ) : Type 0 where
   pub ends : past ≡ at + length (typeField code)
   pub type : TypeField (typeField code) (constructed code)
 
+-- octets that are a type field stand there
+field-stands : (s : List ℕ) (at code past : ℕ) (type : List ℕ) → typeField code ≡ type → Here s at type → past ≡ at + length type
+    → TypeField type (constructed code) → FieldHere s at code past
+field-stands s at code past type e here ends g = record {
+  here = subst (Here s at) (sym e) here;
+  ends = ends ∙ ap (λ (t : List ℕ). at + length t) (sym e);
+  type = subst (λ (t : List ℕ). TypeField t (constructed code)) (sym e) g;
+}
+
+-- the octets of a place and of the next one
+next-two : (s : List ℕ) (at : ℕ) → at + 1 < length s → Here s at (octetAt s at ∷ octetAt s (at + 1) ∷ [])
+next-two s at l = joined s at (octetAt s at ∷ []) (octetAt s (at + 1) ∷ []) (one s at (omega arith)) (one s (at + 1) l)
+
 -- a type field that was read stands there
-field-tells : (s : List ℕ) (at code past : ℕ) → at < length s → FieldRead (octetAt s at) at code past → FieldHere s at code past
-field-tells s at _ _ l (in-one low tabled) = record { here = one s at l; ends = refl; type = oneOctet low tabled refl }
+field-tells : (s : List ℕ) (at limit code past : ℕ) → at < length s → limit ≤ length s → FieldRead s (octetAt s at) at limit code past
+    → FieldHere s at code past
+field-tells s at limit code _ l f (in-one low tabled) =
+    let same : codeOf (code ∷ []) ≡ code = omega arith in
+    let e = subst (λ (k : ℕ). typeField k ≡ code ∷ []) same (field-one code low) in
+    field-stands s at code (at + 1) (code ∷ []) e (one s at l) refl (oneOctet low tabled refl)
+field-tells s at limit code _ l f (in-two n k p a b) =
+    let type : List ℕ = octetAt s at ∷ octetAt s (at + 1) ∷ [] in
+    let g : TypeField type (constructed (octetAt s at)) = twoOctets k refl a b in
+    field-stands s at code (at + 2) type (field-of g) (next-two s at (omega arith)) refl (subst (TypeField type) (sym (form-of g)) g)
+field-tells s at limit code _ l f (in-three n k p a b c) =
+    let type : List ℕ = octetAt s at ∷ octetAt s (at + 1) ∷ octetAt s (at + 2) ∷ [] in
+    let g : TypeField type (constructed (octetAt s at)) = threeOctets k refl a b c in
+    let here = joined s at (octetAt s at ∷ octetAt s (at + 1) ∷ []) (octetAt s (at + 2) ∷ []) (next-two s at (omega arith)) (one s (at + 2) (omega arith)) in
+    field-stands s at code (at + 3) type (field-of g) here refl (subst (TypeField type) (sym (form-of g)) g)
 
 -- the octets that a header was read from: its type field and its length octets
 pub record ReadFrom (s : List ℕ) (at limit room : ℕ) (h : Header) : Type 0 where
@@ -129,7 +157,7 @@ module _ (s : List ℕ) (at limit room : ℕ) (marked : Bool) (f : limit ≤ len
   item-tells : at < limit → P (itemAt s (octetAt s at) at limit room)
   item-tells l =
       item-holds P s (octetAt s at) at limit room (λ _ _ _. tt)
-      (λ deep code past read. length-tells code past deep (field-tells s at code past (omega arith) read))
+      (λ deep code past read. length-tells code past deep (field-tells s at limit code past (omega arith) f read))
 
   closing-tells : Here s at (0 ∷ []) → P (closingAt s at limit marked)
   unfolding closingAt

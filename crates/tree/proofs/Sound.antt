@@ -48,9 +48,9 @@ indefinite-codes (suc room) type value rest inside after r g i c =
     let e : suc room - 1 ≡ room = omega arith in
     indefinite g (subst (λ (k : ℕ). Codes k inside value) e i) c
 
-module _ (s : List ℕ) (room at limit : ℕ) (marked : Bool) (f : limit ≤ length s) (octet start bound : ℕ) where
+module _ (s : List ℕ) (room at limit : ℕ) (marked : Bool) (f : limit ≤ length s) (octet number start bound : ℕ) where
   abbrev header : Bool → Header
-  header m = record { octet = octet; start = start; bound = bound; marked = m }
+  header m = record { octet = octet; number = number; start = start; bound = bound; marked = m }
 
   -- a primitive item, and then what follows it
   leaf-coded : (m : Bool) → bound ≤ limit → ReadFrom s at limit room (header m)
@@ -125,10 +125,10 @@ sound {s} (closes {room} {at} {limit} {marked} l h) f =
 sound (refuses l h) f = tt
 sound {s} (primitive {room} {at} {limit} {marked} {h} {after} {e} l p q r) f =
     let o = header-ok s at limit room marked h p in
-    rw q (leaf-coded s room at limit marked f (h .octet) (h .start) (h .bound) (h .marked) (o .within) (read-from s at limit room marked l f h p) q
+    rw q (leaf-coded s room at limit marked f (h .octet) (h .number) (h .start) (h .bound) (h .marked) (o .within) (read-from s at limit room marked l f h p) q
     (plain s after) e (sound r f))
 sound {s} (passes {room} {at} {limit} {marked} {h} {inside} {after} {next} {e} l p q v r) f =
     let o = header-ok s at limit room marked h p in
-    rw q (branch-coded s room at limit marked f (h .octet) (h .start) (h .bound) (h .marked) (read-from s at limit room marked l f h p) q next
+    rw q (branch-coded s room at limit marked f (h .octet) (h .number) (h .start) (h .bound) (h .marked) (read-from s at limit room marked l f h p) q next
     (plain s inside) (sound v (omega arith)) (plain s after) e (sound r f))
 sound (breaks l p q v) f = tt

@@ -9,11 +9,11 @@ use mathlib.Core.List.{List, [], _∷_, _++_}
 use lib.ListN.{length}
 use lib.Seq.{slice}
 use mathlib.Core.Path.{_≡_}
-use Rattle.headers.specs.Head.{constructed, typeField, number, formAllowed, bigEndian, misfits, codeOf}
+use Rattle.headers.specs.Head.{constructed, typeField, number, formAllowed, isIn, aboveThirty, bigEndian, misfits, codeOf}
 use Rattle.octets.specs.Walk.{Items, none, item, run, deepest}
 
 -- A run of items: nothing; a primitive item with its value octets, and the items after it; or a constructed item with the run inside
--- it, and the items after it. The type field, the octets of class, form and number, is one octet long in the streams that are read now.
+-- it, and the items after it. The type field has the octets of class, form and number.
 pub data Tree : Type 0 where
   empty : Tree
   leaf : (type value : List ℕ) → (after : Tree) → Tree
@@ -34,11 +34,17 @@ plain s (item at octet start past inside after) =
 abbrev pub treeOf : List ℕ → Tree
 treeOf s = plain s (run deepest s 0 (length s) false .items)
 
--- A type field and its form, which is true if it is constructed. A type field of more octets is a case more here.
+-- A type field and its form, which is true if it is constructed.
 pub data TypeField : List ℕ → (form : Bool) → Type 0 where
   -- one octet: its number bits are not 11111, and its form is in the table
   oneOctet : {octet : ℕ} {form : Bool} → (number octet ≡ 31 → ⊥) → formAllowed octet ≡ true → constructed octet ≡ form
       → TypeField (octet ∷ []) form
+  -- numbers 31 to 127, of no universal class: number bits 11111, and one octet more
+  twoOctets : {first second : ℕ} {form : Bool} → isIn first aboveThirty ≡ true → constructed first ≡ form → 31 ≤ second → second < 0x80
+      → TypeField (first ∷ second ∷ []) form
+  -- numbers 128 to 16,383: two octets more, of which the first has bit 8 set and is not 80, and the last has it not
+  threeOctets : {first second third : ℕ} {form : Bool} → isIn first aboveThirty ≡ true → constructed first ≡ form
+      → 0x80 < second → second < 0x100 → third < 0x80 → TypeField (first ∷ second ∷ third ∷ []) form
 
 -- A definite length and its octets.
 pub data Length : ℕ → List ℕ → Type 0 where

@@ -1,4 +1,4 @@
-//! The examples of document 01, X.209 and Annex D: each with what is said of it in `vectors/`.
+//! The examples of document 01, of type numbers above 30, X.209 and Annex D: each with what is said of it in `vectors/`.
 
 use odif::{ROW_WIDTH, raw};
 
@@ -8,6 +8,7 @@ use crate::rng::Rng;
 use crate::tally::Origin;
 
 const DOCUMENT_01: &str = include_str!("../../../vectors/document-01.txt");
+const TYPES: &str = include_str!("../../../vectors/types.txt");
 const X209: &str = include_str!("../../../vectors/x209.txt");
 const LISTED: [(&str, &str, &str); 3] = [
     ("the lister's example", include_str!("../../../vectors/lister.hex"), include_str!("../../../vectors/lister.out")),
@@ -33,7 +34,7 @@ fn lines(table: &str) -> impl Iterator<Item = Vec<&str>> {
 
 /// Holds both readers to the examples.
 pub fn hold(holder: &mut Holder) {
-    for fields in lines(DOCUMENT_01) {
+    for fields in lines(DOCUMENT_01).chain(lines(TYPES)) {
         let [name, hex, answer, normal, joined] = fields[..] else { panic!("a line of five fields: {fields:?}") };
         let stream = octets(hex);
         let normal = (normal != "-").then(|| octets(normal));

@@ -1,6 +1,7 @@
 //! Every limit of document 01 from both sides, and every small choice that it leaves.
 
 mod pieces;
+mod types;
 
 use odif::{MOST_ELEMENTS, SHORT_LIMIT, STREAM_LIMIT};
 
@@ -15,7 +16,7 @@ const STYLES: [u8; 2] = [0xA7, 0xA8];
 const PROFILE: [u8; 2] = [0xA0, 0x00];
 
 /// The groups of cases. Each group is made when it is wanted, for some are large.
-pub const GROUPS: [fn() -> Vec<Case>; 24] = [
+pub const GROUPS: [fn() -> Vec<Case>; 27] = [
     stream_length,
     element_count,
     full_tables,
@@ -30,6 +31,9 @@ pub const GROUPS: [fn() -> Vec<Case>; 24] = [
     primitive_lengths,
     closing_marks,
     first_octets,
+    types::numbers,
+    types::cut,
+    types::places,
     contents,
     pieces::short_runs,
     pieces::deep,

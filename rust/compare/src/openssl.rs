@@ -102,7 +102,7 @@ fn openssl_stumbles(items: &[Item]) -> bool {
         let end = item.value().end;
         let definite = item.length() != Length::Indefinite;
         limits.push(if definite { Some(end) } else { limit });
-        definite && item.value().is_empty() && item.header_length() > 2 && limit == Some(end)
+        definite && item.value().is_empty() && item.header_length() > item.type_length() + 1 && limit == Some(end)
     })
 }
 

@@ -141,7 +141,7 @@ impl Rule {
                 "a 00 stands where no indefinite item is innermost, or is followed by another octet than 00"
             }
             Rule::TooDeep => "an item stands at level 17; level 16 is the deepest",
-            Rule::NumberInFurtherOctets => "the number bits of an item are 11111",
+            Rule::NumberInFurtherOctets => "the number of an item is over 16,383, or not in the fewest octets",
             Rule::WrongForm => "a universal number stands in a form that it never has",
             Rule::LengthOctet => "the first length octet is 85 to FF, or 80 on a primitive item",
             Rule::PastLimit => {

@@ -103,7 +103,7 @@ struct Parts<'t> {
 /// Judges the element at this place of the tree by 12, 13 and 14, and adds its portions to `keys`.
 pub(crate) fn judge(stream: &[u8], tree: &Tree, place: usize, keys: &mut Vec<u64>) -> Result<Row, Why> {
     let element = &tree.items()[place];
-    let kind = element.number();
+    let kind = element.number() as u8;
     let parts = contents(tree, place, kind)?;
     let object_type = parts.object_type.map(|item| object_type(&stream[item.value()], kind)).transpose()?;
     for item in [parts.identifier, parts.logical_identifier].into_iter().flatten() {

@@ -7,7 +7,9 @@ use crate::refusal::{Refusal, Why};
 #[derive(Clone, Copy, Debug)]
 pub struct Item {
     octet: u8,
+    field: u8,
     header: u8,
+    number: u16,
     level: u8,
     marked: bool,
     first: u32,
@@ -16,7 +18,7 @@ pub struct Item {
 }
 
 impl Item {
-    /// The first octet: class, form and number.
+    /// The first octet. Where its number bits are 11111 the number is in further ones.
     pub fn octet(&self) -> u8 {
         self.octet
     }
@@ -41,9 +43,14 @@ impl Item {
         Class::of(self.octet)
     }
 
-    /// The number bits.
-    pub fn number(&self) -> u8 {
-        self.octet & 0x1F
+    /// The number, up to 16,383.
+    pub fn number(&self) -> u16 {
+        self.number
+    }
+
+    /// How many octets its type field takes: class, form and number.
+    pub fn type_length(&self) -> usize {
+        usize::from(self.field)
     }
 
     /// Does it hold a run of items?
@@ -190,7 +197,9 @@ impl Pass<'_> {
         let place = self.items.len();
         self.items.push(Item {
             octet,
+            field: header.field,
             header: header.size,
+            number: header.number,
             level,
             marked,
             first: self.at as u32,

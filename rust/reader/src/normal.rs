@@ -26,7 +26,7 @@ pub(crate) fn write(stream: &[u8], tree: &Tree, out: &mut [u8]) {
         if fewest > 0 {
             put(&[0x80 + fewest as u8]);
         }
-        put(&[item.octet()]);
+        put(&stream[item.first()..][..item.type_length()]);
     });
 }
 
@@ -38,7 +38,7 @@ fn backwards(tree: &Tree, mut meet: impl FnMut(&Item, usize)) -> usize {
         let level = usize::from(item.level());
         let inside = std::mem::take(&mut met[level + 1]);
         let length = if item.is_constructed() { inside } else { item.value().len() };
-        met[level] += 2 + length_octets(length) + length;
+        met[level] += item.type_length() + 1 + length_octets(length) + length;
         meet(item, length);
     }
     met[1]

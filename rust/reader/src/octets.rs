@@ -39,10 +39,12 @@ pub enum Length {
     Indefinite,
 }
 
-/// A header that has passed 2 to 8: how many octets it takes, and the length it states.
+/// A header that has passed 2 to 8: how many octets it takes, and its type field; the number and the length it states.
 #[derive(Clone, Copy, Debug)]
 pub(crate) struct Header {
     pub size: u8,
+    pub field: u8,
+    pub number: u16,
     pub length: Length,
 }
 
@@ -71,27 +73,59 @@ pub(crate) fn meet(room: &[u8], marked: bool, level: u8) -> Result<Option<Header
         [0, _, ..] => Err(Why::HalfClosingMark),
         [0] => Err(Why::MarkPastLimit),
         _ if level > DEEPEST => Err(Why::TooDeep),
-        [octet, ..] if octet & 0x1F == 0x1F => Err(Why::NumberInFurtherOctets),
-        [octet, ..] if Class::of(*octet) == Class::Universal && !has_form(*octet) => Err(Why::WrongForm),
-        [octet, 0x80, ..] if is_constructed(*octet) => Ok(Some(Header { size: 2, length: Length::Indefinite })),
-        [_, 0x80, ..] => Err(Why::IndefinitePrimitive),
-        [_, 0x85..=0xFF, ..] => Err(Why::LengthOctet),
-        [octet, length @ 0..=0x7F, value @ ..] => definite(*octet, 2, u32::from(*length), value).map(Some),
-        [octet, first @ 0x81..=0x84, rest @ ..] => long_form(*octet, usize::from(first - 0x80), rest).map(Some),
-        [_] | [] => Err(Why::HeaderPastLimit),
+        [octet, ..] => {
+            let (field, number) = type_field(room)?;
+            let (more, length) = length(*octet, &room[field..])?;
+            Ok(Some(Header { size: (field + more) as u8, field: field as u8, number, length }))
+        }
+        [] => Err(Why::HeaderPastLimit),
     }
 }
 
-/// A header whose length stands in `count` further octets, most significant first, at the front of `rest`.
-fn long_form(octet: u8, count: usize, rest: &[u8]) -> Result<Header, Why> {
-    let (octets, value) = rest.split_at_checked(count).ok_or(Why::HeaderPastLimit)?;
-    let length = octets.iter().fold(0, |sum, &next| sum << 8 | u32::from(next));
-    definite(octet, 2 + count as u8, length, value)
+/// The type field at the front of `room`: how many octets it takes, and its number. A number above 30 stands in one or
+/// two octets after the first, seven bits each, with bit 8 set on all but the last.
+#[inline]
+fn type_field(room: &[u8]) -> Result<(usize, u16), Why> {
+    let universal = Class::of(room[0]) == Class::Universal;
+    let read = match room {
+        [octet, ..] if octet & 0x1F < 0x1F => {
+            if universal && !has_form(*octet) {
+                return Err(Why::WrongForm);
+            }
+            return Ok((1, u16::from(octet & 0x1F)));
+        }
+        [_, 0x80, ..] => return Err(Why::NumberPadded),
+        [_, 0..=0x1E, ..] => return Err(Why::NumberUnder31),
+        [_, number @ 0x1F..=0x7F, ..] => (2, u16::from(*number)),
+        [_, _, 0x80..=0xFF, ..] => return Err(Why::NumberOver16383),
+        [_, high, low, ..] => (3, u16::from(high & 0x7F) << 7 | u16::from(*low)),
+        _ => return Err(Why::HeaderPastLimit),
+    };
+    if universal { Err(Why::UniversalOver30) } else { Ok(read) }
 }
 
-/// A header of a definite length, with what lies between it and the limit.
+/// The length octets at the front of `rest`, which follow a type field with this first octet: how many there are, and
+/// what they state.
 #[inline]
-fn definite(octet: u8, size: u8, length: u32, value: &[u8]) -> Result<Header, Why> {
+fn length(octet: u8, rest: &[u8]) -> Result<(usize, Length), Why> {
+    match rest {
+        [0x80, ..] if is_constructed(octet) => Ok((1, Length::Indefinite)),
+        [0x80, ..] => Err(Why::IndefinitePrimitive),
+        [0x85..=0xFF, ..] => Err(Why::LengthOctet),
+        [length @ 0..=0x7F, value @ ..] => Ok((1, definite(octet, u32::from(*length), value)?)),
+        [first @ 0x81..=0x84, rest @ ..] => {
+            let count = usize::from(first - 0x80);
+            let (octets, value) = rest.split_at_checked(count).ok_or(Why::HeaderPastLimit)?;
+            let length = octets.iter().fold(0, |sum, &next| sum << 8 | u32::from(next));
+            Ok((1 + count, definite(octet, length, value)?))
+        }
+        [] => Err(Why::HeaderPastLimit),
+    }
+}
+
+/// A definite length, with what lies between the header and the limit.
+#[inline]
+fn definite(octet: u8, length: u32, value: &[u8]) -> Result<Length, Why> {
     if length as usize > value.len() {
         return Err(Why::ValuePastLimit);
     }
@@ -102,7 +136,7 @@ fn definite(octet: u8, size: u8, length: u32, value: &[u8]) -> Result<Header, Wh
         (5, _) => return Err(Why::NullNotEmpty),
         _ => {}
     }
-    Ok(Header { size, length: Length::Definite(length) })
+    Ok(Length::Definite(length))
 }
 
 #[cfg(test)]
@@ -124,7 +158,13 @@ mod tests {
     fn numbers_in_order_within_an_item() {
         assert_eq!(meet(&[0], false, 17).err(), Some(Why::ZeroOutsideIndefinite));
         assert_eq!(meet(&[0x1F], false, 17).err(), Some(Why::TooDeep));
-        assert_eq!(fault(&[0x1F, 0xFF]), Some(Why::NumberInFurtherOctets));
+        assert_eq!(fault(&[0x1F, 0x1E]), Some(Why::NumberUnder31));
+        assert_eq!(fault(&[0x1F, 0x80]), Some(Why::NumberPadded));
+        assert_eq!(fault(&[0x1F, 0xFF, 0x80]), Some(Why::NumberOver16383));
+        assert_eq!(fault(&[0x1F, 0xFF]), Some(Why::HeaderPastLimit));
+        assert_eq!(fault(&[0x1F, 0xFF, 0x7F]), Some(Why::UniversalOver30));
+        assert_eq!(fault(&[0x1F, 0x1F]), Some(Why::UniversalOver30));
+        assert_eq!(fault(&[0x9F, 0x1F]), Some(Why::HeaderPastLimit));
         assert_eq!(fault(&[0x10, 0xFF]), Some(Why::WrongForm));
         assert_eq!(fault(&[0x04, 0x85]), Some(Why::LengthOctet));
         assert_eq!(fault(&[0x04, 0x80]), Some(Why::IndefinitePrimitive));
@@ -142,6 +182,15 @@ mod tests {
         assert!(matches!(meet(&[0, 0, 9], true, 17), Ok(None)));
         assert_eq!(meet(&[0], true, 2).err(), Some(Why::MarkPastLimit));
         assert_eq!(meet(&[0, 1], true, 2).err(), Some(Why::HalfClosingMark));
+    }
+
+    #[test]
+    fn numbers_above_30() {
+        for (number, octets) in [(31, &[0x1F][..]), (127, &[0x7F]), (128, &[0x81, 0x00]), (16_383, &[0xFF, 0x7F])] {
+            let room = [&[0x9F], octets, &[0x00]].concat();
+            let header = meet(&room, false, 1).unwrap().unwrap();
+            assert_eq!((header.number, usize::from(header.size)), (number, room.len()));
+        }
     }
 
     #[test]

@@ -29,10 +29,16 @@ pub enum Why {
     HalfClosingMark,
     /// 3: an item at level 17.
     TooDeep,
-    /// 4: number bits 11111.
-    NumberInFurtherOctets,
+    /// 4: the first octet of a number in further octets is 80.
+    NumberPadded,
+    /// 4: a number under 31 in further octets.
+    NumberUnder31,
+    /// 4: a number over 16,383.
+    NumberOver16383,
     /// 5: a universal number in a form that it never has.
     WrongForm,
+    /// 5: a universal number above 30.
+    UniversalOver30,
     /// 6: a first length octet of 85 to FF.
     LengthOctet,
     /// 6: 80 on a primitive.
@@ -103,8 +109,11 @@ impl Why {
             ZeroOutsideIndefinite => (2, "a 00 stands where no indefinite item is innermost"),
             HalfClosingMark => (2, "a 00 that should begin a closing mark is followed by another octet than 00"),
             TooDeep => (3, "an item stands at level 17"),
-            NumberInFurtherOctets => (4, "the number bits of an item are 11111"),
+            NumberPadded => (4, "the number of an item begins with the octet 80"),
+            NumberUnder31 => (4, "a number under 31 stands in octets after the first"),
+            NumberOver16383 => (4, "the number of an item is over 16,383"),
             WrongForm => (5, "a universal number stands in a form that it never has"),
+            UniversalOver30 => (5, "a universal number is above 30"),
             LengthOctet => (6, "the first length octet is 85 to FF"),
             IndefinitePrimitive => (6, "a primitive item has the indefinite length 80"),
             HeaderPastLimit => (7, "the header of an item passes its limit"),

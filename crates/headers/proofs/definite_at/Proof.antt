@@ -28,16 +28,20 @@ returns-2 c =
     let h : a .start + a .len ≤ a .limit = omega arith in
     simp (le-leb _ _ h, sym (c .before .is-misfit .ensures) ∙ c .if2 .taken)
 
-add-t6 : tie.Need-add-t6
-add-t6 c = search needs
+number-of-requires : tie.Need-number-of-requires
+number-of-requires c κs = search needs
+
+add-t9 : tie.Need-add-t9
+add-t9 c = search needs
 
 returns-3 : tie.Need-returns-3
 unfolding definiteAt
 returns-3 c =
-    let a = c .before .before .before .args in
+    let a = c .before .before .before .before .args in
     let h : a .start + a .len ≤ a .limit = omega arith in
-    simp (le-leb _ _ h, sym (c .before .is-misfit .ensures) ∙ c .if2 .left)
+    simp (le-leb _ _ h, sym (c .before .before .is-misfit .ensures) ∙ c .before .if2 .left, c .number-of .ensures)
 
 pub definite-at-spec : {M : Type 1} → statement M
 definite-at-spec =
-    tie.close (tie.spec sub-if1 returns is-misfit-requires returns-2 add-t6 returns-3)
+    tie.close
+    (tie.spec sub-if1 returns is-misfit-requires returns-2 number-of-requires add-t9 returns-3)

@@ -9,12 +9,15 @@ returns : tie.Need-returns
 unfolding indefiniteAt
 returns c = simp (ne-eqb _ _ (c .if1 .taken))
 
-add-t5 : tie.Need-add-t5
-add-t5 c = search needs
+number-of-requires : tie.Need-number-of-requires
+number-of-requires c κs = search needs
+
+add-t6 : tie.Need-add-t6
+add-t6 c = search needs
 
 returns-2 : tie.Need-returns-2
 unfolding indefiniteAt
-returns-2 c = simp (eq-eqb _ _ (c .if1 .left))
+returns-2 c = simp (eq-eqb _ _ (c .before .if1 .left), c .number-of .ensures)
 
 pub indefinite-at-spec : {M : Type 1} → statement M
-indefinite-at-spec = tie.close (tie.spec returns add-t5 returns-2)
+indefinite-at-spec = tie.close (tie.spec returns number-of-requires add-t6 returns-2)

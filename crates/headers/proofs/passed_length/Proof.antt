@@ -9,28 +9,32 @@ use Rattle.headers.specs.Head.{bigEndian, octetAt, byFirst, lengthAt, Pa
 use Rattle.headers.proofs.Passed.{definite, passed-first, passed-short, passed-open, passed-long}
 use Rattle.headers.proofs.passed_length.Statement.{statement}
 use Rattle.headers.proofs.passed_length.Tie as tie
-use Rattle.headers.proofs.wide.Reads as wide-reads
 use Rattle.headers.proofs.passed_long.Reads as passed-long-reads
+use Rattle.headers.proofs.wide.Reads as wide-reads
+use Rattle.headers.proofs.types.number_of.Reads as number-of-reads
 use Rattle.headers.proofs.passed_length.Lts as lts
 use Rattle.headers.proofs.passed_length.Reads as reads
 
 shared-slice-read-first : tie.Need-shared-slice-read-first
 shared-slice-read-first c = search needs
 
-add-t10 : tie.Need-add-t10
-add-t10 c = search needs
+number-of-requires : tie.Need-number-of-requires
+number-of-requires c κs = search needs
 
 add-t11 : tie.Need-add-t11
 add-t11 c = search needs
 
+add-t12 : tie.Need-add-t12
+add-t12 c = search needs
+
 wide-requires : tie.Need-wide-requires
 wide-requires c κs = search needs
 
-add-t13 : tie.Need-add-t13
-add-t13 c = search needs
+add-t14 : tie.Need-add-t14
+add-t14 c = search needs
 
 abbrev calls : lts.Claims
-calls = (wide-reads.Asked, wide-reads.Learnt, passed-long-reads.Asked, passed-long-reads.Learnt)
+calls = (number-of-reads.Asked, number-of-reads.Learnt, wide-reads.Asked, wide-reads.Learnt, passed-long-reads.Asked, passed-long-reads.Learnt)
 
 -- the first length octet decides
 decided : (c : lts.Start calls reads.Pre reads.Post) →
@@ -46,21 +50,25 @@ decided c =
 
 returns : tie.Need-returns
 returns c =
-    let a = c .before .before .before .before .args in
+    let a = c .before .before .before .before .before .args in
     let s = now (a .s) in
-    let (e, p) = decided (c .before .before .before .before) in
-    rw (c .wide .ensures)
-    (sym (e ∙ passed-short s (a .octet) (a .at) (a .from) (a .limit) (octetAt s (a .from)) (c .before .if1 .taken) p .0))
+    let (e, p) = decided (c .before .before .before .before .before) in
+    rw (c .before .number-of .ensures, c .wide .ensures)
+    (sym (e ∙ passed-short s (a .octet) (a .at) (a .from) (a .limit) (octetAt s (a .from)) (c .before .before .if1 .taken) p .0))
 
-add-t15 : tie.Need-add-t15
-add-t15 c = search needs
+number-of-requires-2 : tie.Need-number-of-requires-2
+number-of-requires-2 c κs = search needs
+
+add-t17 : tie.Need-add-t17
+add-t17 c = search needs
 
 returns-2 : tie.Need-returns-2
 returns-2 c =
-    let a = c .before .before .before .before .args in
+    let a = c .before .before .before .before .before .args in
     let s = now (a .s) in
-    let (e, p) = decided (c .before .before .before .before) in
-    sym (e ∙ passed-open s (a .octet) (a .at) (a .from) (a .limit) (octetAt s (a .from)) (c .if2 .taken) p)
+    let (e, p) = decided (c .before .before .before .before .before) in
+    rw (c .number-of2 .ensures)
+    (sym (e ∙ passed-open s (a .octet) (a .at) (a .from) (a .limit) (octetAt s (a .from)) (c .before .if2 .taken) p))
 
 wide-requires-2 : tie.Need-wide-requires-2
 wide-requires-2 c κs = search needs
@@ -95,12 +103,14 @@ passed-length-spec =
     tie.close
     (tie.spec
     shared-slice-read-first
-    add-t10
+    number-of-requires
     add-t11
+    add-t12
     wide-requires
-    add-t13
+    add-t14
     returns
-    add-t15
+    number-of-requires-2
+    add-t17
     returns-2
     wide-requires-2
     passed-long-requires

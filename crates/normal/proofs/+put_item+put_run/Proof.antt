@@ -5,13 +5,15 @@ use Prim.Native.Nat.{ℕ, _+_, _-_, _*_, _<_, _≤_}
 use native.Mathlib.Omega.{arith}
 use borrow.Author.Needs.{needs}
 use denote.Ref.{now}
-use lib.ListN.{length}
+use lib.ListN.{length, length-append}
 use lib.Seq.{slice}
-use Rattle.tree.proofs.Here.{octet-at}
+use Rattle.headers.specs.Head.{typeField}
 use Rattle.normal.specs.declared.Ahead.{Ahead}
 use Rattle.normal.specs.declared.Ahead.the-variants.{Item as Inner, Last}
+use Rattle.normal.specs.Normal.{lengthOctets, Octets}
 use Rattle.normal.specs.Passes.{normalIn, headerSize}
 use Rattle.normal.proofs.Lengths.{length-length}
+use Rattle.normal.proofs.Own.{octets-field}
 use Rattle.normal.proofs.Passes.{Turn, Meets, meets, turned, value-run, value-run-ends}
 use Rattle.normal.proofs.Putting.{copies, PutSoFar, none-put, all-put, fits, item-put}
 use borrow.Fn.Kinds.{In}
@@ -131,8 +133,9 @@ module _ (t : ℕ) where
   next : (c : run-lts.After-measure-item (run-calls t) (run-at t) put-run.Post Inv μ) →
       let a = c .before .before .before .before .before .before .before .before .args in
       let l = c .before .before .before .before .before .loop in
+      let h = c .before .before .h .given .0 .0 in
       let m = c .measure-item .result in
-      (l .at + 2 ≤ m .next) × (m .next ≤ a .limit) × (l .pos + (headerSize (m .size) + m .size) ≤ length (l .out)) × (m .size ≤ 3 * length (now (a .s)))
+      (l .at + 2 ≤ m .next) × (m .next ≤ a .limit) × (l .pos + (headerSize (h .octet) (m .size) + m .size) ≤ length (l .out)) × (m .size ≤ 3 * length (now (a .s)))
   next c =
       let a = c .before .before .before .before .before .before .before .before .args in
       let l = c .before .before .before .before .before .loop in
@@ -158,35 +161,41 @@ module _ (t : ℕ) where
   measure-item-requires : run-lts.Need-measure-item-requires (run-calls t) (run-at t) put-run.Post Inv μ
   measure-item-requires c κs = met-item c .inside
 
-  shared-slice-read-octet : run-lts.Need-shared-slice-read-octet (run-calls t) (run-at t) put-run.Post Inv μ
-  shared-slice-read-octet c = let n = next (c .before) in omega arith
-
   put-header-requires : run-lts.Need-put-header-requires (run-calls t) (run-at t) put-run.Post Inv μ
-  put-header-requires c κs = let n = next (c .before .before) in (omega arith, omega (arith, n .2))
+  put-header-requires c κs =
+      let a = c .before .before .before .before .before .before .before .before .before .args in
+      let l = c .before .before .before .before .before .before .loop in
+      let h = c .before .before .before .h .given .0 .0 in
+      let octets : Octets (now (a .s)) = λ i. omega (arith, c .before .before .before .before .before .before .before .before .shared-slice-known .given i) in
+      let u = met-item (c .before .before) in
+      let n = next (c .before) in
+      (omega arith, octets-field (now (a .s)) (l .at) (a .limit) (a .room) h octets (u .read), omega (arith, n .2))
 
   put-item-requires : run-lts.Need-put-item-requires (run-calls t) (run-at t) put-run.Post Inv μ
   put-item-requires c κs =
-      let u = met-item (c .before .before .before .before .before .before .before) in
-      let n = next (c .before .before .before .before .before .before) in
-      let m = c .before .before .before .before .before .before .measure-item in
+      let u = met-item (c .before .before .before .before .before .before) in
+      let n = next (c .before .before .before .before .before) in
+      let m = c .before .before .before .before .before .measure-item in
+      let h = c .before .before .before .before .before .before .before .h .given .0 .0 in
       let p = c .before .before .before .put-header in
-      let r = c .before .before .before .before .before .before .before .before .before .before .before .before .before .before .pre in
-      (omega (arith, r .0), (u .inside, m .ensures, omega (arith, n .2, p .ensures .to, p .kept .0, m .ensures .measures .size, length-length (m .result .size))))
+      let r = c .before .before .before .before .before .before .before .before .before .before .before .before .before .pre in
+      let size = length-append (typeField (h .octet)) (lengthOctets (m .result .size)) in
+      (omega (arith, r .0), (u .inside, m .ensures, omega (arith, n .2, p .ensures .to, p .kept .0, m .ensures .measures .size, size, length-length (m .result .size))))
 
   loop-less : run-lts.Need-loop-less (run-calls t) (run-at t) put-run.Post Inv μ
-  loop-less c = let n = next (c .before .before .before .before .before .before .before .before .before) in omega (arith, n .0, n .1)
+  loop-less c = let n = next (c .before .before .before .before .before .before .before .before) in omega (arith, n .0, n .1)
 
   loop-again : run-lts.Need-loop-again (run-calls t) (run-at t) put-run.Post Inv μ
   loop-again c =
-      let a = c .before .before .before .before .before .before .before .before .before .before .before .before .before .before .before .before .before .args in
-      let l = c .before .before .before .before .before .before .before .before .before .before .before .before .before .before .loop in
-      let h = c .before .before .before .before .before .before .before .before .before .before .before .h .given .0 .0 in
-      let u = met-item (c .before .before .before .before .before .before .before .before .before .before) in
-      let m = c .before .before .before .before .before .before .before .before .before .measure-item in
+      let a = c .before .before .before .before .before .before .before .before .before .before .before .before .before .before .before .before .args in
+      let l = c .before .before .before .before .before .before .before .before .before .before .before .before .before .loop in
+      let h = c .before .before .before .before .before .before .before .before .before .before .h .given .0 .0 in
+      let u = met-item (c .before .before .before .before .before .before .before .before .before) in
+      let m = c .before .before .before .before .before .before .before .before .measure-item in
       let p = c .before .before .before .before .before .before .put-header in
       let q = c .before .before .put-item in
       item-put (a .room) (now (a .s)) (a .from) (a .limit) (a .marked) (now (a .out)) (a .begin) (l .at) (l .pos) (l .out) (l .inv) h u (m .result) (m .ensures)
-      _ (octet-at (now (a .s)) (l .at) (h .octet) (u .read .len) (u .read .here)) (p .result) (q .result) _ _ (p .ensures) (q .ensures)
+      (p .result) (q .result) _ _ (p .ensures) (q .ensures)
 
   enum-told : run-lts.Need-enum-told (run-calls t) (run-at t) put-run.Post Inv μ
   enum-told c = search needs
@@ -207,5 +216,5 @@ pub +put-item+put-run-spec : {M : Type 1} → statement M
     (λ t. item-lts.spec (item-calls t) (item-at t) put-item.Post
     (add-put-value t) (put-value-requires t) (sub-put-run t) (put-run-requires t) (same-length t) (returns t) (same-length-2 t) (returns-2 t))
     (λ t. run-lts.spec (run-calls t) (run-at t) put-run.Post Inv μ
-    (loop-holds t) (meet-requires t) (enum-known-h t) (measure-item-requires t) (shared-slice-read-octet t) (put-header-requires t)
+    (loop-holds t) (meet-requires t) (enum-known-h t) (measure-item-requires t) (put-header-requires t)
     (put-item-requires t) (loop-less t) (loop-again t) (enum-told t) (run-same-length t) (run-returns t))

@@ -1,40 +1,44 @@
 -- `normal::put_header` meets its contract: the type field is written, and then the length octets. Assumes nothing.
-use mathlib.Core.Path.{_∙_}
-use borrow.Author.Needs.{needs}
+use mathlib.Core.Path.{ap, sym, _∙_}
+use mathlib.Core.List.{List}
+use Prim.Native.Nat.{ℕ}
 use native.Mathlib.Omega.{arith}
-use native.Mathlib.Numerals.{add-one}
-use lib.ListN.{length-set}
+use lib.ListN.{length-append}
+use lib.Seq.{sets}
+use borrow.Author.Needs.{needs}
+use Rattle.headers.specs.Head.{typeField}
+use Rattle.normal.specs.Normal.{lengthOctets}
+use Rattle.laws.proofs.Writes.{sets-append}
 use Rattle.normal.proofs.put_header.Statement.{statement}
 use Rattle.normal.proofs.put_header.Tie as tie
 
-slice-write-out : tie.Need-slice-write-out
-slice-write-out c = search needs
-
-add-put-length : tie.Need-add-put-length
-add-put-length c = search needs
+put-field-requires : tie.Need-put-field-requires
+put-field-requires c κs = search needs
 
 cast-put-length : tie.Need-cast-put-length
 cast-put-length c = search needs
 
 put-length-requires : tie.Need-put-length-requires
-put-length-requires c κs = simp length-set (omega arith)
+put-length-requires c κs =
+    let f = c .before .before .before .put-field in
+    omega (arith, f .ensures .to, f .kept .0, c .before .before .before .before .before .before .pre .2)
 
 same-length : tie.Need-same-length
-same-length c = c .before .before .put-length .kept .0 ∙ simp length-set
+same-length c = c .before .before .put-length .kept .0 ∙ c .before .before .before .before .before .before .put-field .kept .0
 
 returns : tie.Need-returns
 returns c =
-    let a = c .before .before .before .before .before .args in
+    let a = c .before .before .before .before .before .before .before .before .before .args in
+    let f = c .before .before .before .before .before .before .put-field .ensures in
     let p = c .before .before .put-length .ensures in
-    record { to = omega (arith, p .to); written = p .written ∙ rw (add-one (a .begin)) }
+    let type = typeField (a .octet) in
+    let len = lengthOctets (a .size) in
+    record {
+      to = omega (arith, p .to, f .to, length-append type len);
+      written = p .written ∙ ap (λ (l : List ℕ). sets l (c .before .before .before .before .before .before .put-field .result) len) (f .written)
+          ∙ ap (λ (k : ℕ). sets (sets (a .out .now) (a .begin) type) k len) (f .to) ∙ sym (sets-append (a .out .now) (a .begin) type len);
+    }
 
 pub put-header-spec : {M : Type 1} → statement M
 put-header-spec =
-    tie.close
-    (tie.spec
-    slice-write-out
-    add-put-length
-    cast-put-length
-    put-length-requires
-    same-length
-    returns)
+    tie.close (tie.spec put-field-requires cast-put-length put-length-requires same-length returns)

@@ -1,7 +1,7 @@
 -- `letters::content::content_of` meets its contract: the element is what is met where its row begins. Assumes nothing.
 use mathlib.Core.Path.{_≡_, ap, sym, _∙_, subst}
-use mathlib.Core.List.{[], _∷_}
 use borrow.Author.Needs.{needs}
+use Rattle.headers.specs.Head.{typeField}
 use Rattle.runs.specs.declared.Run.{Run}
 use Rattle.runs.specs.Runs.{itemsOf, Fine, Meeting}
 use Rattle.elements.specs.declared.Slots.{Slots}
@@ -73,7 +73,7 @@ shape-of-requires c κs = search needs
 
 holder-in-requires : tie.Need-holder-in-requires
 holder-in-requires c κs =
-    (meeting (c .before) .inner-fine, subst WellMade (sym (c .shape-of .ensures)) (made (shapeOf (c .before .before .before .before .before .before .before .before .before .before .args .edition) (c .before .before .octet .given .0 .0 ∷ []))))
+    (meeting (c .before) .inner-fine, subst WellMade (sym (c .shape-of .ensures)) (made (shapeOf (c .before .before .before .before .before .before .before .before .before .before .args .edition) (typeField (c .before .before .octet .given .0 .0)))))
 
 held-by-requires : tie.Need-held-by-requires
 held-by-requires c κs = search needs
@@ -94,7 +94,7 @@ returns-2 c =
     let start = at-told .before .before .before .before .before .before .before .before .before in
     let s = start .args .s .now in
     let inner = at-told .before .octet .given .0 .1 .1 .1 .0 in
-    let type = at-told .before .octet .given .0 .0 ∷ [] in
+    let type = typeField (at-told .before .octet .given .0 .0) in
     let edition = start .args .edition in
     let by-slots = subst (λ (shape : Slots). HoldingSlots s shape inner (c .before .holder-in .result)) (at-shape .shape-of .ensures) (c .before .holder-in .ensures) in
     let holding = holding-shape (meeting at-told .inner-fine) (shapeOf edition type) (slotted edition type) by-slots in

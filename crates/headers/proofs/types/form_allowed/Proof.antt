@@ -1,11 +1,11 @@
 use borrow.Author.Needs.{needs}
 use borrow.Author.Tests.{lt-ltb, le-ltb}
 use Rattle.headers.specs.Head.{formAllowed}
-use Rattle.headers.proofs.form_allowed.Statement.{statement}
-use Rattle.headers.proofs.form_allowed.Tie as tie
-use Rattle.headers.proofs.form_allowed.Reads as reads
-use Rattle.headers.proofs.form_allowed.Lts as lts
-use Rattle.headers.proofs.permitted.Reads as permitted-reads
+use Rattle.headers.proofs.types.form_allowed.Statement.{statement}
+use Rattle.headers.proofs.types.form_allowed.Tie as tie
+use Rattle.headers.proofs.types.form_allowed.Reads as reads
+use Rattle.headers.proofs.types.form_allowed.Lts as lts
+use Rattle.headers.proofs.types.permitted.Reads as permitted-reads
 use Rattle.headers.proofs.wide.Reads as wide-reads
 
 wide-requires : tie.Need-wide-requires

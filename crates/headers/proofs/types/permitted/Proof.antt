@@ -8,10 +8,10 @@ use lib.ListN.{getD}
 use borrow.Author.Needs.{needs}
 use Rattle.headers.specs.Head.{permits}
 use Rattle.headers.proofs.Table.{at, both, both-left, both-right}
-use Rattle.headers.proofs.permitted.Statement.{statement}
-use Rattle.headers.proofs.permitted.Tie as tie
-use Rattle.headers.proofs.permitted.Reads as reads
-use Rattle.headers.proofs.permitted.Lts as lts
+use Rattle.headers.proofs.types.permitted.Statement.{statement}
+use Rattle.headers.proofs.types.permitted.Tie as tie
+use Rattle.headers.proofs.types.permitted.Reads as reads
+use Rattle.headers.proofs.types.permitted.Lts as lts
 
 forms : List ℕ
 forms = 0 ∷ 1 ∷ 1 ∷ 3 ∷ 3 ∷ 1 ∷ 1 ∷ 3 ∷ 2 ∷ 1 ∷ 1 ∷ 3 ∷ 0 ∷ 0 ∷ 0 ∷ 0 ∷ 2 ∷ 2 ∷ 3 ∷ 3 ∷ 3 ∷ 3 ∷ 3 ∷ 3 ∷ 3 ∷ 3 ∷ 3 ∷ 3 ∷ 0 ∷ 0 ∷ 0 ∷ []
