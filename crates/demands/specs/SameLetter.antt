@@ -23,8 +23,8 @@ pub record IsAccepted (s : List ℕ) : Type 0 where
 abbrev pub formWritten : (s out : List ℕ) → List ℕ
 formWritten s out = take (written s out .length) (writtenOutput s out)
 
--- Trees of items, normal forms and what the writer writes. None asks that a normal form is within the limit: where one is over it, 17, there
--- is none to compare, and the first three hold all the same.
+-- Trees of items, normal forms and what the writer writes. The first four ask of no normal form that it is within the limit: where one is
+-- over it, 17, the writer writes none, and they hold all the same.
 pub record SameLetter : Type 0 where
   -- "two have equal trees of items exactly when their normal forms are equal"
   pub same : (s r : List ℕ) → IsAccepted s → IsAccepted r → (treeOf s ≡ treeOf r) ↔ (normalForm s ≡ normalForm r)
