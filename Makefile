@@ -1,7 +1,7 @@
 # Builds and installs the library, the command and their pages. `make` needs rt (for the proved library), gcc and cargo.
 #
 #   make                                      build all under target/install
-#   make install PREFIX=/usr DESTDIR=/tmp/p   header, archive, shared library, odif.pc, command, manual pages, completions
+#   make install PREFIX=/usr DESTDIR=stage    header, archive, shared library, odif.pc, command, manual pages, completions
 #   make uninstall                            take away what install put there
 #
 # The archive is the proved one with odif_sentence beside it; the shared library is made of the same two.
