@@ -1,5 +1,5 @@
--- The six public questions: what each answers, and what it leaves in what it was lent. Document 01, "Numbers given back" and "Table, list,
--- part, normal form"; of the content, W-201. A contract of crate odif says that the result and every lent buffer at exit are these
+-- The public questions but the mailroom's (specs/Short): what each answers, and what it leaves in what it was lent. Document 01, "Numbers given
+-- back" and "Table, list, part, normal form"; of the content, W-201. A contract of crate odif says that the result and every lent buffer at exit are these
 -- definitions of the values at entry. Definitions only: assumes nothing.
 use mathlib.Core.Path.{_≡_}
 use Prim.Native.Nat.{ℕ, _≤_}

@@ -56,7 +56,7 @@ toldTo (Content element) s table out = locatedTold (located s element)
 toldTo (Joined element) s table out = copiedTold (copied s element out)
 toldTo (Reading side room) s table out = listedTold (listed side s table room)
 
--- what is told of a stream that the walk refuses: the check alone is told how many headers were read
+-- what is told of a stream that rules 1 to 15 refuse: the check alone is told how many headers passed
 abbrev pub refusedTold : Question → (number place headers : ℕ) → Told
 refusedTold Rules number place headers = reasonTold (record { number = number; place = place })
 refusedTold Check number place headers = checkTold (refusedCheck number place headers)
