@@ -107,13 +107,13 @@ impl<'a> Around<'a> {
         Some(match why {
             Why::WrongForm => {
                 let form = if octet? & 0x20 == 0 { "primitive" } else { "constructed" };
-                let number = octet? & 0x1F;
+                let number = u16::from(octet? & 0x1F);
                 let name = items::universal(number).map_or(String::new(), |name| format!(" ({name})"));
                 format!("universal {number}{name} stands in {form} form, which it never has")
             }
             Why::NoSuchElement => format!("no element begins with octet {:02X}", octet?),
             Why::LengthOctet => {
-                format!("the first length octet is {:02X}; 85 to FF are none", self.stream.get(self.place + 1)?)
+                format!("the first length octet is {:02X}; 85 to FF are none", self.stream.get(self.length_octet())?)
             }
             Why::ValuePastLimit => self.past_limit()?,
             Why::Unclosed => self.unclosed()?,
@@ -139,17 +139,29 @@ impl<'a> Around<'a> {
         })
     }
 
+    /// Where the first length octet of the item at the place stands: after its type field, of one to three octets.
+    fn length_octet(&self) -> usize {
+        let at = |place: usize| self.stream.get(place).copied().unwrap_or(0);
+        let more = match (at(self.place) & 0x1F, at(self.place + 1) & 0x80) {
+            (0x1F, 0) => 1,
+            (0x1F, _) => 2,
+            _ => 0,
+        };
+        self.place + 1 + more
+    }
+
     fn past_limit(&self) -> Option<String> {
         let (holder, limit) = self.limit();
-        let first = *self.stream.get(self.place + 1)?;
+        let from = self.length_octet();
+        let first = *self.stream.get(from)?;
         let further = if first < 0x80 { 0 } else { usize::from(first & 0x7F) };
-        let octets = self.stream.get(self.place + 2..self.place + 2 + further)?;
+        let octets = self.stream.get(from + 1..from + 1 + further)?;
         let length = if first < 0x80 {
             usize::from(first)
         } else {
             octets.iter().fold(0, |sum, &octet| sum << 8 | usize::from(octet))
         };
-        let left = limit - (self.place + 2 + further);
+        let left = limit - (from + 1 + further);
         let end = match holder {
             Some(at) if limit < self.stream.len() => format!("the item around it, at octet {at},"),
             _ => "the stream".into(),

@@ -103,7 +103,7 @@ pub fn shape(items: &[Item], place: usize) -> String {
 
 /// The type of a universal number, by X.208; those of later editions are named too, since foreign files have them.
 #[rustfmt::skip]
-pub fn universal(number: u8) -> Option<&'static str> {
+pub fn universal(number: u16) -> Option<&'static str> {
     const NAMES: [&str; 31] = [
         "", "BOOLEAN", "INTEGER", "BIT STRING", "OCTET STRING", "NULL", "OBJECT IDENTIFIER", "ObjectDescriptor",
         "EXTERNAL", "REAL", "ENUMERATED", "", "UTF8String", "", "", "", "SEQUENCE", "SET", "NumericString",

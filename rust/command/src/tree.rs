@@ -54,7 +54,7 @@ struct Line {
     offset: usize,
     level: u8,
     class: &'static str,
-    number: u8,
+    number: u16,
     #[serde(rename = "type", skip_serializing_if = "Option::is_none")]
     type_: Option<&'static str>,
     constructed: bool,

@@ -55,7 +55,8 @@ pub fn cut() -> Vec<Case> {
                     let front = &whole[..end];
                     let name = format!("{front:02X?}");
                     cases.push(case(format!("{name} at the end of a profile"), item(0xA0, front)));
-                    cases.push(case(format!("{name}, then an element"), [item(0xA0, front), vec![0xA2, 0x00]].concat()));
+                    cases
+                        .push(case(format!("{name}, then an element"), [item(0xA0, front), vec![0xA2, 0x00]].concat()));
                     cases.push(case(format!("{name} at the end"), [&[0xA0, 0x00][..], front].concat()));
                     cases.push(case(format!("{name} in an indefinite profile"), indefinite(0xA0, front)));
                     cases.push(case(format!("{name} in an open profile"), [&[0xA0, 0x80][..], front].concat()));
