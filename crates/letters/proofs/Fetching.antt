@@ -7,8 +7,7 @@ use Prim.Native.Nat.{ℕ, _<_}
 use native.Mathlib.Omega.{arith}
 use lib.ListN.{getElem?}
 use lib.Seq.{slice, slice-empty}
-use Rattle.runs.specs.declared.Run.{Run}
-use Rattle.runs.specs.Runs.{itemsOf, treeIn, wholeStream, Fine, Meeting}
+use Rattle.runs.specs.Runs.{treeIn, Fine}
 use Rattle.contents.specs.declared.Span.{Span}
 use Rattle.contents.specs.Search.{Value, absent, octets}
 use Rattle.index.specs.Columns.{wholeColumn}
@@ -19,13 +18,13 @@ use Rattle.elements.specs.Judge.{Content, single, inPieces, contentOf, joinedCo
 use Rattle.elements.specs.Rows.{rowOf}
 use Rattle.elements.specs.Says.{Bounds}
 use Rattle.elements.specs.Frames.{HoldsContent, HoldingShape}
+use Rattle.judging.specs.declared.PlacedItem.{PlacedItem}
 use Rattle.judging.specs.Judges.{shapeBy}
 use Rattle.letters.specs.Letter.{rowsOfStream}
 use Rattle.letters.specs.Scratch.{Filled}
-use Rattle.letters.specs.Content.{RowIn, heldBy, HeldWhole, HeldAs, HoldsElement}
+use Rattle.letters.specs.Content.{RowIn, ElementAt, heldBy, HeldWhole, HeldAs, HoldsElement}
 use Rattle.judging.proofs.Lists.{at-below}
 use Rattle.judging.proofs.Rows.{first-at, saying-length}
-use Rattle.letters.proofs.Standing.{restFrom, element-says}
 
 -- a holder as where the content stands, if the fields are its pair
 held-by : (s : List ℕ) (holder : Holder) (fields : Span) → fields ≡ holder .value → Fine s (holder .pieces)
@@ -34,18 +33,15 @@ held-by s holder fields e fine (single value) h =
     rw (h .pieced) (record { fields-are = e; value = value; content-is = refl; bounds = subst (λ (v : Span). Bounds s v value) (sym e) (h .bounds) })
 held-by s holder fields e fine (inPieces run) h = rw (h .pieced) (record { fine = fine; content-is = ap inPieces (sym (h .tree)) })
 
-module _ (edition : Edition) {s : List ℕ} (fine : Fine s (wholeStream s)) (j : ℕ) (row : Row) (stands : getElem? (rowsOfStream edition s) j ≡ some row)
-    {octet first past : ℕ} {inner rest : Run} (m : Meeting s (restFrom edition fine j row stands) octet first past inner rest)
-    {holder : Holder} (holding : HoldingShape s (shapeBy edition octet) inner holder) where
-  -- what is met where a row begins holds the content of its element
-  pub holds-element : HoldsElement edition s j (heldBy holder)
-  unfolding elementOf rowOf
-  holds-element elements other element judged other-stands there =
-      let same : row ≡ other = cc in
-      let says = element-says edition fine j row stands octet first past (itemsOf s inner) (itemsOf s rest) (m .tree) elements judged element there in
-      let fields : other .content ≡ holder .value = ap (λ (r : Row). r .content) (sym same ∙ says .row-is) ∙ sym (holding .pair) in
-      subst (λ (e : Element). HeldAs s (other .content) (e .content) (heldBy holder)) (sym (says .element-is))
-      (held-by s holder (other .content) fields (holding .fine) (contentOf (shapeBy edition octet .contents) (treeIn s inner)) (holding .held))
+-- the item that an element is holds its content
+pub holds-element : {edition : Edition} {s : List ℕ} {j : ℕ} {item : PlacedItem} → ElementAt edition s j item
+    → {holder : Holder} → HoldingShape s (shapeBy edition (item .octet)) (item .inner) holder → HoldsElement edition s j (heldBy holder)
+unfolding elementOf rowOf
+holds-element {edition} {s} {j} {item} at {holder} holding elements row element judged stands there =
+    let said = at .said elements row element judged stands there in
+    let fields : row .content ≡ holder .value = ap (λ (r : Row). r .content) (said .row-is) ∙ sym (holding .pair) in
+    subst (λ (e : Element). HeldAs s (row .content) (e .content) (heldBy holder)) (sym (said .element-is))
+    (held-by s holder (row .content) fields (holding .fine) (contentOf (shapeBy edition (item .octet) .contents) (treeIn s (item .inner))) (holding .held))
 
 -- the rows that the judge of a letter left have each of its elements
 pub filled-row-in : {edition : Edition} {s scratch head next head2 next2 : List ℕ} {count : ℕ} → Filled edition s scratch head next head2 next2 count

@@ -16,14 +16,17 @@ use Rattle.octets.proofs.RulesHold.{derived, derives}
 use Rattle.tree.specs.Tree.{Tree, empty, leaf, branch, plain, treeOf}
 use Rattle.tree.specs.Accepts.{Whole}
 use Rattle.runs.specs.declared.Run.{Run}
-use Rattle.runs.specs.Runs.{walkIn, itemsOf, wholeStream, tops, definiteRun, Fine}
+use Rattle.runs.specs.Runs.{walkIn, itemsOf, wholeStream, tops, definiteRun, Fine, Meeting}
 use Rattle.elements.specs.declared.Row.{Row}
 use Rattle.elements.specs.declared.Edition.{Edition}
 use Rattle.elements.specs.Shape.{shapeOf}
 use Rattle.elements.specs.Judge.{Element, elementOf, refusalOf, Judged, accepted, refused, judgeOne, judgeFrom, judge}
 use Rattle.elements.specs.Rows.{rowOf, rowsOf}
+use Rattle.judging.specs.declared.PlacedItem.{PlacedItem}
 use Rattle.judging.specs.Judges.{shapeBy, elementBy}
 use Rattle.letters.specs.Letter.{itemsOfStream, rowsOfStream}
+use Rattle.letters.specs.Content.{ElementAt}
+use Rattle.runs.proofs.Laws.{start-at}
 use Rattle.judging.proofs.Lists.{below-length, at-front, at-end}
 use Rattle.judging.proofs.Steps.{judged-one, judge-some}
 
@@ -153,12 +156,6 @@ module _ (edition : Edition) (s : List ℕ) (elements : List Element) where
   rest-from (item at octet first past inside after) n w (suc j) l =
       let e : n + 1 + j ≡ n + suc j = omega arith in subst (Rest (from j after)) e (rest-from after (n + 1) (one-less w) j (omega arith))
 
--- a row and an element of an accepted letter are those of an item
-pub record Says (edition : Edition) (s : List ℕ) (row : Row) (element : Element) (octet : ℕ) (inside : Items) : Type 0 where
-  pub past : ℕ
-  pub row-is : row ≡ rowOf (shapeBy edition octet) s (row .whole .first) past inside
-  pub element-is : element ≡ elementBy edition octet (plain s inside)
-
 module _ (edition : Edition) {s : List ℕ} (fine : Fine s (wholeStream s)) (j : ℕ) (row : Row) (stands : getElem? (rowsOfStream edition s) j ≡ some row) where
   below : j < tops (itemsOfStream s)
   below = omega (arith, below-length (rowsOfStream edition s) j row stands, rows-length edition s (itemsOfStream s))
@@ -209,11 +206,27 @@ module _ (edition : Edition) {s : List ℕ} (fine : Fine s (wholeStream s)) (j :
         subst (λ (i : Items). Rest edition s elements i j) item-is
         (subst (Rest edition s elements (from j (itemsOfStream s))) e (rest-from edition s elements (itemsOfStream s) 0 none-done j below))
 
-    pub element-says : Says edition s row element octet inside
-    element-says =
-        let w = last in
-        let same-row = rows-from edition s (itemsOfStream s) j (row .whole .first) octet first past inside after item-is in
-        let row-is : row ≡ rowOf (shapeBy edition octet) s (row .whole .first) (startOf (length s) after) inside = cc in
-        let own = own-stands edition s elements w in
-        let element-is : element ≡ elementBy edition octet (plain s inside) = cc in
-        record { past = startOf (length s) after; row-is = row-is; element-is = element-is }
+    own-row : row ≡ rowOf (shapeBy edition octet) s (row .whole .first) (startOf (length s) after) inside
+    own-row = let same-row = rows-from edition s (itemsOfStream s) j (row .whole .first) octet first past inside after item-is in cc
+
+    own-element : element ≡ elementBy edition octet (plain s inside)
+    own-element = let own = own-stands edition s elements last in cc
+
+  pub element-at : (placed : PlacedItem) {first past : ℕ} {rest : Run} → Meeting s restFrom (placed .octet) first past (placed .inner) rest
+      → placed .first ≡ row .whole .first → placed .past ≡ rest .at → ElementAt edition s j placed
+  element-at placed {first} {past} {rest} m starts ends = record {
+    fine = m .inner-fine;
+    said = λ elements other element judged other-stands there.
+        let same : row ≡ other = cc in
+        let inside = itemsOf s (placed .inner) in
+        let after = itemsOf s rest in
+        let shape = shapeBy edition (placed .octet) in
+        let ends-there : startOf (length s) after ≡ placed .past =
+        ap (λ (end : ℕ). startOf end after) (sym (m .rest-limit)) ∙ start-at (m .rest-fine) (m .rest-marked) ∙ sym ends in
+        record {
+          row-is = sym same ∙ own-row (placed .octet) first past inside after (m .tree) elements judged element there
+              ∙ ap (λ (at : ℕ). rowOf shape s at (startOf (length s) after) inside) (sym starts)
+              ∙ ap (λ (end : ℕ). rowOf shape s (placed .first) end inside) ends-there;
+          element-is = own-element (placed .octet) first past inside after (m .tree) elements judged element there;
+        };
+  }

@@ -1,5 +1,5 @@
--- Where the content of one element of a letter stands, W-201: "The content is the pieces joined in order .. a 04 being one piece". Either
--- is a part of the stream: the value of one item, or the run of the pieces. Definitions only: assumes nothing.
+-- An element of a letter again by its row, as an item, and where its content stands, W-201: "The content is the pieces joined in order .. a 04
+-- being one piece". Either is a part of the stream: the value of one item, or the run of the pieces. Definitions only: assumes nothing.
 use mathlib.Core.Path.{_≡_}
 use mathlib.Core.Bool.{cond}
 use mathlib.Core.List.{List}
@@ -8,7 +8,7 @@ use Prim.Native.Nat.{ℕ, _+_, _*_, _≤_}
 use lib.ListN.{length, getElem?}
 use Rattle.tree.specs.Tree.{treeOf}
 use Rattle.runs.specs.declared.Run.{Run}
-use Rattle.runs.specs.Runs.{treeIn, Fine}
+use Rattle.runs.specs.Runs.{itemsOf, treeIn, Fine}
 use Rattle.contents.specs.declared.Span.{Span}
 use Rattle.contents.specs.Search.{Value}
 use Rattle.index.specs.Rows.{rowWidth}
@@ -17,7 +17,10 @@ use Rattle.elements.specs.declared.Edition.{Edition}
 use Rattle.elements.specs.declared.Holder.{Holder}
 use Rattle.elements.specs.declared.Row.{Row}
 use Rattle.elements.specs.Judge.{Content, single, inPieces, Element, accepted, judge}
+use Rattle.elements.specs.Rows.{rowOf}
 use Rattle.elements.specs.Says.{Bounds}
+use Rattle.judging.specs.declared.PlacedItem.{PlacedItem}
+use Rattle.judging.specs.Judges.{shapeBy, elementBy}
 use Rattle.letters.specs.declared.Held.{Held}
 use Rattle.letters.specs.declared.Held.the-variants.{Part, Pieces}
 use Rattle.letters.specs.Letter.{rowsOfStream}
@@ -28,6 +31,17 @@ pub record RowIn (edition : Edition) (s rows : List ℕ) (j : ℕ) : Type 0 wher
   pub row : Row
   pub stands : getElem? (rowsOfStream edition s) j ≡ some row
   pub first : firstAt rows wholeColumn j ≡ row .whole .first
+
+-- a row and an element of a letter are those of an item
+pub record SaidBy (edition : Edition) (s : List ℕ) (item : PlacedItem) (row : Row) (element : Element) : Type 0 where
+  pub row-is : row ≡ rowOf (shapeBy edition (item .octet)) s (item .first) (item .past) (itemsOf s (item .inner))
+  pub element-is : element ≡ elementBy edition (item .octet) (treeIn s (item .inner))
+
+-- the element in row j, as an item: what is inside it can be met, and if the stream is a letter, row and element j are those of the item
+pub record ElementAt (edition : Edition) (s : List ℕ) (j : ℕ) (item : PlacedItem) : Type 0 where
+  pub fine : Fine s (item .inner)
+  pub said : (elements : List Element) (row : Row) (element : Element) → judge edition (treeOf s) ≡ accepted elements
+      → getElem? (rowsOfStream edition s) j ≡ some row → getElem? elements j ≡ some element → SaidBy edition s item row element
 
 -- a holder as either
 abbrev pub heldBy : Holder → Held

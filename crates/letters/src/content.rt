@@ -1,12 +1,13 @@
-// Where the content of one element stands, in a stream that was judged.
+// An element of a stream that was judged, again by its row: as an item, and where its content stands.
 use super::Held;
 use elements::Edition;
 use elements::Holder;
+use judging::PlacedItem;
 use runs::Met;
 use runs::Run;
 ghost use mathlib.Core.Path.{_≡_};
 ghost use Rattle.runs.specs.Runs.{wholeStream, Fine};
-ghost use Rattle.letters.specs.Content.{RowIn, heldBy, HoldsElement};
+ghost use Rattle.letters.specs.Content.{RowIn, ElementAt, heldBy, HoldsElement};
 
 fn wide(x: u32) -> usize
     ensures { λ r. ⌜ r ≡ x ⌝ }
@@ -28,11 +29,11 @@ fn held_by(holder: Holder) -> Held
     }
 }
 
-// Where the content of element j stands. The rows are those of the stream: the element is met where its row begins, and its shape tells
-// which of its items holds the content.
-pub fn content_of(edition: Edition, s: &[u8], rows: &[u32], j: usize) -> Held
+// The element in row j, as an item: it is met where its row begins. The rows are those of the stream. Whoever wants more of an element than its row
+// tells asks this first.
+pub fn element_at(edition: Edition, s: &[u8], rows: &[u32], j: usize) -> PlacedItem
     requires { ⌜ Fine (now s) (wholeStream (now s)) × RowIn edition (now s) (now rows) j ⌝ }
-    ensures { λ held. ⌜ HoldsElement edition (now (s .entry)) j held ⌝ }
+    ensures { λ item. ⌜ ElementAt edition (now (s .entry)) j item ⌝ }
 {
     let at = wide(rows[j * index::ROW_WIDTH + index::WHOLE]);
     let whole = runs::whole_stream(s);
@@ -43,13 +44,33 @@ pub fn content_of(edition: Edition, s: &[u8], rows: &[u32], j: usize) -> Held
         room: whole.room,
     };
     match runs::meet(s, from) {
-        Met::End => Held::Part { first: 0, past: 0 },
+        Met::End => PlacedItem {
+            octet: 0,
+            first: at,
+            past: at,
+            inner: from,
+        },
         Met::Item {
             octet,
             first: _,
             past: _,
             inner,
-            rest: _,
-        } => { held_by(elements::holder_in(s, elements::shape_of(edition, octet), inner)) }
+            rest,
+        } => PlacedItem {
+            octet,
+            first: at,
+            past: rest.at,
+            inner,
+        },
     }
+}
+
+// Where the content of element j stands: its shape tells which of its items holds the content.
+pub fn content_of(edition: Edition, s: &[u8], rows: &[u32], j: usize) -> Held
+    requires { ⌜ Fine (now s) (wholeStream (now s)) × RowIn edition (now s) (now rows) j ⌝ }
+    ensures { λ held. ⌜ HoldsElement edition (now (s .entry)) j held ⌝ }
+{
+    let item = element_at(edition, s, rows, j);
+    let inner = item.inner;
+    held_by(elements::holder_in(s, elements::shape_of(edition, item.octet), inner))
 }

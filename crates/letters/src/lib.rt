@@ -15,10 +15,11 @@ ghost use Rattle.index.specs.Rows.{rowWidth};
 ghost use Rattle.letters.specs.Scratch.{GivesVerdict};
 ghost use Rattle.letters.specs.Lent.{Lent, endVerdict};
 
-mod content; // content.rt: where the content of one element stands
+mod content; // content.rt: one element again, and where its content stands
 mod writing; // writing.rt: rows, to the scratch and to a table
 
 pub use content::content_of;
+pub use content::element_at;
 
 // What the judge of a stream gives: accepted with so many elements, or refused by a number at a place.
 pub enum Verdict {
