@@ -1,4 +1,4 @@
-// A run of items as a value: what is met at its start. Every pass after the walk goes through `meet`.
+// A run of items as a value: what is met at its start. Every pass after the walk goes through `meet`, but the normal form's writer.
 use headers::Head;
 use headers::Header;
 use octets::DEEPEST;
