@@ -142,7 +142,7 @@ impl Rule {
             }
             Rule::TooDeep => "an item stands at level 17; level 16 is the deepest",
             Rule::NumberInFurtherOctets => "the number of an item is over 16,383, or not in the fewest octets",
-            Rule::WrongForm => "a universal number stands in a form that it never has",
+            Rule::WrongForm => "a universal number stands in a form that it never has, or is above 30",
             Rule::LengthOctet => "the first length octet is 85 to FF, or 80 on a primitive item",
             Rule::PastLimit => {
                 "a header, a value or a closing mark passes its limit, or an indefinite item reaches it unclosed"
