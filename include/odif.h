@@ -177,7 +177,8 @@ odif_listed odif_logical(const uint8_t *ODIF_APART stream, size_t stream_len,
 
 /* Writes the normal form of a stream of at most 65,535 octets, for machines with little memory: 1 is given where the
    stream is longer, and never 17. There the normal form is never longer than the stream. */
-odif_written odif_normal_short(const uint8_t *stream, size_t stream_len, uint8_t *out, size_t out_len);
+odif_written odif_normal_short(const uint8_t *ODIF_APART stream, size_t stream_len,
+                               uint8_t *ODIF_APART out, size_t out_len);
 
 /* Finds the content of the text unit in row `element`, which may be any number. Content in pieces is refused by 21. */
 odif_found odif_content(const uint8_t *stream, size_t stream_len, uint32_t element);

@@ -5,13 +5,12 @@ use mathlib.Core.Logic.{_⊎_, _↔_}
 use mathlib.Core.Bool.{true}
 use mathlib.Core.List.{List, [], _∷_}
 use mathlib.Core.Option.{some}
-use Prim.Native.Nat.{ℕ, suc, _+_, _-_, _/_, _<_, _≤_}
+use Prim.Native.Nat.{ℕ, suc, _+_, _-_, _<_, _≤_}
 use lib.ListN.{length, getElem?}
 use Rattle.headers.specs.Head.{isIn}
 use Rattle.octets.specs.Walk.{count, streamLimit, deepest}
 use Rattle.tree.specs.Tree.{Tree, empty, leaf, branch, treeOf, Codes}
 use Rattle.normal.specs.Normal.{normalForm}
-use Rattle.index.specs.Rows.{rowWidth}
 use Rattle.contents.specs.declared.Span.{Span}
 use Rattle.contents.specs.Search.{Value, absent, octets}
 use Rattle.elements.specs.Rows.{noSpan, bytesIn}
@@ -22,6 +21,7 @@ use Rattle.letters.specs.Letter.{letter, refusal, itemsOfStream, EndToEnd, Pair
 use Rattle.reading.specs.declared.Match.{Match}
 use Rattle.reading.specs.declared.Side.{Side}
 use Rattle.reading.specs.Match.{unitKind, matches, IsMatch, Before, units, portionsOn}
+use Rattle.answers.specs.Table.{rowsLent}
 use Rattle.answers.specs.Answers.{letterIn, rowsIn, onto, tableOf, refusedCheck, checked, checkedTable, written, writtenOutput, listed, listedTable, matchesIn}
 use Rattle.answers.specs.Answers.{listedList, handed, withheld, fetched, joinedIn, copied, copiedOutput}
 use Rattle.demands.specs.Refusals.{TopItem, topItems, contentsIn, RefusedWith}
@@ -128,9 +128,9 @@ pub record PiecesAt (elements : List Element) (j : ℕ) : Type 0 where
 -- Demand 2, of a letter with these headers and elements.
 pub record OfLetter (s : List ℕ) (headers : ℕ) (elements : List Element) : Type 0 where
   -- the check accepts it, if the table has rows enough
-  pub checks : (table : List ℕ) → length elements ≤ length table / rowWidth
+  pub checks : (table : List ℕ) → length elements ≤ rowsLent table
       → (checked s table ≡ record { number = 0; place = 0; headers = headers; elements = length elements }) × (checkedTable s table ≡ tableOf s table)
-  pub checks-16 : (table : List ℕ) → (checked s table .number ≡ 16) ↔ (length table / rowWidth < length elements)
+  pub checks-16 : (table : List ℕ) → (checked s table .number ≡ 16) ↔ (rowsLent table < length elements)
   -- "Elements meet end to end from 0 to the stream's length."; every pair lies in its element; a row for each element, which tells what it says
   pub end-to-end : EndToEnd 0 (length s) (rowsIn s)
   pub pairs-within : (j : ℕ) (row : Row) → getElem? (rowsIn s) j ≡ some row → PairsWithin row
@@ -189,12 +189,12 @@ pub record ListOf (side : Side) (s : List ℕ) (elements : List Element) : Type 
   pub once : (i j : ℕ) (m : Match) → getElem? (matchesIn side s) i ≡ some m → getElem? (matchesIn side s) j ≡ some m → i ≡ j
   pub ordered : (i j : ℕ) (m n : Match) → i < j → getElem? (matchesIn side s) i ≡ some m → getElem? (matchesIn side s) j ≡ some n → Before m n
   -- it is given, with the table, and refused by 16 and 19 alone
-  pub lists : (table : List ℕ) (list : List Match) → length elements ≤ length table / rowWidth → length (matchesIn side s) ≤ length list
+  pub lists : (table : List ℕ) (list : List Match) → length elements ≤ rowsLent table → length (matchesIn side s) ≤ length list
       → (listed side s table (length list) ≡ record { number = 0; place = 0; elements = length elements; matches = length (matchesIn side s) })
       × (listedTable side s table (length list) ≡ tableOf s table) × (listedList side s table list ≡ onto (matchesIn side s) list)
-  pub lists-16 : (table : List ℕ) (room : ℕ) → (listed side s table room .number ≡ 16) ↔ (length table / rowWidth < length elements)
+  pub lists-16 : (table : List ℕ) (room : ℕ) → (listed side s table room .number ≡ 16) ↔ (rowsLent table < length elements)
   pub lists-19 : (table : List ℕ) (room : ℕ)
-      → (listed side s table room .number ≡ 19) ↔ ((length elements ≤ length table / rowWidth) × (room < length (matchesIn side s)))
+      → (listed side s table room .number ≡ 19) ↔ ((length elements ≤ rowsLent table) × (room < length (matchesIn side s)))
   pub lists-else : (table : List ℕ) (room : ℕ) → (listed side s table room .number ≡ 16 → ⊥) → (listed side s table room .number ≡ 19 → ⊥)
       → listed side s table room .number ≡ 0
   -- "the matches on a side never exceed the text units, nor the portions listed on that side, so a list of as many records as there are

@@ -4,14 +4,13 @@ use super::Answer;
 use super::measure_run;
 use super::put_run;
 use super::put_value;
+use octets::DEEPEST;
 ghost use mathlib.Core.Bool.{false};
 ghost use Prim.Native.Nat.{_≤_};
 ghost use lib.ListN.{length};
 ghost use Rattle.octets.specs.Walk.{deepest, run};
 ghost use Rattle.tree.specs.Accepts.{Whole};
 ghost use Rattle.normal.specs.Short.{shortLimit, ShortWrites};
-
-const DEEPEST: usize = 16;
 
 // Writes the normal form of a short stream whose walk ended: refusal 18 alone.
 pub fn write_short(s: &[u8], out: &mut [u8]) -> Answer
