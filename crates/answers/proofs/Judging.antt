@@ -19,14 +19,16 @@ use Rattle.elements.specs.Rows.{cells, rowsOf, numbers}
 use Rattle.letters.specs.Letter.{itemsOfStream, letter, refusal}
 use Rattle.letters.specs.Lent.{rowsNeeded}
 use Rattle.judging.specs.Done.{Saying}
-use Rattle.letters.specs.Scratch.{Filled, Stopped}
+use Rattle.letters.specs.declared.Verdict.{Verdict}
+use Rattle.letters.specs.declared.Verdict.the-variants.{Accepted, Refused as Rejected}
+use Rattle.letters.specs.Scratch.{GivesVerdict, Filled, Stopped}
 use Rattle.letters.specs.Apart.{Apart}
 use Rattle.letters.specs.Content.{RowIn}
 use Rattle.judging.proofs.Rows.{saying-length, cell-at}
 use Rattle.letters.proofs.Apart.{accepted-apart}
 use Rattle.letters.proofs.Fetching.{filled-row-in}
-use Rattle.answers.specs.Answers.{letterIn, rowsIn}
-use Rattle.answers.specs.Asking.{JudgedIn}
+use Rattle.answers.specs.Answers.{letterIn, rowsIn, ruled}
+use Rattle.answers.specs.Asking.{verdictAs, JudgedIn}
 use Rattle.answers.proofs.Letters.{refused-element, accepted-letter}
 use Rattle.answers.proofs.Small.{Small, refusal-small}
 
@@ -89,6 +91,13 @@ accepted-judged {s} {rows} {count} {at} {headers} walked k =
 -- what was judged, whatever the indexes hold
 pub judged-in : {s rows head next head2 next2 : List ℕ} {count : ℕ} → Filled Of1988 s rows head next head2 next2 count → JudgedIn s rows count
 judged-in {head = head} {next = next} {head2 = head2} {next2 = next2} filled = record { head = head; next = next; head2 = head2; next2 = next2; filled = filled }
+
+-- the verdict of the judge is what the rules say
+pub verdict-ruled : (s rows head next head2 next2 : List ℕ) {at headers : ℕ} → walkOf s ≡ Ended at headers
+    → (verdict : Verdict) → GivesVerdict Of1988 s rows head next head2 next2 verdict → verdictAs verdict ≡ ruled s
+unfolding ruled
+verdict-ruled s rows head next head2 next2 walked (Accepted count) gives = rw (accepted-judged walked (judged-in gives) .judged)
+verdict-ruled s rows head next head2 next2 walked (Rejected number place) gives = rw (refused-stopped walked gives .judged)
 
 -- a walk that ended accepts the stream with its own tree
 pub accepts-walked : {s : List ℕ} {at headers : ℕ} → walkOf s ≡ Ended at headers → Accepts s (treeOf s)

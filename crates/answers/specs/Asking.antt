@@ -14,6 +14,10 @@ use Rattle.runs.specs.declared.Run.{Run}
 use Rattle.runs.specs.Runs.{treeIn, Fine}
 use Rattle.index.specs.Columns.{kindAt}
 use Rattle.pieces.specs.Pieces.{joined}
+use Rattle.normal.specs.declared.Answer.{Answer}
+use Rattle.normal.specs.declared.Answer.the-variants.{Written as Wrote, Refused as Unwritten}
+use Rattle.letters.specs.declared.Verdict.{Verdict}
+use Rattle.letters.specs.declared.Verdict.the-variants.{Accepted, Refused as Rejected}
 use Rattle.letters.specs.declared.Held.the-variants.{Part, Pieces as PiecesIn}
 use Rattle.letters.specs.Lent.{rowsNeeded}
 use Rattle.elements.specs.declared.Edition.the-variants.{Of1988}
@@ -22,6 +26,8 @@ use Rattle.letters.specs.Content.{HoldsElement}
 use Rattle.reading.specs.declared.Side.{Side}
 use Rattle.reading.specs.Match.{unitKind}
 use Rattle.reading.specs.Records.{records}
+use Rattle.answers.specs.declared.Reason.{Reason}
+use Rattle.answers.specs.declared.Written.{Written}
 use Rattle.answers.specs.declared.Copied.{Copied}
 use Rattle.answers.specs.declared.Listed.{Listed}
 use Rattle.answers.specs.declared.Found.{Found}
@@ -42,6 +48,16 @@ pub data ContentAt (s rows : List ℕ) (j : ℕ) : ContentFound → Type 0 where
   otherKind : (kindAt rows j ≡ unitKind → ⊥) → ContentAt s rows j NoUnit
   heldWhole : {first past : ℕ} → kindAt rows j ≡ unitKind → HoldsElement Of1988 s j (Part first past) → ContentAt s rows j (Content first past)
   heldInPieces : {run : Run} → kindAt rows j ≡ unitKind → HoldsElement Of1988 s j (PiecesIn run) → ContentAt s rows j (Pieces run)
+
+-- the number, place and length that document 01 gives each case of the writer's answer
+abbrev pub writtenAs : Answer → Written
+writtenAs (Wrote length) = record { number = 0; place = 0; length = length }
+writtenAs (Unwritten number place) = record { number = number; place = place; length = 0 }
+
+-- the number and place of each verdict of the judge
+abbrev pub verdictAs : Verdict → Reason
+verdictAs (Accepted count) = record { number = 0; place = 0 }
+verdictAs (Rejected number place) = record { number = number; place = place }
 
 -- the bounds of a refused fetch
 abbrev pub nowhere : (number place : ℕ) → Found

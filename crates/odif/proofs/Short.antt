@@ -28,7 +28,8 @@ use Rattle.answers.specs.Short.{writtenShort, writtenShortOutput, ShortOutcome}
 use Rattle.answers.proofs.Small.{refusal-small}
 use Rattle.answers.proofs.Letters.{letter-found}
 use Rattle.answers.proofs.Judging.{accepts-walked}
-use Rattle.odif.proofs.Writing.{toldAs, Fits}
+use Rattle.answers.specs.Asking.{writtenAs}
+use Rattle.odif.proofs.Writing.{Fits}
 
 module _ (s : List ℕ) where
   -- what the rules say of a stream, as their work tells it
@@ -93,7 +94,7 @@ module _ (s : List ℕ) where
       abbrev expected : Answer
       expected = answerShort (normalForm s) out
 
-      pub short-letter : Passed → ShortOutcome s out (toldAs expected) (outputOf expected (normalForm s) out) × Fits (toldAs expected)
+      pub short-letter : Passed → ShortOutcome s out (writtenAs expected) (outputOf expected (normalForm s) out) × Fits (writtenAs expected)
       unfolding writtenShort writtenShortOutput answerShort
       short-letter p =
           let form = normalForm s in

@@ -10,7 +10,6 @@ use borrow.Author.Tests.{ne-eqb, leb-true, leb-false, lt-ltb, le-ltb}
 use borrow.Table.Steps.{cases}
 use Rattle.octets.specs.Walk.{streamLimit}
 use Rattle.normal.specs.declared.Answer.{Answer}
-use Rattle.normal.specs.declared.Answer.the-variants.{Written as Wrote, Refused as Not}
 use Rattle.normal.specs.Normal.{normalForm}
 use Rattle.normal.specs.Writes.{answerOf, outputOf}
 use Rattle.elements.specs.declared.Edition.the-variants.{Of1988}
@@ -19,14 +18,10 @@ use Rattle.letters.specs.Letter.{letter, refusal}
 use Rattle.answers.specs.declared.Written.{Written}
 use Rattle.answers.specs.declared.Told.{Told}
 use Rattle.answers.specs.Answers.{letterIn, ruled, written, writtenOutput, NormalOutcome}
+use Rattle.answers.specs.Asking.{writtenAs}
 use Rattle.answers.specs.Questions.{reasonTold}
 use Rattle.answers.proofs.Small.{refusal-small}
 use Rattle.answers.proofs.Working.{is-refused}
-
--- the number, place and length of each answer
-abbrev pub toldAs : Answer → Written
-toldAs (Wrote n) = record { number = 0; place = 0; length = n }
-toldAs (Not number place) = record { number = number; place = place; length = 0 }
 
 -- what is answered fits 32 bits
 pub record Fits (answer : Written) : Type 0 where
@@ -55,7 +50,7 @@ module _ (s out : List ℕ) where
   expected = answerOf (normalForm s) out
 
   pub writes-letter : (headers : ℕ) (elements : List Element) → letterIn s ≡ letter headers elements
-      → NormalOutcome s out (toldAs expected) (outputOf expected (normalForm s) out) × Fits (toldAs expected)
+      → NormalOutcome s out (writtenAs expected) (outputOf expected (normalForm s) out) × Fits (writtenAs expected)
   unfolding written writtenOutput answerOf
   writes-letter headers elements e =
       let form = normalForm s in

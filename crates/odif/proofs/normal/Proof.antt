@@ -8,7 +8,8 @@ use Rattle.normal.specs.declared.Answer.{Answer}
 use Rattle.elements.specs.declared.Edition.the-variants.{Of1988}
 use Rattle.answers.proofs.Letters.{letter-found}
 use Rattle.answers.proofs.Working.{letter-told}
-use Rattle.odif.proofs.Writing.{toldAs, Fits, writes-told, writes-letter}
+use Rattle.answers.specs.Asking.{writtenAs}
+use Rattle.odif.proofs.Writing.{Fits, writes-told, writes-letter}
 use Rattle.odif.proofs.normal.Statement.{statement}
 use Rattle.odif.proofs.normal.Tie as tie
 
@@ -45,7 +46,7 @@ cast-t22 c =
     let d = letter-told (c .before .before .before .before .before .before .before .before .before .before .before .before .ask .ensures .answered) (c .before .before .before .before .before .before .before .if1 .left) in
     let w = writes-letter (now (a .stream)) (now (a .out)) (d .headers) (d .elements) (d .judged) in
     let told = sym (c .before .length .given .1) ∙ c .before .before .before .before .before .write .ensures .answered in
-    let fits = subst (λ (x : Answer). Fits (toldAs x)) (sym told) (w .1) in
+    let fits = subst (λ (x : Answer). Fits (writtenAs x)) (sym told) (w .1) in
     omega arith
 
 enum-known-number : tie.Need-enum-known-number
@@ -57,7 +58,7 @@ cast-t23 c =
     let d = letter-told (c .before .before .before .before .before .before .before .before .before .before .before .before .ask .ensures .answered) (c .before .before .before .before .before .before .before .if1 .left) in
     let w = writes-letter (now (a .stream)) (now (a .out)) (d .headers) (d .elements) (d .judged) in
     let told = sym (c .before .number .given .1) ∙ c .before .before .before .before .before .write .ensures .answered in
-    let fits = subst (λ (x : Answer). Fits (toldAs x)) (sym told) (w .1) in
+    let fits = subst (λ (x : Answer). Fits (writtenAs x)) (sym told) (w .1) in
     omega arith
 
 cast-t24 : tie.Need-cast-t24
@@ -66,7 +67,7 @@ cast-t24 c =
     let d = letter-told (c .before .before .before .before .before .before .before .before .before .before .before .before .ask .ensures .answered) (c .before .before .before .before .before .before .before .if1 .left) in
     let w = writes-letter (now (a .stream)) (now (a .out)) (d .headers) (d .elements) (d .judged) in
     let told = sym (c .before .number .given .1) ∙ c .before .before .before .before .before .write .ensures .answered in
-    let fits = subst (λ (x : Answer). Fits (toldAs x)) (sym told) (w .1) in
+    let fits = subst (λ (x : Answer). Fits (writtenAs x)) (sym told) (w .1) in
     omega arith
 
 same-length : tie.Need-same-length
@@ -79,7 +80,7 @@ returns-2 c =
     let g = c .before .before .before .before .before .write .ensures in
     let w = writes-letter (now (a .stream)) (now (a .out)) (d .headers) (d .elements) (d .judged) in
     let told = sym (c .before .length .given .1) ∙ g .answered in
-    record { answered = ap toldAs told ∙ w .0 .answered; put = g .output ∙ w .0 .put }
+    record { answered = ap writtenAs told ∙ w .0 .answered; put = g .output ∙ w .0 .put }
 
 same-length-2 : tie.Need-same-length-2
 same-length-2 c = search needs
@@ -91,7 +92,7 @@ returns-3 c =
     let g = c .before .before .before .before .before .write .ensures in
     let w = writes-letter (now (a .stream)) (now (a .out)) (d .headers) (d .elements) (d .judged) in
     let told = sym (c .before .number .given .1) ∙ g .answered in
-    record { answered = ap toldAs told ∙ w .0 .answered; put = g .output ∙ w .0 .put }
+    record { answered = ap writtenAs told ∙ w .0 .answered; put = g .output ∙ w .0 .put }
 
 pub normal-spec : {M : Type 1} → statement M
 normal-spec =

@@ -5,7 +5,8 @@ use borrow.Author.Needs.{needs}
 use native.Mathlib.Omega.{arith}
 use denote.Ref.{now}
 use Rattle.normal.specs.declared.Answer.{Answer}
-use Rattle.odif.proofs.Writing.{toldAs, Fits}
+use Rattle.answers.specs.Asking.{writtenAs}
+use Rattle.odif.proofs.Writing.{Fits}
 use Rattle.odif.proofs.Short.{Passed, refused, passed, passed-whole, short-over, short-refused, short-letter}
 use Rattle.odif.proofs.normal_short.Statement.{statement}
 use Rattle.odif.proofs.normal_short.Tie as tie
@@ -46,7 +47,7 @@ cast-t13 c =
     let g = c .before .before .before .before .before .write-short .ensures in
     let w = short-letter (now (a .stream)) (now (a .out)) l p in
     let told = sym (c .before .length .given .1) ∙ g .answered in
-    let fits = subst (λ (x : Answer). Fits (toldAs x)) (sym told) (w .1) in
+    let fits = subst (λ (x : Answer). Fits (writtenAs x)) (sym told) (w .1) in
     omega arith
 
 enum-known-number : tie.Need-enum-known-number
@@ -60,7 +61,7 @@ cast-t14 c =
     let g = c .before .before .before .before .before .write-short .ensures in
     let w = short-letter (now (a .stream)) (now (a .out)) l p in
     let told = sym (c .before .number .given .1) ∙ g .answered in
-    let fits = subst (λ (x : Answer). Fits (toldAs x)) (sym told) (w .1) in
+    let fits = subst (λ (x : Answer). Fits (writtenAs x)) (sym told) (w .1) in
     omega arith
 
 cast-t15 : tie.Need-cast-t15
@@ -71,7 +72,7 @@ cast-t15 c =
     let g = c .before .before .before .before .before .write-short .ensures in
     let w = short-letter (now (a .stream)) (now (a .out)) l p in
     let told = sym (c .before .number .given .1) ∙ g .answered in
-    let fits = subst (λ (x : Answer). Fits (toldAs x)) (sym told) (w .1) in
+    let fits = subst (λ (x : Answer). Fits (writtenAs x)) (sym told) (w .1) in
     omega arith
 
 same-length : tie.Need-same-length
@@ -85,7 +86,7 @@ returns-3 c =
     let g = c .before .before .before .before .before .write-short .ensures in
     let w = short-letter (now (a .stream)) (now (a .out)) l p in
     let told = sym (c .before .length .given .1) ∙ g .answered in
-    record { answered = ap toldAs told ∙ w .0 .answered; put = g .output ∙ w .0 .put }
+    record { answered = ap writtenAs told ∙ w .0 .answered; put = g .output ∙ w .0 .put }
 
 same-length-2 : tie.Need-same-length-2
 same-length-2 c = search needs
@@ -98,7 +99,7 @@ returns-4 c =
     let g = c .before .before .before .before .before .write-short .ensures in
     let w = short-letter (now (a .stream)) (now (a .out)) l p in
     let told = sym (c .before .number .given .1) ∙ g .answered in
-    record { answered = ap toldAs told ∙ w .0 .answered; put = g .output ∙ w .0 .put }
+    record { answered = ap writtenAs told ∙ w .0 .answered; put = g .output ∙ w .0 .put }
 
 pub normal-short-spec : {M : Type 1} → statement M
 normal-short-spec =
