@@ -84,7 +84,7 @@ pub fn places() -> Vec<Case> {
             let portions = item(0xA1, &[free.clone(), item(0x12, b"1")].concat());
             let streams = [
                 item(0xA0, &free.repeat(3)),
-                letter(&[free.clone()]),
+                letter(std::slice::from_ref(&free)),
                 letter(&[object(0xA2, &named(0x41))]),
                 letter(&[object(0xA2, &[named(0x41), portions].concat())]),
                 letter(&[unit(&[named(0x40), named(0x84)].concat(), b"text")]),
