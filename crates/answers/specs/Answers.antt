@@ -125,7 +125,8 @@ unfoldable pub listedList : Edition → Side → (s table : List ℕ) → (list 
 listedList edition side s table list = cond (eqb (listed edition side s table (length list) .number) 0) (onto (matchesIn edition side s) list) list
 
 -- the contract of the list: its answer, and the table and the list at exit
-pub record ListOutcome (edition : Edition) (side : Side) (s table : List ℕ) (list : List Match) (answer : Listed) (tableAfter : List ℕ) (listAfter : List Match) : Type 0 where
+pub record ListOutcome (edition : Edition) (side : Side) (s table : List ℕ) (list : List Match) (answer : Listed) (tableAfter : List ℕ)
+    (listAfter : List Match) : Type 0 where
   pub answered : answer ≡ listed edition side s table (length list)
   pub tabled : tableAfter ≡ listedTable edition side s table (length list)
   pub filled : listAfter ≡ listedList edition side s table list
@@ -173,7 +174,9 @@ abbrev pub locatedAt : Fetched → Span → Found
 locatedAt told pair = record { number = told .number; place = told .place; first = pair .first; past = pair .past }
 
 unfoldable pub located : Edition → (s : List ℕ) → (asked : ℕ) → Found
-located edition s asked = locatedAt (fetched edition s asked) (cond (eqb (fetched edition s asked .number) 0) (contentIn (getElem? (rowsIn edition s) asked)) noSpan)
+located edition s asked =
+    locatedAt (fetched edition s asked)
+    (cond (eqb (fetched edition s asked .number) 0) (contentIn (getElem? (rowsIn edition s) asked)) noSpan)
 
 -- They are where the content stands that the question in its other form hands back: in the stream, and nothing is left open.
 pub record Stands (edition : Edition) (s : List ℕ) (asked first past : ℕ) : Type 0 where

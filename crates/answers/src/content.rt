@@ -38,7 +38,13 @@ fn content_at(edition: Edition, stream: &[u8], rows: &[u32], element: usize) -> 
 }
 
 // The content of an element: 20, or where it stands.
-fn fetch_judged(edition: Edition, stream: &[u8], element: usize, rows: &[u32], count: usize) -> ContentFound
+fn fetch_judged(
+    edition: Edition,
+    stream: &[u8],
+    element: usize,
+    rows: &[u32],
+    count: usize,
+) -> ContentFound
     requires { ⌜ Accepts (now stream) (treeOf (now stream)) ⌝ }
     requires { ⌜ JudgedIn edition (now stream) (now rows) count ⌝ }
     ensures { λ r. ⌜ FindsContent edition (now (stream .entry)) element r ⌝ }
@@ -50,7 +56,13 @@ fn fetch_judged(edition: Edition, stream: &[u8], element: usize, rows: &[u32], c
 }
 
 // Where the content of an element stands, or the number of a refusal.
-pub fn locate_judged(edition: Edition, stream: &[u8], element: usize, rows: &[u32], count: usize) -> Found
+pub fn locate_judged(
+    edition: Edition,
+    stream: &[u8],
+    element: usize,
+    rows: &[u32],
+    count: usize,
+) -> Found
     requires { ⌜ Accepts (now stream) (treeOf (now stream)) ⌝ }
     requires { ⌜ JudgedIn edition (now stream) (now rows) count ⌝ }
     ensures { λ r. ⌜ Fetches edition (now (stream .entry)) element r ⌝ }

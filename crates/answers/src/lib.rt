@@ -334,8 +334,21 @@ pub fn work(
             place: 0,
         }),
         Question::Check => tell_checked(check_judged(edition, stream, headers, rows, count, table)),
-        Question::Content { element } => tell_located(locate_judged(edition, stream, element, rows, count)),
-        Question::Joined { element } => tell_copied(join_judged(edition, stream, element, rows, count, out)),
+        Question::Content { element } => tell_located(locate_judged(
+            edition,
+            stream,
+            element,
+            rows,
+            count,
+        )),
+        Question::Joined { element } => tell_copied(join_judged(
+            edition,
+            stream,
+            element,
+            rows,
+            count,
+            out,
+        )),
         Question::List { side, room } => tell_listed(list_judged(
             edition,
             stream,

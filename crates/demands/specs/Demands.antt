@@ -38,7 +38,8 @@ pub record Demand1 (edition : Edition) : Type 0 where
   -- "Only the check and the list use the table and can give 16."
   pub check-told : (s table : List ℕ) → Answered s (16 ∷ []) (checked edition s table .number) (checked edition s table .place)
   pub normal-told : (s out : List ℕ) → Answered s (17 ∷ 18 ∷ []) (written edition s out .number) (written edition s out .place)
-  pub list-told : (side : Side) (s table : List ℕ) (room : ℕ) → Answered s (16 ∷ 19 ∷ []) (listed edition side s table room .number) (listed edition side s table room .place)
+  pub list-told : (side : Side) (s table : List ℕ) (room : ℕ)
+      → Answered s (16 ∷ 19 ∷ []) (listed edition side s table room .number) (listed edition side s table room .place)
   pub content-told : (s : List ℕ) (asked : ℕ) → Answered s (20 ∷ 21 ∷ []) (fetched edition s asked .number) (fetched edition s asked .place)
   pub joined-told : (s : List ℕ) (asked : ℕ) (out : List ℕ) → Answered s (20 ∷ 22 ∷ []) (copied edition s asked out .number) (copied edition s asked out .place)
   -- "the header count is the number of items that passed 2 to 8, at most half the stream's bytes .. After 1 it is 0"
@@ -129,7 +130,8 @@ pub record PiecesAt (elements : List Element) (j : ℕ) : Type 0 where
 pub record OfLetter (edition : Edition) (s : List ℕ) (headers : ℕ) (elements : List Element) : Type 0 where
   -- the check accepts it, if the table has rows enough
   pub checks : (table : List ℕ) → length elements ≤ rowsLent table
-      → (checked edition s table ≡ record { number = 0; place = 0; headers = headers; elements = length elements }) × (checkedTable edition s table ≡ tableOf edition s table)
+      → (checked edition s table ≡ record { number = 0; place = 0; headers = headers; elements = length elements })
+      × (checkedTable edition s table ≡ tableOf edition s table)
   pub checks-16 : (table : List ℕ) → (checked edition s table .number ≡ 16) ↔ (rowsLent table < length elements)
   -- "Elements meet end to end from 0 to the stream's length."; every pair lies in its element; a row for each element, which tells what it says
   pub end-to-end : EndToEnd 0 (length s) (rowsIn edition s)
@@ -138,7 +140,8 @@ pub record OfLetter (edition : Edition) (s : List ℕ) (headers : ℕ) (elements
   pub rows-tell : (j : ℕ) (row : Row) (item : TopItem) (element : Element) → getElem? (rowsIn edition s) j ≡ some row
       → getElem? (topItems (treeOf s)) j ≡ some item → getElem? elements j ≡ some element → RowTells edition s row item element
   -- "The part question still serves 04": the part is what the 04 says; it is refused by 20 of what is no text unit, and by 21 of pieces
-  pub content : (j : ℕ) (unit : Element) → UnitAt elements j unit → (value : Value) → unit .content ≡ single value → fetched edition s j ≡ handed (bytesOf value)
+  pub content : (j : ℕ) (unit : Element) → UnitAt elements j unit → (value : Value) → unit .content ≡ single value
+      → fetched edition s j ≡ handed (bytesOf value)
   pub content-20 : (j : ℕ) → (fetched edition s j .number ≡ 20) ↔ ((unit : Element) → UnitAt elements j unit → ⊥)
   pub content-21 : (j : ℕ) → (fetched edition s j .number ≡ 21) ↔ PiecesAt elements j
   -- the joined content of a text unit is copied, unless the buffer is shorter, 22; the value that the row bounds is never shorter
@@ -173,7 +176,8 @@ pub record RefusedByAll (edition : Edition) (s : List ℕ) (number place headers
 -- Demand 2: accepted is what X.209 and the shapes say, and what is accepted is kept by the normal form. What is refused is refused by the
 -- first of 1 to 15 whose condition holds.
 pub record Demand2 (edition : Edition) : Type 0 where
-  pub accepted-is : (s : List ℕ) (headers : ℕ) (elements : List Element) → (letterIn edition s ≡ letter headers elements) ↔ IsLetterOf edition s headers elements
+  pub accepted-is : (s : List ℕ) (headers : ℕ) (elements : List Element)
+      → (letterIn edition s ≡ letter headers elements) ↔ IsLetterOf edition s headers elements
   pub refused-is : (s : List ℕ) (number place : ℕ) → ((headers : ℕ) × (letterIn edition s ≡ refusal number place headers)) ↔ RefusedWith edition s number place
   pub refused-alike : (s : List ℕ) (number place headers : ℕ) → letterIn edition s ≡ refusal number place headers → RefusedByAll edition s number place headers
   pub of-letter : (s : List ℕ) (headers : ℕ) (elements : List Element) → letterIn edition s ≡ letter headers elements → OfLetter edition s headers elements
@@ -191,7 +195,8 @@ pub record ListOf (edition : Edition) (side : Side) (s : List ℕ) (elements : L
   -- it is given, with the table, and refused by 16 and 19 alone
   pub lists : (table : List ℕ) (list : List Match) → length elements ≤ rowsLent table → length (matchesIn edition side s) ≤ length list
       → (listed edition side s table (length list) ≡ record { number = 0; place = 0; elements = length elements; matches = length (matchesIn edition side s) })
-      × (listedTable edition side s table (length list) ≡ tableOf edition s table) × (listedList edition side s table list ≡ onto (matchesIn edition side s) list)
+      × (listedTable edition side s table (length list) ≡ tableOf edition s table)
+      × (listedList edition side s table list ≡ onto (matchesIn edition side s) list)
   pub lists-16 : (table : List ℕ) (room : ℕ) → (listed edition side s table room .number ≡ 16) ↔ (rowsLent table < length elements)
   pub lists-19 : (table : List ℕ) (room : ℕ)
       → (listed edition side s table room .number ≡ 19) ↔ ((length elements ≤ rowsLent table) × (room < length (matchesIn edition side s)))
@@ -205,4 +210,5 @@ pub record ListOf (edition : Edition) (side : Side) (s : List ℕ) (elements : L
 
 -- Demand 3: the reading list of either side.
 pub record Demand3 (edition : Edition) : Type 0 where
-  pub of-letter : (side : Side) (s : List ℕ) (headers : ℕ) (elements : List Element) → letterIn edition s ≡ letter headers elements → ListOf edition side s elements
+  pub of-letter : (side : Side) (s : List ℕ) (headers : ℕ) (elements : List Element) → letterIn edition s ≡ letter headers elements
+      → ListOf edition side s elements

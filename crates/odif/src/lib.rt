@@ -25,7 +25,14 @@ pub fn check(edition: Edition, stream: &[u8], table: &mut [u32]) -> Checked
 {
     let mut numbers = [0u32; 0];
     let mut octets = [0u8; 0];
-    let told = scratch::ask(edition, stream, Question::Check, table, &mut numbers, &mut octets);
+    let told = scratch::ask(
+        edition,
+        stream,
+        Question::Check,
+        table,
+        &mut numbers,
+        &mut octets,
+    );
     Checked {
         number: told.number,
         place: told.place,
@@ -71,7 +78,13 @@ pub fn normal(edition: Edition, stream: &[u8], out: &mut [u8]) -> Written
 }
 
 // Lists the matches of a side, and fills the element table. The viewer reads the letter in this order.
-pub fn list(edition: Edition, stream: &[u8], side: Side, table: &mut [u32], list: &mut [Match]) -> Listed
+pub fn list(
+    edition: Edition,
+    stream: &[u8],
+    side: Side,
+    table: &mut [u32],
+    list: &mut [Match],
+) -> Listed
     ensures { λ r. ⌜ ListOutcome edition side (now (stream .entry)) (now (table .entry)) (now (list .entry)) r (now (table .exit)) (now (list .exit)) ⌝ }
 {
     let walked = octets::walk(stream);
@@ -220,14 +233,16 @@ pub extern "C" fn odif_normal(stream: &[u8], out: &mut [u8]) -> Written
 
 #[no_mangle]
 pub extern "C" fn odif_layout(stream: &[u8], table: &mut [u32], list: &mut [Match]) -> Listed
-    ensures { λ r. ⌜ ListOutcome Edition.Of1988 Side.Layout (now (stream .entry)) (now (table .entry)) (now (list .entry)) r (now (table .exit)) (now (list .exit)) ⌝ }
+    ensures { λ r. ⌜ ListOutcome Edition.Of1988 Side.Layout (now (stream .entry)) (now (table .entry)) (now (list .entry)) r (now (table .exit))
+        (now (list .exit)) ⌝ }
 {
     crate::list(Edition::Of1988, stream, Side::Layout, table, list)
 }
 
 #[no_mangle]
 pub extern "C" fn odif_logical(stream: &[u8], table: &mut [u32], list: &mut [Match]) -> Listed
-    ensures { λ r. ⌜ ListOutcome Edition.Of1988 Side.Logical (now (stream .entry)) (now (table .entry)) (now (list .entry)) r (now (table .exit)) (now (list .exit)) ⌝ }
+    ensures { λ r. ⌜ ListOutcome Edition.Of1988 Side.Logical (now (stream .entry)) (now (table .entry)) (now (list .entry)) r (now (table .exit))
+        (now (list .exit)) ⌝ }
 {
     crate::list(Edition::Of1988, stream, Side::Logical, table, list)
 }

@@ -80,7 +80,15 @@ pub fn list_flat(
                     &mut none,
                 ));
             }
-            answers::listed_of(frames::many(edition, stream, count as u32, question, table, flat, &mut none))
+            answers::listed_of(frames::many(
+                edition,
+                stream,
+                count as u32,
+                question,
+                table,
+                flat,
+                &mut none,
+            ))
         }
         Outcome::Refused {
             number,
