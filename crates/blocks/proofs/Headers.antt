@@ -281,3 +281,39 @@ same-wanted (y ∷ z ∷ w ∷ v ∷ p) c =
     cond-holds P (eqb (number y) 31)
     (λ _. cond-holds P (ltb z 0x80) (λ _. (λ h. h, λ h. h)) (λ _. (λ h. h, λ h. h)))
     (λ _. (λ h. h, λ h. h))
+
+-- the first octets of a header that are as many as they want tell all
+pub told-wanted : (p c : List ℕ) → wanted p ≤ length p → wanted (p ++ c) ≡ wanted p
+unfolding wanted
+told-wanted [] c h = let w = two-wanted [] in absurd (omega arith)
+told-wanted (y ∷ []) c h = let w = two-wanted (y ∷ []) in absurd (omega arith)
+told-wanted (y ∷ z ∷ []) c l =
+    let P : ℕ → Type 0 = λ n. headerSize n (y ∷ z ∷ []) ≤ 2 → headerSize n (y ∷ z ∷ c) ≡ headerSize n (y ∷ z ∷ []) in
+    cond-holds P (eqb (number y) 31)
+    (λ _. cond-holds P (ltb z 0x80) (λ _ h. absurd (omega arith)) (λ _ h. absurd (omega arith)))
+    (λ _ _. refl) l
+told-wanted (y ∷ z ∷ w ∷ []) c l =
+    let P : ℕ → Type 0 = λ n. headerSize n (y ∷ z ∷ w ∷ []) ≤ 3 → headerSize n (y ∷ z ∷ w ∷ c) ≡ headerSize n (y ∷ z ∷ w ∷ []) in
+    cond-holds P (eqb (number y) 31)
+    (λ _. cond-holds P (ltb z 0x80) (λ _ _. refl) (λ _ h. absurd (omega arith)))
+    (λ _ _. refl) l
+told-wanted (y ∷ z ∷ w ∷ v ∷ p) c h =
+    let P : ℕ → Type 0 = λ n. headerSize n (y ∷ z ∷ w ∷ v ∷ p ++ c) ≡ headerSize n (y ∷ z ∷ w ∷ v ∷ p) in
+    cond-holds P (eqb (number y) 31)
+    (λ _. cond-holds P (ltb z 0x80) (λ _. refl) (λ _. refl))
+    (λ _. refl)
+
+further-few : (y : ℕ) → further y ≤ 4
+further-few y = cond-holds (λ (n : ℕ). n ≤ 4) (ltb y 0x85) (λ t. let l = ltb-true y 0x85 t in omega arith) (λ _. omega arith)
+
+-- a header has eight octets at most
+pub eight-wanted : (b : List ℕ) → wanted b ≤ 8
+unfolding wanted
+eight-wanted b =
+    let P : ℕ → Type 0 = λ n. headerSize n b ≤ 8 in
+    let one = further-few (octetAt b 1) in
+    let two = further-few (octetAt b 2) in
+    let three = further-few (octetAt b 3) in
+    cond-holds P (eqb (number (octetAt b 0)) 31)
+    (λ _. cond-holds P (ltb (octetAt b 1) 0x80) (λ _. omega arith) (λ _. omega arith))
+    (λ _. omega arith)
