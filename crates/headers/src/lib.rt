@@ -1,7 +1,7 @@
 // X.209 at one position: what reading there yields, a header, a closing mark or a refusal by one of 2 to 8.
 ghost use mathlib.Core.Path.{_≡_};
 ghost use mathlib.Core.Bool.{true, false};
-ghost use Prim.Native.Nat.{_+_, _<_, _≤_};
+ghost use Prim.Native.Nat.{_+_, _<_, _≤_, min};
 ghost use lib.ListN.{length, take, drop};
 ghost use Rattle.headers.specs.Head.{number, formAllowed, typeField, misfits, bigEndian, definiteAt, indefiniteAt, longAt, lengthAt, closingAt};
 ghost use Rattle.headers.specs.Head.{headAt, Passed};
@@ -117,7 +117,7 @@ fn indefinite_at(octet: usize, at: usize, from: usize, limit: usize) -> Head
 }
 
 fn long_at(s: &[u8], octet: usize, at: usize, from: usize, k: usize, limit: usize) -> Head
-    requires { ⌜ (from < limit) × (limit ≤ length (now s)) × (k ≤ 4) ⌝ }
+    requires { ⌜ (from < limit) × (min limit (from + 5) ≤ length (now s)) × (k ≤ 4) ⌝ }
     ensures { λ r. ⌜ r ≡ longAt (now (s .entry)) octet at from k limit ⌝ }
 {
     let first = from + 1;
@@ -132,7 +132,7 @@ fn long_at(s: &[u8], octet: usize, at: usize, from: usize, k: usize, limit: usiz
 
 // The length octets of the item at `at`, from `from` on, which is the place past its type field.
 fn length_at(s: &[u8], octet: usize, at: usize, from: usize, limit: usize) -> Head
-    requires { ⌜ limit ≤ length (now s) ⌝ }
+    requires { ⌜ min limit (from + 5) ≤ length (now s) ⌝ }
     ensures { λ r. ⌜ r ≡ lengthAt (now (s .entry)) octet at from limit ⌝ }
 {
     if limit <= from {
@@ -155,7 +155,7 @@ fn length_at(s: &[u8], octet: usize, at: usize, from: usize, limit: usize) -> He
 
 // A 00 at `at`.
 fn closing_at(s: &[u8], at: usize, limit: usize, marked: bool) -> Head
-    requires { ⌜ (at < limit) × (limit ≤ length (now s)) ⌝ }
+    requires { ⌜ (at < length (now s)) × (min limit (at + 8) ≤ length (now s)) ⌝ }
     ensures { λ r. ⌜ r ≡ closingAt (now (s .entry)) at limit marked ⌝ }
 {
     if marked {
@@ -182,7 +182,7 @@ fn closing_at(s: &[u8], at: usize, limit: usize, marked: bool) -> Head
 
 // What stands at `at`, rule by rule.
 fn read_head(s: &[u8], at: usize, limit: usize, marked: bool, room: usize) -> Head
-    requires { ⌜ (at < limit) × (limit ≤ length (now s)) ⌝ }
+    requires { ⌜ (at < length (now s)) × (min limit (at + 8) ≤ length (now s)) ⌝ }
     ensures { λ r. ⌜ r ≡ headAt (now (s .entry)) at limit marked room ⌝ }
 {
     let octet = s[at];
@@ -225,9 +225,10 @@ fn is_usual(octet: u8, len: u8, left: usize, room: usize) -> bool
     }
 }
 
-// What stands at `at`, before `limit`, with `room` levels left. A usual item is told at once; `read_head` has the rest.
+// What stands at `at`, before `limit`, with `room` levels left. A usual item is told at once; `read_head` has the rest. A header has eight
+// octets at most, so a slice that has these may end before the limit: a block of a letter, or a header's octets alone.
 pub fn head_at(s: &[u8], at: usize, limit: usize, marked: bool, room: usize) -> Head
-    requires { ⌜ (at < limit) × (limit ≤ length (now s)) ⌝ }
+    requires { ⌜ (at < length (now s)) × (min limit (at + 8) ≤ length (now s)) ⌝ }
     ensures { λ r. ⌜ r ≡ headAt (now (s .entry)) at limit marked room ⌝ }
 {
     let next = at + 1;

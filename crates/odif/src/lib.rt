@@ -14,6 +14,8 @@ ghost use mathlib.Core.Path.{_≡_};
 ghost use Rattle.answers.specs.Answers.{ruled, CheckOutcome, NormalOutcome, ListOutcome, fetched, whyNot, Fetches, JoinedOutcome};
 ghost use Rattle.answers.specs.Short.{ShortOutcome};
 
+mod arriving; // arriving.rt: a letter that arrives in blocks
+
 // The most octets of a stream that the mailroom box asks about.
 const SHORT_LIMIT: usize = 65535;
 
