@@ -304,12 +304,14 @@ pub fn find(
     ensures { λ r. ⌜ FindsRow (now (s .entry)) (now (rows .entry)) column n space (spelling (now (s .entry)) asked) r ⌝ }
 {
     if next[next.len() - 1] != 0 {
-        return find_any(s, rows, head, next, n, column, space, hashed, asked);
+        let name = asked;
+        return find_any(&*s, &*rows, &*head, &*next, n, column, space, hashed, name);
     }
     if head[names::bucket_of(head.len(), hashed)] == 0 {
         return RowFound::Nothing;
     }
-    find_any(s, rows, head, next, n, column, space, hashed, asked)
+    let name = asked;
+    find_any(&*s, &*rows, &*head, &*next, n, column, space, hashed, name)
 }
 
 // Puts row n in its place among the rows from `from` on, which are in order.
@@ -391,7 +393,7 @@ pub fn insert(
 {
     let last = next.len() - 1;
     if next[last] != 0 {
-        insert_any(s, rows, head, next, n, column, hashed);
+        insert_any(&*s, &*rows, head, next, n, column, hashed);
         return;
     }
     let at = n * index::ROW_WIDTH + column;
@@ -402,5 +404,5 @@ pub fn insert(
         index::insert(s, rows, head, next, n, column, hashed);
         return;
     }
-    insert_any(s, rows, head, next, n, column, hashed);
+    insert_any(&*s, &*rows, head, next, n, column, hashed);
 }
