@@ -17,7 +17,7 @@ use Rattle.index.specs.declared.RowFound.the-variants.{At, Nothing}
 use Rattle.index.proofs.Search.{named-true, named-false}
 use Rattle.ordered.specs.Order.{less}
 use Rattle.ordered.specs.Ordered.{keyAt, Stands, Ordered, Between, FindsFrom}
-use Rattle.ordered.proofs.Order.{less-self, less-equal}
+use Rattle.ordered.proofs.Less.{less-self, less-equal}
 
 module _ {s rows : List ℕ} {column n nameSpace : ℕ} {bytes : List ℕ} {j : ℕ} {r : Bool}
     (e : r ≡ (ltb (firstAt rows column j) (pastAt rows column j) && named s rows column nameSpace bytes j)) where

@@ -1,4 +1,4 @@
--- `ordered::place` meets its contract. The loop's invariant: what stands before `low` does not come after what is asked for, what stands
+-- `ordered::places::place` meets its contract. The loop's invariant: what stands before `low` does not come after what is asked for, what stands
 -- from `high` on does. The measure is how many stand between. Assumes nothing.
 use mathlib.Core.Bool.{true, false}
 use Rattle.ordered.specs.Order.{less}
@@ -9,10 +9,10 @@ use native.Mathlib.Omega.{arith}
 use lib.ListN.{getD}
 use Rattle.names.specs.Asked.{spelling}
 use Rattle.ordered.specs.Ordered.{keyAt, Between}
-use Rattle.ordered.proofs.Places.{between-all, lower-half, upper-half, between-met}
+use Rattle.ordered.proofs.Sorted.{between-all, lower-half, upper-half, between-met}
 use borrow.Author.Needs.{needs}
-use Rattle.ordered.proofs.place.Statement.{statement}
-use Rattle.ordered.proofs.place.Tie as tie
+use Rattle.ordered.proofs.places.place.Statement.{statement}
+use Rattle.ordered.proofs.places.place.Tie as tie
 
 abbrev Inv-loop : tie.InvT-loop
 Inv-loop s rows next from n column space asked low₀ high₀ low high = Between s rows column next from n (space ∷ spelling s asked) low high

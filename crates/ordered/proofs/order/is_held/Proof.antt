@@ -1,4 +1,4 @@
--- `ordered::is_held` meets its contract: the three tests in order, on what the row has. Assumes nothing.
+-- `ordered::order::is_held` meets its contract: the three tests in order, on what the row has. Assumes nothing.
 use mathlib.Core.Path.{_≡_, sym, ap, _∙_}
 use mathlib.Core.Bool.{true, and-false}
 use Prim.Native.Nat.{_<_, _≤_}
@@ -8,8 +8,8 @@ use lib.Dec.{eqb}
 use Rattle.index.specs.Columns.{kindAt, firstAt, pastAt}
 use Rattle.index.specs.Rows.{nameSpaceOf}
 use borrow.Author.Needs.{needs}
-use Rattle.ordered.proofs.is_held.Statement.{statement}
-use Rattle.ordered.proofs.is_held.Tie as tie
+use Rattle.ordered.proofs.order.is_held.Statement.{statement}
+use Rattle.ordered.proofs.order.is_held.Tie as tie
 
 mul-at : tie.Need-mul-at
 mul-at c = search needs

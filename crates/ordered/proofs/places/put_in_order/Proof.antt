@@ -1,4 +1,4 @@
--- `ordered::put_in_order` meets its contract: the row goes to the place of its key, once there is room. Assumes nothing.
+-- `ordered::places::put_in_order` meets its contract: the row goes to the place of its key, once there is room. Assumes nothing.
 use mathlib.Core.Path.{_≡_, ap, _∙_, subst}
 use mathlib.Core.List.{List, _∷_}
 use Prim.Native.Nat.{ℕ}
@@ -7,11 +7,11 @@ use lib.Seq.{slice}
 use Rattle.index.specs.Rows.{nameSpaceOf}
 use Rattle.index.specs.Columns.{kindAt}
 use Rattle.ordered.specs.Ordered.{keyAt, Between}
-use Rattle.ordered.proofs.Places.{ordered-more, put-around}
+use Rattle.ordered.proofs.Sorted.{ordered-more, put-around}
 use Rattle.ordered.proofs.Filing.{bounded-front}
 use borrow.Author.Needs.{needs}
-use Rattle.ordered.proofs.put_in_order.Statement.{statement}
-use Rattle.ordered.proofs.put_in_order.Tie as tie
+use Rattle.ordered.proofs.places.put_in_order.Statement.{statement}
+use Rattle.ordered.proofs.places.put_in_order.Tie as tie
 
 mul-at : tie.Need-mul-at
 mul-at c = search needs

@@ -1,4 +1,4 @@
--- `ordered::is_before` meets its contract: the name spaces decide, or, if they are the same, the names. Assumes nothing.
+-- `ordered::order::is_before` meets its contract: the name spaces decide, or, if they are the same, the names. Assumes nothing.
 use mathlib.Core.Path.{_≡_, sym, ap, _∙_}
 use mathlib.Core.Bool.{true}
 use native.Mathlib.Omega.{arith}
@@ -8,8 +8,8 @@ use Rattle.index.specs.Rows.{nameSpaceOf}
 use Rattle.index.specs.Columns.{kindAt}
 use Rattle.ordered.specs.Order.{less}
 use borrow.Author.Needs.{needs}
-use Rattle.ordered.proofs.is_before.Statement.{statement}
-use Rattle.ordered.proofs.is_before.Tie as tie
+use Rattle.ordered.proofs.order.is_before.Statement.{statement}
+use Rattle.ordered.proofs.order.is_before.Tie as tie
 
 mul-at : tie.Need-mul-at
 mul-at c = search needs

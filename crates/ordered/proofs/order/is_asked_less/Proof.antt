@@ -1,4 +1,4 @@
--- `ordered::is_asked_less` meets its contract: a joined name is compared with its first part, unless that part is a front of the other.
+-- `ordered::order::is_asked_less` meets its contract: a joined name is compared with its first part, unless that part is a front of the other.
 -- Assumes nothing.
 use mathlib.Core.Path.{_≡_, sym, _∙_}
 use mathlib.Core.Bool.{cond}
@@ -11,10 +11,10 @@ use lib.Seq.{slice}
 use Rattle.names.specs.Names.{spaceByte, same}
 use Rattle.names.specs.Asked.{spelling}
 use Rattle.ordered.specs.Order.{less}
-use Rattle.ordered.proofs.Order.{joined-short, joined-long}
+use Rattle.ordered.proofs.Less.{joined-short, joined-long}
 use borrow.Author.Needs.{needs}
-use Rattle.ordered.proofs.is_asked_less.Statement.{statement}
-use Rattle.ordered.proofs.is_asked_less.Tie as tie
+use Rattle.ordered.proofs.order.is_asked_less.Statement.{statement}
+use Rattle.ordered.proofs.order.is_asked_less.Tie as tie
 
 -- past the test of the lengths, what is left to compare
 parts : (c : tie.Else2) →

@@ -1,4 +1,4 @@
--- `ordered::is_spelt` meets its contract: a joined name is as long as its parts and the space, and is compared part by part.
+-- `ordered::order::is_spelt` meets its contract: a joined name is as long as its parts and the space, and is compared part by part.
 -- Assumes nothing.
 use mathlib.Core.Path.{_≡_, sym, _∙_}
 use mathlib.Core.Bool.{_&&_}
@@ -12,8 +12,8 @@ use Rattle.names.specs.Names.{spaceByte, same}
 use Rattle.names.specs.Asked.{spelling}
 use Rattle.names.proofs.Same.{joined-other, joined-same}
 use borrow.Author.Needs.{needs}
-use Rattle.ordered.proofs.is_spelt.Statement.{statement}
-use Rattle.ordered.proofs.is_spelt.Tie as tie
+use Rattle.ordered.proofs.order.is_spelt.Statement.{statement}
+use Rattle.ordered.proofs.order.is_spelt.Tie as tie
 
 -- past the test of the lengths, the three comparisons that are left
 parts : (c : tie.Else2) →
