@@ -29,9 +29,9 @@ pub fn few(
 {
     let mut rows = [0u32; 6144];
     let mut head = [0u16; 1024];
-    let mut next = [0u16; 512];
+    let mut next = [0u16; 513];
     let mut head2 = [0u16; 1024];
-    let mut next2 = [0u16; 512];
+    let mut next2 = [0u16; 513];
     let mut bounds = [0u32; 128];
     match letters::judge_stream(
         edition,
@@ -83,9 +83,9 @@ pub fn many(
 {
     let mut rows = [0u32; 49152];
     let mut head = [0u16; 8192];
-    let mut next = [0u16; 4096];
+    let mut next = [0u16; 4097];
     let mut head2 = [0u16; 8192];
-    let mut next2 = [0u16; 4096];
+    let mut next2 = [0u16; 4097];
     let mut bounds = [0u32; 128];
     match letters::judge_stream(
         edition,
