@@ -1,75 +1,103 @@
 -- A row more for an entry more: scratch keeps it, and the rows before it. Assumes nothing.
-use mathlib.Core.Path.{_≡_, ap, sym, _∙_, subst}
+use mathlib.Core.Path.{_≡_, refl, ap, sym, _∙_, subst}
 use mathlib.Core.List.{List, [], _∷_, _++_}
 use Prim.Native.Nat.{ℕ, _+_, _*_, _<_, _≤_}
 use native.Mathlib.Omega.{arith}
 use lib.Dec.{eqb}
-use lib.ListN.{length, getD, length-append}
-use lib.Seq.{sets}
+use lib.ListN.{length, getD, set, length-append, length-set}
+use lib.Seq.{slice, getD-set-same, getD-set-other}
 use borrow.Author.Tests.{eqb-true, eqb-false}
 use borrow.Table.Steps.{cases}
+use Rattle.names.specs.Hash.{hashes}
 use Rattle.index.specs.Rows.{rowWidth}
-use Rattle.index.specs.Columns.{identifierColumn, kindAt, valueAt, Bounded}
-use Rattle.index.proofs.Rows.{kind-kept, value-kept, row-kept, row-cell, row-value, row-bounded, bounded-none}
+use Rattle.index.specs.Columns.{identifierColumn, kindAt, firstAt, pastAt, valueAt, Bounded}
+use Rattle.index.specs.Index.{Indexed, Empty}
+use Rattle.index.proofs.Rows.{Kept, kind-kept, value-kept, bounded-kept, bounded-more, bounded-none, indexed-kept, indexed-none}
 use Rattle.judging.proofs.Lists.{Last, before, last, below-length, at-last}
 use Rattle.making.specs.declared.Entry.{Entry}
 use Rattle.making.specs.Entries.{Said, saidBy}
 use Rattle.making.specs.Keeps.{blockKind, Keeps}
 
 -- nothing is done yet
-pub keeps-none : (buffer rows : List ℕ) → Keeps buffer rows []
-keeps-none buffer rows = record {
+pub keeps-none : (buffer rows head next : List ℕ) → 0 < length head → length head ≤ hashes → Empty head → Keeps buffer rows head next 0 []
+keeps-none buffer rows head next some few empty = record {
+  counted = refl;
   bounded = bounded-none buffer rows identifierColumn (omega arith);
+  indexed = indexed-none buffer rows identifierColumn head next some few empty;
   kinds = λ j l. absurd (omega arith);
   values = λ j x e. let z : _≡_ {A = ℕ} 0 1 = cc in absurd (omega arith);
 }
 
--- a row of twelve numbers keeps an entry
-pub record RowFor (entry : Entry) (cells : List ℕ) : Type 0 where
-  pub whole : length cells ≡ rowWidth
-  pub kind : getD cells 0 0 ≡ blockKind
-  pub first : getD cells 4 0 ≡ entry .identifier .first
-  pub past : getD cells 5 0 ≡ entry .identifier .past
+-- the rows with row n written: its kind, and the bounds of its identifier
+module _ (rows : List ℕ) (n first past : ℕ) (long : n * rowWidth + rowWidth ≤ length rows) where
+  abbrev pub rowPut : List ℕ
+  rowPut = set (set (set rows (n * rowWidth) blockKind) (n * rowWidth + 4) first) (n * rowWidth + 4 + 1) past
 
-module _ (buffer rows : List ℕ) (done : List Said) (keeps : Keeps buffer rows done) (entry : Entry) (cells : List ℕ) (row : RowFor entry cells)
-    (order : entry .identifier .first ≤ entry .identifier .past) (inside : entry .identifier .past ≤ length buffer)
-    (long : length done * rowWidth + rowWidth ≤ length rows) where
-  abbrev n : ℕ
-  n = length done
+  pub put-kept : Kept rows rowPut n
+  put-kept i l =
+      getD-set-other (set (set rows (n * rowWidth) blockKind) (n * rowWidth + 4) first) (n * rowWidth + 4 + 1) i past 0 (λ e. absurd (omega arith))
+      ∙ getD-set-other (set rows (n * rowWidth) blockKind) (n * rowWidth + 4) i first 0 (λ e. absurd (omega arith))
+      ∙ getD-set-other rows (n * rowWidth) i blockKind 0 (λ e. absurd (omega arith))
 
-  abbrev said : Said
-  said = saidBy buffer entry
+  pub put-length : length rowPut ≡ length rows
+  put-length = simp length-set refl
 
-  abbrev written : List ℕ
-  written = sets rows (n * rowWidth) cells
+  pub put-kind : kindAt rowPut n ≡ blockKind
+  put-kind =
+      getD-set-other (set (set rows (n * rowWidth) blockKind) (n * rowWidth + 4) first) (n * rowWidth + 4 + 1) (n * rowWidth) past 0 (λ e. absurd (omega arith))
+      ∙ getD-set-other (set rows (n * rowWidth) blockKind) (n * rowWidth + 4) (n * rowWidth) first 0 (λ e. absurd (omega arith))
+      ∙ getD-set-same rows (n * rowWidth) blockKind 0 (omega arith)
 
-  one-more : n + 1 ≡ length (done ++ (said ∷ []))
-  one-more = sym (length-append done (said ∷ []))
+  pub put-first : firstAt rowPut identifierColumn n ≡ first
+  put-first =
+      let size : length (set rows (n * rowWidth) blockKind) ≡ length rows = simp length-set refl in
+      getD-set-other (set (set rows (n * rowWidth) blockKind) (n * rowWidth + 4) first) (n * rowWidth + 4 + 1) (n * rowWidth + 4) past 0 (λ e. absurd (omega arith))
+      ∙ getD-set-same (set rows (n * rowWidth) blockKind) (n * rowWidth + 4) first 0 (omega arith)
 
-  kind-there : kindAt written n ≡ blockKind
-  kind-there =
-      let e : n * rowWidth ≡ n * rowWidth + 0 = omega arith in
-      ap (λ (i : ℕ). getD written i 0) e ∙ row-cell buffer rows n cells (row .whole) long 0 (omega arith) ∙ row .kind
+  pub put-past : pastAt rowPut identifierColumn n ≡ past
+  put-past =
+      let size : length (set (set rows (n * rowWidth) blockKind) (n * rowWidth + 4) first) ≡ length rows = simp length-set refl in
+      getD-set-same (set (set rows (n * rowWidth) blockKind) (n * rowWidth + 4) first) (n * rowWidth + 4 + 1) past 0 (omega arith)
 
-  value-there : valueAt buffer written identifierColumn n ≡ said .identifier
-  value-there = row-value buffer rows n cells (row .whole) long identifierColumn (omega arith) ∙ rw (row .first, row .past)
+  module _ (buffer : List ℕ) where
+    pub put-value : valueAt buffer rowPut identifierColumn n ≡ slice first past buffer
+    put-value = rw (put-first, put-past)
 
-  value-of : (j : ℕ) (x : Said) → Last done said j x → valueAt buffer written identifierColumn j ≡ x .identifier
-  value-of j x (before e) =
-      value-kept buffer rows written identifierColumn n (omega arith) (row-kept buffer rows n cells (row .whole) long) j (below-length done j x e)
-      ∙ keeps .values j x e
-  value-of j x (last p q) = ap (valueAt buffer written identifierColumn) p ∙ value-there ∙ ap (λ (y : Said). y .identifier) (sym q)
+    pub put-bounded : first ≤ past → past ≤ length buffer → Bounded buffer rows identifierColumn n → Bounded buffer rowPut identifierColumn (n + 1)
+    put-bounded order inside b =
+        let size = put-length in
+        bounded-more buffer rowPut identifierColumn n (bounded-kept buffer rows rowPut identifierColumn n (omega arith) put-kept (omega arith) b)
+        (omega arith) (omega (arith, put-first, put-past)) (omega (arith, put-past))
 
-  pub keeps-more : Keeps buffer written (done ++ (said ∷ []))
-  keeps-more = record {
-    bounded = subst (Bounded buffer written identifierColumn) one-more
-        (row-bounded buffer rows n cells (row .whole) long identifierColumn (omega arith) (keeps .bounded)
-        (omega (arith, row .first, row .past)) (omega (arith, row .past)));
-    kinds = λ j l.
-        cases (eqb j n)
-        (λ t. ap (kindAt written) (eqb-true j n t) ∙ kind-there)
-        (λ t.
-        let b : j < n = omega (arith, eqb-false j n t, one-more) in
-        kind-kept buffer rows written identifierColumn n (omega arith) (row-kept buffer rows n cells (row .whole) long) j b ∙ keeps .kinds j b);
-    values = λ j x e. value-of j x (at-last done said j x e);
-  }
+    pub put-indexed : (head next : List ℕ) → Indexed buffer rows identifierColumn head next n → Indexed buffer rowPut identifierColumn head next n
+    put-indexed head next = indexed-kept buffer rows rowPut identifierColumn n (omega arith) put-kept head next
+
+    module _ (head next : List ℕ) (done : List Said) (keeps : Keeps buffer rows head next n done) (entry : Entry)
+        (same-first : entry .identifier .first ≡ first) (same-past : entry .identifier .past ≡ past) where
+      abbrev said : Said
+      said = saidBy buffer entry
+
+      value-there : valueAt buffer rowPut identifierColumn n ≡ said .identifier
+      value-there = put-value ∙ rw (same-first, same-past)
+
+      value-of : (j : ℕ) (x : Said) → Last done said j x → valueAt buffer rowPut identifierColumn j ≡ x .identifier
+      value-of j x (before e) =
+          value-kept buffer rows rowPut identifierColumn n (omega arith) put-kept j (omega (arith, below-length done j x e, keeps .counted))
+          ∙ keeps .values j x e
+      value-of j x (last p q) =
+          ap (valueAt buffer rowPut identifierColumn) (p ∙ keeps .counted) ∙ value-there ∙ ap (λ (y : Said). y .identifier) (sym q)
+
+      pub keeps-more : (head' next' : List ℕ) → Bounded buffer rowPut identifierColumn (n + 1)
+          → Indexed buffer rowPut identifierColumn head' next' (n + 1) → Keeps buffer rowPut head' next' (n + 1) (done ++ (said ∷ []))
+      keeps-more head' next' bounded indexed = record {
+        counted = length-append done (said ∷ []) ∙ omega (arith, keeps .counted);
+        bounded = bounded;
+        indexed = indexed;
+        kinds = λ j l.
+            cases (eqb j n)
+            (λ t. ap (kindAt rowPut) (eqb-true j n t) ∙ put-kind)
+            (λ t.
+            let b : j < n = omega (arith, eqb-false j n t) in
+            kind-kept buffer rows rowPut identifierColumn n (omega arith) put-kept j b ∙ keeps .kinds j b);
+        values = λ j x e. value-of j x (at-last done said j x e);
+      }

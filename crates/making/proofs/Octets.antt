@@ -150,7 +150,8 @@ pub octets-are : (said : List Said) → Short said → streamOf said ≡ streamO
 unfolding normalOf
 octets-are said s = ap (λ (l : List ℕ). 0xA0 ∷ 0x00 ∷ l) (entries-are said s)
 
-entries-size : (said : List Said) → Short said → length (entriesOctets said) ≡ entriesSize said
+-- how long they are
+pub entries-size : (said : List Said) → Short said → length (entriesOctets said) ≡ entriesSize said
 unfolding entriesOctets entriesSize
 entries-size [] s = refl
 entries-size (x ∷ said) (few, s) = entry-size x few (entriesOctets said) ∙ ap (λ (n : ℕ). entrySize x + n) (entries-size said s)

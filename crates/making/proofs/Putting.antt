@@ -10,8 +10,7 @@ use Rattle.normal.specs.Normal.{lengthOctets}
 use Rattle.normal.specs.Passes.{PutsOctets}
 use Rattle.laws.proofs.Writes.{sets-append}
 use Rattle.making.specs.Entries.{Said}
-use Rattle.making.specs.Octets.{nameSize, unitSize, blockOctets, unitOctets, blockFront, portionFront, unitFront, header}
-use Rattle.making.proofs.Steps.{entryOctets}
+use Rattle.making.specs.Octets.{nameSize, unitSize, blockOctets, unitOctets, blockFront, portionFront, unitFront, header, entryOctets}
 
 -- what is written after something else
 pub puts-then : {before mid last xs ys : List ℕ} {begin past end : ℕ} → PutsOctets before begin xs past mid → PutsOctets mid past ys end last

@@ -4,7 +4,7 @@ use mathlib.Core.List.{List, [], _∷_, _++_}
 use Prim.Native.Nat.{ℕ, _+_, _-_, _<_, _≤_}
 use native.Mathlib.Omega.{arith}
 use lib.Dec.{ltb}
-use lib.ListN.{length}
+use lib.ListN.{length, length-append}
 use lib.Seq.{length-slice}
 use borrow.Author.Tests.{lt-ltb, le-ltb, ltb-true, ltb-false}
 use borrow.Table.Steps.{cases}
@@ -73,6 +73,11 @@ module _ (buffer : List ℕ) (entry : Entry) (lies : EntryLies buffer entry) whe
   pub entry-size-by : entrySize (saidBy buffer entry) ≡ entrySizeBy (namesOf entry) (textOf entry)
   entry-size-by =
       ap (λ (n : ℕ). entrySizeBy n (length (saidBy buffer entry .text))) names-size ∙ ap (entrySizeBy (namesOf entry)) text-size
+
+-- how long a block is
+pub block-size : (said : Said) → length (blockOctets said []) ≡ nameSize said + 13
+unfolding blockOctets
+block-size said = simp length-append (omega arith)
 
 -- the pieces of a block and of a text unit, by sizes that are those of their parts
 pub block-by : (said : Said) (i p : ℕ) → i ≡ length (said .identifier) → p ≡ length (said .portion)

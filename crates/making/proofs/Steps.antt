@@ -20,7 +20,7 @@ use Rattle.index.specs.Index.{Has, FindsRow}
 use Rattle.judging.proofs.Lists.{below-length, at-below, any-true, any-false}
 use Rattle.making.specs.declared.Entry.{Entry}
 use Rattle.making.specs.Entries.{Said, saidBy, unitName, used, entryRefusal, refused, judgeFrom, Spelt}
-use Rattle.making.specs.Octets.{entrySize, blockOctets, unitOctets, entriesOctets, entriesSize}
+use Rattle.making.specs.Octets.{entrySize, entryOctets, blockOctets, unitOctets, entriesOctets, entriesSize}
 use Rattle.making.specs.Keeps.{blockSpace, Keeps, isFound}
 use Rattle.making.proofs.Fitting.{AllFit}
 use Rattle.making.proofs.Octets.{Short}
@@ -38,7 +38,7 @@ module _ (buffer : List ℕ) (done : List Said) (entry : Entry) (entries : List 
   judge-stops n = rw (ne-eqb (entryRefusal buffer done entry) 0 n)
 
 -- 15 by the index: a row with the identifier is found exactly when it was used before
-module _ {buffer rows : List ℕ} {done : List Said} (keeps : Keeps buffer rows done) (said : Said) (spelt : Spelt said) where
+module _ {buffer rows head next : List ℕ} {n : ℕ} {done : List Said} (keeps : Keeps buffer rows head next n done) (said : Said) (spelt : Spelt said) where
   -- no identifier is empty
   some-octets : (xs : List ℕ) → isIdentifier xs ≡ true → 0 < length xs
   unfolding isIdentifier grouped
@@ -46,30 +46,26 @@ module _ {buffer rows : List ℕ} {done : List Said} (keeps : Keeps buffer rows 
   some-octets (x ∷ xs) e = omega arith
 
   has : (j : ℕ) (x : Said) → getElem? done j ≡ some x → same (x .identifier) (said .identifier) ≡ true
-      → Has buffer rows identifierColumn (length done) blockSpace (said .identifier) j
+      → Has buffer rows identifierColumn n blockSpace (said .identifier) j
   unfolding nameSpaceOf
   has j x e t =
-      let l = below-length done j x e in
+      let l : j < n = omega (arith, below-length done j x e, keeps .counted) in
       let v = keeps .values j x e ∙ same-eq (x .identifier) (said .identifier) t in
-      let n = length-slice (firstAt rows identifierColumn j) (pastAt rows identifierColumn j) buffer (keeps .bounded .inside j l) in
+      let size = length-slice (firstAt rows identifierColumn j) (pastAt rows identifierColumn j) buffer (keeps .bounded .inside j l) in
       let s = some-octets (said .identifier) (spelt .identifier) in
       record { below = l; present = omega (arith, ap length v); of-space = ap nameSpaceOf (keeps .kinds j l); of-bytes = v }
 
-  pub used-found : (found : RowFound) → FindsRow buffer rows identifierColumn (length done) blockSpace (said .identifier) found → used done said ≡ isFound found
+  pub used-found : (found : RowFound) → FindsRow buffer rows identifierColumn n blockSpace (said .identifier) found → used done said ≡ isFound found
   unfolding used
   used-found (At j) (h, last) =
-      let (x, e) = at-below done j (h .below) in
+      let (x, e) = at-below done j (omega (arith, h .below, keeps .counted)) in
       let v : x .identifier ≡ said .identifier = sym (keeps .values j x e) ∙ h .of-bytes in
       any-true (λ d. same (d .identifier) (said .identifier)) done j x e (rw v (same-refl (said .identifier)))
   used-found Nothing none =
       any-false (λ d. same (d .identifier) (said .identifier)) done
       (λ j x e. cases (same (x .identifier) (said .identifier)) (λ t. absurd (none j (has j x e t))) (λ t. t))
 
--- the octets of one entry
-abbrev pub entryOctets : Said → List ℕ
-entryOctets said = blockOctets said (unitOctets said [])
-
--- they go before what follows,
+-- the octets of an entry go before what follows,
 pub entry-then : (said : Said) (after : List ℕ) → blockOctets said (unitOctets said after) ≡ entryOctets said ++ after
 unfolding blockOctets unitOctets
 entry-then said after = simp append-assoc
@@ -99,7 +95,7 @@ pub text-within : (said : Said) → length (said .text) ≤ entrySize said
 text-within said = omega arith
 
 -- entries that fit have short names
-name-fits : (xs : List ℕ) → isIdentifier xs ≡ true → length xs ≤ longestIdentifier
+pub name-fits : (xs : List ℕ) → isIdentifier xs ≡ true → length xs ≤ longestIdentifier
 unfolding isIdentifier
 name-fits xs e = leb-true (length xs) longestIdentifier (and-eq-true-iff (leb (length xs) longestIdentifier) (grouped false xs) .0 e .0)
 

@@ -7,6 +7,7 @@ use mathlib.Core.List.{List, []}
 use lib.Dec.{eqb, ltb}
 use lib.ListN.{length}
 use Rattle.octets.specs.Walk.{streamLimit}
+use Rattle.answers.specs.declared.Reason.{Reason}
 use Rattle.answers.specs.declared.Written.{Written}
 use Rattle.answers.specs.Answers.{onto}
 use Rattle.making.specs.declared.Entry.{Entry}
@@ -29,6 +30,11 @@ madeBy (fit said) out = madeForm (streamOf said) out
 
 unfoldable pub made : (buffer : List ℕ) → List Entry → (out : List ℕ) → Written
 made buffer entries out = madeBy (judge buffer entries) out
+
+-- the number and place of a refusal of entries, 0 and 0 if none is refused
+abbrev pub reasonOf : Judged → Reason
+reasonOf (refused number entry) = record { number = number; place = entry }
+reasonOf (fit said) = record { number = 0; place = 0 }
 
 -- the stream that is made of the entries, if none is refused
 abbrev pub formBy : Judged → List ℕ

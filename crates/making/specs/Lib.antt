@@ -6,5 +6,5 @@ pub mod Stream
 pub mod Answers
 pub mod Flat
 pub mod Octets
-pub mod Keeps
 pub mod Lent
+pub mod Keeps

@@ -67,6 +67,10 @@ unitOctets said after =
     ++ (said .text
     ++ after)))))
 
+-- the octets of one entry
+abbrev pub entryOctets : Said → List ℕ
+entryOctets said = blockOctets said (unitOctets said [])
+
 -- entry after entry
 unfoldable pub entriesOctets : List Said → List ℕ
 entriesOctets [] = []

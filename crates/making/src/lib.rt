@@ -7,6 +7,7 @@ ghost use Prim.Native.Nat.{_+_, _*_, _<_, _≤_};
 ghost use lib.ListN.{length};
 ghost use Rattle.making.specs.Flat.{entryWidth, spanAt, entryAt};
 
+mod rules; // rules.rt: the refusals of entries
 mod writing; // writing.rt: how long a letter is, and its octets
 
 // An entry that a letter is made of: where its identifier, its portion and its text stand in the buffer.

@@ -2,6 +2,7 @@
 use octets::STREAM_LIMIT;
 use contents::Span;
 use crate::Entry;
+use crate::ENTRY_WIDTH;
 ghost use mathlib.Core.Path.{_≡_};
 ghost use mathlib.Core.List.{List, [], _∷_, _++_};
 ghost use Prim.Native.Nat.{_+_, _-_, _<_, _≤_};
@@ -12,8 +13,10 @@ ghost use Rattle.normal.specs.Passes.{PutsOctets};
 ghost use Rattle.normal.specs.Normal.{furtherOctets};
 ghost use Rattle.elements.specs.Rows.{bytesIn};
 ghost use Rattle.making.specs.Entries.{saidBy};
-ghost use Rattle.making.specs.Octets.{nameSize, entrySize, unitSizeBy, entrySizeBy, capped, header, blockFront, portionFront, unitFront, blockOctets, unitOctets};
-ghost use Rattle.making.specs.Lent.{PartLies, EntryLies, namesOf};
+ghost use Rattle.making.specs.Octets.{itemSize, unitSizeBy, entrySizeBy, capped, header, blockFront, portionFront, unitFront, blockOctets, unitOctets, entryOctets,
+    entriesOctets, streamOctets};
+ghost use Rattle.making.specs.Flat.{saidIn};
+ghost use Rattle.making.specs.Lent.{PartLies, namesOf, textOf, EntryLies, Ordered, AllLie, AllOrdered, sizeFor};
 
 // A size, or one more than the limit of a stream if it is over that.
 fn cap(size: usize) -> usize
@@ -34,7 +37,7 @@ fn unit_size(names: usize, text: usize) -> usize
 }
 
 // How long a block and its text unit are, up to one more than the limit.
-fn entry_size(names: usize, text: usize) -> usize
+fn size_by(names: usize, text: usize) -> usize
     requires { ⌜ names ≤ 63 ⌝ }
     ensures { λ r. ⌜ r ≡ capped (entrySizeBy names text) ⌝ }
 {
@@ -121,9 +124,8 @@ fn put_name(buffer: &[u8], entry: Entry, out: &mut [u8], at: usize, names: usize
 
 // Writes the text unit of an entry.
 fn put_unit(buffer: &[u8], entry: Entry, out: &mut [u8], at: usize) -> usize
-    requires { ⌜ EntryLies (now buffer) entry × (entry .text .past - entry .text .first ≤ streamLimit)
-        × (at + (2 + furtherOctets (unitSizeBy (namesOf entry) (entry .text .past - entry .text .first))
-        + unitSizeBy (namesOf entry) (entry .text .past - entry .text .first)) ≤ length (now out)) ⌝ }
+    requires { ⌜ EntryLies (now buffer) entry × (textOf entry ≤ streamLimit)
+        × (at + itemSize (unitSizeBy (namesOf entry) (textOf entry)) ≤ length (now out)) ⌝ }
     ensures { λ r. ⌜ PutsOctets (now (out .entry)) at (unitOctets (saidBy (now (buffer .entry)) entry) []) r (now (out .exit)) ⌝ }
 {
     let names = size_of(entry.identifier) + size_of(entry.portion);
@@ -132,4 +134,66 @@ fn put_unit(buffer: &[u8], entry: Entry, out: &mut [u8], at: usize) -> usize
     let named = put_name(buffer, entry, out, headed, names);
     let held = put_header(out, named, 0x04, text);
     put_part(buffer, entry.text, out, held)
+}
+
+// Writes the block and the text unit of an entry.
+fn put_entry(buffer: &[u8], entry: Entry, out: &mut [u8], at: usize) -> usize
+    requires { ⌜ EntryLies (now buffer) entry × (textOf entry ≤ streamLimit)
+        × (at + entrySizeBy (namesOf entry) (textOf entry) ≤ length (now out)) ⌝ }
+    ensures { λ r. ⌜ PutsOctets (now (out .entry)) at (entryOctets (saidBy (now (buffer .entry)) entry)) r (now (out .exit)) ⌝ }
+{
+    let past = put_block(buffer, entry, out, at);
+    put_unit(buffer, entry, out, past)
+}
+
+// How long an entry is, up to one more than the limit.
+fn entry_size(entry: Entry) -> usize
+    requires { ⌜ Ordered entry ⌝ }
+    ensures { λ r. ⌜ r ≡ capped (entrySizeBy (namesOf entry) (textOf entry)) ⌝ }
+{
+    size_by(
+        size_of(entry.identifier) + size_of(entry.portion),
+        size_of(entry.text),
+    )
+}
+
+// How long the letter is that is made of the entries, up to one more than the limit.
+pub fn measure(numbers: &[u32]) -> usize
+    requires { ⌜ AllOrdered (now numbers) ⌝ }
+    ensures { λ r. ⌜ r ≡ capped (sizeFor (now (numbers .entry))) ⌝ }
+{
+    let count = numbers.len() / ENTRY_WIDTH;
+    let mut size: usize = 2;
+    let mut k: usize = 0;
+    while k < count {
+        size = cap(size + entry_size(crate::entry_at(numbers, k)));
+        k += 1;
+    }
+    size
+}
+
+// Writes the entries in order.
+fn put_entries(buffer: &[u8], numbers: &[u32], out: &mut [u8], begin: usize) -> usize
+    requires { ⌜ AllLie (now buffer) (now numbers) × (sizeFor (now numbers) ≤ streamLimit)
+        × (begin ≡ 2) × (sizeFor (now numbers) ≤ length (now out)) ⌝ }
+    ensures { λ r. ⌜ PutsOctets (now (out .entry)) begin (entriesOctets (saidIn (now (buffer .entry)) (now (numbers .entry)))) r (now (out .exit)) ⌝ }
+{
+    let count = numbers.len() / ENTRY_WIDTH;
+    let mut at = begin;
+    let mut k: usize = 0;
+    while k < count {
+        at = put_entry(buffer, crate::entry_at(numbers, k), out, at);
+        k += 1;
+    }
+    at
+}
+
+// Writes the letter, an empty profile and the entries, and says how long it is.
+pub fn put_letter(buffer: &[u8], numbers: &[u32], out: &mut [u8]) -> usize
+    requires { ⌜ AllLie (now buffer) (now numbers) × (sizeFor (now numbers) ≤ streamLimit) × (sizeFor (now numbers) ≤ length (now out)) ⌝ }
+    ensures { λ r. ⌜ PutsOctets (now (out .entry)) 0 (streamOctets (saidIn (now (buffer .entry)) (now (numbers .entry)))) r (now (out .exit)) ⌝ }
+{
+    out[0] = 0xA0;
+    out[1] = 0x00;
+    put_entries(buffer, numbers, out, 2)
 }
