@@ -54,6 +54,14 @@ passed true false c d e = absurd (omega arith)
 passed false b c d e = absurd (omega arith)
 
 module _ (buffer : List ℕ) where
+  -- it passes 27 and 14
+  pub passed-tests : (done : List Said) (entry : Entry) → entryRefusal buffer done entry ≡ 0
+      → (partsInside buffer entry ≡ true) × (wellSpelt (saidBy buffer entry) ≡ true)
+  unfolding entryRefusal
+  passed-tests done entry e =
+      let p = passed (partsInside buffer entry) (wellSpelt (saidBy buffer entry)) (used done (saidBy buffer entry)) (ltb mostElements (elementsFor (suc (length done)))) e in
+      (p .first, p .second)
+
   pub fits-one : (done : List Said) (entry : Entry) → entryRefusal buffer done entry ≡ 0 → Fits done (saidBy buffer entry)
   unfolding entryRefusal
   fits-one done entry e =

@@ -62,6 +62,10 @@ size-on numbers k (suc m) l =
     let below : k ≤ m = omega (arith, eqb-false k (suc m) t) in
     omega (arith, size-on numbers k m below, size-next numbers m))
 
+pub size-some : (numbers : List ℕ) (k : ℕ) → 2 ≤ sizeUpTo numbers k
+unfolding sizeUpTo
+size-some numbers k = size-on numbers 0 k (omega arith)
+
 -- what the first entries say, with one more
 pub said-next : (buffer numbers : List ℕ) (k : ℕ) → saidUpTo buffer numbers (suc k) ≡ saidUpTo buffer numbers k ++ (saidBy buffer (entryAt numbers k) ∷ [])
 unfolding entriesIn
@@ -112,6 +116,6 @@ module _ (buffer numbers : List ℕ) where
       → PutsOctets before begin (entriesOctets (saidUpTo buffer numbers (k + 1))) past after
   written-next {before} {out} {after} {begin} {at} {past} k entry e p q =
       let octets = ap (λ (x : Entry). entriesOctets (saidUpTo buffer numbers k) ++ entryOctets (saidBy buffer x)) e
-          ∙ sym (written-more (saidUpTo buffer numbers k) (saidBy buffer (entryAt numbers k)))
-          ∙ ap entriesOctets (sym (said-next buffer numbers k)) ∙ ap (λ (n : ℕ). entriesOctets (saidUpTo buffer numbers n)) (sym (add-one k)) in
+      ∙ sym (written-more (saidUpTo buffer numbers k) (saidBy buffer (entryAt numbers k)))
+      ∙ ap entriesOctets (sym (said-next buffer numbers k)) ∙ ap (λ (n : ℕ). entriesOctets (saidUpTo buffer numbers n)) (sym (add-one k)) in
       subst (λ (xs : List ℕ). PutsOctets before begin xs past after) octets (puts-then p q)

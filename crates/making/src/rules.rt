@@ -1,7 +1,7 @@
 // The refusals of entries: 27, 14, 15 and 9 in this order within each, entries in order.
-use super::entry_at;
-use super::Entry;
 use super::ENTRY_WIDTH;
+use super::Entry;
+use super::entry_at;
 use answers::Reason;
 use contents::Span;
 use index::RowFound;
@@ -123,14 +123,7 @@ fn is_used(
 }
 
 // The refusal of entry n, after those that are done.
-fn rule(
-    buffer: &[u8],
-    rows: &[u32],
-    head: &[u16],
-    next: &[u16],
-    n: usize,
-    entry: Entry,
-) -> Ruled
+fn rule(buffer: &[u8], rows: &[u32], head: &[u16], next: &[u16], n: usize, entry: Entry) -> Ruled
     requires { ⌜ Bounded (now buffer) (now rows) identifierColumn n × Indexed (now buffer) (now rows) identifierColumn (now head) (now next) n ⌝ }
     ensures { λ r. ⌜ Rules (now (buffer .entry)) (now (rows .entry)) (now (head .entry)) (now (next .entry)) n entry r ⌝ }
 {

@@ -1,8 +1,8 @@
 // How long a letter is, and its octets, from front to back.
-use octets::STREAM_LIMIT;
-use contents::Span;
-use crate::Entry;
 use crate::ENTRY_WIDTH;
+use crate::Entry;
+use contents::Span;
+use octets::STREAM_LIMIT;
 ghost use mathlib.Core.Path.{_≡_};
 ghost use mathlib.Core.List.{List, [], _∷_, _++_};
 ghost use Prim.Native.Nat.{_+_, _-_, _<_, _≤_};
@@ -13,8 +13,21 @@ ghost use Rattle.normal.specs.Passes.{PutsOctets};
 ghost use Rattle.normal.specs.Normal.{furtherOctets};
 ghost use Rattle.elements.specs.Rows.{bytesIn};
 ghost use Rattle.making.specs.Entries.{saidBy};
-ghost use Rattle.making.specs.Octets.{itemSize, unitSizeBy, entrySizeBy, capped, header, blockFront, portionFront, unitFront, blockOctets, unitOctets, entryOctets,
-    entriesOctets, streamOctets};
+ghost use Rattle.making.specs.Octets.{
+  itemSize,
+  unitSizeBy,
+  entrySizeBy,
+  capped,
+  header,
+  blockFront,
+  portionFront,
+  unitFront,
+  blockOctets,
+  unitOctets,
+  entryOctets,
+  entriesOctets,
+  streamOctets,
+};
 ghost use Rattle.making.specs.Flat.{saidIn};
 ghost use Rattle.making.specs.Lent.{PartLies, namesOf, textOf, EntryLies, Ordered, AllLie, AllOrdered, sizeFor};
 

@@ -1,27 +1,27 @@
+-- `making::writing::put_letter` meets its contract: two octets, and the entries after them. Assumes nothing.
+use mathlib.Core.Path.{refl, _∙_}
+use Prim.Native.Nat.{_/_}
+use lib.ListN.{length, length-set}
+use native.Mathlib.Omega.{arith}
+use denote.Ref.{now}
+use Rattle.making.specs.Flat.{entryWidth}
+use Rattle.making.proofs.Lent.{size-some}
 use borrow.Author.Needs.{needs}
 use Rattle.making.proofs.writing.put_letter.Statement.{statement}
 use Rattle.making.proofs.writing.put_letter.Tie as tie
-use Rattle.making.proofs.writing.put_letter.Reads as reads
-use Rattle.making.proofs.writing.put_letter.Lts as lts
-use Rattle.making.proofs.writing.put_entries.Reads as put-entries-reads
 
--- src/writing.rt:196:5
 slice-write-out : tie.Need-slice-write-out
-slice-write-out c = ?
+slice-write-out c = omega (arith, c .before .before .before .pre .2, size-some (now (c .before .before .before .args .numbers)) (length (now (c .before .before .before .args .numbers)) / entryWidth))
 
--- src/writing.rt:197:5
 slice-write-out-2 : tie.Need-slice-write-out-2
-slice-write-out-2 c = ?
+slice-write-out-2 c = simp length-set (omega (arith, c .before .before .before .pre .2, size-some (now (c .before .before .before .args .numbers)) (length (now (c .before .before .before .args .numbers)) / entryWidth)))
 
--- src/writing.rt:198:5
 put-entries-requires : tie.Need-put-entries-requires
 put-entries-requires c κs = search needs
 
--- src/writing.rt:192:1
 same-length : tie.Need-same-length
-same-length c = ?
+same-length c = c .before .before .put-entries .kept .1 .1 .0 ∙ simp length-set refl
 
--- src/writing.rt:192:1
 returns : tie.Need-returns
 returns c = search needs
 
