@@ -11,14 +11,14 @@ use lib.Seq.{append-snoc}
 use borrow.Author.Tests.{lt-leb, ne-eqb}
 use borrow.Table.Steps.{cases}
 use Rattle.names.specs.Names.{same}
-use Rattle.names.proofs.Same.{same-eq, same-ne}
+use Rattle.names.proofs.Same.{same-eq, same-refl}
 use Rattle.names.proofs.Joined.{joined-parts}
 use Rattle.tree.specs.Tree.{Tree, branch}
 use Rattle.contents.specs.Search.{is}
 use Rattle.portions.specs.Portions.{any, among, repeats}
 use Rattle.index.specs.Rows.{nameSpaceOf}
 use Rattle.elements.specs.declared.Edition.{Edition}
-use Rattle.elements.specs.Judge.{Element, mostElements, profile, clash, twice, Judged, accepted, judgeOne, judgeFrom, judge}
+use Rattle.elements.specs.Judge.{Element, mostElements, profileOctet, clash, twice, Judged, accepted, judgeOne, judgeFrom, judge}
 use Rattle.elements.proofs.Refusals.{refusal-by-shape}
 use Rattle.making.specs.Entries.{Said, unitName, used, elementsFor, Spelt}
 use Rattle.making.specs.Stream.{blockType, unitType, unitRun, entriesTree, letterTree}
@@ -71,7 +71,7 @@ units-differ x said p q n =
     cases (same (unitName x) (unitName said))
     (λ t.
     let e = joined-parts (x .identifier) (said .identifier) (x .portion) (said .portion) (p .portion) (q .portion) (same-eq (unitName x) (unitName said) t) in
-    absurd (same-ne (x .identifier) (said .identifier) n (e .0)))
+    absurd (true≢false (sym (same-refl (said .identifier)) ∙ ap (λ (l : List ℕ). same l (said .identifier)) (sym (e .0)) ∙ n)))
     (λ t. t)
 
 unit-clashes : (done : List Said) (said : Said) → AllSpelt done → Spelt said → used done said ≡ false
@@ -89,14 +89,14 @@ unit-once done said a s e = rw (unit-clashes done said a s e)
 
 -- one element that is taken, and not the first unless it is the profile
 taken : {edition : Edition} {type : List ℕ} {run : Tree} {element : Element} → Takes edition type run element → (done : List Element)
-    → leb mostElements (length done) ≡ false → xor (eqb (length done) 0) (is profile type) ≡ false → twice done element ≡ false
+    → leb mostElements (length done) ≡ false → xor (eqb (length done) 0) (is profileOctet type) ≡ false → twice done element ≡ false
     → (more : List Element → Judged) → judgeOne edition done type run more ≡ more (done ++ (element ∷ []))
 unfolding judgeOne
 taken {edition} {type} {run} takes done few first once more =
     rw (refusal-by-shape edition done type run few (takes .known) first, takes .passes, takes .says, once)
 
 module _ (edition : Edition) (takes : TakesAll edition) where
-  later : (done : List Element) (type : List ℕ) → is profile type ≡ false → 0 < length done → xor (eqb (length done) 0) (is profile type) ≡ false
+  later : (done : List Element) (type : List ℕ) → is profileOctet type ≡ false → 0 < length done → xor (eqb (length done) 0) (is profileOctet type) ≡ false
   unfolding xor
   later done type e l = rw (e, ne-eqb (length done) 0 (λ z. omega arith))
 

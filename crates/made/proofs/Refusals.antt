@@ -14,6 +14,7 @@ use Rattle.elements.specs.Judge.{mostElements, firstOf, _when_}
 use Rattle.making.specs.declared.Entry.{Entry}
 use Rattle.making.specs.Entries.{Said, saidBy, partsInside, wellSpelt, used, elementsFor, entryRefusal, fit, refused, judgeFrom, judge}
 use Rattle.made.specs.Promises.{InOrder, FirstRefused, Refuses}
+use Rattle.making.proofs.Ruling.{refuses-27, refuses-14, refuses-15, refuses-9, refuses-none}
 use Rattle.making.proofs.Fitting.{one-more, fits-one, fitting-from, judged-on, fit-few, says, count-said}
 
 -- the number of one entry: one of four, or none; and 9 only by its own test
@@ -54,16 +55,13 @@ module _ (buffer : List ℕ) where
 
   -- each number by its own test, if those before it pass
   order : (done : List Said) (entry : Entry) → InOrder buffer done entry
-  unfolding entryRefusal
-  order done entry =
-      let most = elementsFor (suc (length done)) in
-      record {
-        outside = λ i. rw i;
-        misspelt = λ i w. rw (i, w);
-        again = λ i w u. rw (i, w, u);
-        many = λ i w u l. rw (i, w, u, lt-ltb mostElements most (omega arith));
-        fits = λ i w u l. rw (i, w, u, le-ltb mostElements most (omega arith));
-      }
+  order done entry = record {
+    outside = refuses-27 buffer done entry;
+    misspelt = refuses-14 buffer done entry;
+    again = refuses-15 buffer done entry;
+    many = refuses-9 buffer done entry;
+    fits = refuses-none buffer done entry;
+  }
 
   -- 9 at an entry, after some that are within the elements
   nine-from : (done : List Said) (entries : List Entry) (entry : ℕ) → length done ≤ 2047 → judgeFrom buffer done entries ≡ refused 9 entry → entry ≡ 2047
@@ -140,10 +138,10 @@ module _ (buffer : List ℕ) where
     order = order;
     first = first;
     told = λ entries number entry e. let r = told-from [] entries number entry e in (r .0, omega (arith, r .1));
-    says = says;
+    says = says buffer;
     nine = λ entries entry e. nine-from [] entries entry (omega arith) e;
     nine-given = λ entries said e n entry more i w u.
-        judged-on [] entries (entry ∷ more) said e ∙ nine-one said entry more (count-said entries said e ∙ n) i w u;
+        judged-on buffer [] entries (entry ∷ more) said e ∙ nine-one said entry more (count-said buffer entries said e ∙ n) i w u;
     at-most = λ entries said e.
         let f = fitting-from buffer [] entries said e in
         let l = fit-few [] (map (saidBy buffer) entries) (omega arith) (f .all-fit) in
