@@ -12,6 +12,8 @@ pub use reading::Side;
 ghost use mathlib.Core.Path.{_≡_};
 ghost use Rattle.answers.specs.Answers.{ruled, CheckOutcome, NormalOutcome, ListOutcome, fetched, whyNot, Fetches, JoinedOutcome};
 ghost use Rattle.answers.specs.Short.{ShortOutcome};
+ghost use Rattle.making.specs.Answers.{MakeOutcome};
+ghost use Rattle.making.specs.Flat.{entriesOf};
 
 // The most octets of a stream that the mailroom box asks about.
 const SHORT_LIMIT: usize = 65535;
@@ -198,6 +200,14 @@ pub fn normal_short(stream: &[u8], out: &mut [u8]) -> Written
     }
 }
 
+// Makes a letter of entries, of which each has an identifier, a portion and a text: six numbers an entry, a first and past in the buffer for
+// each of these. A handler's answer is made of this; nothing is written to an output that is too short.
+pub fn make(buffer: &[u8], entries: &[u32], out: &mut [u8]) -> Written
+    ensures { λ r. ⌜ MakeOutcome (now (buffer .entry)) (entriesOf (now (entries .entry))) (now (out .entry)) r (now (out .exit)) ⌝ }
+{
+    making::make(buffer, entries, out)
+}
+
 // The same questions for C, as include/odif.h declares them: a slice is a pointer and a length, and a null pointer with length 0 is fine.
 #[no_mangle]
 pub extern "C" fn odif_check(stream: &[u8], table: &mut [u32]) -> Checked
@@ -246,4 +256,12 @@ pub extern "C" fn odif_normal_short(stream: &[u8], out: &mut [u8]) -> Written
     ensures { λ r. ⌜ ShortOutcome (now (stream .entry)) (now (out .entry)) r (now (out .exit)) ⌝ }
 {
     normal_short(stream, out)
+}
+
+// The header's `odif_make` hands its entries to this one as numbers.
+#[no_mangle]
+pub extern "C" fn odif_make_numbers(buffer: &[u8], entries: &[u32], out: &mut [u8]) -> Written
+    ensures { λ r. ⌜ MakeOutcome (now (buffer .entry)) (entriesOf (now (entries .entry))) (now (out .entry)) r (now (out .exit)) ⌝ }
+{
+    make(buffer, entries, out)
 }
