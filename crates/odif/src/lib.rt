@@ -13,6 +13,8 @@ pub use reading::Side;
 ghost use mathlib.Core.Path.{_≡_};
 ghost use Rattle.answers.specs.Answers.{ruled, CheckOutcome, NormalOutcome, ListOutcome, fetched, whyNot, Fetches, JoinedOutcome};
 ghost use Rattle.answers.specs.Short.{ShortOutcome};
+ghost use Rattle.making.specs.Answers.{MakeOutcome};
+ghost use Rattle.making.specs.Flat.{entriesOf};
 
 mod arriving; // arriving.rt: a letter that arrives in blocks
 
@@ -218,6 +220,14 @@ pub fn normal_short(edition: Edition, stream: &[u8], out: &mut [u8]) -> Written
     }
 }
 
+// Makes a letter of entries, of which each has an identifier, a portion and a text: six numbers an entry, a first and past in the buffer for
+// each of these. A handler's answer is made of this; nothing is written to an output that is too short.
+pub fn make(buffer: &[u8], entries: &[u32], out: &mut [u8]) -> Written
+    ensures { λ r. ⌜ MakeOutcome (now (buffer .entry)) (entriesOf (now (entries .entry))) (now (out .entry)) r (now (out .exit)) ⌝ }
+{
+    making::make(buffer, entries, out)
+}
+
 // The same questions for C, as include/odif.h declares them: a slice is a pointer and a length, and a null pointer with length 0 is fine.
 #[no_mangle]
 pub extern "C" fn odif_check(stream: &[u8], table: &mut [u32]) -> Checked
@@ -268,4 +278,12 @@ pub extern "C" fn odif_normal_short(stream: &[u8], out: &mut [u8]) -> Written
     ensures { λ r. ⌜ ShortOutcome Edition.Of1988 (now (stream .entry)) (now (out .entry)) r (now (out .exit)) ⌝ }
 {
     normal_short(Edition::Of1988, stream, out)
+}
+
+// The header's `odif_make` hands its entries to this one as numbers.
+#[no_mangle]
+pub extern "C" fn odif_make_numbers(buffer: &[u8], entries: &[u32], out: &mut [u8]) -> Written
+    ensures { λ r. ⌜ MakeOutcome (now (buffer .entry)) (entriesOf (now (entries .entry))) (now (out .entry)) r (now (out .exit)) ⌝ }
+{
+    make(buffer, entries, out)
 }
