@@ -18,7 +18,7 @@ const MULTIPLIER: usize = 2_654_435_761;
 
 const HASHES: usize = 4_294_967_296;
 
-fn is_digit(byte: u8) -> bool
+pub fn is_digit(byte: u8) -> bool
     ensures { λ r. ⌜ r ≡ isDigit byte ⌝ }
 {
     if byte < 48 {
