@@ -1,6 +1,7 @@
 // The public questions, and nothing else. None has a `requires`: any caller may ask, of any octets, with any buffers.
 pub use answers::Checked;
 pub use answers::Copied;
+pub use answers::Dated;
 pub use answers::Found;
 pub use answers::Listed;
 use answers::Question;
@@ -13,6 +14,8 @@ pub use reading::Side;
 ghost use mathlib.Core.Path.{_≡_};
 ghost use Rattle.answers.specs.Answers.{ruled, CheckOutcome, NormalOutcome, ListOutcome, fetched, whyNot, Fetches, JoinedOutcome};
 ghost use Rattle.answers.specs.Short.{ShortOutcome};
+ghost use Rattle.answers.specs.Dates.{dateOf, DateOutcome};
+ghost use Rattle.elements.specs.declared.Edition.the-variants.{Of1988};
 
 // The most octets of a stream that the mailroom box asks about.
 const SHORT_LIMIT: usize = 65535;
@@ -216,6 +219,28 @@ pub fn normal_short(edition: Edition, stream: &[u8], out: &mut [u8]) -> Written
     }
 }
 
+// The date of the document: the octets of the one date in the letter's profile, a part of the caller's own stream. It is an empty part if the
+// stream is refused, or has no such date, or that names no day. The viewer shows it above the letter, and `dated` says why it is empty.
+pub fn date<'a>(stream: &'a [u8]) -> &'a [u8]
+    ensures { λ r. ⌜ now r ≡ dateOf Of1988 (now (stream .entry)) .part ⌝ }
+{
+    let told = dated(stream);
+    let first = told.first as usize;
+    let past = told.past as usize;
+    &stream[first..past]
+}
+
+// The same date in numbers: where its octets stand, and its year, month and day. With a refusal they are 0.
+pub fn dated(stream: &[u8]) -> Dated
+    ensures { λ r. ⌜ DateOutcome Of1988 (now (stream .entry)) r ⌝ }
+{
+    let refused = refused_by(stream);
+    if refused.number != 0 {
+        return answers::refused_date(refused.number, refused.place);
+    }
+    answers::date_of_letter(stream)
+}
+
 // The same questions for C, as include/odif.h declares them: a slice is a pointer and a length, and a null pointer with length 0 is fine.
 #[no_mangle]
 pub extern "C" fn odif_check(stream: &[u8], table: &mut [u32]) -> Checked
@@ -266,4 +291,11 @@ pub extern "C" fn odif_normal_short(stream: &[u8], out: &mut [u8]) -> Written
     ensures { λ r. ⌜ ShortOutcome Edition.Of1988 (now (stream .entry)) (now (out .entry)) r (now (out .exit)) ⌝ }
 {
     normal_short(Edition::Of1988, stream, out)
+}
+
+#[no_mangle]
+pub extern "C" fn odif_date(stream: &[u8]) -> Dated
+    ensures { λ r. ⌜ DateOutcome Of1988 (now (stream .entry)) r ⌝ }
+{
+    dated(stream)
 }

@@ -1,0 +1,172 @@
+-- The date of a letter: its first element is the profile, so the date in the run that is met there is the letter's. Assumes nothing.
+use mathlib.Core.Path.{_≡_, refl, ap, sym, _∙_}
+use mathlib.Core.Bool.{Bool, true, false, cond, not, xor, true≢false}
+use mathlib.Core.List.{List, [], _∷_}
+use Prim.Native.Nat.{ℕ, _≤_}
+use native.Mathlib.Omega.{arith}
+use lib.Dec.{eqb}
+use lib.ListN.{length}
+use lib.Seq.{slice-empty}
+use borrow.Author.Tests.{eqb-true, eqb-false, eq-eqb, ne-eqb}
+use borrow.Table.Steps.{cases}
+use Rattle.headers.specs.Head.{constructed, typeField}
+use Rattle.octets.specs.Walk.{Items, none, item, streamLimit}
+use Rattle.tree.specs.Tree.{Tree, empty, formed, plain, treeOf}
+use Rattle.runs.specs.declared.Run.{Run}
+use Rattle.runs.specs.Runs.{itemsOf, treeIn, wholeStream, Meeting}
+use Rattle.runs.proofs.Laws.{tree-meets, tree-none}
+use Rattle.contents.specs.Search.{is, firstRun, itemsIn}
+use Rattle.contents.proofs.Firsts.{is-field}
+use Rattle.dates.specs.declared.DateFound.{DateFound}
+use Rattle.dates.specs.Dates.{Date, dateIn}
+use Rattle.dates.specs.Places.{placesFrom, Answers}
+use Rattle.dates.proofs.Real.{asDate, found-small}
+use Rattle.elements.specs.declared.Edition.{Edition}
+use Rattle.elements.specs.Shape.{shapeOf}
+use Rattle.elements.specs.Judge.{Element, Judged, accepted, refused, profileOctet, refusalOf, judgeOne, judgeFrom, judge}
+use Rattle.letters.specs.Letter.{Letter, letter, refusal, itemsOfStream, letterOf}
+use Rattle.answers.specs.declared.Reason.{Reason}
+use Rattle.answers.specs.declared.Dated.{Dated}
+use Rattle.answers.specs.Answers.{ruledBy}
+use Rattle.answers.specs.Dates.{DateAnswer, noDate, dateAfter, profileIn, dateOf, datePlaces, soleSpan, dateSpan, datedAt, dated, Bounds, DateOutcome}
+use Rattle.answers.specs.Dating.{refusedDated, datedAs, Narrow}
+use Rattle.answers.proofs.Small.{refusal-small}
+use Rattle.answers.proofs.Letters.{letter-found}
+
+-- ---- the first element of a letter is its profile
+
+first-rules : (known profile : Bool) (more : ℕ) → cond (not known) 10 (cond (xor true profile) 11 more) ≡ 0 → profile ≡ true
+unfolding xor
+first-rules true true more e = refl
+first-rules true false more e = let z : _≡_ {A = ℕ} 11 0 = e in absurd (omega arith)
+first-rules false profile more e = let z : _≡_ {A = ℕ} 10 0 = e in absurd (omega arith)
+
+module _ (edition : Edition) where
+  first-profile : (type : List ℕ) (run : Tree) → refusalOf edition [] type run ≡ 0 → is profileOctet type ≡ true
+  unfolding refusalOf
+  first-profile type run e = first-rules (is (shapeOf edition type .octet) type) (is profileOctet type) _ e
+
+  one-passes : (type : List ℕ) (run : Tree) (more : List Element → Judged) (elements : List Element)
+      → judgeOne edition [] type run more ≡ accepted elements → is profileOctet type ≡ true
+  unfolding judgeOne
+  one-passes type run more elements e =
+      let n = refusalOf edition [] type run in
+      cases (eqb n 0)
+      (λ t. first-profile type run (eqb-true n 0 t))
+      (λ t. let f : refused n 0 ≡ accepted elements = rw t at e in let z : _≡_ {A = ℕ} 0 1 = cc in absurd (omega arith))
+
+  formed-passes : (b : Bool) (type value : List ℕ) (inside after : Tree) (elements : List Element)
+      → judge edition (formed b type value inside after) ≡ accepted elements → is profileOctet type ≡ true
+  unfolding judge judgeFrom
+  formed-passes true type value inside after elements e = one-passes type inside (λ more. judgeFrom edition more after) elements e
+  formed-passes false type value inside after elements e = one-passes type empty (λ more. judgeFrom edition more after) elements e
+
+  empty-fails : (elements : List Element) → judge edition empty ≡ accepted elements → ⊥
+  unfolding judge
+  empty-fails elements e = let z : _≡_ {A = ℕ} 0 1 = cc in omega arith
+
+  -- a stream that is accepted by rules 1 to 15 is judged so
+  pub record Judges (s : List ℕ) : Type 0 where
+    pub elements : List Element
+    pub judged : judge edition (treeOf s) ≡ accepted elements
+
+  judges-by : (s : List ℕ) (l : Letter) → letterOf edition s ≡ l → ruledBy l .number ≡ 0 → Judges s
+  judges-by s (letter headers elements) e zero = record { elements = elements; judged = letter-found edition s headers elements e .judged }
+  judges-by s (refusal number place headers) e zero = absurd (omega (arith, refusal-small edition s number place headers e .low))
+
+  judges : (s : List ℕ) → ruledBy (letterOf edition s) .number ≡ 0 → Judges s
+  judges s zero = judges-by s (letterOf edition s) refl zero
+
+  -- the element that is met first is the profile,
+  pub met-profile : (s : List ℕ) → ruledBy (letterOf edition s) .number ≡ 0 → {octet first past : ℕ} {inner rest : Run}
+      → Meeting s (wholeStream s) octet first past inner rest → octet ≡ profileOctet
+  met-profile s zero {octet} {first} {past} {inner} {rest} m =
+      let j = judges s zero in
+      let t = sym (ap (judge edition) (tree-meets m)) ∙ j .judged in
+      let p = formed-passes (constructed octet) (typeField octet) _ (treeIn s inner) (treeIn s rest) (j .elements) t in
+      eqb-true octet profileOctet (sym (is-field profileOctet octet) ∙ p)
+
+  -- and there is one
+  pub met-some : (s : List ℕ) → ruledBy (letterOf edition s) .number ≡ 0 → itemsOf s (wholeStream s) ≡ none → ⊥
+  met-some s zero e =
+      let j = judges s zero in
+      empty-fails (j .elements) (sym (ap (judge edition) (tree-none s (wholeStream s) e)) ∙ j .judged)
+
+-- ---- what was found in its run is the answer
+
+-- the items and the tree of the profile, where it comes first
+module _ (s : List ℕ) (inner : Run) {items : Items} {at octet first past : ℕ} {after : Items} (p : octet ≡ profileOctet)
+    (e : items ≡ item at octet first past (itemsOf s inner) after) where
+  profile-items : itemsIn profileOctet items ≡ itemsOf s inner
+  unfolding itemsIn
+  profile-items = ap (itemsIn profileOctet) e ∙ rw (eq-eqb octet profileOctet p)
+
+  first-formed : (b : Bool) (value : List ℕ) (inside more : Tree) → constructed octet ≡ b → profileIn (formed b (typeField octet) value inside more) ≡ inside
+  unfolding firstRun
+  first-formed true value inside more c = rw (is-field profileOctet octet, eq-eqb octet profileOctet p)
+  first-formed false value inside more c = let z : true ≡ false = sym (ap constructed p) ∙ c in absurd (true≢false z)
+
+  profile-tree : profileIn (plain s items) ≡ treeIn s inner
+  profile-tree = ap (λ (i : Items). profileIn (plain s i)) e ∙ first-formed (constructed octet) _ (treeIn s inner) (plain s after) refl
+
+  -- the answer, by the date that was found: its numbers, and that they bound its part
+  pub record Found (ruled : Reason) (told : Dated) : Type 0 where
+    pub answered : told ≡ datedAt (dateAfter ruled (dateIn (profileIn (plain s items))))
+        (dateSpan (dateAfter ruled (dateIn (profileIn (plain s items)))) (datePlaces items))
+    pub stands : Bounds s (dateAfter ruled (dateIn (profileIn (plain s items))) .part) (told .first) (told .past)
+
+  module _ (ruled : Reason) (zero : ruled .number ≡ 0) {d : DateFound} (a : Answers s inner d) where
+    date-is : dateIn (profileIn (plain s items)) ≡ asDate s d
+    date-is = ap dateIn profile-tree ∙ a .date
+
+    answer-is : dateAfter ruled (dateIn (profileIn (plain s items)))
+        ≡ record { number = d .number; place = 0; part = asDate s d .value; day = asDate s d .day }
+    answer-is = rw (date-is, eq-eqb (ruled .number) 0 zero)
+
+    span-is : (b : Bool) → eqb (d .number) 0 ≡ b → cond b (soleSpan (datePlaces items)) (record { first = 0; past = 0 })
+        ≡ record { first = d .first; past = d .past }
+    span-is true z = ap soleSpan (ap (placesFrom 2) profile-items ∙ a .place (eqb-true (d .number) 0 z))
+    span-is false z = let n = a .no-part (eqb-false (d .number) 0 z) in rw (n .0, n .1)
+
+    pub found-told : Found ruled (datedAs d)
+    found-told =
+        let span = span-is (eqb (d .number) 0) refl in
+        record {
+          answered = rw (answer-is, span);
+          stands = record { part = sym (ap (λ (x : DateAnswer). x .part) answer-is); order = a .order; inside = a .inside };
+        }
+
+-- the numbers of a date that was found fit 32 bits
+pub found-narrow : {s : List ℕ} {r : Run} {d : DateFound} → Answers s r d → length s ≤ streamLimit → Narrow d
+found-narrow {s} {r} {d} a l =
+    let small = found-small a in
+    let order = a .order in
+    let inside = a .inside in
+    record {
+      number = small .number;
+      first = omega arith;
+      past = omega arith;
+      year = small .year;
+      month = small .month;
+      day = small .day;
+    }
+
+module _ (edition : Edition) (s : List ℕ) where
+  -- of a letter
+  pub date-told : ruledBy (letterOf edition s) .number ≡ 0 → {octet first past : ℕ} {inner rest : Run}
+      → Meeting s (wholeStream s) octet first past inner rest → {d : DateFound} → Answers s inner d → DateOutcome edition s (datedAs d)
+  unfolding dateOf dated
+  date-told zero {inner = inner} m a =
+      let f = found-told s inner (met-profile edition s zero m) (m .tree) (ruledBy (letterOf edition s)) zero a in
+      record { answered = f .answered; stands = f .stands }
+
+  -- of a stream that rules 1 to 15 refuse
+  pub date-refused : (some : (ruledBy (letterOf edition s) .number ≡ 0 → ⊥)) → (number place : ℕ)
+      → ruledBy (letterOf edition s) ≡ record { number = number; place = place } → DateOutcome edition s (refusedDated number place)
+  unfolding dateOf dated
+  date-refused some number place e =
+      let n : eqb number 0 ≡ false = ne-eqb number 0 (λ z. some (ap (λ (r : Reason). r .number) e ∙ z)) in
+      record {
+        answered = rw (e, n, n);
+        stands = record { part = rw (e, n) (slice-empty 0 s); order = omega arith; inside = omega arith };
+      }
