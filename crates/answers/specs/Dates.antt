@@ -19,10 +19,10 @@ use Rattle.dates.specs.Places.{Place, bounds, noBounds, placesFrom}
 use Rattle.elements.specs.declared.Edition.{Edition}
 use Rattle.elements.specs.Judge.{profileOctet}
 use Rattle.elements.specs.Rows.{noSpan}
-use Rattle.letters.specs.Letter.{itemsOfStream, letterOf}
+use Rattle.letters.specs.Letter.{itemsOfStream}
 use Rattle.answers.specs.declared.Reason.{Reason}
 use Rattle.answers.specs.declared.Dated.{Dated}
-use Rattle.answers.specs.Answers.{ruledBy}
+use Rattle.answers.specs.Answers.{ruled}
 
 -- what is answered: the number and place of a refusal, or 0 and 0; the octets of the date; year, month and day
 pub record DateAnswer : Type 0 where
@@ -46,7 +46,7 @@ profileIn elements = firstRun profileOctet elements
 
 -- THE DATE of a stream: if rules 1 to 15 accept it, the date in its profile
 unfoldable pub dateOf : Edition → (s : List ℕ) → DateAnswer
-dateOf edition s = dateAfter (ruledBy (letterOf edition s)) (dateIn (profileIn (treeOf s)))
+dateOf edition s = dateAfter (ruled edition s) (dateIn (profileIn (treeOf s)))
 
 -- Where it stands: the value of the one item on the path. With a refusal the bounds are 0 and 0.
 abbrev pub datePlaces : Items → List Place

@@ -8,8 +8,7 @@ ghost use lib.ListN.{length};
 ghost use Rattle.octets.specs.Walk.{streamLimit};
 ghost use Rattle.runs.specs.Runs.{wholeStream, Fine};
 ghost use Rattle.elements.specs.declared.Edition.{Edition};
-ghost use Rattle.letters.specs.Letter.{letterOf};
-ghost use Rattle.answers.specs.Answers.{ruledBy};
+ghost use Rattle.answers.specs.Answers.{ruled};
 ghost use Rattle.answers.specs.Dates.{DateOutcome};
 ghost use Rattle.answers.specs.Dating.{refusedDated, datedAs, Narrow};
 
@@ -29,7 +28,7 @@ pub fn refused_date(number: u32, place: u32) -> Dated
 }
 
 // A date that was looked for, in numbers of 32 bits.
-fn dated_as(found: DateFound) -> Dated
+pub fn dated_as(found: DateFound) -> Dated
     requires { ⌜ Narrow found ⌝ }
     ensures { λ r. ⌜ r ≡ datedAs found ⌝ }
 {
@@ -47,7 +46,7 @@ fn dated_as(found: DateFound) -> Dated
 // The date of a stream that was walked, if it is a letter: the first element of a letter is its profile.
 pub fn date_of_letter(stream: &[u8]) -> Dated
     requires { ⌜ Fine (now stream) (wholeStream (now stream)) × (length (now stream) ≤ streamLimit) ⌝ }
-    ensures { λ r. ⌜ ((edition : Edition) → ruledBy (letterOf edition (now (stream .entry))) .number ≡ 0 → DateOutcome edition (now (stream .entry)) r) ⌝ }
+    ensures { λ r. ⌜ ((edition : Edition) → ruled edition (now (stream .entry)) .number ≡ 0 → DateOutcome edition (now (stream .entry)) r) ⌝ }
 {
     match runs::meet(stream, runs::whole_stream(stream)) {
         Met::End => refused_date(0, 0),

@@ -2,7 +2,6 @@
 use mathlib.Core.Path.{_≡_, ap, sym, _∙_, subst}
 use borrow.Author.Needs.{needs}
 use denote.Ref.{now}
-use Rattle.elements.specs.declared.Edition.the-variants.{Of1988}
 use Rattle.runs.proofs.Laws.{stream-fine, stream-within}
 use Rattle.answers.specs.declared.Reason.{Reason}
 use Rattle.answers.specs.Answers.{ruled}
@@ -20,27 +19,27 @@ refused-date-requires : tie.Need-refused-date-requires
 refused-date-requires c κs = search needs
 
 returns : tie.Need-returns
-unfolding ruled
 returns c =
-    let s = now (c .before .before .before .before .before .args .stream) in
+    let a = c .before .before .before .before .before .args in
+    let s = now (a .stream) in
     let r = c .before .before .before .refused-by in
-    let some : (ruled s .number ≡ 0 → ⊥) = λ z. c .before .if1 .taken (ap (λ (x : Reason). x .number) (r .ensures) ∙ z) in
-    subst (DateOutcome Of1988 s) (sym (c .refused-date .ensures)) (date-refused Of1988 s some (r .result .number) (r .result .place) (sym (r .ensures)))
+    let some : (ruled (a .edition) s .number ≡ 0 → ⊥) = λ z. c .before .if1 .taken (ap (λ (x : Reason). x .number) (r .ensures) ∙ z) in
+    subst (DateOutcome (a .edition) s) (sym (c .refused-date .ensures)) (date-refused (a .edition) s some (r .result .number) (r .result .place) (sym (r .ensures)))
 
 -- the rules refuse nothing
-accepted : (c : tie.Else1) → ruled (now (c .before .before .before .before .args .stream)) .number ≡ 0
+accepted : (c : tie.Else1) → let a = c .before .before .before .before .args in ruled (a .edition) (now (a .stream)) .number ≡ 0
 accepted c = sym (ap (λ (x : Reason). x .number) (c .before .before .refused-by .ensures)) ∙ c .if1 .left
 
 date-of-letter-requires : tie.Need-date-of-letter-requires
 date-of-letter-requires c κs =
-    let s = now (c .before .before .before .before .args .stream) in
-    let p = is-letter s (accepted c) in
-    let f = letter-found Of1988 s (p .headers) (p .elements) (p .judged) in
+    let a = c .before .before .before .before .args in
+    let s = now (a .stream) in
+    let p = is-letter (a .edition) s (accepted c) in
+    let f = letter-found (a .edition) s (p .headers) (p .elements) (p .judged) in
     (stream-fine s (f .at) (p .headers) (f .walked), stream-within s (f .at) (p .headers) (f .walked))
 
 returns-2 : tie.Need-returns-2
-unfolding ruled
-returns-2 c = c .date-of-letter .ensures Of1988 (accepted (c .before))
+returns-2 c = c .date-of-letter .ensures (c .before .before .before .before .before .args .edition) (accepted (c .before))
 
 pub dated-spec : {M : Type 1} → statement M
 dated-spec = tie.close (tie.spec refused-by-requires refused-date-requires returns date-of-letter-requires returns-2)
