@@ -23,11 +23,10 @@ mod table; // table.rt: the lent table
 
 use content::join_judged;
 use content::locate_judged;
-use table::TABLE_WIDTH;
-
 pub use date::date_of_letter;
 pub use date::refused_date;
 pub use first_date::date_of_first;
+use table::TABLE_WIDTH;
 
 // The numbers of refusals that come after rules 1 to 15, those of the questions themselves; 17 and 18 are crate normal's.
 const TOO_FEW_ROWS: u32 = 16;

@@ -88,12 +88,13 @@ Unnamed items = (value : List ℕ) × (items ≡ primitive value ∷ []) × ((d 
 
 items-24 : (items : List DateItem) → (theDate items .number ≡ 24) ↔ Unnamed items
 unfolding theDate
-items-24 [] = (λ p. absurd (omega arith), λ u. absurd (none-there (u .0) (u .1 .0)))
-items-24 (primitive value ∷ []) =
-    (λ p. (value, (refl, value-24 value (namesDay value) refl .0 p)),
-    λ u. let e : value ≡ u .0 = cc in value-24 value (namesDay value) refl .1 (subst (λ (v : List ℕ). (d : Day) → Names v d → ⊥) (sym e) (u .1 .1)))
-items-24 (constructed ∷ []) = (λ p. absurd (omega arith), λ u. absurd (other-form (u .0) (u .1 .0)))
-items-24 (one ∷ other ∷ more) = (λ p. absurd (omega arith), λ u. absurd (other-first (u .0) (u .1 .0)))
+items-24 [] = (λ p. absurd (omega arith), λ u. absurd (none-there (u .0) (u .1)))
+items-24 (primitive value ∷ []) = (
+  λ p. (value, refl, value-24 value (namesDay value) refl .0 p),
+  λ u. let p : primitive value ∷ [] ≡ primitive (u .0) ∷ [] = u .1 in let e : value ≡ u .0 = cc in value-24 value (namesDay value) refl .1 (subst (λ (v : List ℕ). (d : Day) → Names v d → ⊥) (sym e) (u .2)),
+)
+items-24 (constructed ∷ []) = (λ p. absurd (omega arith), λ u. absurd (other-form (u .0) (u .1)))
+items-24 (one ∷ other ∷ more) = (λ p. absurd (omega arith), λ u. absurd (other-first (u .0) (u .1)))
 
 -- ---- whatever the rules say, and whatever the tree of the profile
 

@@ -1,11 +1,11 @@
 -- What is promised of the date by the first element alone: that element is read alike whatever follows it, by the laws of crate fronts, and the walk of
 -- a whole letter begins with it. Assumes nothing.
 use mathlib.Core.Path.{_≡_, refl, ap, sym, _∙_}
-use mathlib.Core.Bool.{true, false, not, xor, false≢true}
+use mathlib.Core.Bool.{Bool, true, false, cond, not, xor}
 use mathlib.Core.List.{List, [], _∷_, _++_}
 use Prim.Native.Nat.{ℕ, zero, suc, _<_, _≤_}
 use native.Mathlib.Omega.{arith}
-use lib.Dec.{eqb, leb, ltb}
+use lib.Dec.{leb, ltb}
 use lib.ListN.{length, take, length-append}
 use lib.Seq.{take-append-le}
 use borrow.Author.Tests.{eq-eqb, leb-true, leb-false, le-ltb}
@@ -23,7 +23,7 @@ use Rattle.fronts.proofs.Firsts.{first-stops, first-none}
 use Rattle.dates.specs.Dates.{dateIn}
 use Rattle.elements.specs.declared.Edition.{Edition}
 use Rattle.elements.specs.Shape.{shapeOf}
-use Rattle.elements.specs.Judge.{profileOctet, mostElements, firstOf, placeRules}
+use Rattle.elements.specs.Judge.{profileOctet, firstOf, placeRules}
 use Rattle.letters.specs.Letter.{itemsOfStream}
 use Rattle.answers.specs.declared.Reason.{Reason}
 use Rattle.answers.specs.declared.FirstDated.{FirstDated}
@@ -81,11 +81,11 @@ module _ (edition : Edition) where
   -- ---- and it is the date of a whole letter
 
   letter-some : (s : List ℕ) → ruled edition s .number ≡ 0 → 0 < length s
-  letter-some s zero =
+  letter-some s accepted =
       cases (leb (length s) 0)
       (λ e.
       let nothing : run deepest s 0 (length s) false ≡ ended (length s) = run-step deepest s 0 (length s) false (omega arith) ∙ rw e in
-      absurd (met-some edition s zero (ap (λ (v : Walked). v .items) nothing)))
+      absurd (met-some edition s accepted (ap (λ (v : Walked). v .items) nothing)))
       (λ e. leb-false (length s) 0 e)
 
   module _ (s : List ℕ) (a : IsAccepted edition s) where
@@ -176,12 +176,14 @@ module _ (edition : Edition) where
   few (suc (suc (suc (suc (suc (suc (suc (suc zero)))))))) l h = refl
   few (suc (suc (suc (suc (suc (suc (suc (suc (suc n))))))))) l h = absurd (omega arith)
 
+  type-cases : (known profile : Bool) → isIn (cond {A = ℕ} (not known) 10 (cond (xor true profile) 11 0)) firstNumbersGiven ≡ true
+  unfolding xor
+  type-cases true true = refl
+  type-cases true false = refl
+  type-cases false profile = refl
+
   type-given : (type : List ℕ) → isIn (firstOf (placeRules 0 (shapeOf edition type .octet) type)) firstNumbersGiven ≡ true
-  type-given type =
-      let P : ℕ → Type 0 = λ number. isIn number firstNumbersGiven ≡ true in
-      cond-holds P (leb mostElements 0) (λ e. absurd (false≢true e))
-      (λ _. cond-holds P (not (is (shapeOf edition type .octet) type)) (λ _. refl)
-      (λ _. cond-holds P (xor (eqb 0 0) (is profileOctet type)) (λ _. refl) (λ _. refl)))
+  type-given type = type-cases (is (shapeOf edition type .octet) type) (is profileOctet type)
 
   rule-given : (t : Tree) → isIn (firstRule edition t) firstNumbersGiven ≡ true
   rule-given empty = refl

@@ -66,9 +66,11 @@ enum-known-octet : tie.Need-enum-known-octet
 enum-known-octet c = search needs
 
 date-in-first-requires : tie.Need-date-in-first-requires
-date-in-first-requires c κs =
-    (subst (Begins (now (c .before .before .before .before .before .before .before .args .stream))) (c .before .octet .given .1)
-    (c .before .before .before .first-item .ensures), c .before .before .before .before .before .if1 .left)
+date-in-first-requires c κs = (
+  subst (Begins (now (c .before .before .before .before .before .before .before .args .stream))) (c .before .octet .given .1)
+      (c .before .before .before .first-item .ensures),
+  c .before .before .before .before .before .if1 .left,
+)
 
 returns-3 : tie.Need-returns-3
 returns-3 c =
