@@ -24,10 +24,12 @@
 //!
 //! [`raw`] has the functions of the C header as they stand, for callers who lend their own memory.
 
+mod date;
 mod letter;
 pub mod raw;
 mod refusal;
 
+pub use date::{Date, FirstDate, first_date};
 pub use letter::{Checked, Element, Kind, Letter, Match, Side, check, content, normal_form, short_normal_form};
 pub use refusal::{Refusal, Rule};
 
