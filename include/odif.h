@@ -49,17 +49,23 @@
    20   the asked element is no text unit or does not exist                           0
    21   a part is asked of content in pieces, which is no one part of the stream      0
    22   the output is shorter than the joined content                                 0
+   23   not exactly one date of the document in the profile, or it is constructed     0
+   24   the first ten octets of the date name no day                                  0
    28   a block is past the total that was told                                       0
    29   a letter in blocks is closed before all its octets have come                  0
 
    1 comes first, then the first fault of 2 to 8 in stream order, then the elements in order, 9 to 15 in order within
-   each, then 16, 17, 18, 19 or 20 where the question can give it; 21 and 22 come after 20. A refusal leaves the lent
-   table, list and output as they were, except that 19 leaves the finished table. Counts are 0 with a refusal, except
-   that 19 keeps the element count and the check's header count comes with every answer.
+   each, then 16, 17, 18, 19 or 20 where the question can give it; 21 and 22 come after 20, 23 and 24 after 15. A refusal
+   leaves the lent table, list and output as they were, except that 19 leaves the finished table. Counts are 0 with a
+   refusal, except that 19 keeps the element count and the check's header count comes with every answer.
 
    Content is one octet string, 04, or is saved in pieces: 24, which holds 04 and 24 items down to the deepest level.
    Its octets are then the pieces joined in order. odif_joined copies them, a 04 being one piece; odif_content serves a
-   04 without a copy. */
+   04 without a copy.
+
+   The date of the document is the one item 80 in an A0 in an A3 of the profile, over all of these (T.415, 5.6): its first
+   ten octets are four, two and two digits with hyphens between, as 1988-06-05, and name a day of the Gregorian calendar
+   from 0001 on. What follows them is not judged. */
 #ifndef ODIF_H
 #define ODIF_H
 
@@ -149,6 +155,27 @@ typedef struct {
     uint32_t length;   /* the octets copied */
 } odif_copied;
 
+typedef struct {
+    uint32_t number;   /* 0, or the refusal: 1 to 15, 23, 24 */
+    uint32_t place;    /* the refusal's place */
+    uint32_t first;    /* the date is stream[first] to stream[past - 1]; all of these are 0 with a refusal */
+    uint32_t past;
+    uint32_t year;     /* 1 to 9999 */
+    uint32_t month;    /* 1 to 12 */
+    uint32_t day;      /* 1 to the days of the month */
+} odif_dated;
+
+typedef struct {
+    uint32_t number;   /* 0, or the refusal: 1 to 8, 10, 11, 23, 24 */
+    uint32_t place;    /* the refusal's place */
+    uint32_t first;    /* as in odif_dated */
+    uint32_t past;
+    uint32_t year;
+    uint32_t month;
+    uint32_t day;
+    uint32_t unread;   /* always 1: what follows the first element is unread */
+} odif_first_dated;
+
 /* One match: the text unit's identifier is the element's identifier, one space, the portion. All count from 0. */
 typedef struct {
     uint32_t element;  /* the row of the class or object */
@@ -236,6 +263,13 @@ odif_taken odif_blocks_take(odif_blocks state, const uint8_t *block, size_t bloc
 
 /* What the walk of the letter tells. 29 if not all octets have come, whatever was found: the state can be gone on with. */
 odif_walked odif_blocks_close(odif_blocks state);
+/* Finds the date of the document. */
+odif_dated odif_date(const uint8_t *stream, size_t stream_len);
+
+/* Finds the date of the document by the first element alone: rules 1 to 8, 10 and 11 are tried on that, and no octet after
+   it is read. Of a letter it is what odif_date finds. The front of a stream is enough, if the first element is whole in it;
+   else 7 is given, or what stands there is refused. It takes time as the first element is long, and little stack. */
+odif_first_dated odif_first_date(const uint8_t *stream, size_t stream_len);
 
 /* The sentence of a number of the list above, without a full stop; 0 and numbers past the list have one too. It is no
    part of the proved archive: compile odif_sentence.c, which stands beside this header, with your program, or link with

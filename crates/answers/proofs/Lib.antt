@@ -1,5 +1,6 @@
 -- Small: the numbers and places of refusals. Letters: what a stream is, by its walk and its judge. Judging: what a verdict tells of it.
 -- Checks, Fetching, Copying, Listing: what the check, the fetch, the copy and the list say, case by case. Working: what the work of any leaves.
+-- Dating: the date of a letter. FirstDating: the date by the first element alone.
 pub mod Small
 pub mod Letters
 pub mod Judging
@@ -8,3 +9,5 @@ pub mod Fetching
 pub mod Copying
 pub mod Listing
 pub mod Working
+pub mod Dating
+pub mod FirstDating

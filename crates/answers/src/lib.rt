@@ -17,10 +17,15 @@ ghost use Rattle.answers.specs.Asking.{JudgedIn, ListsFlat};
 ghost use Rattle.answers.specs.Questions.{reasonTold, checkTold, locatedTold, copiedTold, listedTold, listedOf, refusedTold, Leaves, Roomy};
 
 mod content; // content.rt: the content of one element, as a part or copied
+mod date; // date.rt: the date of the document
+mod first_date; // first_date.rt: the same by the first element alone
 mod table; // table.rt: the lent table
 
 use content::join_judged;
 use content::locate_judged;
+pub use date::date_of_letter;
+pub use date::refused_date;
+pub use first_date::date_of_first;
 use table::TABLE_WIDTH;
 
 // The numbers of refusals that come after rules 1 to 15, those of the questions themselves; 17 and 18 are crate normal's.
@@ -82,6 +87,31 @@ pub struct Copied {
     pub number: u32,
     pub place: u32,
     pub length: u32,
+}
+
+// The date of the document: the bounds of its octets in the stream, and its day. With a refusal they are 0.
+#[repr(C)]
+pub struct Dated {
+    pub number: u32,
+    pub place: u32,
+    pub first: u32,
+    pub past: u32,
+    pub year: u32,
+    pub month: u32,
+    pub day: u32,
+}
+
+// The same by the first element alone, with the note that the remainder is unread: always 1.
+#[repr(C)]
+pub struct FirstDated {
+    pub number: u32,
+    pub place: u32,
+    pub first: u32,
+    pub past: u32,
+    pub year: u32,
+    pub month: u32,
+    pub day: u32,
+    pub unread: u32,
 }
 
 // A question that is put to a stream. Those that want a list say how many records it has room for.

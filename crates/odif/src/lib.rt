@@ -1,6 +1,8 @@
 // The public questions, and nothing else. None has a `requires`: any caller may ask, of any octets, with any buffers.
 pub use answers::Checked;
 pub use answers::Copied;
+pub use answers::Dated;
+pub use answers::FirstDated;
 pub use answers::Found;
 pub use answers::Listed;
 use answers::Question;
@@ -17,6 +19,8 @@ ghost use Rattle.making.specs.Answers.{MakeOutcome};
 ghost use Rattle.making.specs.Flat.{entriesOf};
 
 mod arriving; // arriving.rt: a letter that arrives in blocks
+ghost use Rattle.answers.specs.Dates.{dateOf, DateOutcome};
+ghost use Rattle.answers.specs.FirstDates.{FirstDateOutcome};
 
 // The most octets of a stream that the mailroom box asks about.
 const SHORT_LIMIT: usize = 65535;
@@ -228,6 +232,36 @@ pub fn make(buffer: &[u8], entries: &[u32], out: &mut [u8]) -> Written
     making::make(buffer, entries, out)
 }
 
+// The date of the document: the octets of the one date in the letter's profile, a part of the caller's own stream. It is an empty part if the
+// stream is refused, or has no such date, or that names no day. The viewer shows it above the letter, and `dated` says why it is empty.
+pub fn date<'a>(edition: Edition, stream: &'a [u8]) -> &'a [u8]
+    ensures { λ r. ⌜ now r ≡ dateOf edition (now (stream .entry)) .part ⌝ }
+{
+    let told = dated(edition, stream);
+    let first = told.first as usize;
+    let past = told.past as usize;
+    &stream[first..past]
+}
+
+// The same date in numbers: where its octets stand, and its year, month and day. With a refusal they are 0.
+pub fn dated(edition: Edition, stream: &[u8]) -> Dated
+    ensures { λ r. ⌜ DateOutcome edition (now (stream .entry)) r ⌝ }
+{
+    let refused = refused_by(edition, stream);
+    if refused.number != 0 {
+        return answers::refused_date(refused.number, refused.place);
+    }
+    answers::date_of_letter(stream)
+}
+
+// The date of the document by the first element alone, with the note that the remainder is unread. The inbox list asks this of each letter, or of
+// its front: the octets after the first element are counted and not read.
+pub fn first_date(edition: Edition, stream: &[u8]) -> FirstDated
+    ensures { λ r. ⌜ FirstDateOutcome edition (now (stream .entry)) r ⌝ }
+{
+    answers::date_of_first(edition, stream)
+}
+
 // The same questions for C, as include/odif.h declares them: a slice is a pointer and a length, and a null pointer with length 0 is fine.
 #[no_mangle]
 pub extern "C" fn odif_check(stream: &[u8], table: &mut [u32]) -> Checked
@@ -286,4 +320,18 @@ pub extern "C" fn odif_make_numbers(buffer: &[u8], entries: &[u32], out: &mut [u
     ensures { λ r. ⌜ MakeOutcome (now (buffer .entry)) (entriesOf (now (entries .entry))) (now (out .entry)) r (now (out .exit)) ⌝ }
 {
     make(buffer, entries, out)
+}
+
+#[no_mangle]
+pub extern "C" fn odif_date(stream: &[u8]) -> Dated
+    ensures { λ r. ⌜ DateOutcome Edition.Of1988 (now (stream .entry)) r ⌝ }
+{
+    dated(Edition::Of1988, stream)
+}
+
+#[no_mangle]
+pub extern "C" fn odif_first_date(stream: &[u8]) -> FirstDated
+    ensures { λ r. ⌜ FirstDateOutcome Edition.Of1988 (now (stream .entry)) r ⌝ }
+{
+    first_date(Edition::Of1988, stream)
 }

@@ -5,6 +5,7 @@ use odif::{ROW_WIDTH, SHORT_LIMIT, STREAM_LIMIT, raw};
 use reader::{Reading, Side};
 
 use crate::blocks;
+use crate::dates;
 use crate::lent::{self, Lent};
 use crate::openssl::Batch;
 use crate::rng::Rng;
@@ -34,6 +35,7 @@ impl Holder {
         one.ask_joined(rng);
         one.expect(before == stream, "the stream itself", || "it was written to".into());
         blocks::hold(stream, &reading, &origin, one.tally, &mut rng.clone());
+        dates::hold(stream, &reading, &origin, one.tally, rng);
         if reading.refusal().is_none() {
             one.tally.accepted += 1;
             one.ask_round_trip(rng);
@@ -245,6 +247,8 @@ impl One<'_> {
         let mut again = vec![0; out.len()];
         let written = raw::normal(&out, &mut again);
         self.expect(written.number == 0 && again == out, "the normal form's own", || hex(&again));
+        let (mine, normal) = (dates::told(self.stream), dates::told(&out));
+        self.expect(mine == normal, "the normal form's date", || format!("{normal:?}, not {mine:?}"));
         let (mine, normal) = (answers_of(self.stream), answers_of(&out));
         self.expect(mine == normal, "the normal form's answers", || format!("{normal:?}, not {mine:?}"));
         for element in self.elements(rng) {

@@ -7,6 +7,7 @@
 pub mod blocks;
 pub mod coding;
 pub mod damage;
+pub mod dates;
 pub mod examples;
 pub mod hold;
 pub mod inputs;

@@ -1,5 +1,6 @@
 //! Every limit of document 01 from both sides, and every small choice that it leaves.
 
+mod dates;
 mod pieces;
 mod types;
 
@@ -16,7 +17,7 @@ const STYLES: [u8; 2] = [0xA7, 0xA8];
 const PROFILE: [u8; 2] = [0xA0, 0x00];
 
 /// The groups of cases. Each group is made when it is wanted, for some are large.
-pub const GROUPS: [fn() -> Vec<Case>; 27] = [
+pub const GROUPS: [fn() -> Vec<Case>; 32] = [
     stream_length,
     element_count,
     full_tables,
@@ -34,6 +35,11 @@ pub const GROUPS: [fn() -> Vec<Case>; 27] = [
     types::numbers,
     types::cut,
     types::places,
+    dates::days,
+    dates::years,
+    dates::spellings,
+    dates::paths,
+    dates::fronts,
     contents,
     pieces::short_runs,
     pieces::deep,

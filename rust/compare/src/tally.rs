@@ -3,7 +3,7 @@
 use std::fmt;
 
 /// The greatest refusal number.
-pub const LAST_NUMBER: usize = 22;
+pub const LAST_NUMBER: usize = 24;
 /// How many failures each thread prints in full.
 const SHOWN: u64 = 10;
 

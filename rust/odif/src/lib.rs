@@ -25,11 +25,13 @@
 //! [`raw`] has the functions of the C header as they stand, for callers who lend their own memory.
 
 mod blocks;
+mod date;
 mod letter;
 pub mod raw;
 mod refusal;
 
 pub use blocks::{Blocks, ClosedEarly, PastTotal, Walked};
+pub use date::{Date, FirstDate, first_date};
 pub use letter::{Checked, Element, Kind, Letter, Match, Side, check, content, normal_form, short_normal_form};
 pub use refusal::{Refusal, Rule};
 

@@ -72,6 +72,36 @@ pub struct Copied {
     pub length: u32,
 }
 
+/// The answer of [`date`].
+#[repr(C)]
+#[derive(Clone, Copy, Debug, Default, PartialEq, Eq)]
+pub struct Dated {
+    /// 0, or the number of the refusal.
+    pub number: u32,
+    /// The place of the refusal.
+    pub place: u32,
+    /// Where the date begins.
+    pub first: u32,
+    /// Past the date.
+    pub past: u32,
+    /// The year, from 1 on.
+    pub year: u32,
+    /// The month, from 1 on.
+    pub month: u32,
+    /// The day of the month, from 1 on.
+    pub day: u32,
+}
+
+/// The answer of [`first_date`].
+#[repr(C)]
+#[derive(Clone, Copy, Debug, Default, PartialEq, Eq)]
+pub struct FirstDated {
+    /// The date, by the first element alone.
+    pub date: Dated,
+    /// Always 1: what follows the first element is unread.
+    pub unread: u32,
+}
+
 /// One record of a reading list.
 #[repr(C)]
 #[derive(Clone, Copy, Debug, Default, PartialEq, Eq)]
@@ -106,6 +136,8 @@ unsafe extern "C" {
     fn odif_normal_short(stream: *const u8, stream_len: usize, out: *mut u8, out_len: usize) -> Written;
     fn odif_content(stream: *const u8, stream_len: usize, element: u32) -> Found;
     fn odif_joined(stream: *const u8, stream_len: usize, element: u32, out: *mut u8, out_len: usize) -> Copied;
+    fn odif_date(stream: *const u8, stream_len: usize) -> Dated;
+    fn odif_first_date(stream: *const u8, stream_len: usize) -> FirstDated;
 }
 
 // SAFETY, for each call below: a pointer and a length come from one slice, which is lent for the call alone; the
@@ -148,4 +180,14 @@ pub fn content(stream: &[u8], element: u32) -> Found {
 /// Copies the content of a text unit, its pieces joined in order.
 pub fn joined(stream: &[u8], element: u32, out: &mut [u8]) -> Copied {
     unsafe { odif_joined(stream.as_ptr(), stream.len(), element, out.as_mut_ptr(), out.len()) }
+}
+
+/// Finds the date of the document.
+pub fn date(stream: &[u8]) -> Dated {
+    unsafe { odif_date(stream.as_ptr(), stream.len()) }
+}
+
+/// Finds the date of the document by the first element alone. The front of a stream is enough, if that is whole in it.
+pub fn first_date(stream: &[u8]) -> FirstDated {
+    unsafe { odif_first_date(stream.as_ptr(), stream.len()) }
 }

@@ -87,6 +87,10 @@ pub enum Rule {
     InPieces,
     /// 22
     CopyTooShort,
+    /// 23
+    NoSoleDate,
+    /// 24
+    NoSuchDay,
     /// Another number: the library is newer than this crate.
     #[non_exhaustive]
     Unknown(u32),
@@ -94,7 +98,7 @@ pub enum Rule {
 
 impl Rule {
     /// Every rule that this crate knows, in the order of the numbers, which begin with 1.
-    pub const ALL: [Rule; 22] = [
+    pub const ALL: [Rule; 24] = [
         Rule::StreamTooLong,
         Rule::MisplacedZero,
         Rule::TooDeep,
@@ -117,6 +121,8 @@ impl Rule {
         Rule::NoTextUnit,
         Rule::InPieces,
         Rule::CopyTooShort,
+        Rule::NoSoleDate,
+        Rule::NoSuchDay,
     ];
 
     /// The number of the rule.
@@ -162,6 +168,8 @@ impl Rule {
             Rule::NoTextUnit => "the asked element is no text unit or does not exist",
             Rule::InPieces => "the content is in pieces, and no one part of the stream",
             Rule::CopyTooShort => "the output is shorter than the joined content",
+            Rule::NoSoleDate => "the profile does not have exactly one date of the document, or that is constructed",
+            Rule::NoSuchDay => "the date of the document does not begin with a day as in 1988-06-05",
             Rule::Unknown(_) => "a rule that is newer than this program",
         }
     }
@@ -183,14 +191,14 @@ mod tests {
             assert_eq!((rule.number(), Rule::from_number(number)), (number, Some(rule)));
             assert_eq!(Refusal::unless_accepted(number, 7), Err(Refusal { rule, place: 7 }));
         }
-        assert_eq!(Rule::ALL.last().map(|rule| rule.number()), Some(22));
+        assert_eq!(Rule::ALL.last().map(|rule| rule.number()), Some(24));
         assert_eq!(Refusal::unless_accepted(0, 0), Ok(()));
     }
 
     /// The library of today gives no such number, so this is asked of what reads its answers.
     #[test]
     fn a_number_of_a_newer_library_is_a_refusal_too() {
-        for number in [23, 255, u32::MAX] {
+        for number in [25, 255, u32::MAX] {
             let refusal = Refusal::unless_accepted(number, 5).unwrap_err();
             assert_eq!((refusal.number(), refusal.place), (number, 5));
             assert_eq!(refusal.to_string(), format!("number {number} at 5: a rule that is newer than this program"));

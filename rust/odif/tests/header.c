@@ -9,9 +9,12 @@ static const uint8_t letter[] =
     "\xA2\x11\x02\x01\x04\x31\x0C\x41\x05" "1 0 2" "\xA1\x03\x12\x01" "0"
     "\xA3\x0F\x31\x09\x40\x07" "1 0 2 0" "\x04\x02" "Hi";
 
+static const uint8_t profile[] = "\xA0\x10\xA3\x0E\xA0\x0C\x80\x0A" "1988-06-05" "\xFF";
+
 typedef char sizes_are_as_they_should_be[
     sizeof(odif_checked) == 16 && sizeof(odif_written) == 12 && sizeof(odif_listed) == 16 && sizeof(odif_found) == 16
-    && sizeof(odif_copied) == 12 && sizeof(odif_match) == 12 ? 1 : -1];
+    && sizeof(odif_copied) == 12 && sizeof(odif_match) == 12 && sizeof(odif_dated) == 28
+    && sizeof(odif_first_dated) == 32 ? 1 : -1];
 
 int main(void) {
     size_t length = sizeof letter - 1;
@@ -45,6 +48,14 @@ int main(void) {
     written = odif_normal_short(letter, length, out, length);
     printf("short normal %" PRIu32 " %" PRIu32 " %" PRIu32 " %s\n", written.number, written.place, written.length,
            memcmp(out, letter, length) ? "differs" : "same");
+    odif_dated dated = odif_date(profile, sizeof profile - 2);
+    printf("date %" PRIu32 " %" PRIu32 " %" PRIu32 " %" PRIu32 " %" PRIu32 " %" PRIu32 " %" PRIu32 "\n", dated.number,
+           dated.place, dated.first, dated.past, dated.year, dated.month, dated.day);
+    dated = odif_date(letter, length);
+    printf("no date %" PRIu32 " %" PRIu32 "\n", dated.number, dated.place);
+    odif_first_dated front = odif_first_date(profile, sizeof profile - 1);
+    printf("first date %" PRIu32 " %" PRIu32 " %" PRIu32 " %" PRIu32 " %" PRIu32 " %" PRIu32 " %" PRIu32 " %" PRIu32 "\n",
+           front.number, front.place, front.first, front.past, front.year, front.month, front.day, front.unread);
     checked = odif_check(NULL, 0, NULL, 0);
     printf("empty %" PRIu32 " %" PRIu32 "\n", checked.number, checked.place);
     checked = odif_check(letter, length, table, 3 * ODIF_ROW_WIDTH - 1);

@@ -37,6 +37,9 @@ joined 0 0 2 Hi..
 too short 22 0 0
 normal 0 0 38 same
 short normal 0 0 38 same
+date 0 0 8 18 1988 6 5
+no date 23 0
+first date 0 0 8 18 1988 6 5 1
 empty 11 0
 short 16 0 11 0
 ";

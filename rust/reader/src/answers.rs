@@ -3,6 +3,7 @@
 use crate::ROW_WIDTH;
 use crate::SHORT_LIMIT;
 use crate::STREAM_LIMIT;
+use crate::date::{self, Dated};
 use crate::elements::{self, Row};
 use crate::items::Tree;
 use crate::letter::{self, Letter};
@@ -194,6 +195,14 @@ impl<'a> Reading<'a> {
                 Copied { length: joined.len() as u32, ..Copied::default() }
             }
             None => Copied { number: 22, ..Copied::default() },
+        }
+    }
+
+    /// The date of the document.
+    pub fn date(&self) -> Dated {
+        match &self.letter {
+            Ok(_) => date::of_letter(self.stream, &self.tree),
+            Err(refusal) => (*refusal).into(),
         }
     }
 

@@ -16,6 +16,7 @@
 //! ```
 
 mod answers;
+mod date;
 mod elements;
 mod items;
 mod letter;
@@ -26,6 +27,7 @@ mod octets;
 mod refusal;
 
 pub use answers::{Checked, Copied, Found, Listed, Match, Reading, Side, Written};
+pub use date::{Dated, first_date};
 pub use items::{Item, Tree};
 pub use octets::{Class, DEEPEST, Length};
 pub use refusal::{Refusal, Why};
