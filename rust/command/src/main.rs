@@ -12,6 +12,7 @@ mod foreign;
 mod input;
 mod items;
 mod list;
+mod make;
 mod man;
 mod modules;
 mod names;

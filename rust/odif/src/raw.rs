@@ -18,7 +18,7 @@ pub struct Checked {
     pub elements: u32,
 }
 
-/// The answer of [`normal`].
+/// The answer of [`normal`] and [`make`].
 #[repr(C)]
 #[derive(Clone, Copy, Debug, PartialEq, Eq)]
 pub struct Written {
@@ -104,6 +104,14 @@ unsafe extern "C" {
     fn odif_normal_short(stream: *const u8, stream_len: usize, out: *mut u8, out_len: usize) -> Written;
     fn odif_content(stream: *const u8, stream_len: usize, element: u32) -> Found;
     fn odif_joined(stream: *const u8, stream_len: usize, element: u32, out: *mut u8, out_len: usize) -> Copied;
+    fn odif_make_numbers(
+        buffer: *const u8,
+        buffer_len: usize,
+        entries: *const u32,
+        entries_len: usize,
+        out: *mut u8,
+        out_len: usize,
+    ) -> Written;
 }
 
 // SAFETY, for each call below: a pointer and a length come from one slice, which is lent for the call alone; the
@@ -146,4 +154,11 @@ pub fn content(stream: &[u8], element: u32) -> Found {
 /// Copies the content of a text unit, its pieces joined in order.
 pub fn joined(stream: &[u8], element: u32, out: &mut [u8]) -> Copied {
     unsafe { odif_joined(stream.as_ptr(), stream.len(), element, out.as_mut_ptr(), out.len()) }
+}
+
+/// Makes a letter of entries, six numbers each: first and past in the buffer of its identifier, its portion and its text.
+pub fn make(buffer: &[u8], entries: &[u32], out: &mut [u8]) -> Written {
+    unsafe {
+        odif_make_numbers(buffer.as_ptr(), buffer.len(), entries.as_ptr(), entries.len(), out.as_mut_ptr(), out.len())
+    }
 }

@@ -87,13 +87,18 @@ pub enum Rule {
     InPieces,
     /// 22
     CopyTooShort,
+    /// 27; only making a letter gives it, and its place is the entry's number
+    PartOutside,
     /// Another number: the library is newer than this crate.
     #[non_exhaustive]
     Unknown(u32),
 }
 
+/// The number of a refusal that stands apart from those before it.
+const PART_OUTSIDE: u32 = 27;
+
 impl Rule {
-    /// Every rule that this crate knows, in the order of the numbers, which begin with 1.
+    /// Every rule that this crate knows, in the order of the numbers, which begin with 1, but [`Rule::PartOutside`].
     pub const ALL: [Rule; 22] = [
         Rule::StreamTooLong,
         Rule::MisplacedZero,
@@ -123,12 +128,16 @@ impl Rule {
     pub fn number(self) -> u32 {
         match self {
             Rule::Unknown(number) => number,
+            Rule::PartOutside => PART_OUTSIDE,
             known => (1..).zip(Rule::ALL).find(|&(_, rule)| rule == known).expect("one of all").0,
         }
     }
 
     /// The rule of a number, if this crate knows it.
     pub fn from_number(number: u32) -> Option<Rule> {
+        if number == PART_OUTSIDE {
+            return Some(Rule::PartOutside);
+        }
         let before = number.checked_sub(1)?;
         Rule::ALL.get(before as usize).copied()
     }
@@ -162,6 +171,7 @@ impl Rule {
             Rule::NoTextUnit => "the asked element is no text unit or does not exist",
             Rule::InPieces => "the content is in pieces, and no one part of the stream",
             Rule::CopyTooShort => "the output is shorter than the joined content",
+            Rule::PartOutside => "a part of an entry is outside the buffer, or ends before it begins",
             Rule::Unknown(_) => "a rule that is newer than this program",
         }
     }
@@ -185,6 +195,7 @@ mod tests {
         }
         assert_eq!(Rule::ALL.last().map(|rule| rule.number()), Some(22));
         assert_eq!(Refusal::unless_accepted(0, 0), Ok(()));
+        assert_eq!((Rule::PartOutside.number(), Rule::from_number(27)), (27, Some(Rule::PartOutside)));
     }
 
     /// The library of today gives no such number, so this is asked of what reads its answers.

@@ -11,7 +11,7 @@ static const uint8_t letter[] =
 
 typedef char sizes_are_as_they_should_be[
     sizeof(odif_checked) == 16 && sizeof(odif_written) == 12 && sizeof(odif_listed) == 16 && sizeof(odif_found) == 16
-    && sizeof(odif_copied) == 12 && sizeof(odif_match) == 12 ? 1 : -1];
+    && sizeof(odif_copied) == 12 && sizeof(odif_match) == 12 && sizeof(odif_entry) == 24 ? 1 : -1];
 
 int main(void) {
     size_t length = sizeof letter - 1;
@@ -45,6 +45,13 @@ int main(void) {
     written = odif_normal_short(letter, length, out, length);
     printf("short normal %" PRIu32 " %" PRIu32 " %" PRIu32 " %s\n", written.number, written.place, written.length,
            memcmp(out, letter, length) ? "differs" : "same");
+    const odif_entry entries[] = {{0, 5, 5, 6, 6, 8}, {0, 5, 5, 6, 6, 8}};
+    memset(out, '.', sizeof out);
+    written = odif_make((const uint8_t *)"1 0 20Hi", 8, entries, 1, out, sizeof out);
+    printf("make %" PRIu32 " %" PRIu32 " %" PRIu32 " %s %c\n", written.number, written.place, written.length,
+           memcmp(out, letter, length) ? "differs" : "same", out[length]);
+    written = odif_make((const uint8_t *)"1 0 20Hi", 8, entries, 2, out, sizeof out);
+    printf("made twice %" PRIu32 " %" PRIu32 " %" PRIu32 "\n", written.number, written.place, written.length);
     checked = odif_check(NULL, 0, NULL, 0);
     printf("empty %" PRIu32 " %" PRIu32 "\n", checked.number, checked.place);
     checked = odif_check(letter, length, table, 3 * ODIF_ROW_WIDTH - 1);

@@ -37,6 +37,8 @@ joined 0 0 2 Hi..
 too short 22 0 0
 normal 0 0 38 same
 short normal 0 0 38 same
+make 0 0 38 same .
+made twice 15 1 0
 empty 11 0
 short 16 0 11 0
 ";
@@ -86,5 +88,5 @@ fn no_more_stack_than_the_header_says() {
     let output = run("stack", "-std=gnu99", &[]);
     let told = String::from_utf8_lossy(&output.stdout);
     assert!(output.status.success(), "{told}");
-    assert_eq!(told.lines().count(), 7, "{told}");
+    assert_eq!(told.lines().count(), 8, "{told}");
 }

@@ -19,6 +19,7 @@ mod answers;
 mod elements;
 mod items;
 mod letter;
+mod making;
 mod matches;
 mod names;
 mod normal;
@@ -27,6 +28,7 @@ mod refusal;
 
 pub use answers::{Checked, Copied, Found, Listed, Match, Reading, Side, Written};
 pub use items::{Item, Tree};
+pub use making::{ENTRY_WIDTH, make};
 pub use octets::{Class, DEEPEST, Length};
 pub use refusal::{Refusal, Why};
 
