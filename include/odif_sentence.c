@@ -26,6 +26,8 @@ static const char *const sentences[] = {
     [21] = "the content is in pieces, and no one part of the stream",
     [22] = "the output is shorter than the joined content",
     [27] = "a part of an entry is outside the buffer, or ends before it begins",
+    [28] = "a block is past the total that was told",
+    [29] = "the letter was closed before all its octets had come",
 };
 
 const char *odif_sentence(uint32_t number) {

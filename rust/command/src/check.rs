@@ -1,11 +1,13 @@
 //! `odif check`
 
 use std::io::{self, Write};
+use std::num::NonZeroUsize;
 
 use clap::Args;
 use serde::Serialize;
 
 use crate::args::Files;
+use crate::blocks;
 use crate::explain::{self, Verdict};
 use crate::input::{self, Source};
 use crate::show;
@@ -16,6 +18,7 @@ Examples:
   odif check letter.odif
   odif check --json inbox/*.odif | grep -v accepted
   echo A00205 | odif check --hex -
+  odif check --blocks 512 letter.odif
 
 Exit status: 0 all were accepted; 1 one was refused; 2 one could not be read.";
 
@@ -31,6 +34,9 @@ pub struct Words {
     /// One JSON object a line and file
     #[arg(long)]
     json: bool,
+    /// Hands each file to the block engine in blocks of N octets: rules 1 to 8 alone
+    #[arg(long, value_name = "N")]
+    blocks: Option<NonZeroUsize>,
 }
 
 #[derive(Serialize)]
@@ -43,6 +49,9 @@ struct Answer {
 }
 
 pub fn run(words: &Words) -> Outcome {
+    if let Some(size) = words.blocks {
+        return blocks::run(&words.files, words.json, size);
+    }
     input::each(&words.files, words.json, |source| {
         let checked = odif::check(&source.stream);
         let status = if checked.verdict.is_ok() { Status::Accepted } else { Status::Refused };

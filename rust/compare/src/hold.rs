@@ -4,6 +4,7 @@
 use odif::{ROW_WIDTH, SHORT_LIMIT, STREAM_LIMIT, raw};
 use reader::{Reading, Side};
 
+use crate::blocks;
 use crate::lent::{self, Lent};
 use crate::openssl::Batch;
 use crate::rng::Rng;
@@ -32,6 +33,7 @@ impl Holder {
         one.ask_content(rng);
         one.ask_joined(rng);
         one.expect(before == stream, "the stream itself", || "it was written to".into());
+        blocks::hold(stream, &reading, &origin, one.tally, &mut rng.clone());
         if reading.refusal().is_none() {
             one.tally.accepted += 1;
             one.ask_round_trip(rng);

@@ -26,11 +26,13 @@
 //!
 //! [`raw`] has the functions of the C header as they stand, for callers who lend their own memory.
 
+mod blocks;
 mod letter;
 mod making;
 pub mod raw;
 mod refusal;
 
+pub use blocks::{Blocks, ClosedEarly, PastTotal, Walked};
 pub use letter::{Checked, Element, Kind, Letter, Match, Side, check, content, normal_form, short_normal_form};
 pub use making::Builder;
 pub use refusal::{Refusal, Rule};

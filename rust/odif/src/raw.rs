@@ -1,8 +1,10 @@
 //! The boundary of the proved library as it stands: the functions and structs of `include/odif.h`, on slices.
 //!
 //! Nothing here fails: an answer's number says whether it is a refusal. The crate's other modules are easier to use.
-//! This is the only file with `unsafe` in it.
+//! This file and `raw/blocks.rs` are the only ones with `unsafe` in them.
 #![allow(unsafe_code)]
+
+pub mod blocks;
 
 /// The answer of [`check`].
 #[repr(C)]
