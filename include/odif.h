@@ -51,6 +51,7 @@
    22   the output is shorter than the joined content                                 0
    23   not exactly one date of the document in the profile, or it is constructed     0
    24   the first ten octets of the date name no day                                  0
+   27   a part of an entry is outside the buffer, or ends before it begins            the entry's number
    28   a block is past the total that was told                                       0
    29   a letter in blocks is closed before all its octets have come                  0
 
@@ -58,6 +59,10 @@
    each, then 16, 17, 18, 19 or 20 where the question can give it; 21 and 22 come after 20, 23 and 24 after 15. A refusal
    leaves the lent table, list and output as they were, except that 19 leaves the finished table. Counts are 0 with a
    refusal, except that 19 keeps the element count and the check's header count comes with every answer.
+
+   odif_make judges entries and no stream. Entries in order, from 0, and within one in this order, it gives 27; 14 for a
+   bad identifier or portion, or both with a space between them over 64 octets; 15 for an identifier that an entry
+   before has; 9 for entry 2,047; all with the entry's number as their place. Then 17 and 18 of the letter, at 0.
 
    Content is one octet string, 04, or is saved in pieces: 24, which holds 04 and 24 items down to the deepest level.
    Its octets are then the pieces joined in order. odif_joined copies them, a 04 being one piece; odif_content serves a
@@ -91,6 +96,7 @@ extern "C" {
 #define ODIF_ROW_WIDTH     12      /* the numbers of a row */
 #define ODIF_STACK         262144  /* octets of stack: no question but the lists takes more */
 #define ODIF_STACK_LISTS   311296  /* the same for the two lists */
+#define ODIF_MOST_ENTRIES  2047    /* the most entries of a letter that is made */
 #define ODIF_SHORT_LIMIT   65535   /* the most octets of a stream that odif_normal_short takes */
 
 /* How much to lend. A side has no more matches than the letter has text units, nor than portions are listed on that
@@ -102,6 +108,11 @@ extern "C" {
 #define ODIF_SMALL_ITEMS       8192
 #define ODIF_STACK_SMALL       40960
 #define ODIF_STACK_SMALL_LISTS 90112
+
+/* And odif_make of no more entries than this, and of any. */
+#define ODIF_SMALL_ENTRIES     128
+#define ODIF_STACK_SMALL_MAKE  8192
+#define ODIF_STACK_MAKE        114688
 
 /* What each number of a table row is. Each pair is first and past; every pair but the element's bounds a value. An
    absent one is 0 and 0. */
@@ -130,7 +141,7 @@ typedef struct {
 } odif_checked;
 
 typedef struct {
-    uint32_t number;   /* 0, or the refusal: 1 to 15, 17, 18 */
+    uint32_t number;   /* 0, or the refusal: 1 to 15, 17, 18; of odif_make 9, 14, 15, 17, 18, 27 */
     uint32_t place;    /* the refusal's place */
     uint32_t length;   /* the octets written */
 } odif_written;
@@ -183,6 +194,17 @@ typedef struct {
     uint32_t unit;     /* the row of the text unit */
 } odif_match;
 
+/* One entry of a letter that is made: where its identifier, its portion and its text stand in the buffer. Each is from
+   first to past - 1; parts may overlap one another. */
+typedef struct {
+    uint32_t identifier_first;
+    uint32_t identifier_past;
+    uint32_t portion_first;
+    uint32_t portion_past;
+    uint32_t text_first;
+    uint32_t text_past;
+} odif_entry;
+
 /* Checks a stream and fills one row an element. table_len counts numbers; numbers past the last row filled stay, and
    an incomplete last row is not used. */
 odif_checked odif_check(const uint8_t *ODIF_APART stream, size_t stream_len,
@@ -216,6 +238,23 @@ odif_found odif_content(const uint8_t *stream, size_t stream_len, uint32_t eleme
    out past it stay. As many octets as the row's content has are always enough. */
 odif_copied odif_joined(const uint8_t *ODIF_APART stream, size_t stream_len, uint32_t element,
                         uint8_t *ODIF_APART out, size_t out_len);
+
+/* Makes a letter of entries, which lie apart from the output as all that is lent does: an empty profile, and for each
+   entry a block with the identifier and that one portion, and a text unit with the text. It is accepted, its layout list
+   has the entries in their order and no others, and it is its own normal form. The output and the buffer may not
+   overlap. Octets of out past the letter stay. No more than 2,047 entries fit. The numbers of the entries are those of
+   odif_entry, six an entry; entries_len counts numbers, and an incomplete last entry is not used. Up to 128 entries take
+   up to 8 KiB of stack, more of them up to 112 KiB. */
+odif_written odif_make_numbers(const uint8_t *ODIF_APART buffer, size_t buffer_len,
+                               const uint32_t *ODIF_APART entries, size_t entries_len,
+                               uint8_t *ODIF_APART out, size_t out_len);
+
+/* The same of so many entries. */
+static inline odif_written odif_make(const uint8_t *ODIF_APART buffer, size_t buffer_len,
+                                     const odif_entry *ODIF_APART entries, size_t entries_len,
+                                     uint8_t *ODIF_APART out, size_t out_len) {
+    return odif_make_numbers(buffer, buffer_len, (const uint32_t *)entries, 6 * entries_len, out, out_len);
+}
 
 /* A letter that arrives in blocks and is not held: rules 1 to 8 and the header count, as odif_check gives them of the whole
    stream, for any cutting. Start with the total, hand over the blocks in order, of any length, none included, and close:

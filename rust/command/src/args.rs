@@ -8,7 +8,7 @@ use clap::{Args, CommandFactory, Parser, Subcommand, ValueEnum};
 use odif::{Letter, Side};
 
 use crate::status::{Failure, Outcome, Status, tell};
-use crate::{check, export, list, man, normal, same, survey, text, tree};
+use crate::{check, export, list, make, man, normal, same, survey, text, tree};
 
 const EXAMPLES: &str = "\
 Examples:
@@ -46,6 +46,7 @@ enum Command {
     Tree(tree::Words),
     List(list::Words),
     Normal(normal::Words),
+    Make(make::Words),
     Survey(survey::Words),
     Same(same::Words),
     Export(export::Words),
@@ -131,6 +132,7 @@ fn dispatch(command: Command) -> Outcome {
         Command::Tree(words) => tree::run(&words),
         Command::List(words) => list::run(&words),
         Command::Normal(words) => normal::run(&words),
+        Command::Make(words) => make::run(&words),
         Command::Survey(words) => survey::run(&words),
         Command::Same(words) => same::run(&words),
         Command::Export(words) => export::run(&words),

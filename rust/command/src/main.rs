@@ -13,6 +13,7 @@ mod foreign;
 mod input;
 mod items;
 mod list;
+mod make;
 mod man;
 mod modules;
 mod names;

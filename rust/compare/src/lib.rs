@@ -14,6 +14,7 @@ pub mod inputs;
 pub mod lent;
 pub mod letters;
 pub mod limits;
+pub mod making;
 pub mod openssl;
 pub mod rng;
 pub mod seeded;

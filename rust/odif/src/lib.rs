@@ -19,6 +19,8 @@
 //! # }
 //! ```
 //!
+//! [`Builder`] makes a letter, of texts with an identifier and a portion each.
+//!
 //! A question takes up to 304 KiB of the calling thread's stack, of a small letter (up to 512 elements and 8,192 items) up
 //! to 88 KiB, and any number of threads may ask at once.
 //!
@@ -27,18 +29,22 @@
 mod blocks;
 mod date;
 mod letter;
+mod making;
 pub mod raw;
 mod refusal;
 
 pub use blocks::{Blocks, ClosedEarly, PastTotal, Walked};
 pub use date::{Date, FirstDate, first_date};
 pub use letter::{Checked, Element, Kind, Letter, Match, Side, check, content, normal_form, short_normal_form};
+pub use making::Builder;
 pub use refusal::{Refusal, Rule};
 
 /// The most octets of a stream, and of a normal form.
 pub const STREAM_LIMIT: usize = 1_048_576;
 /// The most octets of a stream that [`short_normal_form`] takes.
 pub const SHORT_LIMIT: usize = 65_535;
+/// The most entries that [`Builder`] makes a letter of.
+pub const MOST_ENTRIES: usize = 2_047;
 /// The most elements of a letter.
 pub const MOST_ELEMENTS: usize = 4_096;
 /// The numbers of one table row.

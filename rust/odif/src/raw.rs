@@ -20,7 +20,7 @@ pub struct Checked {
     pub elements: u32,
 }
 
-/// The answer of [`normal`].
+/// The answer of [`normal`] and [`make`].
 #[repr(C)]
 #[derive(Clone, Copy, Debug, PartialEq, Eq)]
 pub struct Written {
@@ -138,6 +138,14 @@ unsafe extern "C" {
     fn odif_joined(stream: *const u8, stream_len: usize, element: u32, out: *mut u8, out_len: usize) -> Copied;
     fn odif_date(stream: *const u8, stream_len: usize) -> Dated;
     fn odif_first_date(stream: *const u8, stream_len: usize) -> FirstDated;
+    fn odif_make_numbers(
+        buffer: *const u8,
+        buffer_len: usize,
+        entries: *const u32,
+        entries_len: usize,
+        out: *mut u8,
+        out_len: usize,
+    ) -> Written;
 }
 
 // SAFETY, for each call below: a pointer and a length come from one slice, which is lent for the call alone; the
@@ -190,4 +198,11 @@ pub fn date(stream: &[u8]) -> Dated {
 /// Finds the date of the document by the first element alone. The front of a stream is enough, if that is whole in it.
 pub fn first_date(stream: &[u8]) -> FirstDated {
     unsafe { odif_first_date(stream.as_ptr(), stream.len()) }
+}
+
+/// Makes a letter of entries, six numbers each: first and past in the buffer of its identifier, its portion and its text.
+pub fn make(buffer: &[u8], entries: &[u32], out: &mut [u8]) -> Written {
+    unsafe {
+        odif_make_numbers(buffer.as_ptr(), buffer.len(), entries.as_ptr(), entries.len(), out.as_mut_ptr(), out.len())
+    }
 }

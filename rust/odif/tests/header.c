@@ -14,7 +14,7 @@ static const uint8_t profile[] = "\xA0\x10\xA3\x0E\xA0\x0C\x80\x0A" "1988-06-05"
 typedef char sizes_are_as_they_should_be[
     sizeof(odif_checked) == 16 && sizeof(odif_written) == 12 && sizeof(odif_listed) == 16 && sizeof(odif_found) == 16
     && sizeof(odif_copied) == 12 && sizeof(odif_match) == 12 && sizeof(odif_dated) == 28
-    && sizeof(odif_first_dated) == 32 ? 1 : -1];
+    && sizeof(odif_first_dated) == 32 && sizeof(odif_entry) == 24 ? 1 : -1];
 
 int main(void) {
     size_t length = sizeof letter - 1;
@@ -56,6 +56,13 @@ int main(void) {
     odif_first_dated front = odif_first_date(profile, sizeof profile - 1);
     printf("first date %" PRIu32 " %" PRIu32 " %" PRIu32 " %" PRIu32 " %" PRIu32 " %" PRIu32 " %" PRIu32 " %" PRIu32 "\n",
            front.number, front.place, front.first, front.past, front.year, front.month, front.day, front.unread);
+    const odif_entry entries[] = {{0, 5, 5, 6, 6, 8}, {0, 5, 5, 6, 6, 8}};
+    memset(out, '.', sizeof out);
+    written = odif_make((const uint8_t *)"1 0 20Hi", 8, entries, 1, out, sizeof out);
+    printf("make %" PRIu32 " %" PRIu32 " %" PRIu32 " %s %c\n", written.number, written.place, written.length,
+           memcmp(out, letter, length) ? "differs" : "same", out[length]);
+    written = odif_make((const uint8_t *)"1 0 20Hi", 8, entries, 2, out, sizeof out);
+    printf("made twice %" PRIu32 " %" PRIu32 " %" PRIu32 "\n", written.number, written.place, written.length);
     checked = odif_check(NULL, 0, NULL, 0);
     printf("empty %" PRIu32 " %" PRIu32 "\n", checked.number, checked.place);
     checked = odif_check(letter, length, table, 3 * ODIF_ROW_WIDTH - 1);

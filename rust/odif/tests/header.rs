@@ -40,6 +40,8 @@ short normal 0 0 38 same
 date 0 0 8 18 1988 6 5
 no date 23 0
 first date 0 0 8 18 1988 6 5 1
+make 0 0 38 same .
+made twice 15 1 0
 empty 11 0
 short 16 0 11 0
 ";
@@ -89,5 +91,5 @@ fn no_more_stack_than_the_header_says() {
     let output = run("stack", "-std=gnu99", &[]);
     let told = String::from_utf8_lossy(&output.stdout);
     assert!(output.status.success(), "{told}");
-    assert_eq!(told.lines().count(), 7, "{told}");
+    assert_eq!(told.lines().count(), 8, "{told}");
 }

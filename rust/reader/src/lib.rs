@@ -20,6 +20,7 @@ mod date;
 mod elements;
 mod items;
 mod letter;
+mod making;
 mod matches;
 mod names;
 mod normal;
@@ -29,6 +30,7 @@ mod refusal;
 pub use answers::{Checked, Copied, Found, Listed, Match, Reading, Side, Written};
 pub use date::{Dated, first_date};
 pub use items::{Item, Tree};
+pub use making::{ENTRY_WIDTH, make};
 pub use octets::{Class, DEEPEST, Length};
 pub use refusal::{Refusal, Why};
 

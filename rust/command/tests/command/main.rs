@@ -6,6 +6,7 @@ mod export;
 mod faults;
 mod help;
 mod list;
+mod make;
 mod names;
 mod normal;
 mod output;
