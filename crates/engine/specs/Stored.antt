@@ -8,8 +8,9 @@ use lib.ListN.{getD, take, drop, length}
 use lib.Dec.{eqb, leb}
 use Rattle.headers.specs.declared.Head.{Head}
 use Rattle.headers.specs.declared.Head.the-variants.{Item, ClosingMark, Refusal}
+use Rattle.headers.specs.Head.{constructed, headAt}
 use Rattle.octets.specs.Walk.{streamLimit, deepest}
-use Rattle.blocks.specs.Engine.{Open, Standing, reading, found, State, arrive, feed, decide}
+use Rattle.blocks.specs.Engine.{Open, Standing, reading, found, State, limitOf, markedOf, arrive, feed, decide}
 use Rattle.octets.specs.Further.{Told}
 use Rattle.blocks.specs.Blocks.{Taken as Given, start, take as taking, close}
 use Rattle.engine.specs.declared.Blocks.{Blocks}
@@ -139,3 +140,23 @@ pub record Skims (total headers level : ℕ) (ends : List ℕ) (at : ℕ) (block
         taken = at + size;
         standing = cond (eqb (r .number) 0) (arrive (at + size) (r .headers) (opensOf (r .level) after) (r .at)) (found (r .number) at (r .headers));
       }
+
+-- the place past an item that leaves nothing open: it is primitive, or nothing stands in it; 0 of anything else
+abbrev pub passedTo : Head → ℕ
+passedTo (Item h) = cond (constructed (h .octet)) (cond (eqb (h .start) (h .bound)) (cond (h .marked) 0 (h .bound)) 0) (h .bound)
+passedTo ClosingMark = 0
+passedTo (Refusal number place) = 0
+
+-- Items that leave nothing open stand from one place of a block to another, so many of them, in a run that goes on to `stop`: taking them moves
+-- the engine, in whatever items it stands; and then a header stands there.
+pub record Passes (block : List ℕ) (from stop : ℕ) (marked : Bool) (room to count : ℕ) (head : Head) : Type 0 where
+  pub further : from ≤ to
+  pub before : to < stop
+  pub eight : to + 8 ≤ length block
+  pub counted : count ≤ to - from
+  pub read : head ≡ headAt block to stop marked room
+  pub state : (total headers level : ℕ) (ends : List ℕ) (at : ℕ) → level ≤ deepest → length ends ≡ deepest → total ≤ streamLimit
+      → headers ≤ at → at + (length block - from) ≤ total → at < limitOf total (opensOf level ends) → stop ≡ from + (limitOf total (opensOf level ends) - at)
+      → marked ≡ markedOf (opensOf level ends) → room ≡ deepest - level
+      → feed (atHeader total headers (opensOf level ends) at) (drop from block)
+      ≡ feed (atHeader total (headers + count) (opensOf level ends) (at + (to - from))) (drop to block)
