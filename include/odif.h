@@ -1,4 +1,4 @@
-/* odif.h: a reader of ODIF letters (CCITT T.415, ISO 8613-5, 1988), proved to its contracts.
+/* odif.h: a reader of ODIF letters (CCITT T.415, ISO 8613-5, of 1988 and of 1993), proved to its contracts.
 
    Link with target/staticlib/libodif.a: an ELF archive for Linux on x86-64, and for no other machine. The functions
    keep no state, allocate nothing and may be called from any number of threads at once. They take any octets whatever
@@ -19,6 +19,12 @@
    question takes up to 40 KiB of it, the two lists up to 88 KiB; of any other up to 256 KiB, the lists up to 304 KiB. It
    clears 31 kB of that for a small stream and 246 kB for any other, the lists somewhat more. Mind it where threads are
    started with small stacks: 128 KiB are enough for small streams alone.
+
+   A question reads by the edition of 1988, and its twin with _1993 at its end by that of 1993. The octet rules are the
+   same. In 1993 a text unit may have no content, or content in tiles, and there are four elements more, the protected
+   parts: a sealed document profile, A9, an enciphered one, AA, and body parts that were enciphered before or after the
+   layout, AB and AC. Every letter of 1988 is one of 1993 with the same rows and matches. A letter with a protected part
+   is none of 1988: it is refused by 10 there.
 
    Every answer begins with a number and a place. Number 0 is accepted or answered, with place 0. Any other number is
    a refusal; places count octets of the stream from 0.
@@ -47,7 +53,8 @@
    18   the output is shorter than the normal form                                    0
    19   the list is shorter than the matches                                          0
    20   the asked element is no text unit or does not exist                           0
-   21   a part is asked of content in pieces, which is no one part of the stream      0
+   21   a part is asked of content in pieces or tiles, which is no one part           0
+        of the stream
    22   the output is shorter than the joined content                                 0
 
    1 comes first, then the first fault of 2 to 8 in stream order, then the elements in order, 9 to 15 in order within
@@ -56,8 +63,10 @@
    that 19 keeps the element count and the check's header count comes with every answer.
 
    Content is one octet string, 04, or is saved in pieces: 24, which holds 04 and 24 items down to the deepest level.
-   Its octets are then the pieces joined in order. odif_joined copies them, a 04 being one piece; odif_content serves a
-   04 without a copy. */
+   Its octets are then the pieces joined in order. In 1993 it may be tiled: 30, which holds 04 and 24 items, and its
+   octets are those of the tiles joined in order; or missing, and it has no octets then. odif_joined copies them, a 04
+   being one piece; odif_content serves a 04 without a copy. A protected part is no text unit: asked for its content it
+   is refused by 20. What is enciphered is not opened. */
 #ifndef ODIF_H
 #define ODIF_H
 
@@ -99,18 +108,20 @@ extern "C" {
    absent one is 0 and 0. */
 enum {
     ODIF_KIND             = 0,  /* 0 document profile, 1 layout class, 2 layout object, 3 text unit, 5 logical class,
-                                   6 logical object, 7 presentation style, 8 layout style */
+                                   6 logical object, 7 presentation style, 8 layout style; in 1993 also
+                                   9 sealed document profile, 10 enciphered document profile,
+                                   11 pre-enciphered body part, 12 post-enciphered body part */
     ODIF_OBJECT_TYPE      = 1,  /* 0 to 4 for layout, 0 to 2 for logical, 255 if none */
     ODIF_FIRST            = 2,  /* the element, with its header and its closing mark */
     ODIF_PAST             = 3,
-    ODIF_IDENTIFIER_FIRST = 4,  /* its identifier; for a text unit the layout identifier */
+    ODIF_IDENTIFIER_FIRST = 4,  /* its identifier; for a text unit the layout identifier; none of kinds 9 to 12 */
     ODIF_IDENTIFIER_PAST  = 5,
     ODIF_LOGICAL_FIRST    = 6,  /* a text unit's logical identifier */
     ODIF_LOGICAL_PAST     = 7,
     ODIF_PORTIONS_FIRST   = 8,  /* the portions of a class or object */
     ODIF_PORTIONS_PAST    = 9,
-    ODIF_CONTENT_FIRST    = 10, /* a text unit's content; if it is in pieces, the value of the 24 that holds them, with
-                                   their headers */
+    ODIF_CONTENT_FIRST    = 10, /* a text unit's content; if it is in pieces or tiles, the value of the 24 or 30 that
+                                   holds them, with their headers; of kinds 10 to 12 the enciphered information */
     ODIF_CONTENT_PAST     = 11
 };
 
@@ -187,6 +198,23 @@ odif_found odif_content(const uint8_t *stream, size_t stream_len, uint32_t eleme
    out past it stay. As many octets as the row's content has are always enough. */
 odif_copied odif_joined(const uint8_t *ODIF_APART stream, size_t stream_len, uint32_t element,
                         uint8_t *ODIF_APART out, size_t out_len);
+
+/* The same questions by the edition of 1993. */
+odif_checked odif_check_1993(const uint8_t *ODIF_APART stream, size_t stream_len,
+                             uint32_t *ODIF_APART table, size_t table_len);
+odif_written odif_normal_1993(const uint8_t *ODIF_APART stream, size_t stream_len,
+                              uint8_t *ODIF_APART out, size_t out_len);
+odif_listed odif_layout_1993(const uint8_t *ODIF_APART stream, size_t stream_len,
+                             uint32_t *ODIF_APART table, size_t table_len,
+                             odif_match *ODIF_APART list, size_t list_len);
+odif_listed odif_logical_1993(const uint8_t *ODIF_APART stream, size_t stream_len,
+                              uint32_t *ODIF_APART table, size_t table_len,
+                              odif_match *ODIF_APART list, size_t list_len);
+odif_written odif_normal_short_1993(const uint8_t *ODIF_APART stream, size_t stream_len,
+                                    uint8_t *ODIF_APART out, size_t out_len);
+odif_found odif_content_1993(const uint8_t *stream, size_t stream_len, uint32_t element);
+odif_copied odif_joined_1993(const uint8_t *ODIF_APART stream, size_t stream_len, uint32_t element,
+                             uint8_t *ODIF_APART out, size_t out_len);
 
 /* The sentence of a number of the list above, without a full stop; 0 and numbers past the list have one too. It is no
    part of the proved archive: compile odif_sentence.c, which stands beside this header, with your program, or link with

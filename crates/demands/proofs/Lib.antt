@@ -11,6 +11,8 @@ pub mod Demand3
 pub mod Kept
 pub mod SameLetter
 pub mod Mailroom
+pub mod OneElement
+pub mod Editions
 pub mod Examples
 pub mod Determined
 pub mod Wrong

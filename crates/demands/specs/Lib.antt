@@ -5,4 +5,5 @@ pub mod Demands
 pub mod Kept
 pub mod SameLetter
 pub mod Mailroom
+pub mod Editions
 pub mod Examples
