@@ -1,4 +1,4 @@
-/* odif.h: a reader of ODIF letters (CCITT T.415, ISO 8613-5, 1988), proved to its contracts.
+/* odif.h: a reader of ODIF letters (CCITT T.415, ISO 8613-5, of 1988 and of 1993), proved to its contracts.
 
    Link with target/staticlib/libodif.a: an ELF archive for Linux on x86-64, and for no other machine. The functions
    keep no state, allocate nothing and may be called from any number of threads at once. They take any octets whatever
@@ -19,6 +19,12 @@
    question takes up to 40 KiB of it, the two lists up to 88 KiB; of any other up to 256 KiB, the lists up to 304 KiB. It
    clears 31 kB of that for a small stream and 246 kB for any other, the lists somewhat more. Mind it where threads are
    started with small stacks: 128 KiB are enough for small streams alone.
+
+   A question reads by the edition of 1988, and its twin with _1993 at its end by that of 1993. The octet rules are the
+   same. In 1993 a text unit may have no content, or content in tiles, and there are four elements more, the protected
+   parts: a sealed document profile, A9, an enciphered one, AA, and body parts that were enciphered before or after the
+   layout, AB and AC. Every letter of 1988 is one of 1993 with the same rows and matches. A letter with a protected part
+   is none of 1988: it is refused by 10 there.
 
    Every answer begins with a number and a place. Number 0 is accepted or answered, with place 0. Any other number is
    a refusal; places count octets of the stream from 0.
@@ -47,7 +53,8 @@
    18   the output is shorter than the normal form                                    0
    19   the list is shorter than the matches                                          0
    20   the asked element is no text unit or does not exist                           0
-   21   a part is asked of content in pieces, which is no one part of the stream      0
+   21   a part is asked of content in pieces or tiles, which is no one part           0
+        of the stream
    22   the output is shorter than the joined content                                 0
    23   not exactly one date of the document in the profile, or it is constructed     0
    24   the first ten octets of the date name no day                                  0
@@ -65,8 +72,10 @@
    before has; 9 for entry 2,047; all with the entry's number as their place. Then 17 and 18 of the letter, at 0.
 
    Content is one octet string, 04, or is saved in pieces: 24, which holds 04 and 24 items down to the deepest level.
-   Its octets are then the pieces joined in order. odif_joined copies them, a 04 being one piece; odif_content serves a
-   04 without a copy.
+   Its octets are then the pieces joined in order. In 1993 it may be tiled: 30, which holds 04 and 24 items, and its
+   octets are those of the tiles joined in order; or missing, and it has no octets then. odif_joined copies them, a 04
+   being one piece; odif_content serves a 04 without a copy. A protected part is no text unit: asked for its content it
+   is refused by 20. What is enciphered is not opened.
 
    The date of the document is the one item 80 in an A0 in an A3 of the profile, over all of these (T.415, 5.6): its first
    ten octets are four, two and two digits with hyphens between, as 1988-06-05, and name a day of the Gregorian calendar
@@ -118,18 +127,20 @@ extern "C" {
    absent one is 0 and 0. */
 enum {
     ODIF_KIND             = 0,  /* 0 document profile, 1 layout class, 2 layout object, 3 text unit, 5 logical class,
-                                   6 logical object, 7 presentation style, 8 layout style */
+                                   6 logical object, 7 presentation style, 8 layout style; in 1993 also
+                                   9 sealed document profile, 10 enciphered document profile,
+                                   11 pre-enciphered body part, 12 post-enciphered body part */
     ODIF_OBJECT_TYPE      = 1,  /* 0 to 4 for layout, 0 to 2 for logical, 255 if none */
     ODIF_FIRST            = 2,  /* the element, with its header and its closing mark */
     ODIF_PAST             = 3,
-    ODIF_IDENTIFIER_FIRST = 4,  /* its identifier; for a text unit the layout identifier */
+    ODIF_IDENTIFIER_FIRST = 4,  /* its identifier; for a text unit the layout identifier; none of kinds 9 to 12 */
     ODIF_IDENTIFIER_PAST  = 5,
     ODIF_LOGICAL_FIRST    = 6,  /* a text unit's logical identifier */
     ODIF_LOGICAL_PAST     = 7,
     ODIF_PORTIONS_FIRST   = 8,  /* the portions of a class or object */
     ODIF_PORTIONS_PAST    = 9,
-    ODIF_CONTENT_FIRST    = 10, /* a text unit's content; if it is in pieces, the value of the 24 that holds them, with
-                                   their headers */
+    ODIF_CONTENT_FIRST    = 10, /* a text unit's content; if it is in pieces or tiles, the value of the 24 or 30 that
+                                   holds them, with their headers; of kinds 10 to 12 the enciphered information */
     ODIF_CONTENT_PAST     = 11
 };
 
@@ -239,6 +250,33 @@ odif_found odif_content(const uint8_t *stream, size_t stream_len, uint32_t eleme
 odif_copied odif_joined(const uint8_t *ODIF_APART stream, size_t stream_len, uint32_t element,
                         uint8_t *ODIF_APART out, size_t out_len);
 
+/* Finds the date of the document. */
+odif_dated odif_date(const uint8_t *stream, size_t stream_len);
+
+/* Finds the date of the document by the first element alone: rules 1 to 8, 10 and 11 are tried on that, and no octet after
+   it is read. Of a letter it is what odif_date finds. The front of a stream is enough, if the first element is whole in it;
+   else 7 is given, or what stands there is refused. It takes time as the first element is long, and little stack. */
+odif_first_dated odif_first_date(const uint8_t *stream, size_t stream_len);
+
+/* The same questions by the edition of 1993. */
+odif_checked odif_check_1993(const uint8_t *ODIF_APART stream, size_t stream_len,
+                             uint32_t *ODIF_APART table, size_t table_len);
+odif_written odif_normal_1993(const uint8_t *ODIF_APART stream, size_t stream_len,
+                              uint8_t *ODIF_APART out, size_t out_len);
+odif_listed odif_layout_1993(const uint8_t *ODIF_APART stream, size_t stream_len,
+                             uint32_t *ODIF_APART table, size_t table_len,
+                             odif_match *ODIF_APART list, size_t list_len);
+odif_listed odif_logical_1993(const uint8_t *ODIF_APART stream, size_t stream_len,
+                              uint32_t *ODIF_APART table, size_t table_len,
+                              odif_match *ODIF_APART list, size_t list_len);
+odif_written odif_normal_short_1993(const uint8_t *ODIF_APART stream, size_t stream_len,
+                                    uint8_t *ODIF_APART out, size_t out_len);
+odif_found odif_content_1993(const uint8_t *stream, size_t stream_len, uint32_t element);
+odif_copied odif_joined_1993(const uint8_t *ODIF_APART stream, size_t stream_len, uint32_t element,
+                             uint8_t *ODIF_APART out, size_t out_len);
+odif_dated odif_date_1993(const uint8_t *stream, size_t stream_len);
+odif_first_dated odif_first_date_1993(const uint8_t *stream, size_t stream_len);
+
 /* Makes a letter of entries, which lie apart from the output as all that is lent does: an empty profile, and for each
    entry a block with the identifier and that one portion, and a text unit with the text. It is accepted, its layout list
    has the entries in their order and no others, and it is its own normal form. The output and the buffer may not
@@ -302,13 +340,6 @@ odif_taken odif_blocks_take(odif_blocks state, const uint8_t *block, size_t bloc
 
 /* What the walk of the letter tells. 29 if not all octets have come, whatever was found: the state can be gone on with. */
 odif_walked odif_blocks_close(odif_blocks state);
-/* Finds the date of the document. */
-odif_dated odif_date(const uint8_t *stream, size_t stream_len);
-
-/* Finds the date of the document by the first element alone: rules 1 to 8, 10 and 11 are tried on that, and no octet after
-   it is read. Of a letter it is what odif_date finds. The front of a stream is enough, if the first element is whole in it;
-   else 7 is given, or what stands there is refused. It takes time as the first element is long, and little stack. */
-odif_first_dated odif_first_date(const uint8_t *stream, size_t stream_len);
 
 /* The sentence of a number of the list above, without a full stop; 0 and numbers past the list have one too. It is no
    part of the proved archive: compile odif_sentence.c, which stands beside this header, with your program, or link with

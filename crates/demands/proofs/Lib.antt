@@ -13,6 +13,8 @@ pub mod SameLetter
 pub mod Mailroom
 pub mod DocumentDate
 pub mod FirstDate
+pub mod OneElement
+pub mod Editions
 pub mod Examples
 pub mod Determined
 pub mod Wrong

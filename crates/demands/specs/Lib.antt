@@ -8,4 +8,5 @@ pub mod SameLetter
 pub mod Mailroom
 pub mod DocumentDate
 pub mod FirstDate
+pub mod Editions
 pub mod Examples

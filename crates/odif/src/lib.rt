@@ -262,7 +262,8 @@ pub fn first_date(edition: Edition, stream: &[u8]) -> FirstDated
     answers::date_of_first(edition, stream)
 }
 
-// The same questions for C, as include/odif.h declares them: a slice is a pointer and a length, and a null pointer with length 0 is fine.
+// The same questions for C, as include/odif.h declares them: a slice is a pointer and a length, and a null pointer with length 0 is fine. Each
+// asks of the edition of 1988, and its twin of that of 1993.
 #[no_mangle]
 pub extern "C" fn odif_check(stream: &[u8], table: &mut [u32]) -> Checked
     ensures { λ r. ⌜ CheckOutcome Edition.Of1988 (now (stream .entry)) (now (table .entry)) r (now (table .exit)) ⌝ }
@@ -271,10 +272,24 @@ pub extern "C" fn odif_check(stream: &[u8], table: &mut [u32]) -> Checked
 }
 
 #[no_mangle]
+pub extern "C" fn odif_check_1993(stream: &[u8], table: &mut [u32]) -> Checked
+    ensures { λ r. ⌜ CheckOutcome Edition.Of1993 (now (stream .entry)) (now (table .entry)) r (now (table .exit)) ⌝ }
+{
+    check(Edition::Of1993, stream, table)
+}
+
+#[no_mangle]
 pub extern "C" fn odif_normal(stream: &[u8], out: &mut [u8]) -> Written
     ensures { λ r. ⌜ NormalOutcome Edition.Of1988 (now (stream .entry)) (now (out .entry)) r (now (out .exit)) ⌝ }
 {
     normal(Edition::Of1988, stream, out)
+}
+
+#[no_mangle]
+pub extern "C" fn odif_normal_1993(stream: &[u8], out: &mut [u8]) -> Written
+    ensures { λ r. ⌜ NormalOutcome Edition.Of1993 (now (stream .entry)) (now (out .entry)) r (now (out .exit)) ⌝ }
+{
+    normal(Edition::Of1993, stream, out)
 }
 
 #[no_mangle]
@@ -286,11 +301,27 @@ pub extern "C" fn odif_layout(stream: &[u8], table: &mut [u32], list: &mut [Matc
 }
 
 #[no_mangle]
+pub extern "C" fn odif_layout_1993(stream: &[u8], table: &mut [u32], list: &mut [Match]) -> Listed
+    ensures { λ r. ⌜ ListOutcome Edition.Of1993 Side.Layout (now (stream .entry)) (now (table .entry)) (now (list .entry)) r (now (table .exit))
+        (now (list .exit)) ⌝ }
+{
+    crate::list(Edition::Of1993, stream, Side::Layout, table, list)
+}
+
+#[no_mangle]
 pub extern "C" fn odif_logical(stream: &[u8], table: &mut [u32], list: &mut [Match]) -> Listed
     ensures { λ r. ⌜ ListOutcome Edition.Of1988 Side.Logical (now (stream .entry)) (now (table .entry)) (now (list .entry)) r (now (table .exit))
         (now (list .exit)) ⌝ }
 {
     crate::list(Edition::Of1988, stream, Side::Logical, table, list)
+}
+
+#[no_mangle]
+pub extern "C" fn odif_logical_1993(stream: &[u8], table: &mut [u32], list: &mut [Match]) -> Listed
+    ensures { λ r. ⌜ ListOutcome Edition.Of1993 Side.Logical (now (stream .entry)) (now (table .entry)) (now (list .entry)) r (now (table .exit))
+        (now (list .exit)) ⌝ }
+{
+    crate::list(Edition::Of1993, stream, Side::Logical, table, list)
 }
 
 #[no_mangle]
@@ -301,6 +332,13 @@ pub extern "C" fn odif_content(stream: &[u8], element: u32) -> Found
 }
 
 #[no_mangle]
+pub extern "C" fn odif_content_1993(stream: &[u8], element: u32) -> Found
+    ensures { λ r. ⌜ Fetches Edition.Of1993 (now (stream .entry)) element r ⌝ }
+{
+    locate(Edition::Of1993, stream, element as usize)
+}
+
+#[no_mangle]
 pub extern "C" fn odif_joined(stream: &[u8], element: u32, out: &mut [u8]) -> Copied
     ensures { λ r. ⌜ JoinedOutcome Edition.Of1988 (now (stream .entry)) element (now (out .entry)) r (now (out .exit)) ⌝ }
 {
@@ -308,10 +346,24 @@ pub extern "C" fn odif_joined(stream: &[u8], element: u32, out: &mut [u8]) -> Co
 }
 
 #[no_mangle]
+pub extern "C" fn odif_joined_1993(stream: &[u8], element: u32, out: &mut [u8]) -> Copied
+    ensures { λ r. ⌜ JoinedOutcome Edition.Of1993 (now (stream .entry)) element (now (out .entry)) r (now (out .exit)) ⌝ }
+{
+    joined(Edition::Of1993, stream, element as usize, out)
+}
+
+#[no_mangle]
 pub extern "C" fn odif_normal_short(stream: &[u8], out: &mut [u8]) -> Written
     ensures { λ r. ⌜ ShortOutcome Edition.Of1988 (now (stream .entry)) (now (out .entry)) r (now (out .exit)) ⌝ }
 {
     normal_short(Edition::Of1988, stream, out)
+}
+
+#[no_mangle]
+pub extern "C" fn odif_normal_short_1993(stream: &[u8], out: &mut [u8]) -> Written
+    ensures { λ r. ⌜ ShortOutcome Edition.Of1993 (now (stream .entry)) (now (out .entry)) r (now (out .exit)) ⌝ }
+{
+    normal_short(Edition::Of1993, stream, out)
 }
 
 // The header's `odif_make` hands its entries to this one as numbers.
@@ -334,4 +386,18 @@ pub extern "C" fn odif_first_date(stream: &[u8]) -> FirstDated
     ensures { λ r. ⌜ FirstDateOutcome Edition.Of1988 (now (stream .entry)) r ⌝ }
 {
     first_date(Edition::Of1988, stream)
+}
+
+#[no_mangle]
+pub extern "C" fn odif_date_1993(stream: &[u8]) -> Dated
+    ensures { λ r. ⌜ DateOutcome Edition.Of1993 (now (stream .entry)) r ⌝ }
+{
+    dated(Edition::Of1993, stream)
+}
+
+#[no_mangle]
+pub extern "C" fn odif_first_date_1993(stream: &[u8]) -> FirstDated
+    ensures { λ r. ⌜ FirstDateOutcome Edition.Of1993 (now (stream .entry)) r ⌝ }
+{
+    first_date(Edition::Of1993, stream)
 }
