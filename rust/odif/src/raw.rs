@@ -1,8 +1,12 @@
-//! The boundary of the proved library as it stands: the functions and structs of `include/odif.h`, on slices.
+//! The boundary of the proved library as it stands: the functions and structs of `include/odif.h`, on slices. A function
+//! with `_in` at the end of its name asks the function of the edition, which in C has `_1993` at the end of its name or
+//! nothing; the one without it is that of 1988.
 //!
 //! Nothing here fails: an answer's number says whether it is a refusal. The crate's other modules are easier to use.
 //! This is the only file with `unsafe` in it.
 #![allow(unsafe_code)]
+
+use crate::edition::Edition;
 
 /// The answer of [`check`].
 #[repr(C)]
@@ -84,8 +88,18 @@ pub struct Match {
 
 unsafe extern "C" {
     fn odif_check(stream: *const u8, stream_len: usize, table: *mut u32, table_len: usize) -> Checked;
+    fn odif_check_1993(stream: *const u8, stream_len: usize, table: *mut u32, table_len: usize) -> Checked;
     fn odif_normal(stream: *const u8, stream_len: usize, out: *mut u8, out_len: usize) -> Written;
+    fn odif_normal_1993(stream: *const u8, stream_len: usize, out: *mut u8, out_len: usize) -> Written;
     fn odif_layout(
+        stream: *const u8,
+        stream_len: usize,
+        table: *mut u32,
+        table_len: usize,
+        list: *mut Match,
+        list_len: usize,
+    ) -> Listed;
+    fn odif_layout_1993(
         stream: *const u8,
         stream_len: usize,
         table: *mut u32,
@@ -101,9 +115,20 @@ unsafe extern "C" {
         list: *mut Match,
         list_len: usize,
     ) -> Listed;
+    fn odif_logical_1993(
+        stream: *const u8,
+        stream_len: usize,
+        table: *mut u32,
+        table_len: usize,
+        list: *mut Match,
+        list_len: usize,
+    ) -> Listed;
     fn odif_normal_short(stream: *const u8, stream_len: usize, out: *mut u8, out_len: usize) -> Written;
+    fn odif_normal_short_1993(stream: *const u8, stream_len: usize, out: *mut u8, out_len: usize) -> Written;
     fn odif_content(stream: *const u8, stream_len: usize, element: u32) -> Found;
+    fn odif_content_1993(stream: *const u8, stream_len: usize, element: u32) -> Found;
     fn odif_joined(stream: *const u8, stream_len: usize, element: u32, out: *mut u8, out_len: usize) -> Copied;
+    fn odif_joined_1993(stream: *const u8, stream_len: usize, element: u32, out: *mut u8, out_len: usize) -> Copied;
 }
 
 // SAFETY, for each call below: a pointer and a length come from one slice, which is lent for the call alone; the
@@ -111,39 +136,98 @@ unsafe extern "C" {
 
 /// Checks a stream and fills the table.
 pub fn check(stream: &[u8], table: &mut [u32]) -> Checked {
-    unsafe { odif_check(stream.as_ptr(), stream.len(), table.as_mut_ptr(), table.len()) }
+    check_in(Edition::Of1988, stream, table)
 }
 
 /// Writes the normal form.
 pub fn normal(stream: &[u8], out: &mut [u8]) -> Written {
-    unsafe { odif_normal(stream.as_ptr(), stream.len(), out.as_mut_ptr(), out.len()) }
+    normal_in(Edition::Of1988, stream, out)
 }
 
 /// Fills the table and the reading list of the layout side.
 pub fn layout(stream: &[u8], table: &mut [u32], list: &mut [Match]) -> Listed {
-    unsafe {
-        odif_layout(stream.as_ptr(), stream.len(), table.as_mut_ptr(), table.len(), list.as_mut_ptr(), list.len())
-    }
+    layout_in(Edition::Of1988, stream, table, list)
 }
 
 /// Fills the table and the reading list of the logical side.
 pub fn logical(stream: &[u8], table: &mut [u32], list: &mut [Match]) -> Listed {
-    unsafe {
-        odif_logical(stream.as_ptr(), stream.len(), table.as_mut_ptr(), table.len(), list.as_mut_ptr(), list.len())
-    }
+    logical_in(Edition::Of1988, stream, table, list)
 }
 
 /// Writes the normal form of a stream of at most 65,535 octets, which is never longer than the stream.
 pub fn normal_short(stream: &[u8], out: &mut [u8]) -> Written {
-    unsafe { odif_normal_short(stream.as_ptr(), stream.len(), out.as_mut_ptr(), out.len()) }
+    normal_short_in(Edition::Of1988, stream, out)
 }
 
 /// Finds the content of a text unit, if it is one part of the stream.
 pub fn content(stream: &[u8], element: u32) -> Found {
-    unsafe { odif_content(stream.as_ptr(), stream.len(), element) }
+    content_in(Edition::Of1988, stream, element)
 }
 
 /// Copies the content of a text unit, its pieces joined in order.
 pub fn joined(stream: &[u8], element: u32, out: &mut [u8]) -> Copied {
-    unsafe { odif_joined(stream.as_ptr(), stream.len(), element, out.as_mut_ptr(), out.len()) }
+    joined_in(Edition::Of1988, stream, element, out)
+}
+
+/// The same as [`check`], by an edition.
+pub fn check_in(edition: Edition, stream: &[u8], table: &mut [u32]) -> Checked {
+    let ask = match edition {
+        Edition::Of1988 => odif_check,
+        Edition::Of1993 => odif_check_1993,
+    };
+    unsafe { ask(stream.as_ptr(), stream.len(), table.as_mut_ptr(), table.len()) }
+}
+
+/// The same as [`normal`], by an edition.
+pub fn normal_in(edition: Edition, stream: &[u8], out: &mut [u8]) -> Written {
+    let ask = match edition {
+        Edition::Of1988 => odif_normal,
+        Edition::Of1993 => odif_normal_1993,
+    };
+    unsafe { ask(stream.as_ptr(), stream.len(), out.as_mut_ptr(), out.len()) }
+}
+
+/// The same as [`layout`], by an edition.
+pub fn layout_in(edition: Edition, stream: &[u8], table: &mut [u32], list: &mut [Match]) -> Listed {
+    let ask = match edition {
+        Edition::Of1988 => odif_layout,
+        Edition::Of1993 => odif_layout_1993,
+    };
+    unsafe { ask(stream.as_ptr(), stream.len(), table.as_mut_ptr(), table.len(), list.as_mut_ptr(), list.len()) }
+}
+
+/// The same as [`logical`], by an edition.
+pub fn logical_in(edition: Edition, stream: &[u8], table: &mut [u32], list: &mut [Match]) -> Listed {
+    let ask = match edition {
+        Edition::Of1988 => odif_logical,
+        Edition::Of1993 => odif_logical_1993,
+    };
+    unsafe { ask(stream.as_ptr(), stream.len(), table.as_mut_ptr(), table.len(), list.as_mut_ptr(), list.len()) }
+}
+
+/// The same as [`normal_short`], by an edition.
+pub fn normal_short_in(edition: Edition, stream: &[u8], out: &mut [u8]) -> Written {
+    let ask = match edition {
+        Edition::Of1988 => odif_normal_short,
+        Edition::Of1993 => odif_normal_short_1993,
+    };
+    unsafe { ask(stream.as_ptr(), stream.len(), out.as_mut_ptr(), out.len()) }
+}
+
+/// The same as [`content`], by an edition.
+pub fn content_in(edition: Edition, stream: &[u8], element: u32) -> Found {
+    let ask = match edition {
+        Edition::Of1988 => odif_content,
+        Edition::Of1993 => odif_content_1993,
+    };
+    unsafe { ask(stream.as_ptr(), stream.len(), element) }
+}
+
+/// The same as [`joined`], by an edition.
+pub fn joined_in(edition: Edition, stream: &[u8], element: u32, out: &mut [u8]) -> Copied {
+    let ask = match edition {
+        Edition::Of1988 => odif_joined,
+        Edition::Of1993 => odif_joined_1993,
+    };
+    unsafe { ask(stream.as_ptr(), stream.len(), element, out.as_mut_ptr(), out.len()) }
 }
