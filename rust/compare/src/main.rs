@@ -13,8 +13,8 @@ use compare::{examples, limits, openssl, seeded, short};
 const HELP: &str = "\
 compare [--seed N] [--streams N] [--from N] [--jobs N]
 
-Holds the proved library against the independent reader: document 01's examples, X.209's
-and Annex D, every limit from both sides, all short streams, and generated letters, good,
+Holds the proved library against the independent reader, by the editions of 1988 and of
+1993: document 01's examples, X.209's and Annex D, every limit from both sides, all short streams, and generated letters, good,
 damaged and noise. Its last line is `N passed, M failed`.
 
   --seed N     the generated streams of this seed (1)
@@ -170,6 +170,7 @@ fn hold_generated(options: &Options) -> impl Fn(&mut Holder) + Sync {
 fn report(total: &mut Tally, whole: bool) {
     if whole {
         total.expect_every_number();
+        total.expect_every_refusal();
     }
     println!("how often the library gave each number:");
     for line in (0..=LAST_NUMBER).collect::<Vec<_>>().chunks(7) {

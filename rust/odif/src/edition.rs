@@ -3,7 +3,7 @@
 use std::fmt;
 
 /// The edition of the standard by which a letter is read. What does not ask for one reads by that of 1988.
-#[derive(Clone, Copy, Debug, Default, PartialEq, Eq, Hash)]
+#[derive(Clone, Copy, Debug, Default, PartialEq, Eq, PartialOrd, Ord, Hash)]
 pub enum Edition {
     /// CCITT T.415 of 1988.
     #[default]
