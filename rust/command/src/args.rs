@@ -5,7 +5,7 @@ use std::io;
 use std::process::ExitCode;
 
 use clap::{Args, CommandFactory, Parser, Subcommand, ValueEnum};
-use odif::{Letter, Side};
+use odif::{Edition, Letter, Side};
 
 use crate::status::{Failure, Outcome, Status, tell};
 use crate::{check, export, list, man, normal, same, survey, text, tree};
@@ -31,7 +31,7 @@ const VERSION: &str = concat!(
     env!("ODIF_TOOLCHAIN")
 );
 
-/// Reads letters in the Open Document Interchange Format (ODIF, 1988)
+/// Reads letters in the Open Document Interchange Format (ODIF, 1988 and 1993)
 #[derive(Parser)]
 #[command(name = "odif", version, long_version = VERSION, after_help = EXAMPLES, max_term_width = 100)]
 pub struct Cli {
@@ -63,6 +63,35 @@ pub struct Files {
     /// The files are hexadecimal digits in pairs, with white space between pairs
     #[arg(long)]
     pub hex: bool,
+    #[command(flatten)]
+    pub by: By,
+}
+
+/// By what letters are read.
+#[derive(Args, Clone, Copy)]
+pub struct By {
+    /// The edition of the standard. Letters of 1993 may have protected parts, and text units without content or with
+    /// tiles; those of 1988 are letters of 1993 too
+    #[arg(long, value_name = "YEAR", default_value = "1988")]
+    edition: Year,
+}
+
+#[derive(Clone, Copy, PartialEq, Eq, ValueEnum)]
+enum Year {
+    #[value(name = "1988")]
+    Of1988,
+    #[value(name = "1993")]
+    Of1993,
+}
+
+impl By {
+    /// The edition that was asked for.
+    pub fn edition(self) -> Edition {
+        match self.edition {
+            Year::Of1988 => Edition::Of1988,
+            Year::Of1993 => Edition::Of1993,
+        }
+    }
 }
 
 /// Which side of a letter is read.

@@ -5,6 +5,8 @@ use std::fs::File;
 use std::io::{self, BufRead, BufReader, Read, Write};
 use std::path::Path;
 
+use odif::Edition;
+
 use crate::args::Files;
 use crate::names::Name;
 use crate::status::{Outcome, Status, tell};
@@ -28,6 +30,8 @@ pub struct Source<'a> {
     pub shown: String,
     pub stream: Vec<u8>,
     pub size: Option<u64>,
+    /// The edition by which it is read.
+    pub edition: Edition,
 }
 
 /// Reads the files one after another and hands on each. One that can't be read is told, as JSON on standard output if
@@ -37,7 +41,9 @@ pub fn each(files: &Files, json: bool, mut answer: impl FnMut(&Source<'_>) -> Ou
     for file in &files.files {
         let shown = show::name(file);
         let status = match read(file, files.hex) {
-            Ok(Stream { octets, size }) => answer(&Source { file, shown, stream: octets, size })?,
+            Ok(Stream { octets, size }) => {
+                answer(&Source { file, shown, stream: octets, size, edition: files.by.edition() })?
+            }
             Err(error) if json => {
                 writeln!(io::stdout(), "{}", explain::unreadable(&Name::of(file), &error))?;
                 Status::Failed

@@ -10,9 +10,9 @@ use serde::Serialize;
 use crate::args::{Files, Sides};
 use crate::explain::{self, Verdict};
 use crate::input;
-use crate::show;
 use crate::status::{Outcome, Status, tell};
 use crate::text::note_units_left_out;
+use crate::{protected, show};
 
 /// The octets of a content that a line shows.
 const SHOWN: usize = 40;
@@ -73,7 +73,7 @@ struct Line {
 
 pub fn run(words: &Words) -> Outcome {
     input::each(&words.files, words.json, |source| {
-        let read = Letter::read(&source.stream);
+        let read = Letter::read_in(source.edition, &source.stream);
         let status = if read.is_ok() { Status::Accepted } else { Status::Refused };
         let mut out = BufWriter::new(io::stdout().lock());
         if words.json {
@@ -90,6 +90,7 @@ pub fn run(words: &Words) -> Outcome {
                 write_lines(&mut out, &letter, &lines)?;
                 out.flush()?;
                 note_units_left_out(source, &letter, side, lines.len());
+                protected::note(source, &letter);
             }
             Err(refusal) => tell(&explain::refusal(source, &refusal)),
         }

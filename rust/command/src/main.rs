@@ -18,6 +18,7 @@ mod names;
 mod normal;
 mod pool;
 mod progress;
+mod protected;
 mod same;
 mod show;
 mod status;

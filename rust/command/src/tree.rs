@@ -11,7 +11,7 @@ use serde::Serialize;
 
 use crate::args::Files;
 use crate::explain::{self, Verdict};
-use crate::input;
+use crate::input::{self, Source};
 use crate::items::{self, Known, Named};
 use crate::show;
 use crate::status::{Failure, Outcome, Status, tell};
@@ -29,7 +29,7 @@ Exit status: 0 accepted; 1 one was refused; 2 one could not be read.";
 /// Lists the items, with their names and values
 ///
 /// Lists the items in stream order: offset, level, class and number or type, length (octets of the value, or
-/// `indefinite`), and the names that the modules of 1988 give, with the values. Of a refused stream it lists the items
+/// `indefinite`), and the names that the modules of 1988 and 1993 give, with the values. Of a refused stream it lists the items
 /// that passed, and then says what refused it. The listing is made by a reader that is not proved, and held to the
 /// library's count.
 #[derive(Args)]
@@ -77,7 +77,7 @@ struct Line {
 pub fn run(words: &Words) -> Outcome {
     input::each(&words.files, words.json, |source| {
         let stream = &source.stream;
-        let checked = odif::check(stream);
+        let checked = odif::check_in(source.edition, stream);
         let reading = Reading::of(stream);
         if reading.tree().items().len() != checked.headers {
             let message = format!("{}: the two readers differ on its items; please report this file", source.shown);
@@ -86,13 +86,13 @@ pub fn run(words: &Words) -> Outcome {
         let items = items::named(reading.tree().items());
         let mut out = BufWriter::new(io::stdout().lock());
         if words.json {
-            let items = items.map(|named| json_line(stream, &named)).collect();
+            let items = items.map(|named| json_line(source, &named)).collect();
             writeln!(out, "{}", explain::json(&Answer { verdict: Verdict::of(source, &checked.verdict), items }))?;
         } else {
             input::heading(&mut out, &words.files.files, source)?;
             writeln!(out, "  offset level  item")?;
             for item in items {
-                writeln!(out, "{}", line(stream, &item))?;
+                writeln!(out, "{}", line(source, &item))?;
             }
         }
         out.flush()?;
@@ -108,7 +108,7 @@ pub fn run(words: &Words) -> Outcome {
     })
 }
 
-fn line(stream: &[u8], named: &Named<'_>) -> String {
+fn line(source: &Source<'_>, named: &Named<'_>) -> String {
     let item = named.item;
     let level = usize::from(item.level());
     let form = if item.is_constructed() { " constructed" } else { "" };
@@ -118,18 +118,18 @@ fn line(stream: &[u8], named: &Named<'_>) -> String {
         Length::Indefinite => "indefinite".into(),
     };
     let element = named.element.map_or(String::new(), |number| format!("element {number} "));
-    let remark = format!("{element}{} {}", named.name().unwrap_or_default(), value(stream, named));
+    let remark = format!("{element}{} {}", named.name().unwrap_or_default(), value(source, named));
     format!("{:8} {level:5}  {tag:36} length {length:10}  {}", item.first(), remark.trim()).trim_end().into()
 }
 
 /// The value of a primitive item: what it means if that is known, else in hexadecimal.
-fn value(stream: &[u8], named: &Named<'_>) -> String {
+fn value(source: &Source<'_>, named: &Named<'_>) -> String {
     if named.item.is_constructed() {
         return String::new();
     }
-    let octets = &stream[named.item.value()];
+    let octets = &source.stream[named.item.value()];
     let (front, more) = (&octets[..octets.len().min(SHOWN)], if octets.len() > SHOWN { ".." } else { "" });
-    match named.value(stream) {
+    match named.value(source.edition, octets) {
         _ if octets.is_empty() => String::new(),
         Some(Known::Number(number)) => number.to_string(),
         Some(Known::Named(number, name)) => format!("{number} ({name})"),
@@ -139,9 +139,10 @@ fn value(stream: &[u8], named: &Named<'_>) -> String {
     }
 }
 
-fn json_line(stream: &[u8], named: &Named<'_>) -> Line {
+fn json_line(source: &Source<'_>, named: &Named<'_>) -> Line {
     let item = named.item;
-    let (value, meaning) = match named.value(stream) {
+    let octets = &source.stream[item.value()];
+    let (value, meaning) = match named.value(source.edition, octets) {
         None => (None, None),
         Some(Known::Number(number)) => (Some(number.into()), None),
         Some(Known::Named(number, name)) => (Some(number.into()), Some(name)),
@@ -163,6 +164,6 @@ fn json_line(stream: &[u8], named: &Named<'_>) -> Line {
         name: named.name(),
         value,
         meaning,
-        hex: (!item.is_constructed()).then(|| show::hex(&stream[item.value()])),
+        hex: (!item.is_constructed()).then(|| show::hex(octets)),
     }
 }

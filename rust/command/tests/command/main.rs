@@ -1,6 +1,7 @@
 //! The command as a user meets it: each subcommand on good, refused, empty, huge and unreadable files.
 
 mod check;
+mod editions;
 mod export;
 mod faults;
 mod help;
