@@ -90,8 +90,8 @@ fn edition_example(holder: &mut Holder, fields: &[&str]) {
         (checked.elements, format!("{} {} {}", checked.number, checked.place, checked.headers))
     });
     let [(_, old), (elements, new)] = given;
-    let rows = table.chunks_exact(ROW_WIDTH).take(elements as usize);
-    let row = rows.last().map_or("-".into(), |row| format!("{} {} {} {}", row[0], row[1], row[10], row[11]));
+    let mut rows = table.chunks_exact(ROW_WIDTH).take(elements as usize);
+    let row = rows.next_back().map_or("-".into(), |row| format!("{} {} {} {}", row[0], row[1], row[10], row[11]));
     let element = elements.saturating_sub(1);
     let found = raw::content_in(Edition::Of1993, &stream, element).number.to_string();
     let mut out = vec![0; stream.len()];
