@@ -86,49 +86,33 @@ pub struct Match {
     pub unit: u32,
 }
 
-unsafe extern "C" {
-    fn odif_check(stream: *const u8, stream_len: usize, table: *mut u32, table_len: usize) -> Checked;
-    fn odif_check_1993(stream: *const u8, stream_len: usize, table: *mut u32, table_len: usize) -> Checked;
-    fn odif_normal(stream: *const u8, stream_len: usize, out: *mut u8, out_len: usize) -> Written;
-    fn odif_normal_1993(stream: *const u8, stream_len: usize, out: *mut u8, out_len: usize) -> Written;
-    fn odif_layout(
-        stream: *const u8,
-        stream_len: usize,
-        table: *mut u32,
-        table_len: usize,
-        list: *mut Match,
-        list_len: usize,
+/// Declares the questions of the C header, each by its name of 1988 and by that of 1993.
+macro_rules! twins {
+    ($($of_1988:ident $of_1993:ident($($name:ident: $lent:ty),*) -> $answer:ty;)*) => {
+        unsafe extern "C" {
+            $(
+                fn $of_1988($($name: $lent),*) -> $answer;
+                fn $of_1993($($name: $lent),*) -> $answer;
+            )*
+        }
+    };
+}
+
+#[rustfmt::skip]
+twins! {
+    odif_check odif_check_1993(stream: *const u8, stream_len: usize, table: *mut u32, table_len: usize) -> Checked;
+    odif_normal odif_normal_1993(stream: *const u8, stream_len: usize, out: *mut u8, out_len: usize) -> Written;
+    odif_normal_short odif_normal_short_1993(stream: *const u8, stream_len: usize, out: *mut u8, out_len: usize) -> Written;
+    odif_layout odif_layout_1993(
+        stream: *const u8, stream_len: usize, table: *mut u32, table_len: usize, list: *mut Match, list_len: usize
     ) -> Listed;
-    fn odif_layout_1993(
-        stream: *const u8,
-        stream_len: usize,
-        table: *mut u32,
-        table_len: usize,
-        list: *mut Match,
-        list_len: usize,
+    odif_logical odif_logical_1993(
+        stream: *const u8, stream_len: usize, table: *mut u32, table_len: usize, list: *mut Match, list_len: usize
     ) -> Listed;
-    fn odif_logical(
-        stream: *const u8,
-        stream_len: usize,
-        table: *mut u32,
-        table_len: usize,
-        list: *mut Match,
-        list_len: usize,
-    ) -> Listed;
-    fn odif_logical_1993(
-        stream: *const u8,
-        stream_len: usize,
-        table: *mut u32,
-        table_len: usize,
-        list: *mut Match,
-        list_len: usize,
-    ) -> Listed;
-    fn odif_normal_short(stream: *const u8, stream_len: usize, out: *mut u8, out_len: usize) -> Written;
-    fn odif_normal_short_1993(stream: *const u8, stream_len: usize, out: *mut u8, out_len: usize) -> Written;
-    fn odif_content(stream: *const u8, stream_len: usize, element: u32) -> Found;
-    fn odif_content_1993(stream: *const u8, stream_len: usize, element: u32) -> Found;
-    fn odif_joined(stream: *const u8, stream_len: usize, element: u32, out: *mut u8, out_len: usize) -> Copied;
-    fn odif_joined_1993(stream: *const u8, stream_len: usize, element: u32, out: *mut u8, out_len: usize) -> Copied;
+    odif_content odif_content_1993(stream: *const u8, stream_len: usize, element: u32) -> Found;
+    odif_joined odif_joined_1993(
+        stream: *const u8, stream_len: usize, element: u32, out: *mut u8, out_len: usize
+    ) -> Copied;
 }
 
 // SAFETY, for each call below: a pointer and a length come from one slice, which is lent for the call alone; the
