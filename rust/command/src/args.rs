@@ -18,7 +18,11 @@ Examples:
   echo A0800000 | odif normal --hex - -o - | xxd
 
 Exit status: 0 all was accepted; 1 something was refused; 2 something could not be
-read or written, or the command was misused; 130 it was interrupted.";
+read or written, or the command was misused; 130 it was interrupted; 141 no one reads its
+output any more, as in `odif tree letter.odif | head`.";
+
+/// The signal of a pipe that no one reads.
+const SIGPIPE: u8 = 13;
 
 /// What `--version` tells: which library this is, and what proved it.
 const VERSION: &str = concat!(
@@ -172,7 +176,8 @@ fn failed(failure: Failure) -> ExitCode {
     match failure {
         Failure::Usage(message) => tell(&format!("odif: {message}\nTry `odif --help`.\n")),
         Failure::File(message) => tell(&format!("odif: {message}\n")),
-        Failure::Output(error) if error.kind() == io::ErrorKind::BrokenPipe => {}
+        // As of other commands, a shell then says that a signal ended it. What was begun has been put away by now.
+        Failure::Output(error) if error.kind() == io::ErrorKind::BrokenPipe => return ExitCode::from(128 + SIGPIPE),
         Failure::Output(error) => tell(&format!("odif: standard output: {error}\n")),
         Failure::Cut(message) => {
             tell(&format!("odif: interrupted: {message}\n"));
