@@ -71,6 +71,16 @@ pub struct Files {
     pub by: By,
 }
 
+/// The files of a subcommand that answers for people or as JSON.
+#[derive(Args)]
+pub struct Asked {
+    #[command(flatten)]
+    pub files: Files,
+    /// One JSON object a line and file, with all that is known
+    #[arg(long)]
+    pub json: bool,
+}
+
 /// By what letters are read.
 #[derive(Args, Clone, Copy)]
 pub struct By {

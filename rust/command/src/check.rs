@@ -6,11 +6,10 @@ use clap::Args;
 use odif::{Letter, Refusal};
 use serde::Serialize;
 
-use crate::args::Files;
-use crate::explain::{self, Verdict};
+use crate::args::Asked;
 use crate::input::{self, Source};
 use crate::status::{Outcome, Status};
-use crate::{protected, show};
+use crate::{explain, protected, show};
 
 const EXAMPLES: &str = "\
 Examples:
@@ -29,16 +28,12 @@ Exit status: 0 all were accepted; 1 one was refused; 2 one could not be read.";
 #[command(after_help = EXAMPLES)]
 pub struct Words {
     #[command(flatten)]
-    files: Files,
-    /// One JSON object a line and file
-    #[arg(long)]
-    json: bool,
+    asked: Asked,
 }
 
+/// What JSON has besides the verdict.
 #[derive(Serialize)]
-struct Answer {
-    #[serde(flatten)]
-    verdict: Verdict,
+struct Counts {
     octets: Option<u64>,
     headers: usize,
     elements: usize,
@@ -52,27 +47,32 @@ fn is_none(count: &usize) -> bool {
 }
 
 pub fn run(words: &Words) -> Outcome {
-    input::each(&words.files, words.json, |source| {
+    input::each(&words.asked.files, words.asked.json, |source| {
         let read = Letter::read_in(source.edition, &source.stream);
-        let status = if read.is_ok() { Status::Accepted } else { Status::Refused };
         let report = match &read {
-            _ if words.json => explain::json(&answer(source, &read)) + "\n",
+            _ if words.asked.json => explain::answer(source, &read, counts(source, &read)),
             Ok(letter) => accepted(source, letter),
             Err(refusal) => explain::refusal(source, refusal),
         };
         let mut out = io::stdout().lock();
         out.write_all(report.as_bytes())?;
         out.flush()?;
-        Ok(status)
+        Ok(Status::of(&read))
     })
 }
 
-fn answer(source: &Source<'_>, read: &Result<Letter<'_>, Refusal>) -> Answer {
-    let (headers, elements, protected_parts) = match read {
-        Ok(letter) => (letter.headers(), letter.elements().len(), protected::count(letter)),
-        Err(_) => (odif::check_in(source.edition, &source.stream).headers, 0, 0),
-    };
-    Answer { verdict: Verdict::of(source, read), octets: source.size, headers, elements, protected_parts }
+fn counts(source: &Source<'_>, read: &Result<Letter<'_>, Refusal>) -> Counts {
+    let octets = source.size;
+    match read {
+        Ok(letter) => {
+            let (headers, elements) = (letter.headers(), letter.elements().len());
+            Counts { octets, headers, elements, protected_parts: protected::count(letter) }
+        }
+        Err(_) => {
+            let headers = odif::check_in(source.edition, &source.stream).headers;
+            Counts { octets, headers, elements: 0, protected_parts: 0 }
+        }
+    }
 }
 
 fn accepted(source: &Source<'_>, letter: &Letter<'_>) -> String {

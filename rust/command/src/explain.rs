@@ -41,7 +41,7 @@ pub fn refusal(source: &Source<'_>, refusal: &Refusal) -> String {
 
 /// The beginning of every answer in JSON: the file, the outcome, number and place, and of a refusal what is known of it.
 #[derive(Serialize)]
-pub struct Verdict {
+struct Verdict {
     #[serde(flatten)]
     name: Name,
     outcome: &'static str,
@@ -76,9 +76,20 @@ struct Octets {
     hex: String,
 }
 
+/// The answer on a stream as a line of JSON: the verdict, and then what the subcommand has to say.
+pub fn answer<T>(source: &Source<'_>, verdict: &Result<T, Refusal>, more: impl Serialize) -> String {
+    #[derive(Serialize)]
+    struct Answer<M> {
+        #[serde(flatten)]
+        verdict: Verdict,
+        #[serde(flatten)]
+        more: M,
+    }
+    json(&Answer { verdict: Verdict::of(source, verdict), more }) + "\n"
+}
+
 impl Verdict {
-    /// The verdict on a stream.
-    pub fn of<T>(source: &Source<'_>, verdict: &Result<T, Refusal>) -> Verdict {
+    fn of<T>(source: &Source<'_>, verdict: &Result<T, Refusal>) -> Verdict {
         let name = Name::of(source.file);
         match verdict {
             Ok(_) => Verdict { name, outcome: "accepted", number: 0, place: 0, cause: None },

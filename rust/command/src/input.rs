@@ -1,6 +1,6 @@
 //! Reading a stream from a file or standard input, as octets or as hexadecimal digits.
 
-use std::ffi::{OsStr, OsString};
+use std::ffi::OsStr;
 use std::fs::File;
 use std::io::{self, BufRead, BufReader, Read, Write};
 use std::path::Path;
@@ -59,8 +59,8 @@ pub fn each(files: &Files, json: bool, mut answer: impl FnMut(&Source<'_>) -> Ou
 }
 
 /// A line with the file's name, where there are several.
-pub fn heading(out: &mut impl Write, files: &[OsString], source: &Source<'_>) -> io::Result<()> {
-    if files.len() > 1 { writeln!(out, "==> {} <==", source.shown) } else { Ok(()) }
+pub fn heading(out: &mut impl Write, files: &Files, source: &Source<'_>) -> io::Result<()> {
+    if files.files.len() > 1 { writeln!(out, "==> {} <==", source.shown) } else { Ok(()) }
 }
 
 /// Reads a file, or standard input for `-`.

@@ -119,7 +119,7 @@ pub fn run(words: &Words) -> Outcome {
         if words.raw {
             out.write_all(&joined(&letter, &letter.reading_list(side).unwrap_or_default()))?;
         } else {
-            input::heading(&mut out, &words.files.files, source)?;
+            input::heading(&mut out, &words.files, source)?;
             out.write_all(&if escape { show::escaped_lines(&octets).into_bytes() } else { octets })?;
         }
         out.flush()?;

@@ -9,8 +9,8 @@ use clap::Args;
 use reader::{Length, Reading};
 use serde::Serialize;
 
-use crate::args::Files;
-use crate::explain::{self, Verdict};
+use crate::args::Asked;
+use crate::explain;
 use crate::input::{self, Source};
 use crate::items::{self, Known, Named};
 use crate::show;
@@ -29,23 +29,19 @@ Exit status: 0 accepted; 1 one was refused; 2 one could not be read.";
 /// Lists the items, with their names and values
 ///
 /// Lists the items in stream order: offset, level, class and number or type, length (octets of the value, or
-/// `indefinite`), and the names that the modules of 1988 and 1993 give, with the values. Of a refused stream it lists the items
-/// that passed, and then says what refused it. The listing is made by a reader that is not proved, and held to the
-/// library's count.
+/// `indefinite`), and the names that the modules of 1988 and 1993 give, with the values. Of a refused stream it lists the
+/// items that passed, and then says what refused it. JSON has the whole values. The listing is made by a reader that is
+/// not proved, and held to the library's count.
 #[derive(Args)]
 #[command(after_help = EXAMPLES)]
 pub struct Words {
     #[command(flatten)]
-    files: Files,
-    /// One JSON object a line and file, with all items and whole values
-    #[arg(long)]
-    json: bool,
+    asked: Asked,
 }
 
+/// What JSON has besides the verdict.
 #[derive(Serialize)]
-struct Answer {
-    #[serde(flatten)]
-    verdict: Verdict,
+struct Items {
     items: Vec<Line>,
 }
 
@@ -75,7 +71,7 @@ struct Line {
 }
 
 pub fn run(words: &Words) -> Outcome {
-    input::each(&words.files, words.json, |source| {
+    input::each(&words.asked.files, words.asked.json, |source| {
         let stream = &source.stream;
         let checked = odif::check_in(source.edition, stream);
         let reading = Reading::of(stream);
@@ -85,26 +81,23 @@ pub fn run(words: &Words) -> Outcome {
         }
         let items = items::named(reading.tree().items());
         let mut out = BufWriter::new(io::stdout().lock());
-        if words.json {
+        if words.asked.json {
             let items = items.map(|named| json_line(source, &named)).collect();
-            writeln!(out, "{}", explain::json(&Answer { verdict: Verdict::of(source, &checked.verdict), items }))?;
+            out.write_all(explain::answer(source, &checked.verdict, Items { items }).as_bytes())?;
         } else {
-            input::heading(&mut out, &words.files.files, source)?;
+            input::heading(&mut out, &words.asked.files, source)?;
             writeln!(out, "  offset level  item")?;
             for item in items {
                 writeln!(out, "{}", line(source, &item))?;
             }
         }
         out.flush()?;
-        match checked.verdict {
-            Ok(_) => Ok(Status::Accepted),
-            Err(refusal) => {
-                if !words.json {
-                    tell(&explain::refusal(source, &refusal));
-                }
-                Ok(Status::Refused)
-            }
+        if let Err(refusal) = &checked.verdict
+            && !words.asked.json
+        {
+            tell(&explain::refusal(source, refusal));
         }
+        Ok(Status::of(&checked.verdict))
     })
 }
 
