@@ -30,7 +30,7 @@
    a refusal; places count octets of the stream from 0.
 
    no.  when                                                                          place
-    1   the stream is over 1,048,576 octets                                           0
+    1   the stream is over 1,048,576 octets; of odif_normal_short, over 65,535        0
     2   00 where no indefinite item is innermost, or 00 followed within the limit     the 00
         by another octet than 00
     3   an item at level 17                                                           the item

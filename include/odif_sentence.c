@@ -3,7 +3,7 @@
 
 static const char *const sentences[] = {
     [0] = "accepted",
-    [1] = "the stream is over 1,048,576 octets",
+    [1] = "the stream is over 1,048,576 octets, or over 65,535 where its short normal form is asked",
     [2] = "a 00 stands where no indefinite item is innermost, or is followed by another octet than 00",
     [3] = "an item stands at level 17; level 16 is the deepest",
     [4] = "the number of an item is over 16,383, or not in the fewest octets",

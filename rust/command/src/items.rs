@@ -1,6 +1,6 @@
 //! Items with their names and values.
 
-use odif::Kind;
+use odif::{Edition, Kind};
 use reader::{Class, Item};
 
 use crate::modules::{self, Field, Value};
@@ -28,17 +28,14 @@ impl Named<'_> {
     }
 
     /// The value of a primitive item, as far as its type or its name tells what it is.
-    pub fn value(&self, stream: &[u8]) -> Option<Known> {
-        let octets = &stream[self.item.value()];
+    pub fn value(&self, edition: Edition, octets: &[u8]) -> Option<Known> {
         let known = self.field.map(|field| field.value).filter(|&value| value != Value::Plain);
         match known.unwrap_or_else(|| by_type(self.item)) {
             _ if self.item.is_constructed() => None,
             Value::Plain => None,
             Value::Number => number(octets).map(Known::Number),
-            Value::Named(names) => number(octets).map(|number| {
-                let name = usize::try_from(number).ok().and_then(|number| names.get(number));
-                name.map_or(Known::Number(number), |name| Known::Named(number, name))
-            }),
+            Value::Named(names) => number(octets).map(|number| meaning(number, names)),
+            Value::NamedBy(names) => number(octets).map(|number| meaning(number, names[edition as usize])),
             Value::Object => object(octets).map(Known::Object),
             Value::Text => show::is_plain_text(octets).then(|| Known::Text(show::escaped(octets))),
         }
@@ -55,6 +52,11 @@ pub enum Known {
     Text(String),
 }
 
+fn meaning(number: i64, names: &[&'static str]) -> Known {
+    let name = usize::try_from(number).ok().and_then(|number| names.get(number));
+    name.map_or(Known::Number(number), |name| Known::Named(number, name))
+}
+
 /// Each item with its name, as the items around it tell.
 pub fn named(items: &[Item]) -> impl Iterator<Item = Named<'_>> {
     let mut around: Vec<Option<&'static Field>> = Vec::new();
@@ -62,8 +64,8 @@ pub fn named(items: &[Item]) -> impl Iterator<Item = Named<'_>> {
     items.iter().map(move |item| {
         around.truncate(usize::from(item.level()) - 1);
         let field = match around.last() {
-            None => modules::field(None, item.octet()),
-            Some(holder) => holder.and_then(|holder| modules::field(Some(holder), item.octet())),
+            None => modules::field(None, item),
+            Some(holder) => holder.and_then(|holder| modules::field(Some(holder), item)),
         };
         around.push(field);
         let element = if item.level() == 1 { elements.next() } else { None };

@@ -20,6 +20,7 @@ mod names;
 mod normal;
 mod pool;
 mod progress;
+mod protected;
 mod same;
 mod show;
 mod status;

@@ -9,9 +9,9 @@ use clap::Args;
 use reader::{Length, Reading};
 use serde::Serialize;
 
-use crate::args::Files;
-use crate::explain::{self, Verdict};
-use crate::input;
+use crate::args::Asked;
+use crate::explain;
+use crate::input::{self, Source};
 use crate::items::{self, Known, Named};
 use crate::show;
 use crate::status::{Failure, Outcome, Status, tell};
@@ -29,23 +29,19 @@ Exit status: 0 accepted; 1 one was refused; 2 one could not be read.";
 /// Lists the items, with their names and values
 ///
 /// Lists the items in stream order: offset, level, class and number or type, length (octets of the value, or
-/// `indefinite`), and the names that the modules of 1988 give, with the values. Of a refused stream it lists the items
-/// that passed, and then says what refused it. The listing is made by a reader that is not proved, and held to the
-/// library's count.
+/// `indefinite`), and the names that the modules of 1988 and 1993 give, with the values. Of a refused stream it lists the
+/// items that passed, and then says what refused it. JSON has the whole values. The listing is made by a reader that is
+/// not proved, and held to the library's count.
 #[derive(Args)]
 #[command(after_help = EXAMPLES)]
 pub struct Words {
     #[command(flatten)]
-    files: Files,
-    /// One JSON object a line and file, with all items and whole values
-    #[arg(long)]
-    json: bool,
+    asked: Asked,
 }
 
+/// What JSON has besides the verdict.
 #[derive(Serialize)]
-struct Answer {
-    #[serde(flatten)]
-    verdict: Verdict,
+struct Items {
     items: Vec<Line>,
 }
 
@@ -75,9 +71,9 @@ struct Line {
 }
 
 pub fn run(words: &Words) -> Outcome {
-    input::each(&words.files, words.json, |source| {
+    input::each(&words.asked.files, words.asked.json, |source| {
         let stream = &source.stream;
-        let checked = odif::check(stream);
+        let checked = odif::check_in(source.edition, stream);
         let reading = Reading::of(stream);
         if reading.tree().items().len() != checked.headers {
             let message = format!("{}: the two readers differ on its items; please report this file", source.shown);
@@ -85,30 +81,27 @@ pub fn run(words: &Words) -> Outcome {
         }
         let items = items::named(reading.tree().items());
         let mut out = BufWriter::new(io::stdout().lock());
-        if words.json {
-            let items = items.map(|named| json_line(stream, &named)).collect();
-            writeln!(out, "{}", explain::json(&Answer { verdict: Verdict::of(source, &checked.verdict), items }))?;
+        if words.asked.json {
+            let items = items.map(|named| json_line(source, &named)).collect();
+            out.write_all(explain::answer(source, &checked.verdict, Items { items }).as_bytes())?;
         } else {
-            input::heading(&mut out, &words.files.files, source)?;
+            input::heading(&mut out, &words.asked.files, source)?;
             writeln!(out, "  offset level  item")?;
             for item in items {
-                writeln!(out, "{}", line(stream, &item))?;
+                writeln!(out, "{}", line(source, &item))?;
             }
         }
         out.flush()?;
-        match checked.verdict {
-            Ok(_) => Ok(Status::Accepted),
-            Err(refusal) => {
-                if !words.json {
-                    tell(&explain::refusal(source, &refusal));
-                }
-                Ok(Status::Refused)
-            }
+        if let Err(refusal) = &checked.verdict
+            && !words.asked.json
+        {
+            tell(&explain::refusal(source, refusal));
         }
+        Ok(Status::of(&checked.verdict))
     })
 }
 
-fn line(stream: &[u8], named: &Named<'_>) -> String {
+fn line(source: &Source<'_>, named: &Named<'_>) -> String {
     let item = named.item;
     let level = usize::from(item.level());
     let form = if item.is_constructed() { " constructed" } else { "" };
@@ -118,18 +111,18 @@ fn line(stream: &[u8], named: &Named<'_>) -> String {
         Length::Indefinite => "indefinite".into(),
     };
     let element = named.element.map_or(String::new(), |number| format!("element {number} "));
-    let remark = format!("{element}{} {}", named.name().unwrap_or_default(), value(stream, named));
+    let remark = format!("{element}{} {}", named.name().unwrap_or_default(), value(source, named));
     format!("{:8} {level:5}  {tag:36} length {length:10}  {}", item.first(), remark.trim()).trim_end().into()
 }
 
 /// The value of a primitive item: what it means if that is known, else in hexadecimal.
-fn value(stream: &[u8], named: &Named<'_>) -> String {
+fn value(source: &Source<'_>, named: &Named<'_>) -> String {
     if named.item.is_constructed() {
         return String::new();
     }
-    let octets = &stream[named.item.value()];
+    let octets = &source.stream[named.item.value()];
     let (front, more) = (&octets[..octets.len().min(SHOWN)], if octets.len() > SHOWN { ".." } else { "" });
-    match named.value(stream) {
+    match named.value(source.edition, octets) {
         _ if octets.is_empty() => String::new(),
         Some(Known::Number(number)) => number.to_string(),
         Some(Known::Named(number, name)) => format!("{number} ({name})"),
@@ -139,9 +132,10 @@ fn value(stream: &[u8], named: &Named<'_>) -> String {
     }
 }
 
-fn json_line(stream: &[u8], named: &Named<'_>) -> Line {
+fn json_line(source: &Source<'_>, named: &Named<'_>) -> Line {
     let item = named.item;
-    let (value, meaning) = match named.value(stream) {
+    let octets = &source.stream[item.value()];
+    let (value, meaning) = match named.value(source.edition, octets) {
         None => (None, None),
         Some(Known::Number(number)) => (Some(number.into()), None),
         Some(Known::Named(number, name)) => (Some(number.into()), Some(name)),
@@ -163,6 +157,6 @@ fn json_line(stream: &[u8], named: &Named<'_>) -> Line {
         name: named.name(),
         value,
         meaning,
-        hex: (!item.is_constructed()).then(|| show::hex(&stream[item.value()])),
+        hex: (!item.is_constructed()).then(|| show::hex(octets)),
     }
 }

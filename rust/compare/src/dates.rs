@@ -1,10 +1,11 @@
 //! The date of the document and the date by the first element alone: what the library and the reader answer, and what the
 //! two questions have to do with each other.
 
-use odif::raw;
+use odif::{Edition, raw};
 use reader::Reading;
 
 use crate::coding::Item;
+use crate::editions::to_reader;
 use crate::rng::Rng;
 use crate::tally::{Origin, Tally, hex};
 
@@ -59,9 +60,9 @@ fn wanted(date: reader::Dated) -> [u32; 7] {
 }
 
 /// Puts both questions to the library and to the reader.
-pub fn hold(stream: &[u8], reading: &Reading<'_>, origin: &Origin, tally: &mut Tally, rng: &mut Rng) {
-    let date = raw::date(stream);
-    let first = raw::first_date(stream);
+pub fn hold(edition: Edition, stream: &[u8], reading: &Reading<'_>, origin: &Origin, tally: &mut Tally, rng: &mut Rng) {
+    let date = raw::date_in(edition, stream);
+    let first = raw::first_date_in(edition, stream);
     tally.meet(date.number);
     tally.meet(first.date.number);
     let mut expect = |holds: bool, what: &str, tell: &dyn Fn() -> String| {
@@ -69,19 +70,20 @@ pub fn hold(stream: &[u8], reading: &Reading<'_>, origin: &Origin, tally: &mut T
     };
     let theirs = wanted(reading.date());
     expect(numbers(date) == theirs, "the date", &|| format!("{date:?}, not {theirs:?}"));
-    let theirs = wanted(reader::first_date(stream));
+    let theirs = wanted(reader::first_date(to_reader(edition), stream));
     expect(numbers(first.date) == theirs, "the first date", &|| format!("{first:?}, not {theirs:?}"));
     expect(first.unread == 1, "the note of the first date", &|| format!("{first:?}"));
     let empty = numbers(date)[2..] == [0; 5];
     expect((date.number != 0) == empty, "a refused date is empty", &|| format!("{date:?}"));
     if reading.refusal().is_none() {
         expect(first.date == date, "the first date of a letter", &|| format!("{first:?}, not {date:?}"));
-        let letter = odif::Letter::read(stream).ok().map(|letter| letter.date());
+        let letter = odif::Letter::read_in(edition, stream).ok().map(|letter| letter.date());
         let same = letter.as_ref().is_some_and(|found| match found {
             Ok(found) => {
                 date.number == 0
                     && [found.place.start, found.place.end] == [date.first as usize, date.past as usize]
-                    && [u32::from(found.year), found.month.into(), found.day.into()] == [date.year, date.month, date.day]
+                    && [u32::from(found.year), found.month.into(), found.day.into()]
+                        == [date.year, date.month, date.day]
             }
             Err(refusal) => (refusal.number(), refusal.place) == (date.number, 0),
         });
@@ -89,9 +91,9 @@ pub fn hold(stream: &[u8], reading: &Reading<'_>, origin: &Origin, tally: &mut T
     }
     if let Some(end) = whole_first_element(stream, reading) {
         let damaged = [&stream[..end], &rng.number().to_le_bytes()[..rng.below(9)]].concat();
-        let other = raw::first_date(&damaged);
+        let other = raw::first_date_in(edition, &damaged);
         expect(other == first, "the first date with another remainder", &|| format!("{other:?}, not {first:?}"));
-        let front = raw::first_date(&stream[..end]);
+        let front = raw::first_date_in(edition, &stream[..end]);
         expect(front == first, "the first date of a front", &|| format!("{front:?}, not {first:?}"));
     }
 }
@@ -107,7 +109,7 @@ fn whole_first_element(stream: &[u8], reading: &Reading<'_>) -> Option<usize> {
 }
 
 /// What is told of a date apart from its place: the number, the octets and the day.
-pub fn told(stream: &[u8]) -> (u32, &[u8], [u32; 3]) {
-    let date = raw::date(stream);
+pub fn told(edition: Edition, stream: &[u8]) -> (u32, &[u8], [u32; 3]) {
+    let date = raw::date_in(edition, stream);
     (date.number, &stream[date.first as usize..date.past as usize], [date.year, date.month, date.day])
 }

@@ -13,9 +13,10 @@ use compare::{blocks, examples, limits, making, openssl, seeded, short};
 const HELP: &str = "\
 compare [--seed N] [--streams N] [--from N] [--jobs N]
 
-Holds the proved library against the independent reader: document 01's examples, X.209's
-and Annex D, every limit from both sides, all short streams, and generated letters, good,
-damaged and noise; and made letters, which are read again. Its last line is `N passed, M failed`.
+Holds the proved library against the independent reader, by the editions of 1988 and of
+1993: document 01's examples, X.209's and Annex D, every limit from both sides, all short
+streams, and generated letters, good, damaged and noise; and made letters, which are read
+again. Its last line is `N passed, M failed`.
 
   --seed N     the generated streams of this seed (1)
   --streams N  so many of them (100000); with more it runs longer
@@ -198,6 +199,7 @@ fn hold_made_at_random(options: &Options) -> impl Fn(&mut Holder) + Sync {
 fn report(total: &mut Tally, whole: bool) {
     if whole {
         total.expect_every_number();
+        total.expect_every_refusal();
     }
     println!("how often the library gave each number:");
     for line in (0..=LAST_NUMBER).collect::<Vec<_>>().chunks(7) {

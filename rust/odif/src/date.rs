@@ -3,6 +3,7 @@
 use std::fmt;
 use std::ops::Range;
 
+use crate::edition::Edition;
 use crate::letter::Letter;
 use crate::raw;
 use crate::refusal::Refusal;
@@ -52,7 +53,12 @@ pub struct FirstDate {
 /// The date of a document by its first element alone: no octet after it is read, so the front of a stream is enough, if the
 /// first element is whole in it. Of an accepted letter it is [`Letter::date`].
 pub fn first_date(stream: &[u8]) -> FirstDate {
-    let answer = raw::first_date(stream);
+    first_date_in(Edition::Of1988, stream)
+}
+
+/// The same, by an edition: they differ in which octets begin an element, and so in whether 10 or 11 refuses the first one.
+pub fn first_date_in(edition: Edition, stream: &[u8]) -> FirstDate {
+    let answer = raw::first_date_in(edition, stream);
     FirstDate { date: Date::of(answer.date), unread: answer.unread != 0 }
 }
 
@@ -60,6 +66,6 @@ impl Letter<'_> {
     /// The date of the document, or the refusal by 23 or 24.
     pub fn date(&self) -> Result<Date, Refusal> {
         // Of an accepted letter the first element tells it, and nothing else has to be read again.
-        first_date(self.stream()).date
+        first_date_in(self.edition(), self.stream()).date
     }
 }

@@ -21,6 +21,9 @@
 //!
 //! [`Builder`] makes a letter, of texts with an identifier and a portion each.
 //!
+//! Letters are read by the edition of 1988. [`Letter::read_in`], and the other functions with `_in` at the end of their
+//! names, take the [`Edition`] too: letters of 1993 have protected parts, and text units without content or with tiles.
+//!
 //! A question takes up to 304 KiB of the calling thread's stack, of a small letter (up to 512 elements and 8,192 items) up
 //! to 88 KiB, and any number of threads may ask at once.
 //!
@@ -28,14 +31,17 @@
 
 mod blocks;
 mod date;
+mod edition;
 mod letter;
 mod making;
 pub mod raw;
 mod refusal;
 
 pub use blocks::{Blocks, ClosedEarly, PastTotal, Walked};
-pub use date::{Date, FirstDate, first_date};
-pub use letter::{Checked, Element, Kind, Letter, Match, Side, check, content, normal_form, short_normal_form};
+pub use date::{Date, FirstDate, first_date, first_date_in};
+pub use edition::Edition;
+pub use letter::{Checked, Element, Kind, Letter, Match, Side, check, check_in, content, content_in};
+pub use letter::{normal_form, normal_form_in, short_normal_form, short_normal_form_in};
 pub use making::Builder;
 pub use refusal::{Refusal, Rule};
 

@@ -152,7 +152,9 @@ impl Rule {
     /// The rule as a sentence.
     pub fn sentence(self) -> &'static str {
         match self {
-            Rule::StreamTooLong => "the stream is over 1,048,576 octets",
+            Rule::StreamTooLong => {
+                "the stream is over 1,048,576 octets, or over 65,535 where its short normal form is asked"
+            }
             Rule::MisplacedZero => {
                 "a 00 stands where no indefinite item is innermost, or is followed by another octet than 00"
             }

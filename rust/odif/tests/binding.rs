@@ -162,6 +162,7 @@ fn short_normal_forms() {
     assert!(odif::normal_form(&longer).is_ok());
     let refusal = odif::short_normal_form(&longer).expect_err("a refusal");
     assert_eq!((refusal.rule.number(), refusal.place), (1, 0));
+    assert!(refusal.to_string().contains("over 65,535 where its short normal form is asked"), "{refusal}");
 }
 
 /// Each indefinite item of over 65,535 octets grows by one; the binding lends enough for all of them.

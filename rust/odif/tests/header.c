@@ -10,6 +10,39 @@ static const uint8_t letter[] =
     "\xA3\x0F\x31\x09\x40\x07" "1 0 2 0" "\x04\x02" "Hi";
 
 static const uint8_t profile[] = "\xA0\x10\xA3\x0E\xA0\x0C\x80\x0A" "1988-06-05" "\xFF";
+/* A letter of 1993: a tiled text unit, one without content, and an enciphered profile. */
+static const uint8_t letter_1993[] =
+    "\xA0\x00" "\xA3\x08\x30\x06\x04\x01" "H" "\x04\x01" "i" "\xA3\x00" "\xAA\x07\x47\x01" "1" "\x04\x02\xDE\xAD";
+
+/* What the twins of 1993 answer on it, and odif_check. */
+static void print_1993(void) {
+    size_t length = sizeof letter_1993 - 1;
+    uint32_t table[4 * ODIF_ROW_WIDTH];
+    odif_match list[1];
+    uint8_t out[64];
+    odif_checked checked = odif_check(letter_1993, length, table, 4 * ODIF_ROW_WIDTH);
+    printf("1988 %" PRIu32 " %" PRIu32 "\n", checked.number, checked.place);
+    checked = odif_check_1993(letter_1993, length, table, 4 * ODIF_ROW_WIDTH);
+    printf("1993 %" PRIu32 " %" PRIu32 " %" PRIu32 " %" PRIu32 "\n", checked.number, checked.place, checked.headers,
+           checked.elements);
+    for (size_t i = 0; i < 4; i++)
+        printf("%" PRIu32 " %" PRIu32 " %" PRIu32 " ", table[i * ODIF_ROW_WIDTH + ODIF_KIND],
+               table[i * ODIF_ROW_WIDTH + ODIF_CONTENT_FIRST], table[i * ODIF_ROW_WIDTH + ODIF_CONTENT_PAST]);
+    odif_listed layout = odif_layout_1993(letter_1993, length, table, 4 * ODIF_ROW_WIDTH, list, 1);
+    odif_listed logical = odif_logical_1993(letter_1993, length, table, 4 * ODIF_ROW_WIDTH, list, 1);
+    printf("\nlists %" PRIu32 " %" PRIu32 " %" PRIu32 " %" PRIu32 "\n", layout.number, layout.elements, logical.number,
+           logical.elements);
+    for (uint32_t i = 0; i < 5; i++) {
+        odif_found found = odif_content_1993(letter_1993, length, i);
+        odif_copied copied = odif_joined_1993(letter_1993, length, i, out, sizeof out);
+        printf("%" PRIu32 " %" PRIu32 " %" PRIu32 " %" PRIu32 " %" PRIu32 "\n", found.number, found.first, found.past,
+               copied.number, copied.length);
+    }
+    odif_written written = odif_normal_1993(letter_1993, length, out, sizeof out);
+    odif_written brief = odif_normal_short_1993(letter_1993, length, out, sizeof out);
+    printf("normal %" PRIu32 " %" PRIu32 " %" PRIu32 " %" PRIu32 "\n", written.number, written.length, brief.number,
+           brief.length);
+}
 
 typedef char sizes_are_as_they_should_be[
     sizeof(odif_checked) == 16 && sizeof(odif_written) == 12 && sizeof(odif_listed) == 16 && sizeof(odif_found) == 16
@@ -68,5 +101,6 @@ int main(void) {
     checked = odif_check(letter, length, table, 3 * ODIF_ROW_WIDTH - 1);
     printf("short %" PRIu32 " %" PRIu32 " %" PRIu32 " %" PRIu32 "\n", checked.number, checked.place, checked.headers,
            checked.elements);
+    print_1993();
     return 0;
 }

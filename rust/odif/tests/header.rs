@@ -44,6 +44,16 @@ make 0 0 38 same .
 made twice 15 1 0
 empty 11 0
 short 16 0 11 0
+1988 12 2
+1993 0 0 9 4
+0 0 0 3 6 12 3 0 0 10 21 23 
+lists 0 4 0 4
+20 0 0 20 0
+21 0 0 0 2
+0 0 0 0 0
+20 0 0 20 0
+20 0 0 20 0
+normal 0 23 0 23
 ";
     assert_eq!(String::from_utf8_lossy(&output.stdout), wanted);
 }
@@ -91,5 +101,5 @@ fn no_more_stack_than_the_header_says() {
     let output = run("stack", "-std=gnu99", &[]);
     let told = String::from_utf8_lossy(&output.stdout);
     assert!(output.status.success(), "{told}");
-    assert_eq!(told.lines().count(), 8, "{told}");
+    assert_eq!(told.lines().count(), 15, "{told}");
 }

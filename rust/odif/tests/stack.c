@@ -30,6 +30,17 @@ static void ask_content(void) { odif_content(stream, length, 1); }
 static void ask_joined(void) { odif_joined(stream, length, 1, out, sizeof out); }
 
 static void ask_make(void) { odif_make(names, sizeof names, entries, entry_count, out, sizeof out); }
+static void ask_check_1993(void) { odif_check_1993(stream, length, table, sizeof table / sizeof *table); }
+static void ask_normal_1993(void) { odif_normal_1993(stream, length, out, sizeof out); }
+static void ask_normal_short_1993(void) { odif_normal_short_1993(stream, length, out, sizeof out); }
+static void ask_layout_1993(void) {
+    odif_layout_1993(stream, length, table, sizeof table / sizeof *table, list, ODIF_MOST_ELEMENTS);
+}
+static void ask_logical_1993(void) {
+    odif_logical_1993(stream, length, table, sizeof table / sizeof *table, list, ODIF_MOST_ELEMENTS);
+}
+static void ask_content_1993(void) { odif_content_1993(stream, length, 1); }
+static void ask_joined_1993(void) { odif_joined_1993(stream, length, 1, out, sizeof out); }
 
 static const struct {
     const char *name;
@@ -44,6 +55,13 @@ static const struct {
     {"content", ask_content, ODIF_STACK_SMALL, ODIF_STACK},
     {"joined content", ask_joined, ODIF_STACK_SMALL, ODIF_STACK},
     {"making a letter", ask_make, ODIF_STACK_SMALL_MAKE, ODIF_STACK_MAKE},
+    {"check, 1993", ask_check_1993, ODIF_STACK_SMALL, ODIF_STACK},
+    {"normal form, 1993", ask_normal_1993, ODIF_STACK_SMALL, ODIF_STACK},
+    {"layout list, 1993", ask_layout_1993, ODIF_STACK_SMALL_LISTS, ODIF_STACK_LISTS},
+    {"logical list, 1993", ask_logical_1993, ODIF_STACK_SMALL_LISTS, ODIF_STACK_LISTS},
+    {"short normal form, 1993", ask_normal_short_1993, ODIF_STACK_SMALL, ODIF_STACK},
+    {"content, 1993", ask_content_1993, ODIF_STACK_SMALL, ODIF_STACK},
+    {"joined content, 1993", ask_joined_1993, ODIF_STACK_SMALL, ODIF_STACK},
 };
 
 static size_t stack_of(void (*ask)(void)) {

@@ -4,7 +4,8 @@ use crate::ROW_WIDTH;
 use crate::SHORT_LIMIT;
 use crate::STREAM_LIMIT;
 use crate::date::{self, Dated};
-use crate::elements::{self, Row};
+use crate::edition::Edition;
+use crate::elements::{self, Row, kind};
 use crate::items::Tree;
 use crate::letter::{self, Letter};
 use crate::matches;
@@ -101,9 +102,14 @@ pub struct Reading<'a> {
 }
 
 impl<'a> Reading<'a> {
-    /// Reads and judges the stream.
+    /// Reads and judges the stream by the edition of 1988.
     pub fn of(stream: &'a [u8]) -> Self {
-        let (tree, letter) = letter::judge(stream);
+        Reading::by(Edition::Of1988, stream)
+    }
+
+    /// Reads and judges the stream by an edition.
+    pub fn by(edition: Edition, stream: &'a [u8]) -> Self {
+        let (tree, letter) = letter::judge(stream, edition);
         Reading { stream, tree, letter }
     }
 
@@ -173,22 +179,23 @@ impl<'a> Reading<'a> {
         self.normal(out)
     }
 
-    /// Where the content of a text unit lies, if it is one part of the stream.
+    /// Where the content of a text unit lies, if it is one part of the stream. A unit without content has an empty one.
     pub fn content(&self, element: u32) -> Found {
-        match self.content_of(element) {
+        match self.unit(element) {
             Err((number, place)) => Found { number, place, ..Found::default() },
-            Ok((_, place)) if self.tree.items()[place].is_constructed() => Found { number: 21, ..Found::default() },
-            Ok((row, _)) => Found { first: row.content.first, past: row.content.past, ..Found::default() },
+            Ok(Row { unit_content: Some(place), .. }) if self.tree.items()[*place].is_constructed() => {
+                Found { number: 21, ..Found::default() }
+            }
+            Ok(row) => Found { first: row.content.first, past: row.content.past, ..Found::default() },
         }
     }
 
-    /// Copies the content of a text unit, its pieces joined in order.
+    /// Copies the content of a text unit, its pieces or tiles joined in order.
     pub fn joined(&self, element: u32, out: &mut [u8]) -> Copied {
-        let pieces: Vec<&[u8]> = match self.content_of(element) {
+        let joined = match self.unit(element) {
             Err((number, place)) => return Copied { number, place, ..Copied::default() },
-            Ok((_, place)) => elements::pieces(&self.tree, place).map(|item| &self.stream[item.value()]).collect(),
+            Ok(row) => self.pieces(row).collect::<Vec<_>>().concat(),
         };
-        let joined = pieces.concat();
         match out.get_mut(..joined.len()) {
             Some(room) => {
                 room.copy_from_slice(&joined);
@@ -223,15 +230,21 @@ impl<'a> Reading<'a> {
 
     /// The size of the joined content of a text unit; `None` where there is none.
     pub fn joined_size(&self, element: u32) -> Option<usize> {
-        let (_, place) = self.content_of(element).ok()?;
-        Some(elements::pieces(&self.tree, place).map(|item| item.value().len()).sum())
+        let row = self.unit(element).ok()?;
+        Some(self.pieces(row).map(<[u8]>::len).sum())
     }
 
-    /// The row of a text unit, with the place of its content in the tree.
-    fn content_of(&self, element: u32) -> Result<(&Row, usize), (u32, u32)> {
+    /// The row of a text unit.
+    fn unit(&self, element: u32) -> Result<&Row, (u32, u32)> {
         let letter = self.letter.as_ref().map_err(|refusal| (refusal.number(), refusal.place))?;
-        let row = letter.rows.get(element as usize).ok_or((20, 0))?;
-        row.content_place.map(|place| (row, place)).ok_or((20, 0))
+        let row = letter.rows.get(element as usize);
+        row.filter(|row| row.kind == kind::TEXT_UNIT).ok_or((20, 0))
+    }
+
+    /// The octets of each piece of a unit's content, in order; none where it has no content.
+    fn pieces(&self, row: &Row) -> impl Iterator<Item = &[u8]> {
+        let items = row.unit_content.into_iter().flat_map(|place| elements::pieces(&self.tree, place));
+        items.map(|item| &self.stream[item.value()])
     }
 
     /// The rows, if the stream is accepted and a table of `numbers` numbers holds them.

@@ -6,6 +6,7 @@
 use std::str;
 
 use crate::STREAM_LIMIT;
+use crate::edition::Edition;
 use crate::elements;
 use crate::items::{self, Item, Tree};
 use crate::refusal::{Refusal, Why};
@@ -62,7 +63,7 @@ pub(crate) fn of_letter(stream: &[u8], tree: &Tree) -> Dated {
 }
 
 /// The date of the first element, walked alone by 1 to 8, 10 and 11. What follows it is not looked at.
-pub fn first_date(stream: &[u8]) -> Dated {
+pub fn first_date(edition: Edition, stream: &[u8]) -> Dated {
     let refused = |why, place| Dated::from(Refusal { why, place });
     if stream.len() > STREAM_LIMIT {
         return refused(Why::StreamTooLong, 0);
@@ -72,10 +73,10 @@ pub fn first_date(stream: &[u8]) -> Dated {
         return refusal.into();
     }
     let Some(element) = tree.items().first() else { return refused(Why::EmptyStream, 0) };
-    match elements::kind_of(element.octet()) {
-        None => refused(Why::NoSuchElement, 0),
-        Some(elements::kind::PROFILE) => of_letter(stream, &tree),
-        Some(_) => refused(Why::ProfileMissing, 0),
+    match elements::kind_of(element.octet(), edition) {
+        Err(why) => refused(why, 0),
+        Ok(elements::kind::PROFILE) => of_letter(stream, &tree),
+        Ok(_) => refused(Why::ProfileMissing, 0),
     }
 }
 
@@ -122,7 +123,7 @@ mod tests {
 
     fn numbers(stream: &[u8]) -> (u32, u32, u32, u32) {
         let date = Reading::of(stream).date();
-        assert_eq!(first_date(stream), date);
+        assert_eq!(first_date(Edition::Of1988, stream), date);
         (date.number, date.year, date.month, date.day)
     }
 
@@ -168,16 +169,16 @@ mod tests {
     #[test]
     fn the_remainder_is_not_looked_at() {
         let mut stream = profile(&item(0x80, b"1991-03-14"));
-        let date = first_date(&stream);
+        let date = first_date(Edition::Of1988, &stream);
         for rest in [&[0x00][..], &[0xA0, 0x00], &[0xA2, 0x05], &[0xFF; 40]] {
             let front = stream.len();
             stream.extend(rest);
-            assert_eq!(first_date(&stream), date);
+            assert_eq!(first_date(Edition::Of1988, &stream), date);
             stream.truncate(front);
         }
-        assert_eq!(first_date(&[]).number, 11);
-        assert_eq!(first_date(&stream[..stream.len() - 1]).number, 7);
-        assert_eq!(first_date(&[0xA2, 0x00, 0xFF]).number, 11);
-        assert_eq!(first_date(&[0x80, 0x00, 0xFF]).number, 10);
+        assert_eq!(first_date(Edition::Of1988, &[]).number, 11);
+        assert_eq!(first_date(Edition::Of1988, &stream[..stream.len() - 1]).number, 7);
+        assert_eq!(first_date(Edition::Of1988, &[0xA2, 0x00, 0xFF]).number, 11);
+        assert_eq!(first_date(Edition::Of1988, &[0x80, 0x00, 0xFF]).number, 10);
     }
 }

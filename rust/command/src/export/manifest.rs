@@ -31,7 +31,7 @@ pub struct Line {
     pub octets: Option<u64>,
     /// When the file was last written, in seconds and nanoseconds since 1970.
     pub modified: String,
-    /// The side and the character set that were asked for.
+    /// The side, the character set and, if not 1988, the edition that were asked for.
     pub how: String,
     pub side: String,
     pub units: Option<usize>,

@@ -2,7 +2,7 @@
 
 use std::path::Path;
 
-use odif::Refusal;
+use odif::Edition;
 use serde::{Deserialize, Serialize};
 
 use crate::faults::Fault;
@@ -62,7 +62,7 @@ pub struct Record {
 
 impl Record {
     /// Judges a file.
-    pub fn of(entry: &Entry, hex: bool) -> Record {
+    pub fn of(entry: &Entry, hex: bool, edition: Edition) -> Record {
         let unreadable = |reason| Record { reason, ..Record::new(&entry.path, Verdict::Unreadable) };
         if let Some(trouble) = &entry.trouble {
             return unreadable(trouble.clone());
@@ -71,7 +71,7 @@ impl Record {
             Ok(stream) => stream,
             Err(error) => return unreadable(error.to_string()),
         };
-        let checked = odif::check(&stream.octets);
+        let checked = odif::check_in(edition, &stream.octets);
         let verdict = match checked.verdict {
             Ok(elements) => Record {
                 number: Some(0),
@@ -79,7 +79,10 @@ impl Record {
                 elements: Some(elements),
                 ..Record::new(&entry.path, Verdict::Accepted)
             },
-            Err(refusal) => Record::new(&entry.path, Verdict::Refused).refused(&stream.octets, &refusal),
+            Err(refusal) => {
+                let fault = Fault::of(edition, &stream.octets, &refusal);
+                Record::new(&entry.path, Verdict::Refused).refused(fault)
+            }
         };
         Record { octets: stream.size, headers: Some(checked.headers), ..verdict }
     }
@@ -89,8 +92,7 @@ impl Record {
         Record { file, outcome, file_octets, ..Record::default() }
     }
 
-    fn refused(self, stream: &[u8], refusal: &Refusal) -> Record {
-        let fault = Fault::of(stream, refusal);
+    fn refused(self, fault: Fault) -> Record {
         Record {
             number: Some(fault.number),
             place: Some(fault.place),

@@ -2,6 +2,7 @@
 
 mod blocks;
 mod check;
+mod editions;
 mod export;
 mod faults;
 mod help;

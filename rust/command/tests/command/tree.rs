@@ -1,8 +1,6 @@
 //! `odif tree`
 
-use std::process::Stdio;
-
-use super::support::{Scratch, assert_unreadable_json, command, letter, odif, odif_with};
+use super::support::{Scratch, assert_unreadable_json, letter, odif, odif_with};
 
 #[test]
 fn items_with_their_names() {
@@ -96,17 +94,4 @@ fn empty_huge_and_unreadable_files() {
     assert_eq!(odif(&["tree", &scratch.write_huge("huge")]).status, 1);
     assert_eq!(odif(&["tree", "none"]).status, 2);
     assert_unreadable_json("tree");
-}
-
-#[test]
-fn a_reader_that_goes_away() {
-    let scratch = Scratch::new("tree-pipe");
-    let mut stream = vec![0xA0, 0x83, 0x07, 0xA1, 0x20];
-    stream.extend([0x05, 0x00].repeat(250_000));
-    let file = scratch.write("long", &stream);
-    let mut child = command(&["tree", &file]).stdout(Stdio::piped()).stderr(Stdio::piped()).spawn().unwrap();
-    drop(child.stdout.take());
-    let output = child.wait_with_output().unwrap();
-    assert_eq!(output.status.code(), Some(2));
-    assert!(output.stderr.is_empty(), "{}", String::from_utf8_lossy(&output.stderr));
 }

@@ -29,9 +29,10 @@ pub fn days() -> Vec<Case> {
 /// The leap rule, and the first and the last days of years.
 pub fn years() -> Vec<Case> {
     let mut cases = Vec::new();
-    for year in (0..=9).chain([99, 100, 101, 104, 200, 300, 400, 1600, 1700, 1800, 1899, 1900]).chain([
-        1901, 1904, 1988, 1989, 1996, 1999, 2000, 2001, 2004, 2024, 2100, 2200, 2300, 2400, 9996, 9998, 9999,
-    ]) {
+    for year in (0..=9)
+        .chain([99, 100, 101, 104, 200, 300, 400, 1600, 1700, 1800, 1899, 1900])
+        .chain([1901, 1904, 1988, 1989, 1996, 1999, 2000, 2001, 2004, 2024, 2100, 2200, 2300, 2400, 9996, 9998, 9999])
+    {
         for day in ["01-01", "02-28", "02-29", "02-30", "03-01", "12-31", "12-32"] {
             let text = format!("{year:04}-{day}");
             cases.push(case(format!("the date {text}"), dated(text.as_bytes())));
