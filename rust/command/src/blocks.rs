@@ -7,15 +7,14 @@ use odif::{Blocks, Refusal, Walked};
 use serde::Serialize;
 
 use crate::args::Files;
-use crate::explain::{self, Verdict};
+use crate::explain;
 use crate::input::{self, Source};
 use crate::show;
 use crate::status::{Outcome, Status};
 
+/// What JSON has besides the verdict.
 #[derive(Serialize)]
-struct Answer {
-    #[serde(flatten)]
-    verdict: Verdict,
+struct Counts {
     octets: Option<u64>,
     headers: usize,
     blocks: usize,
@@ -26,19 +25,15 @@ pub fn run(files: &Files, json: bool, size: NonZeroUsize) -> Outcome {
     input::each(files, json, |source| {
         let count = source.stream.len().div_ceil(size.get());
         let Walked { verdict, headers, .. } = walk(&source.stream, size)?;
-        let status = if verdict.is_ok() { Status::Accepted } else { Status::Refused };
-        let report = match verdict {
-            verdict if json => {
-                let verdict = Verdict::of(source, &verdict);
-                explain::json(&Answer { verdict, octets: source.size, headers, blocks: count }) + "\n"
-            }
+        let report = match &verdict {
+            _ if json => explain::answer(source, &verdict, Counts { octets: source.size, headers, blocks: count }),
             Ok(()) => passed(source, headers, count),
-            Err(refusal) => explain::refusal(source, &refusal),
+            Err(refusal) => explain::refusal(source, refusal),
         };
         let mut out = io::stdout().lock();
         out.write_all(report.as_bytes())?;
         out.flush()?;
-        Ok(status)
+        Ok(Status::of(&verdict))
     })
 }
 
