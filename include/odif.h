@@ -105,6 +105,7 @@ extern "C" {
 #define ODIF_ROW_WIDTH     12      /* the numbers of a row */
 #define ODIF_STACK         262144  /* octets of stack: no question but the lists takes more */
 #define ODIF_STACK_LISTS   311296  /* the same for the two lists */
+#define ODIF_STACK_MAKE    131072  /* and for odif_make */
 #define ODIF_MOST_ENTRIES  2047    /* the most entries of a letter that is made */
 #define ODIF_SHORT_LIMIT   65535   /* the most octets of a stream that odif_normal_short takes */
 
@@ -117,11 +118,6 @@ extern "C" {
 #define ODIF_SMALL_ITEMS       8192
 #define ODIF_STACK_SMALL       40960
 #define ODIF_STACK_SMALL_LISTS 90112
-
-/* And odif_make of no more entries than this, and of any. */
-#define ODIF_SMALL_ENTRIES     128
-#define ODIF_STACK_SMALL_MAKE  8192
-#define ODIF_STACK_MAKE        114688
 
 /* What each number of a table row is. Each pair is first and past; every pair but the element's bounds a value. An
    absent one is 0 and 0. */
@@ -281,8 +277,8 @@ odif_first_dated odif_first_date_1993(const uint8_t *stream, size_t stream_len);
    entry a block with the identifier and that one portion, and a text unit with the text. It is accepted, its layout list
    has the entries in their order and no others, and it is its own normal form. The output and the buffer may not
    overlap. Octets of out past the letter stay. No more than 2,047 entries fit. The numbers of the entries are those of
-   odif_entry, six an entry; entries_len counts numbers, and an incomplete last entry is not used. Up to 128 entries take
-   up to 8 KiB of stack, more of them up to 112 KiB. */
+   odif_entry, six an entry; entries_len counts numbers, and an incomplete last entry is not used. It takes up to 128 KiB
+   of stack, of which it clears 7 kB for up to 128 entries, and 107 kB for more. */
 odif_written odif_make_numbers(const uint8_t *ODIF_APART buffer, size_t buffer_len,
                                const uint32_t *ODIF_APART entries, size_t entries_len,
                                uint8_t *ODIF_APART out, size_t out_len);

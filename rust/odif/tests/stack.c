@@ -54,7 +54,7 @@ static const struct {
     {"short normal form", ask_normal_short, ODIF_STACK_SMALL, ODIF_STACK},
     {"content", ask_content, ODIF_STACK_SMALL, ODIF_STACK},
     {"joined content", ask_joined, ODIF_STACK_SMALL, ODIF_STACK},
-    {"making a letter", ask_make, ODIF_STACK_SMALL_MAKE, ODIF_STACK_MAKE},
+    {"making a letter", ask_make, ODIF_STACK_MAKE, ODIF_STACK_MAKE},
     {"check, 1993", ask_check_1993, ODIF_STACK_SMALL, ODIF_STACK},
     {"normal form, 1993", ask_normal_1993, ODIF_STACK_SMALL, ODIF_STACK},
     {"layout list, 1993", ask_layout_1993, ODIF_STACK_SMALL_LISTS, ODIF_STACK_LISTS},
@@ -116,7 +116,7 @@ static void make_entries(void) {
 
 /* The small streams, by number: no more than ODIF_SMALL_ELEMENTS elements and ODIF_SMALL_ITEMS items. */
 static int make_small(int input) {
-    entry_count = ODIF_SMALL_ENTRIES;
+    entry_count = 128;
     if (input == 0) make_elements(0);
     else if (input == 1) make_elements(1);
     else if (input == 2) make_elements(ODIF_SMALL_ELEMENTS);
