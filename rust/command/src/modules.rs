@@ -25,9 +25,11 @@ pub enum Value {
     NamedBy([&'static [&'static str]; 2]),
     Text,
     Object,
+    /// Bits, which have names from 0 on.
+    Bits(&'static [&'static str]),
 }
 
-use Value::{Named, NamedBy, Number, Object, Plain, Text};
+use Value::{Bits, Named, NamedBy, Number, Object, Plain, Text};
 
 const fn item(octet: u8, name: &'static str, value: Value) -> Field {
     Field { octet, number: (octet & 0x1F) as u16, name, value, inside: &[] }
@@ -67,9 +69,34 @@ static ELEMENTS: [Field; 12] = [
     items(0xAC, "post-enciphered body part", &ENCIPHERED),
 ];
 
-static SEALED: [Field; 2] = [item(0x47, "protected-part identifier", Text), item(0x03, "sealed attributes", Plain)];
+static SEALED: [Field; 2] =
+    [item(0x47, "protected-part identifier", Text), item(0x03, "sealed attributes", Bits(&PROFILE_ATTRIBUTES))];
 static ENCIPHERED: [Field; 2] =
     [item(0x47, "protected-part identifier", Text), item(0x04, "enciphered information", Plain)];
+
+/// Document-Profile-Attribute-Names of 1993 (7.15), by their bits.
+#[rustfmt::skip]
+static PROFILE_ATTRIBUTES: [&str; 86] = [
+    "generic-layout-structure", "specific-layout-structure", "generic-logical-structure", "specific-logical-structure",
+    "layout-styles", "presentation-styles", "sealed-profiles", "enciphered-profiles", "pre-enciphered-body-parts",
+    "post-enciphered-body-parts", "external-document-class", "resource-document", "resources",
+    "document-application-profile", "document-application-profile-defaults", "document-architecture-class",
+    "content-architecture-classes", "interchange-format-class", "oda-version", "alternative-feature-sets",
+    "profile-character-sets", "comments-character-sets", "alternative-representation-character-sets", "page-dimensions",
+    "medium-types", "layout-paths", "protections", "block-alignments", "fill-orders", "transparencies", "colours",
+    "colours-of-layout-object", "object-colour-tables", "content-background-colours", "content-foreground-colours",
+    "content-colour-tables", "borders", "page-positions", "types-of-coding", "coding-attributes",
+    "presentation-features", "number-of-objects-per-page", "unit-scaling", "fonts-list", "colour-characteristics",
+    "colour-spaces-list", "title", "subject", "document-reference", "document-type", "abstract", "keywords",
+    "document-date-and-time", "creation-date-and-time", "local-filing-date-and-time", "expiry-date-and-time",
+    "start-date-and-time", "purge-date-and-time", "release-date-and-time", "revision-history", "organizations",
+    "preparers", "owners", "authors", "copyright", "status", "user-specific-codes", "distribution-list",
+    "additional-information", "references-to-other-documents", "superseded-documents", "local-file-references",
+    "document-size", "number-of-pages", "languages", "authorization", "security-classification", "access-rights",
+    "sealed-information-encoding", "oda-security-label", "sealed-document-profiles", "pre-sealed-document-body-parts",
+    "post-sealed-document-body-parts", "enciphered-document-profiles", "pre-enciphered-document-body-parts",
+    "post-enciphered-document-body-parts",
+];
 
 static LAYOUT: [Field; 2] = [
     item(0x02, "object type", Named(&["document-layout-root", "page-set", "page", "frame", "block"])),

@@ -6,7 +6,7 @@
 use std::io::{self, BufWriter, Write};
 
 use clap::Args;
-use reader::{Length, Reading};
+use reader::{Item, Length, Reading};
 use serde::Serialize;
 
 use crate::args::Asked;
@@ -29,7 +29,7 @@ Exit status: 0 accepted; 1 one was refused; 2 one could not be read.";
 /// Lists the items, with their names and values
 ///
 /// Lists the items in stream order: offset, level, class and number or type, length (octets of the value, or
-/// `indefinite`), and the names that the modules of 1988 and 1993 give, with the values. Of a refused stream it lists the
+/// `indefinite`; of a length that takes more octets than it must, how many), closing marks, and the names that the modules of 1988 and 1993 give, with the values. Of a refused stream it lists the
 /// items that passed, and then says what refused it. JSON has the whole values. The listing is made by a reader that is
 /// not proved, and held to the library's count.
 #[derive(Args)]
@@ -56,6 +56,9 @@ struct Line {
     constructed: bool,
     header: usize,
     length: Option<usize>,
+    /// Of an indefinite item, where its closing mark stands, if it is closed.
+    #[serde(skip_serializing_if = "Option::is_none")]
+    closing_mark: Option<usize>,
     #[serde(skip_serializing_if = "Option::is_none")]
     element: Option<usize>,
     #[serde(skip_serializing_if = "Option::is_none")]
@@ -64,7 +67,7 @@ struct Line {
     #[serde(skip_serializing_if = "Option::is_none")]
     value: Option<serde_json::Value>,
     #[serde(skip_serializing_if = "Option::is_none")]
-    meaning: Option<&'static str>,
+    meaning: Option<String>,
     /// Of a primitive item, the value in hexadecimal.
     #[serde(skip_serializing_if = "Option::is_none")]
     hex: Option<String>,
@@ -80,16 +83,19 @@ pub fn run(words: &Words) -> Outcome {
             return Err(Failure::File(message));
         }
         let items = items::named(reading.tree().items());
+        // Of a stream that the octet rules refuse, what lies past the place was not read.
+        let read_to = match &checked.verdict {
+            Err(refusal) if refusal.number() < 9 => refusal.place,
+            _ => stream.len(),
+        };
         let mut out = BufWriter::new(io::stdout().lock());
         if words.asked.json {
-            let items = items.map(|named| json_line(source, &named)).collect();
+            let items = items.map(|named| json_line(source, &named, read_to)).collect();
             out.write_all(explain::answer(source, &checked.verdict, Items { items }).as_bytes())?;
         } else {
             input::heading(&mut out, &words.asked.files, source)?;
             writeln!(out, "  offset level  item")?;
-            for item in items {
-                writeln!(out, "{}", line(source, &item))?;
-            }
+            write_items(&mut out, source, items, read_to)?;
         }
         out.flush()?;
         if let Err(refusal) = &checked.verdict
@@ -101,13 +107,51 @@ pub fn run(words: &Words) -> Outcome {
     })
 }
 
+/// Where the closing mark of an indefinite item stands, if it was read.
+fn closing_mark(item: &Item, read_to: usize) -> Option<usize> {
+    let end = item.value().end;
+    (item.length() == Length::Indefinite && end + 2 <= read_to).then_some(end)
+}
+
+/// Writes a line for each item, and for each closing mark where it stands.
+fn write_items<'t>(
+    out: &mut impl Write,
+    source: &Source<'_>,
+    items: impl Iterator<Item = Named<'t>>,
+    read_to: usize,
+) -> io::Result<()> {
+    let mut open: Vec<(usize, u8)> = Vec::new();
+    let close = |out: &mut dyn Write, open: &mut Vec<(usize, u8)>, before: usize| {
+        while let Some((mark, level)) = open.pop_if(|(mark, _)| *mark < before) {
+            writeln!(out, "{mark:8} {level:5}  {:pad$}closing mark", "", pad = 2 * (usize::from(level) - 1))?;
+        }
+        Ok::<(), io::Error>(())
+    };
+    for named in items {
+        close(out, &mut open, named.item.first())?;
+        writeln!(out, "{}", line(source, &named))?;
+        open.extend(closing_mark(named.item, read_to).map(|mark| (mark, named.item.level())));
+    }
+    close(out, &mut open, usize::MAX)
+}
+
+/// What is to be said of a length that is not in the fewest octets.
+fn long_length(item: &Item) -> String {
+    let octets = item.header_length() - item.type_length();
+    let fewest = match item.length() {
+        Length::Definite(length @ 0x80..) => 1 + (u32::BITS - length.leading_zeros()).div_ceil(8) as usize,
+        _ => 1,
+    };
+    if octets > fewest { format!(" in {octets} octets") } else { String::new() }
+}
+
 fn line(source: &Source<'_>, named: &Named<'_>) -> String {
     let item = named.item;
     let level = usize::from(item.level());
     let form = if item.is_constructed() { " constructed" } else { "" };
     let tag = format!("{:pad$}{}{form}", "", named.tag(), pad = 2 * (level - 1));
     let length = match item.length() {
-        Length::Definite(length) => length.to_string(),
+        Length::Definite(length) => format!("{length}{}", long_length(item)),
         Length::Indefinite => "indefinite".into(),
     };
     let element = named.element.map_or(String::new(), |number| format!("element {number} "));
@@ -127,18 +171,21 @@ fn value(source: &Source<'_>, named: &Named<'_>) -> String {
         Some(Known::Number(number)) => number.to_string(),
         Some(Known::Named(number, name)) => format!("{number} ({name})"),
         Some(Known::Object(object)) => object,
+        Some(Known::Bits(bits, names)) if names.is_empty() => format!("{}{more}", &bits[..bits.len().min(SHOWN)]),
+        Some(Known::Bits(bits, names)) => format!("{}{more} ({names})", &bits[..bits.len().min(SHOWN)]),
         _ if show::is_plain_text(front) => format!("\"{}\"{more}", show::escaped(front)),
         _ => format!("{}{more}", show::hex(front)),
     }
 }
 
-fn json_line(source: &Source<'_>, named: &Named<'_>) -> Line {
+fn json_line(source: &Source<'_>, named: &Named<'_>, read_to: usize) -> Line {
     let item = named.item;
     let octets = &source.stream[item.value()];
     let (value, meaning) = match named.value(source.edition, octets) {
         None => (None, None),
         Some(Known::Number(number)) => (Some(number.into()), None),
-        Some(Known::Named(number, name)) => (Some(number.into()), Some(name)),
+        Some(Known::Named(number, name)) => (Some(number.into()), Some(name.into())),
+        Some(Known::Bits(bits, names)) => (Some(bits.into()), Some(names).filter(|names| !names.is_empty())),
         Some(Known::Object(text) | Known::Text(text)) => (Some(text.into()), None),
     };
     Line {
@@ -153,6 +200,7 @@ fn json_line(source: &Source<'_>, named: &Named<'_>) -> Line {
             Length::Definite(length) => Some(length as usize),
             Length::Indefinite => None,
         },
+        closing_mark: closing_mark(item, read_to),
         element: named.element,
         name: named.name(),
         value,

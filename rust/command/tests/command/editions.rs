@@ -77,7 +77,7 @@ fn the_tree_has_the_names_of_1993() {
         "tiled content",
         "tile \"H\"",
         "element 4 sealed document profile",
-        "sealed attributes 0780",
+        "sealed attributes 1 (generic-layout-structure)",
         "element 5 pre-enciphered body part",
         "protected-part identifier \"1\"",
         "enciphered information DEAD",

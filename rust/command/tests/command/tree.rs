@@ -1,6 +1,8 @@
 //! `odif tree`
 
-use super::support::{Scratch, assert_unreadable_json, letter, odif, odif_with};
+use std::process::Command;
+
+use super::support::{Scratch, assert_unreadable_json, letter, odif, odif_with, repository};
 
 #[test]
 fn items_with_their_names() {
@@ -38,7 +40,8 @@ fn pieces_with_their_names() {
 fn a_refused_stream_up_to_its_fault() {
     let run = odif_with(&["tree", "--hex", "-"], b"A080 3080 0101FF 0000 0500 0500");
     assert_eq!(run.status, 1);
-    assert_eq!(run.text().lines().count(), 6);
+    assert_eq!(run.text().lines().count(), 7);
+    assert_eq!(run.text().matches("closing mark").count(), 1, "that of the 30, and none of the A0");
     assert!(run.text().contains("context 0 constructed                length indefinite"));
     assert!(run.stderr.contains("number 7 at octet 13: "), "{}", run.stderr);
     assert!(
@@ -50,11 +53,31 @@ fn a_refused_stream_up_to_its_fault() {
 }
 
 #[test]
+fn closing_marks_long_lengths_and_bits() {
+    let stream = b"A080 0000 A380 2480 0484000000024869 0000 0000 A782 0008 450131 030304A5F0 A900";
+    let run = odif_with(&["tree", "--hex", "-"], stream);
+    let wanted = "  offset level  item
+       0     1  context 0 constructed                length indefinite  element 0 document profile
+       2     1  closing mark
+       4     1  context 3 constructed                length indefinite  element 1 text unit
+       6     2    OCTET STRING constructed           length indefinite  content in pieces
+       8     3      OCTET STRING                     length 2 in 5 octets  piece \"Hi\"
+      16     2    closing mark
+      18     1  closing mark
+      20     1  context 7 constructed                length 8 in 3 octets  element 2 presentation style
+      24     2    application 5                      length 1           identifier \"1\"
+      27     2    BIT STRING                         length 3           101001011111
+      32     1  context 9 constructed                length 0           element 3 sealed document profile
+";
+    assert_eq!(run.text(), wanted);
+}
+
+#[test]
 fn json() {
     let run = odif_with(&["tree", "--json", "--hex", "-"], b"A080 0500 0000");
     let items = "{\"file\":\"-\",\"outcome\":\"accepted\",\"number\":0,\"place\":0,\"items\":[\
         {\"offset\":0,\"level\":1,\"class\":\"context\",\"number\":0,\"constructed\":true,\"header\":2,\
-        \"length\":null,\"element\":0,\"name\":\"document profile\"},\
+        \"length\":null,\"closing_mark\":4,\"element\":0,\"name\":\"document profile\"},\
         {\"offset\":2,\"level\":2,\"class\":\"universal\",\"number\":5,\"type\":\"NULL\",\"constructed\":false,\"header\":2,\
         \"length\":0,\"hex\":\"\"}]}\n";
     assert_eq!(run.text(), items);
@@ -94,4 +117,45 @@ fn empty_huge_and_unreadable_files() {
     assert_eq!(odif(&["tree", &scratch.write_huge("huge")]).status, 1);
     assert_eq!(odif(&["tree", "none"]).status, 2);
     assert_unreadable_json("tree");
+}
+
+/// A line of `openssl asn1parse` as the tree has it: offset, level, header length, length, and what it is.
+fn of_openssl(line: &str) -> Option<(usize, usize, usize, String, String)> {
+    let (offset, rest) = line.split_once(":d=")?;
+    let (depth, rest) = rest.split_once(" hl=")?;
+    let (header, rest) = rest.split_once(" l=")?;
+    let (length, rest) = rest.split_once(':')?;
+    let (length, form) = length.trim().split_once(' ').unwrap_or((length.trim(), ""));
+    let length = if length == "inf" { "indefinite" } else { length };
+    let kind = rest.split(':').next()?.trim();
+    let tag = match kind.strip_suffix(" ]").and_then(|tag| tag.split_once(" [ ")) {
+        _ if kind == "EOC" => return Some((offset.trim().parse().ok()?, 0, 0, String::new(), "closing mark".into())),
+        Some(("cont", number)) => format!("context {number}"),
+        Some(("appl", number)) => format!("application {number}"),
+        _ if kind == "OBJECT" => "object identifier".into(),
+        _ => kind.to_lowercase(),
+    };
+    let form = if form.trim() == "cons" { " constructed" } else { "" };
+    let level = depth.trim().parse::<usize>().ok()? + 1;
+    Some((offset.trim().parse().ok()?, level, header.trim().parse().ok()?, length.into(), format!("{tag}{form}")))
+}
+
+/// Each line of openssl's is one of the tree's, in the same order, with all that it tells; the tree has no others.
+#[test]
+fn as_telling_as_openssl() {
+    for letter in ["claim", "in-pieces", "annex-d-1", "annex-d-2"] {
+        let file = repository().join(format!("samples/letters/{letter}.odif"));
+        let theirs = Command::new("openssl").args(["asn1parse", "-inform", "DER", "-in"]).arg(&file).output().unwrap();
+        let theirs = String::from_utf8_lossy(&theirs.stdout).into_owned();
+        let ours = odif(&["tree", file.to_str().unwrap()]);
+        assert_eq!(theirs.lines().count(), ours.text().lines().count() - 1, "{letter}");
+        for (their, our) in theirs.lines().zip(ours.text().lines().skip(1)) {
+            let (offset, level, _, length, tag) = of_openssl(their).expect("a line of openssl");
+            assert!(our.starts_with(&format!("{offset:8} ")), "{their}: {our}");
+            assert!(our.to_lowercase().contains(&tag), "{their}: {our}");
+            let told = level == 0
+                || our[8..].starts_with(&format!(" {level:5} ")) && our.contains(&format!("length {length}"));
+            assert!(told, "{their}: {our}");
+        }
+    }
 }
