@@ -23,7 +23,7 @@ static const char *const sentences[] = {
     [18] = "the output is shorter than the normal form",
     [19] = "the list is shorter than the matches",
     [20] = "the asked element is no text unit or does not exist",
-    [21] = "the content is in pieces, and no one part of the stream",
+    [21] = "the content is in pieces or tiles, and no one part of the stream",
     [22] = "the output is shorter than the joined content",
 };
 

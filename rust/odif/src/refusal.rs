@@ -162,7 +162,7 @@ impl Rule {
             Rule::OutputTooShort => "the output is shorter than the normal form",
             Rule::ListTooShort => "the list is shorter than the matches",
             Rule::NoTextUnit => "the asked element is no text unit or does not exist",
-            Rule::InPieces => "the content is in pieces, and no one part of the stream",
+            Rule::InPieces => "the content is in pieces or tiles, and no one part of the stream",
             Rule::CopyTooShort => "the output is shorter than the joined content",
             Rule::Unknown(_) => "a rule that is newer than this program",
         }
