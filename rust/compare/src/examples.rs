@@ -9,7 +9,7 @@ use crate::rng::Rng;
 use crate::tally::Origin;
 
 const DOCUMENT_01: &str = include_str!("../../../vectors/document-01.txt");
-const EDITIONS: &str = include_str!("../../../vectors/editions.txt");
+const EDITIONS: &str = include_str!("../../../vectors/editions-more.txt");
 const TYPES: &str = include_str!("../../../vectors/types.txt");
 const X209: &str = include_str!("../../../vectors/x209.txt");
 const LISTED: [(&str, &str, &str); 3] = [

@@ -178,7 +178,7 @@ impl Rule {
             Rule::OutputTooShort => "the output is shorter than the normal form",
             Rule::ListTooShort => "the list is shorter than the matches",
             Rule::NoTextUnit => "the asked element is no text unit or does not exist",
-            Rule::InPieces => "the content is in pieces, and no one part of the stream",
+            Rule::InPieces => "the content is in pieces or tiles, and no one part of the stream",
             Rule::CopyTooShort => "the output is shorter than the joined content",
             Rule::NoSoleDate => "the profile does not have exactly one date of the document, or that is constructed",
             Rule::NoSuchDay => "the date of the document does not begin with a day as in 1988-06-05",

@@ -1,8 +1,8 @@
-//! The streams of `vectors/editions.txt` by both editions.
+//! The streams of `vectors/editions-more.txt` by both editions.
 
 use reader::{Edition, ROW_WIDTH, Reading};
 
-const EDITIONS: &str = include_str!("../../../vectors/editions.txt");
+const EDITIONS: &str = include_str!("../../../vectors/editions-more.txt");
 
 fn octets(text: &str) -> Vec<u8> {
     let digits: Vec<u32> = text.chars().filter_map(|digit| digit.to_digit(16)).collect();
