@@ -26,8 +26,8 @@
    layout, AB and AC. Every letter of 1988 is one of 1993 with the same rows and matches. A letter with a protected part
    is none of 1988: it is refused by 10 there.
 
-   Every answer begins with a number and a place. Number 0 is accepted or answered, with place 0. Any other number is
-   a refusal; places count octets of the stream from 0.
+   Every answer begins with a number and, but for odif_taken, a place. Number 0 is accepted or answered, with place 0.
+   Any other number is a refusal; places count octets of the stream from 0.
 
    no.  when                                                                          place
     1   the stream is over 1,048,576 octets; of odif_normal_short, over 65,535        0
@@ -299,11 +299,11 @@ static inline odif_written odif_make(const uint8_t *ODIF_APART buffer, size_t bu
 
    The state is this struct and nothing else, with no pointer in it: copy it, keep it, go on from a copy. Its numbers are
    the engine's own. A caller who makes one up is answered too: where it can't be gone on with, 28 with that state, and
-   29. */
+   29. The three functions take less than 2 KiB of stack. */
 typedef struct {
     size_t   total;    /* the octets told, and those that have come */
     size_t   taken;
-    size_t   at;       /* where the next header stands, or past it, and how many items are open there */
+    size_t   at;       /* where the next header stands, and how many items are open there */
     size_t   level;
     uint32_t headers;  /* the items that passed 2 to 8 */
     uint32_t number;   /* the finding, 1 to 8, and its place; 0 if there is none yet */
