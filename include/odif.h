@@ -12,8 +12,8 @@
    cost n checks. Where that is too much, ask about each unit alone: the octets A0 00 and behind them the unit, from
    ODIF_FIRST to ODIF_PAST of its row, are a letter no longer than the one it stands in, and the content of its element
    1 is the same. odif_normal measures an item before it writes it, so one at level 16 is passed over 16 times. A check
-   takes time as the stream is long, some 3 ns an octet; but if names were chosen to collide in the library's index, it
-   takes as the square of their number, some 0.2 s for 4,095 of them.
+   takes time as the stream is long, some 3 ns an octet, whoever chose the names: a letter made to be slow takes some ten
+   times as long as others of its length.
 
    Their scratch memory is on the stack. Of a small stream, which has up to 512 elements and up to 8,192 items in all, a
    question takes up to 40 KiB of it, the two lists up to 88 KiB; of any other up to 256 KiB, the lists up to 304 KiB. It
