@@ -8,7 +8,7 @@ use clap::{Args, CommandFactory, Parser, Subcommand, ValueEnum};
 use odif::{Edition, Letter, Side};
 
 use crate::status::{Failure, Outcome, Status, tell};
-use crate::{check, export, list, make, man, normal, same, survey, text, tree};
+use crate::{check, date, export, list, make, man, normal, same, survey, text, tree};
 
 const EXAMPLES: &str = "\
 Examples:
@@ -46,6 +46,7 @@ pub struct Cli {
 #[derive(Subcommand)]
 enum Command {
     Check(check::Words),
+    Date(date::Words),
     Text(text::Words),
     Tree(tree::Words),
     List(list::Words),
@@ -171,6 +172,7 @@ pub fn run(words: impl Iterator<Item = OsString>) -> ExitCode {
 fn dispatch(command: Command) -> Outcome {
     match command {
         Command::Check(words) => check::run(&words),
+        Command::Date(words) => date::run(&words),
         Command::Text(words) => text::run(&words),
         Command::Tree(words) => tree::run(&words),
         Command::List(words) => list::run(&words),

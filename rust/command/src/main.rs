@@ -5,6 +5,7 @@ mod beside;
 mod blocks;
 mod charset;
 mod check;
+mod date;
 mod explain;
 mod export;
 mod faults;

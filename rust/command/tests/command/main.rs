@@ -2,6 +2,7 @@
 
 mod blocks;
 mod check;
+mod date;
 mod editions;
 mod export;
 mod faults;
