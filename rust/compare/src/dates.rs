@@ -90,7 +90,9 @@ pub fn hold(edition: Edition, stream: &[u8], reading: &Reading<'_>, origin: &Ori
         expect(same, "the crate's date", &|| format!("{letter:?}, not {date:?}"));
     }
     if let Some(end) = whole_first_element(stream, reading) {
-        let damaged = [&stream[..end], &rng.number().to_le_bytes()[..rng.below(9)]].concat();
+        // Rule 1 looks at the whole length.
+        let room = (odif::STREAM_LIMIT - end).min(8);
+        let damaged = [&stream[..end], &rng.number().to_le_bytes()[..rng.below(room + 1)]].concat();
         let other = raw::first_date_in(edition, &damaged);
         expect(other == first, "the first date with another remainder", &|| format!("{other:?}, not {first:?}"));
         let front = raw::first_date_in(edition, &stream[..end]);
