@@ -49,6 +49,8 @@
    20   the asked element is no text unit or does not exist                           0
    21   a part is asked of content in pieces, which is no one part of the stream      0
    22   the output is shorter than the joined content                                 0
+   28   a block is past the total that was told                                       0
+   29   a letter in blocks is closed before all its octets have come                  0
 
    1 comes first, then the first fault of 2 to 8 in stream order, then the elements in order, 9 to 15 in order within
    each, then 16, 17, 18, 19 or 20 where the question can give it; 21 and 22 come after 20. A refusal leaves the lent
@@ -187,6 +189,53 @@ odif_found odif_content(const uint8_t *stream, size_t stream_len, uint32_t eleme
    out past it stay. As many octets as the row's content has are always enough. */
 odif_copied odif_joined(const uint8_t *ODIF_APART stream, size_t stream_len, uint32_t element,
                         uint8_t *ODIF_APART out, size_t out_len);
+
+/* A letter that arrives in blocks and is not held: rules 1 to 8 and the header count, as odif_check gives them of the whole
+   stream, for any cutting. Start with the total, hand over the blocks in order, of any length, none included, and close:
+
+       odif_taken now = odif_blocks_start(total);
+       while (...) now = odif_blocks_take(now.state, block, block_len);
+       odif_walked walked = odif_blocks_close(now.state);
+
+   The state is this struct and nothing else, with no pointer in it: copy it, keep it, go on from a copy. Its numbers are
+   the engine's own. A caller who makes one up is answered too: where it can't be gone on with, 28 with that state, and
+   29. */
+typedef struct {
+    size_t   total;    /* the octets told, and those that have come */
+    size_t   taken;
+    size_t   at;       /* where the next header stands, or past it, and how many items are open there */
+    size_t   level;
+    uint32_t headers;  /* the items that passed 2 to 8 */
+    uint32_t number;   /* the finding, 1 to 8, and its place; 0 if there is none yet */
+    uint32_t place;
+    uint32_t have;     /* the octets of the next header that have come */
+    uint32_t ends[16]; /* twice the end of each open item, and 1 more if it waits for its closing mark */
+    uint8_t  begun[8];
+} odif_blocks;
+
+#define ODIF_BLOCKS_SIZE 120 /* the octets of an odif_blocks */
+
+typedef struct {
+    uint32_t    number; /* 0; 1 from the start; 28 from a block */
+    odif_blocks state;
+} odif_taken;
+
+typedef struct {
+    uint32_t number;   /* 0; the first fault of 1 to 8; or 29 */
+    uint32_t place;    /* its place */
+    uint32_t headers;  /* the items that passed 2 to 8, also with a fault; 0 after 1 and 29 */
+} odif_walked;
+
+/* A letter of so many octets, of which none has come. 1 if they are over 1,048,576; the state can still be gone on with:
+   blocks are counted, and the close gives 1. */
+odif_taken odif_blocks_start(size_t total);
+
+/* Takes a block. 28 if it is past the total: then the state is as it was, and what came before stands. A fault that was
+   found stays, and later octets are counted. */
+odif_taken odif_blocks_take(odif_blocks state, const uint8_t *block, size_t block_len);
+
+/* What the walk of the letter tells. 29 if not all octets have come, whatever was found: the state can be gone on with. */
+odif_walked odif_blocks_close(odif_blocks state);
 
 /* The sentence of a number of the list above, without a full stop; 0 and numbers past the list have one too. It is no
    part of the proved archive: compile odif_sentence.c, which stands beside this header, with your program, or link with

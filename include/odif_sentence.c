@@ -25,6 +25,8 @@ static const char *const sentences[] = {
     [20] = "the asked element is no text unit or does not exist",
     [21] = "the content is in pieces or tiles, and no one part of the stream",
     [22] = "the output is shorter than the joined content",
+    [28] = "a block is past the total that was told",
+    [29] = "the letter was closed before all its octets had come",
 };
 
 const char *odif_sentence(uint32_t number) {

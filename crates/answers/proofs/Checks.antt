@@ -9,7 +9,7 @@ use lib.ListN.{length, take}
 use lib.Seq.{length-take-le}
 use borrow.Author.Tests.{ne-eqb, lt-ltb, le-ltb}
 use Rattle.index.specs.Rows.{rowWidth}
-use Rattle.elements.specs.declared.Edition.the-variants.{Of1988}
+use Rattle.elements.specs.declared.Edition.{Edition}
 use Rattle.elements.specs.Judge.{Element}
 use Rattle.elements.specs.Rows.{numbers}
 use Rattle.letters.specs.Letter.{letter, refusal}
@@ -18,30 +18,30 @@ use Rattle.answers.specs.Answers.{letterIn, rowsIn, tableOf, refusedChec
 use Rattle.answers.proofs.Small.{refusal-small}
 
 -- a stream's rows in scratch, in front of what the table held, are the finished table
-pub table-filled : (s table scratch : List ℕ) (n : ℕ) → take (n * rowWidth) scratch ≡ numbers (rowsIn s) → n * rowWidth ≤ length scratch
-    → filledFrom scratch n table ≡ tableOf s table
-table-filled s table scratch n w long =
-    let size : length (numbers (rowsIn s)) ≡ n * rowWidth = ap length (sym w) ∙ length-take-le (n * rowWidth) scratch long in
+pub table-filled : (edition : Edition) (s table scratch : List ℕ) (n : ℕ) → take (n * rowWidth) scratch ≡ numbers (rowsIn edition s) → n * rowWidth ≤ length scratch
+    → filledFrom scratch n table ≡ tableOf edition s table
+table-filled edition s table scratch n w long =
+    let size : length (numbers (rowsIn edition s)) ≡ n * rowWidth = ap length (sym w) ∙ length-take-le (n * rowWidth) scratch long in
     rw (w, size)
 
-module _ (s table : List ℕ) where
-  pub checks-refused : (number place headers : ℕ) → letterIn s ≡ refusal number place headers
-      → CheckOutcome s table (refusedCheck number place headers) table
+module _ (edition : Edition) (s table : List ℕ) where
+  pub checks-refused : (number place headers : ℕ) → letterIn edition s ≡ refusal number place headers
+      → CheckOutcome edition s table (refusedCheck number place headers) table
   unfolding checked checkedTable
   checks-refused number place headers e =
-      let low = refusal-small Of1988 s number place headers e .low in
+      let low = refusal-small edition s number place headers e .low in
       let some : eqb number 0 ≡ false = ne-eqb number 0 (λ z. omega arith) in
       record { answered = rw e; tabled = rw (e, some) }
 
-  pub checks-16 : (headers : ℕ) (elements : List Element) → letterIn s ≡ letter headers elements → rowsLent table < length elements
-      → CheckOutcome s table (refusedCheck 16 0 headers) table
+  pub checks-16 : (headers : ℕ) (elements : List Element) → letterIn edition s ≡ letter headers elements → rowsLent table < length elements
+      → CheckOutcome edition s table (refusedCheck 16 0 headers) table
   unfolding checked checkedTable
   checks-16 headers elements e few =
       let t : ltb (rowsLent table) (length elements) ≡ true = lt-ltb _ _ few in
       record { answered = rw (e, t); tabled = rw (e, t) }
 
-  pub checks-letter : (headers count : ℕ) (elements : List Element) → letterIn s ≡ letter headers elements → length elements ≡ count
-      → count ≤ rowsLent table → CheckOutcome s table (record { number = 0; place = 0; headers = headers; elements = count }) (tableOf s table)
+  pub checks-letter : (headers count : ℕ) (elements : List Element) → letterIn edition s ≡ letter headers elements → length elements ≡ count
+      → count ≤ rowsLent table → CheckOutcome edition s table (record { number = 0; place = 0; headers = headers; elements = count }) (tableOf edition s table)
   unfolding checked checkedTable
   checks-letter headers count elements e counted enough =
       let t : ltb (rowsLent table) (length elements) ≡ false = le-ltb (rowsLent table) (length elements) (omega arith) in

@@ -8,6 +8,7 @@ use lib.Dec.{eqb, ltb}
 use lib.ListN.{length, drop}
 use borrow.Author.Tests.{ne-eqb, lt-ltb, le-ltb, ltb-false}
 use Rattle.laws.proofs.Tests.{cond-holds}
+use Rattle.elements.specs.declared.Edition.{Edition}
 use Rattle.answers.specs.declared.Copied.{Copied}
 use Rattle.answers.specs.Answers.{onto, Fetched, handed, withheld, joinedIn, copied, copiedOutput, JoinedOutcome}
 use Rattle.answers.specs.Asking.{Copies}
@@ -23,28 +24,28 @@ module _ (content out : List ℕ) where
       let t : ltb (length out) (length content) ≡ false = le-ltb (length out) (length content) room in
       record { answered = rw (t, all); put = put ∙ rw all }
 
-module _ (s : List ℕ) (asked : ℕ) (out : List ℕ) where
+module _ (edition : Edition) (s : List ℕ) (asked : ℕ) (out : List ℕ) where
   -- the joined content of a text unit is copied
-  pub joins-unit : {content after : List ℕ} {answer : Copied} → joinedIn s asked ≡ handed content → Copies content out answer after
-      → JoinedOutcome s asked out answer after
+  pub joins-unit : {content after : List ℕ} {answer : Copied} → joinedIn edition s asked ≡ handed content → Copies content out answer after
+      → JoinedOutcome edition s asked out answer after
   unfolding copied copiedOutput
   joins-unit {content} {after} {answer} e c =
-      let told : answer ≡ copied s asked out = c .answered ∙ rw e in
-      let filled : after ≡ cond (eqb (copied s asked out .number) 0) (onto content out) out =
+      let told : answer ≡ copied edition s asked out = c .answered ∙ rw e in
+      let filled : after ≡ cond (eqb (copied edition s asked out .number) 0) (onto content out) out =
       c .put ∙ ap (λ (a : Copied). cond (eqb (a .number) 0) (onto content out) out) told in
-      record { answered = told; put = filled ∙ ap (λ (f : Fetched). cond (eqb (copied s asked out .number) 0) (onto (f .part) out) out) (sym e) }
+      record { answered = told; put = filled ∙ ap (λ (f : Fetched). cond (eqb (copied edition s asked out .number) 0) (onto (f .part) out) out) (sym e) }
 
   -- a program that lends a buffer may take the copy from it
-  pub copied-within : copied s asked out .length ≤ length out
+  pub copied-within : copied edition s asked out .length ≤ length out
   unfolding copied
   copied-within =
-      let part = joinedIn s asked .part in
-      cond-holds (λ (a : Copied). a .length ≤ length out) (eqb (joinedIn s asked .number) 0)
+      let part = joinedIn edition s asked .part in
+      cond-holds (λ (a : Copied). a .length ≤ length out) (eqb (joinedIn edition s asked .number) 0)
       (λ _. cond-holds (λ (a : Copied). a .length ≤ length out) (ltb (length out) (length part)) (λ _. omega arith) (λ t. ltb-false (length out) (length part) t))
       (λ _. omega arith)
 
   -- what is refused before the buffer is looked at
-  pub joins-none : (number place : ℕ) → (number ≡ 0 → ⊥) → joinedIn s asked ≡ withheld number place
-      → JoinedOutcome s asked out (record { number = number; place = place; length = 0 }) out
+  pub joins-none : (number place : ℕ) → (number ≡ 0 → ⊥) → joinedIn edition s asked ≡ withheld number place
+      → JoinedOutcome edition s asked out (record { number = number; place = place; length = 0 }) out
   unfolding copied copiedOutput
   joins-none number place some e = let t : eqb number 0 ≡ false = ne-eqb number 0 some in record { answered = rw (e, t); put = rw (e, t, t) }

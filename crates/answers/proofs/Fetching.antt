@@ -16,7 +16,7 @@ use Rattle.index.specs.Columns.{kindAt}
 use Rattle.contents.specs.declared.Span.{Span}
 use Rattle.contents.specs.Search.{Value, absent, octets}
 use Rattle.pieces.proofs.Joined.{joined-fits}
-use Rattle.elements.specs.declared.Edition.the-variants.{Of1988}
+use Rattle.elements.specs.declared.Edition.{Edition}
 use Rattle.elements.specs.Judge.{bytesOf, Content, single, joinedContent, Element}
 use Rattle.elements.specs.Says.{Bounds}
 use Rattle.letters.specs.Letter.{letter, refusal}
@@ -51,34 +51,34 @@ one-piece absent = refl
 one-piece (octets bytes) = refl
 
 -- why, from where: number and place of both are those of the fetch
-pub why-located : (s : List ℕ) (asked : ℕ) {told : Found} → told ≡ located s asked → record { number = told .number; place = told .place } ≡ whyNot s asked
+pub why-located : (edition : Edition) (s : List ℕ) (asked : ℕ) {told : Found} → told ≡ located edition s asked → record { number = told .number; place = told .place } ≡ whyNot edition s asked
 unfolding located
-why-located s asked e = ap (λ (t : Found). record { number = t .number; place = t .place }) e
+why-located edition s asked e = ap (λ (t : Found). record { number = t .number; place = t .place }) e
 
-module _ (s : List ℕ) (asked : ℕ) where
+module _ (edition : Edition) (s : List ℕ) (asked : ℕ) where
   -- 1 to 15
-  module _ (number place headers : ℕ) (e : letterIn s ≡ refusal number place headers) where
-    pub fetches-refused : Fetches s asked (nowhere number place)
+  module _ (number place headers : ℕ) (e : letterIn edition s ≡ refusal number place headers) where
+    pub fetches-refused : Fetches edition s asked (nowhere number place)
     unfolding fetched located
     fetches-refused =
-        let low = refusal-small Of1988 s number place headers e .low in
+        let low = refusal-small edition s number place headers e .low in
         let some-number : eqb number 0 ≡ false = ne-eqb number 0 (λ z. omega arith) in
         record { answered = rw (e, some-number); stands = record { part = rw e; order = omega arith; inside = omega arith } }
 
-    pub joins-refused : joinedIn s asked ≡ withheld number place
+    pub joins-refused : joinedIn edition s asked ≡ withheld number place
     unfolding joinedIn
     joins-refused = rw e
 
   -- of a text unit, what is wanted of its content
-  pub of-unit : {headers : ℕ} {elements : List Element} {unit : Element} → letterIn s ≡ letter headers elements → getElem? elements asked ≡ some unit
-      → unit .kind ≡ unitKind → (wanted : Content → Fetched) → fetchedBy wanted (letterIn s) asked ≡ wanted (unit .content)
+  pub of-unit : {headers : ℕ} {elements : List Element} {unit : Element} → letterIn edition s ≡ letter headers elements → getElem? elements asked ≡ some unit
+      → unit .kind ≡ unitKind → (wanted : Content → Fetched) → fetchedBy wanted (letterIn edition s) asked ≡ wanted (unit .content)
   of-unit {unit = unit} e there kind wanted = rw (e, there, eq-eqb (unit .kind) unitKind kind)
 
   -- 20, whatever is wanted of the content
-  no-unit : ((wanted : Content → Fetched) → fetchedBy wanted (letterIn s) asked ≡ withheld 20 0) → FindsContent s asked NoUnit
+  no-unit : ((wanted : Content → Fetched) → fetchedBy wanted (letterIn edition s) asked ≡ withheld 20 0) → FindsContent edition s asked NoUnit
   unfolding fetched located joinedIn
   no-unit e =
-      let f : fetched s asked ≡ withheld 20 0 = e partOf in
+      let f : fetched edition s asked ≡ withheld 20 0 = e partOf in
       record {
         fetches = record { answered = rw f; stands = record { part = rw f; order = omega arith; inside = omega arith } };
         joins = e allOf;
@@ -87,9 +87,9 @@ module _ (s : List ℕ) (asked : ℕ) where
         short = omega arith;
       }
 
-  module _ {rows : List ℕ} {count headers : ℕ} (l : Accepting s rows count headers) where
+  module _ {rows : List ℕ} {count headers : ℕ} (l : Accepting edition s rows count headers) where
     -- 20 ".. or doesn't exist"
-    pub finds-missing : count ≤ asked → FindsContent s asked NoUnit
+    pub finds-missing : count ≤ asked → FindsContent edition s asked NoUnit
     finds-missing past =
         let e = l .judged in
         let no-element = nothing-past (l .elements) asked (omega (arith, l .counted)) in
@@ -97,17 +97,17 @@ module _ (s : List ℕ) (asked : ℕ) where
 
     module _ (element : Element) (there : getElem? (l .elements) asked ≡ some element) where
       -- 20 "asked element is no text unit"
-      finds-other : (element .kind ≡ unitKind → ⊥) → FindsContent s asked NoUnit
+      finds-other : (element .kind ≡ unitKind → ⊥) → FindsContent edition s asked NoUnit
       finds-other other = let e = l .judged in no-unit (λ wanted. rw (e, there, ne-eqb (element .kind) unitKind other))
 
-      finds-part : (row : RowOf s (rowsIn s) asked element) (first past : ℕ) → element .kind ≡ unitKind
-          → HeldWhole s first past (row .row .content) (element .content) → FindsContent s asked (Part first past)
+      finds-part : (row : RowOf s (rowsIn edition s) asked element) (first past : ℕ) → element .kind ≡ unitKind
+          → HeldWhole s first past (row .row .content) (element .content) → FindsContent edition s asked (Part first past)
       unfolding fetched located joinedIn
       finds-part row first past kind h =
           let within = l .within-limit in
           let stands = row .stands in
           let pair = h .fields-are in
-          let f : fetched s asked ≡ handed (bytesOf (h .value)) = of-unit (l .judged) there kind partOf ∙ ap partOf (h .content-is) in
+          let f : fetched edition s asked ≡ handed (bytesOf (h .value)) = of-unit (l .judged) there kind partOf ∙ ap partOf (h .content-is) in
           let all = part-joined h in
           let part = all ∙ ap joinedContent (h .content-is) ∙ one-piece (h .value) in
           let (order, inside) = bounded s (record { first = first; past = past }) (h .value) (subst (λ (v : Span). Bounds s v (h .value)) pair (h .bounds)) in
@@ -120,12 +120,12 @@ module _ (s : List ℕ) (asked : ℕ) where
             short = omega arith;
           }
 
-      finds-pieces : (run : Run) → element .kind ≡ unitKind → HeldInPieces s run (element .content) → FindsContent s asked (Pieces run)
+      finds-pieces : (run : Run) → element .kind ≡ unitKind → HeldInPieces s run (element .content) → FindsContent edition s asked (Pieces run)
       unfolding fetched located joinedIn
       finds-pieces run kind h =
           let within = l .within-limit in
           let size = joined-fits (h .fine) in
-          let f : fetched s asked ≡ withheld 21 0 = of-unit (l .judged) there kind partOf ∙ ap partOf (h .content-is) in
+          let f : fetched edition s asked ≡ withheld 21 0 = of-unit (l .judged) there kind partOf ∙ ap partOf (h .content-is) in
           record {
             fetches = record { answered = rw f; stands = record { part = rw f; order = omega arith; inside = omega arith } };
             joins = of-unit (l .judged) there kind allOf ∙ ap allOf (h .content-is);
@@ -134,8 +134,8 @@ module _ (s : List ℕ) (asked : ℕ) where
             short = omega arith;
           }
 
-    finds-by : (element : Element) → getElem? (l .elements) asked ≡ some element → (row : RowOf s (rowsIn s) asked element)
-        → kindAt rows asked ≡ element .kind → {found : ContentFound} → ContentAt s rows asked found → FindsContent s asked found
+    finds-by : (element : Element) → getElem? (l .elements) asked ≡ some element → (row : RowOf s (rowsIn edition s) asked element)
+        → kindAt rows asked ≡ element .kind → {found : ContentFound} → ContentAt edition s rows asked found → FindsContent edition s asked found
     finds-by element there row kind (otherKind other) = finds-other element there (λ k. other (kind ∙ k))
     finds-by element there row kind (heldWhole {first} {past} is holds) =
         finds-part element there row first past (sym kind ∙ is) (holds (l .elements) (row .row) element (l .judge-accepted) (row .stands) there)
@@ -143,7 +143,7 @@ module _ (s : List ℕ) (asked : ℕ) where
         finds-pieces element there run (sym kind ∙ is) (holds (l .elements) (row .row) element (l .judge-accepted) (row .stands) there)
 
     -- what was found of it
-    pub finds-at : {found : ContentFound} → asked < count → ContentAt s rows asked found → FindsContent s asked found
+    pub finds-at : {found : ContentFound} → asked < count → ContentAt edition s rows asked found → FindsContent edition s asked found
     finds-at below found =
         let (element, there) = at-below (l .elements) asked (omega (arith, l .counted)) in
         let row = row-of (l .saying) asked element there in

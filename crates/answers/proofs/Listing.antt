@@ -9,7 +9,7 @@ use lib.Dec.{eqb, ltb}
 use lib.ListN.{length, drop}
 use borrow.Author.Tests.{ne-eqb, lt-ltb, le-ltb}
 use borrow.Table.Steps.{cases}
-use Rattle.elements.specs.declared.Edition.the-variants.{Of1988}
+use Rattle.elements.specs.declared.Edition.{Edition}
 use Rattle.elements.specs.Judge.{Element}
 use Rattle.letters.specs.Letter.{letter, refusal}
 use Rattle.reading.specs.declared.Match.{Match}
@@ -29,19 +29,19 @@ no-records : (flat : List ℕ) → records flat 0 ≡ []
 unfolding records
 no-records flat = refl
 
-module _ (side : Side) (s table flat : List ℕ) (room : ℕ) where
-  pub lists-refused : (number place headers : ℕ) → letterIn s ≡ refusal number place headers
-      → ListsFlat side s table room (record { number = number; place = place; elements = 0; matches = 0 }) table flat
+module _ (edition : Edition) (side : Side) (s table flat : List ℕ) (room : ℕ) where
+  pub lists-refused : (number place headers : ℕ) → letterIn edition s ≡ refusal number place headers
+      → ListsFlat edition side s table room (record { number = number; place = place; elements = 0; matches = 0 }) table flat
   unfolding listed listedTable
   lists-refused number place headers e =
-      let small = refusal-small Of1988 s number place headers e in
+      let small = refusal-small edition s number place headers e in
       let some : eqb number 0 ≡ false = ne-eqb number 0 (λ z. omega arith) in
       let no-19 : eqb number 19 ≡ false = ne-eqb number 19 (λ z. omega arith) in
       record { answered = rw e; tabled = rw (e, some, no-19); stored = rw some (no-records flat); fits = omega arith; enough = omega arith }
 
-  module _ (headers : ℕ) (elements : List Element) (e : letterIn s ≡ letter headers elements) where
+  module _ (headers : ℕ) (elements : List Element) (e : letterIn edition s ≡ letter headers elements) where
     pub lists-16 : rowsLent table < length elements
-        → ListsFlat side s table room (record { number = 16; place = 0; elements = 0; matches = 0 }) table flat
+        → ListsFlat edition side s table room (record { number = 16; place = 0; elements = 0; matches = 0 }) table flat
     unfolding listed listedTable
     lists-16 few =
         let t : ltb (rowsLent table) (length elements) ≡ true = lt-ltb _ _ few in
@@ -51,14 +51,14 @@ module _ (side : Side) (s table flat : List ℕ) (room : ℕ) where
       rows-enough : ltb (rowsLent table) (length elements) ≡ false
       rows-enough = le-ltb (rowsLent table) (length elements) (omega arith)
 
-      pub lists-19 : room < m → ListsFlat side s table room (record { number = 19; place = 0; elements = count; matches = 0 }) (tableOf s table) flat
+      pub lists-19 : room < m → ListsFlat edition side s table room (record { number = 19; place = 0; elements = count; matches = 0 }) (tableOf edition s table) flat
       unfolding listed listedTable
       lists-19 short =
           let t = rows-enough in
           let u : ltb room (length (matches side elements)) ≡ true = lt-ltb room (length (matches side elements)) (omega (arith, lists .counted)) in
           record { answered = rw (e, t, u, counted); tabled = rw (e, t, u); stored = no-records flat; fits = omega arith; enough = omega arith }
 
-      pub lists-letter : m ≤ room → ListsFlat side s table room (record { number = 0; place = 0; elements = count; matches = m }) (tableOf s table) flat
+      pub lists-letter : m ≤ room → ListsFlat edition side s table room (record { number = 0; place = 0; elements = count; matches = m }) (tableOf edition s table) flat
       unfolding listed listedTable
       lists-letter enough =
           let t = rows-enough in
@@ -67,25 +67,25 @@ module _ (side : Side) (s table flat : List ℕ) (room : ℕ) where
           record { answered = rw (e, t, u, counted, c); tabled = rw (e, t, u); stored = lists-records lists ∙ rw e; fits = lists .fits; enough = enough }
 
 -- the table is the finished one by another name
-pub retabled : {side : Side} {s table : List ℕ} {room : ℕ} {answer : Listed} {after finished flat : List ℕ} → after ≡ finished
-    → ListsFlat side s table room answer finished flat → ListsFlat side s table room answer after flat
+pub retabled : {edition : Edition} {side : Side} {s table : List ℕ} {room : ℕ} {answer : Listed} {after finished flat : List ℕ} → after ≡ finished
+    → ListsFlat edition side s table room answer finished flat → ListsFlat edition side s table room answer after flat
 retabled e l = record { answered = l .answered; tabled = e ∙ l .tabled; stored = l .stored; fits = l .fits; enough = l .enough }
 
 -- the records that were answered, in front of what the list held, are the list at exit
-pub listed-list : (list : List Match) {side : Side} {s table : List ℕ} {answer : Listed} {after flat : List ℕ}
-    → ListsFlat side s table (length list) answer after flat
-    → records flat (answer .matches) ++ drop (answer .matches) list ≡ listedList side s table list
+pub listed-list : (list : List Match) {edition : Edition} {side : Side} {s table : List ℕ} {answer : Listed} {after flat : List ℕ}
+    → ListsFlat edition side s table (length list) answer after flat
+    → records flat (answer .matches) ++ drop (answer .matches) list ≡ listedList edition side s table list
 unfolding listedList
-listed-list list {side} {s} {table} {answer} {after} {flat} l =
+listed-list list {edition} {side} {s} {table} {answer} {after} {flat} l =
     let n = answer .matches in
-    let told : eqb (listed side s table (length list) .number) 0 ≡ eqb (answer .number) 0 = ap (λ (a : Listed). eqb (a .number) 0) (sym (l .answered)) in
+    let told : eqb (listed edition side s table (length list) .number) 0 ≡ eqb (answer .number) 0 = ap (λ (a : Listed). eqb (a .number) 0) (sym (l .answered)) in
     let size = length-records flat n in
     let stored = l .stored in
     cases (eqb (answer .number) 0)
     (λ t.
-    let all : records flat n ≡ matchesIn side s = rw t at stored in
-    let many : n ≡ length (matchesIn side s) = sym size ∙ ap length all in
-    rw (told, t, all) (ap (λ (k : ℕ). matchesIn side s ++ drop k list) many))
+    let all : records flat n ≡ matchesIn edition side s = rw t at stored in
+    let many : n ≡ length (matchesIn edition side s) = sym size ∙ ap length all in
+    rw (told, t, all) (ap (λ (k : ℕ). matchesIn edition side s ++ drop k list) many))
     (λ t.
     let no : records flat n ≡ [] = rw t at stored in
     let zero-matches : n ≡ 0 = sym size ∙ ap length no in

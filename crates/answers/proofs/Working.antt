@@ -3,7 +3,7 @@ use mathlib.Core.Path.{_≡_, refl, ap, sym, _∙_, subst}
 use mathlib.Core.List.{List}
 use Prim.Native.Nat.{ℕ}
 use native.Mathlib.Omega.{arith}
-use Rattle.elements.specs.declared.Edition.the-variants.{Of1988}
+use Rattle.elements.specs.declared.Edition.{Edition}
 use Rattle.elements.specs.Judge.{Element}
 use Rattle.letters.specs.Letter.{Letter, letter, refusal}
 use Rattle.reading.specs.declared.Side.{Side}
@@ -25,76 +25,76 @@ use Rattle.answers.proofs.Copying.{joins-none}
 use Rattle.answers.proofs.Listing.{lists-refused}
 
 -- a stream that is refused by one of rules 1 to 15
-pub ruled-refused : (s : List ℕ) {number place headers : ℕ} → letterIn s ≡ refusal number place headers
-    → ruled s ≡ record { number = number; place = place }
+pub ruled-refused : (edition : Edition) (s : List ℕ) {number place headers : ℕ} → letterIn edition s ≡ refusal number place headers
+    → ruled edition s ≡ record { number = number; place = place }
 unfolding ruled
-ruled-refused s e = rw e
+ruled-refused edition s e = rw e
 
 -- a letter
-pub ruled-letter : (s : List ℕ) {headers : ℕ} {elements : List Element} → letterIn s ≡ letter headers elements → ruled s ≡ record { number = 0; place = 0 }
+pub ruled-letter : (edition : Edition) (s : List ℕ) {headers : ℕ} {elements : List Element} → letterIn edition s ≡ letter headers elements → ruled edition s ≡ record { number = 0; place = 0 }
 unfolding ruled
-ruled-letter s e = rw e
+ruled-letter edition s e = rw e
 
 -- a stream is accepted by rules 1 to 15
-pub record IsLetter (s : List ℕ) : Type 0 where
+pub record IsLetter (edition : Edition) (s : List ℕ) : Type 0 where
   pub headers : ℕ
   pub elements : List Element
-  pub judged : letterIn s ≡ letter headers elements
+  pub judged : letterIn edition s ≡ letter headers elements
 
 -- a stream is refused by one of them
-pub record IsRefused (s : List ℕ) (number place : ℕ) : Type 0 where
+pub record IsRefused (edition : Edition) (s : List ℕ) (number place : ℕ) : Type 0 where
   pub headers : ℕ
-  pub judged : letterIn s ≡ refusal number place headers
+  pub judged : letterIn edition s ≡ refusal number place headers
 
-module _ (s : List ℕ) where
-  letter-if : (l : Letter) → letterIn s ≡ l → ruledBy l .number ≡ 0 → IsLetter s
+module _ (edition : Edition) (s : List ℕ) where
+  letter-if : (l : Letter) → letterIn edition s ≡ l → ruledBy l .number ≡ 0 → IsLetter edition s
   letter-if (letter headers elements) e zero = record { headers = headers; elements = elements; judged = e }
-  letter-if (refusal number place headers) e zero = absurd (omega (arith, refusal-small Of1988 s number place headers e .low))
+  letter-if (refusal number place headers) e zero = absurd (omega (arith, refusal-small edition s number place headers e .low))
 
-  refused-if : (l : Letter) → letterIn s ≡ l → (ruledBy l .number ≡ 0 → ⊥) → IsRefused s (ruledBy l .number) (ruledBy l .place)
+  refused-if : (l : Letter) → letterIn edition s ≡ l → (ruledBy l .number ≡ 0 → ⊥) → IsRefused edition s (ruledBy l .number) (ruledBy l .place)
   refused-if (letter headers elements) e some = absurd (some refl)
   refused-if (refusal number place headers) e some = record { headers = headers; judged = e }
 
   -- what the number tells
-  pub is-letter : ruled s .number ≡ 0 → IsLetter s
+  pub is-letter : ruled edition s .number ≡ 0 → IsLetter edition s
   unfolding ruled
-  is-letter zero = letter-if (letterIn s) refl zero
+  is-letter zero = letter-if (letterIn edition s) refl zero
 
-  pub is-refused : (ruled s .number ≡ 0 → ⊥) → IsRefused s (ruled s .number) (ruled s .place)
+  pub is-refused : (ruled edition s .number ≡ 0 → ⊥) → IsRefused edition s (ruled edition s .number) (ruled edition s .place)
   unfolding ruled
-  is-refused some = refused-if (letterIn s) refl some
+  is-refused some = refused-if (letterIn edition s) refl some
 
 -- the same, of what the rules told
-pub letter-told : {s : List ℕ} {told : Told} → told ≡ reasonTold (ruled s) → told .number ≡ 0 → IsLetter s
-letter-told {s} e zero = is-letter s (ap (λ (t : Told). t .number) (sym e) ∙ zero)
+pub letter-told : {edition : Edition} {s : List ℕ} {told : Told} → told ≡ reasonTold (ruled edition s) → told .number ≡ 0 → IsLetter edition s
+letter-told {edition} {s} e zero = is-letter edition s (ap (λ (t : Told). t .number) (sym e) ∙ zero)
 
 -- a question that is known, and what it is told, by other names
-pub as-asked : {question known : Question} {s table out : List ℕ} {told same : Told} {tableAfter flat outAfter : List ℕ} → question ≡ known → told ≡ same
-    → Leaves known s table out same tableAfter flat outAfter → Leaves question s table out told tableAfter flat outAfter
-as-asked {known = known} {s = s} {table = table} {out = out} {told = told} {tableAfter = tableAfter} {flat = flat} {outAfter = outAfter} q t l =
-    subst (λ (x : Question). Leaves x s table out told tableAfter flat outAfter) (sym q)
-    (subst (λ (x : Told). Leaves known s table out x tableAfter flat outAfter) (sym t) l)
+pub as-asked : {edition : Edition} {question known : Question} {s table out : List ℕ} {told same : Told} {tableAfter flat outAfter : List ℕ} → question ≡ known → told ≡ same
+    → Leaves edition known s table out same tableAfter flat outAfter → Leaves edition question s table out told tableAfter flat outAfter
+as-asked {edition = edition} {known = known} {s = s} {table = table} {out = out} {told = told} {tableAfter = tableAfter} {flat = flat} {outAfter = outAfter} q t l =
+    subst (λ (x : Question). Leaves edition x s table out told tableAfter flat outAfter) (sym q)
+    (subst (λ (x : Told). Leaves edition known s table out x tableAfter flat outAfter) (sym t) l)
 
 pub refused-as : {question known : Question} {told : Told} (number place headers : ℕ) → question ≡ known → told ≡ refusedTold known number place headers
     → told ≡ refusedTold question number place headers
 refused-as number place headers q t = t ∙ ap (λ (x : Question). refusedTold x number place headers) (sym q)
 
-module _ (s table flat out : List ℕ) where
-  pub leaves-rules : {r : Reason} → r ≡ ruled s → Leaves Rules s table out (reasonTold r) table flat out
+module _ (edition : Edition) (s table flat out : List ℕ) where
+  pub leaves-rules : {r : Reason} → r ≡ ruled edition s → Leaves edition Rules s table out (reasonTold r) table flat out
   leaves-rules e = record { answered = ap reasonTold e; tabled = refl; put = refl; beside = tt }
 
-  pub leaves-check : {r : Checked} {after : List ℕ} → CheckOutcome s table r after → Leaves Check s table out (checkTold r) after flat out
+  pub leaves-check : {r : Checked} {after : List ℕ} → CheckOutcome edition s table r after → Leaves edition Check s table out (checkTold r) after flat out
   leaves-check e = record { answered = ap checkTold (e .answered); tabled = e .tabled; put = refl; beside = tt }
 
-  pub leaves-content : {element : ℕ} {r : Found} → Fetches s element r → Leaves (Content element) s table out (locatedTold r) table flat out
+  pub leaves-content : {element : ℕ} {r : Found} → Fetches edition s element r → Leaves edition (Content element) s table out (locatedTold r) table flat out
   leaves-content e = record { answered = ap locatedTold (e .answered); tabled = refl; put = refl; beside = e .stands }
 
-  pub leaves-joined : {element : ℕ} {r : Copied} {after : List ℕ} → JoinedOutcome s element out r after
-      → Leaves (Joined element) s table out (copiedTold r) table flat after
+  pub leaves-joined : {element : ℕ} {r : Copied} {after : List ℕ} → JoinedOutcome edition s element out r after
+      → Leaves edition (Joined element) s table out (copiedTold r) table flat after
   leaves-joined e = record { answered = ap copiedTold (e .answered); tabled = refl; put = e .put; beside = tt }
 
-  pub leaves-list : {side : Side} {room : ℕ} {r : Listed} {after : List ℕ} → ListsFlat side s table room r after flat
-      → Leaves (Reading side room) s table out (listedTold r) after flat out
+  pub leaves-list : {side : Side} {room : ℕ} {r : Listed} {after : List ℕ} → ListsFlat edition side s table room r after flat
+      → Leaves edition (Reading side room) s table out (listedTold r) after flat out
   leaves-list e = record {
     answered = ap listedTold (e .answered);
     tabled = e .tabled;
@@ -103,30 +103,30 @@ module _ (s table flat out : List ℕ) where
   }
 
   -- whatever is asked, nothing that was lent is touched
-  pub leaves-refused : (question : Question) (number place headers : ℕ) → letterIn s ≡ refusal number place headers
-      → Leaves question s table out (refusedTold question number place headers) table flat out
-  leaves-refused Rules number place headers e = let r = ruled-refused s e in record { answered = rw r; tabled = refl; put = refl; beside = tt }
-  leaves-refused Check number place headers e = leaves-check (checks-refused s table number place headers e)
-  leaves-refused (Content element) number place headers e = leaves-content (fetches-refused s element number place headers e)
+  pub leaves-refused : (question : Question) (number place headers : ℕ) → letterIn edition s ≡ refusal number place headers
+      → Leaves edition question s table out (refusedTold question number place headers) table flat out
+  leaves-refused Rules number place headers e = let r = ruled-refused edition s e in record { answered = rw r; tabled = refl; put = refl; beside = tt }
+  leaves-refused Check number place headers e = leaves-check (checks-refused edition s table number place headers e)
+  leaves-refused (Content element) number place headers e = leaves-content (fetches-refused edition s element number place headers e)
   leaves-refused (Joined element) number place headers e =
-      let low = refusal-small Of1988 s number place headers e .low in
-      leaves-joined (joins-none s element out number place (λ z. omega arith) (joins-refused s element number place headers e))
-  leaves-refused (Reading side room) number place headers e = leaves-list (lists-refused side s table flat room number place headers e)
+      let low = refusal-small edition s number place headers e .low in
+      leaves-joined (joins-none edition s element out number place (λ z. omega arith) (joins-refused edition s element number place headers e))
+  leaves-refused (Reading side room) number place headers e = leaves-list (lists-refused edition side s table flat room number place headers e)
 
 -- what each question answers, from what its work left
-module _ {s table out : List ℕ} {told : Told} {tableAfter flat outAfter : List ℕ} where
-  pub check-left : Leaves Check s table out told tableAfter flat outAfter → CheckOutcome s table (checkOf told) tableAfter
+module _ {edition : Edition} {s table out : List ℕ} {told : Told} {tableAfter flat outAfter : List ℕ} where
+  pub check-left : Leaves edition Check s table out told tableAfter flat outAfter → CheckOutcome edition s table (checkOf told) tableAfter
   check-left l = record { answered = ap checkOf (l .answered); tabled = l .tabled }
 
-  pub content-left : {element : ℕ} → Leaves (Content element) s table out told tableAfter flat outAfter → Fetches s element (locatedOf told)
+  pub content-left : {element : ℕ} → Leaves edition (Content element) s table out told tableAfter flat outAfter → Fetches edition s element (locatedOf told)
   content-left l = record { answered = ap locatedOf (l .answered); stands = l .beside }
 
-  pub joined-left : {element : ℕ} → Leaves (Joined element) s table out told tableAfter flat outAfter → JoinedOutcome s element out (copiedOf told) outAfter
+  pub joined-left : {element : ℕ} → Leaves edition (Joined element) s table out told tableAfter flat outAfter → JoinedOutcome edition s element out (copiedOf told) outAfter
   joined-left l = record { answered = ap copiedOf (l .answered); put = l .put }
 
-  pub lists-told : {side : Side} {room : ℕ} {answer : Listed} → answer ≡ listedOf told → Leaves (Reading side room) s table out told tableAfter flat outAfter
-      → ListsFlat side s table room answer tableAfter flat
+  pub lists-told : {side : Side} {room : ℕ} {answer : Listed} → answer ≡ listedOf told → Leaves edition (Reading side room) s table out told tableAfter flat outAfter
+      → ListsFlat edition side s table room answer tableAfter flat
   lists-told {side} {room} e l =
       let b = l .beside in
-      subst (λ (r : Listed). ListsFlat side s table room r tableAfter flat) (sym e)
+      subst (λ (r : Listed). ListsFlat edition side s table room r tableAfter flat) (sym e)
       (record { answered = ap listedOf (l .answered); tabled = l .tabled; stored = b .stored; fits = b .fits; enough = b .enough })

@@ -14,7 +14,7 @@ use Rattle.octets.specs.Walk.{streamLimit}
 use Rattle.normal.specs.Normal.{normalForm}
 use Rattle.contents.specs.declared.Span.{Span}
 use Rattle.elements.specs.declared.Row.{Row}
-use Rattle.elements.specs.declared.Edition.the-variants.{Of1988}
+use Rattle.elements.specs.declared.Edition.{Edition}
 use Rattle.elements.specs.Judge.{Content, single, inPieces, bytesOf, joinedContent, Element}
 use Rattle.elements.specs.Rows.{noSpan}
 use Rattle.letters.specs.Letter.{Letter, letter, refusal, letterOf, rowsOfStream}
@@ -29,13 +29,13 @@ use Rattle.answers.specs.declared.Found.{Found}
 use Rattle.answers.specs.declared.Copied.{Copied}
 use Rattle.answers.specs.Table.{tableNumbers, tooFewRows}
 
--- what a stream is by rules 1 to 15, in the edition of 1988
-abbrev pub letterIn : List ℕ → Letter
-letterIn s = letterOf Of1988 s
+-- what a stream is by rules 1 to 15, in an edition
+abbrev pub letterIn : Edition → List ℕ → Letter
+letterIn edition s = letterOf edition s
 
 -- its rows, if it is a letter
-abbrev pub rowsIn : List ℕ → List Row
-rowsIn s = rowsOfStream Of1988 s
+abbrev pub rowsIn : Edition → List ℕ → List Row
+rowsIn edition s = rowsOfStream edition s
 
 -- values in front of what a lent list held: "Rows past the count keep what they had", "Records past the count keep theirs", "Output past it
 -- stays"
@@ -43,16 +43,16 @@ abbrev pub onto : {A : Type 0} → List A → List A → List A
 onto values lent = values ++ drop (length values) lent
 
 -- the finished table
-abbrev pub tableOf : (s table : List ℕ) → List ℕ
-tableOf s table = onto (tableNumbers (rowsIn s)) table
+abbrev pub tableOf : Edition → (s table : List ℕ) → List ℕ
+tableOf edition s table = onto (tableNumbers (rowsIn edition s)) table
 
 -- The rules alone, for a question that wants no more: the number and place of a refusal by 1 to 15, 0 and 0 of a letter.
 abbrev pub ruledBy : Letter → Reason
 ruledBy (refusal number place headers) = record { number = number; place = place }
 ruledBy (letter headers elements) = record { number = 0; place = 0 }
 
-unfoldable pub ruled : (s : List ℕ) → Reason
-ruled s = ruledBy (letterIn s)
+unfoldable pub ruled : Edition → (s : List ℕ) → Reason
+ruled edition s = ruledBy (letterIn edition s)
 
 -- The check: "With every answer of the check comes a header count"; "With a refusal these are 0".
 abbrev pub refusedCheck : (number place headers : ℕ) → Checked
@@ -64,17 +64,17 @@ checkedBy (letter headers elements) table =
     cond (tooFewRows table elements) (refusedCheck 16 0 headers)
     (record { number = 0; place = 0; headers = headers; elements = length elements })
 
-unfoldable pub checked : (s table : List ℕ) → Checked
-checked s table = checkedBy (letterIn s) table
+unfoldable pub checked : Edition → (s table : List ℕ) → Checked
+checked edition s table = checkedBy (letterIn edition s) table
 
 -- "A refusal leaves the lent table .. untouched"
-unfoldable pub checkedTable : (s table : List ℕ) → List ℕ
-checkedTable s table = cond (eqb (checked s table .number) 0) (tableOf s table) table
+unfoldable pub checkedTable : Edition → (s table : List ℕ) → List ℕ
+checkedTable edition s table = cond (eqb (checked edition s table .number) 0) (tableOf edition s table) table
 
 -- the contract of the check: its answer, and the table at exit
-pub record CheckOutcome (s table : List ℕ) (answer : Checked) (tableAfter : List ℕ) : Type 0 where
-  pub answered : answer ≡ checked s table
-  pub tabled : tableAfter ≡ checkedTable s table
+pub record CheckOutcome (edition : Edition) (s table : List ℕ) (answer : Checked) (tableAfter : List ℕ) : Type 0 where
+  pub answered : answer ≡ checked edition s table
+  pub tabled : tableAfter ≡ checkedTable edition s table
 
 -- The normal form: 17 "normal form over 1,048,576 bytes", 18 "output shorter than the normal form"; "17 goes before 18".
 abbrev pub writtenBy : Letter → (form out : List ℕ) → Written
@@ -84,17 +84,17 @@ writtenBy (letter headers elements) form out =
     (cond (ltb (length out) (length form)) (record { number = 18; place = 0; length = 0 })
     (record { number = 0; place = 0; length = length form }))
 
-unfoldable pub written : (s out : List ℕ) → Written
-written s out = writtenBy (letterIn s) (normalForm s) out
+unfoldable pub written : Edition → (s out : List ℕ) → Written
+written edition s out = writtenBy (letterIn edition s) (normalForm s) out
 
 -- "A refusal leaves the lent .. output untouched"
-unfoldable pub writtenOutput : (s out : List ℕ) → List ℕ
-writtenOutput s out = cond (eqb (written s out .number) 0) (onto (normalForm s) out) out
+unfoldable pub writtenOutput : Edition → (s out : List ℕ) → List ℕ
+writtenOutput edition s out = cond (eqb (written edition s out .number) 0) (onto (normalForm s) out) out
 
 -- the contract of the normal form: its answer, and the output at exit
-pub record NormalOutcome (s out : List ℕ) (answer : Written) (outAfter : List ℕ) : Type 0 where
-  pub answered : answer ≡ written s out
-  pub put : outAfter ≡ writtenOutput s out
+pub record NormalOutcome (edition : Edition) (s out : List ℕ) (answer : Written) (outAfter : List ℕ) : Type 0 where
+  pub answered : answer ≡ written edition s out
+  pub put : outAfter ≡ writtenOutput edition s out
 
 -- The reading list: 16, then 19 "list shorter than the matches"; "19 keeps the element count".
 abbrev pub listedBy : Letter → Side → (table : List ℕ) → (room : ℕ) → Listed
@@ -105,30 +105,31 @@ listedBy (letter headers elements) side table room =
     (record { number = 0; place = 0; elements = length elements; matches = length (matches side elements) }))
 
 -- the list that is lent has room for so many records
-unfoldable pub listed : Side → (s table : List ℕ) → (room : ℕ) → Listed
-listed side s table room = listedBy (letterIn s) side table room
+unfoldable pub listed : Edition → Side → (s table : List ℕ) → (room : ℕ) → Listed
+listed edition side s table room = listedBy (letterIn edition s) side table room
 
 -- "A refusal leaves the lent table .. untouched, except that 19 leaves the finished table"
-unfoldable pub listedTable : Side → (s table : List ℕ) → (room : ℕ) → List ℕ
-listedTable side s table room = cond (isIn (listed side s table room .number) (0 ∷ 19 ∷ [])) (tableOf s table) table
+unfoldable pub listedTable : Edition → Side → (s table : List ℕ) → (room : ℕ) → List ℕ
+listedTable edition side s table room = cond (isIn (listed edition side s table room .number) (0 ∷ 19 ∷ [])) (tableOf edition s table) table
 
 -- the matches of a side of a stream that is a letter
 abbrev pub matchesBy : Side → Letter → List Match
 matchesBy side (refusal number place headers) = []
 matchesBy side (letter headers elements) = matches side elements
 
-abbrev pub matchesIn : Side → (s : List ℕ) → List Match
-matchesIn side s = matchesBy side (letterIn s)
+abbrev pub matchesIn : Edition → Side → (s : List ℕ) → List Match
+matchesIn edition side s = matchesBy side (letterIn edition s)
 
 -- "A refusal leaves the lent .. list .. untouched"
-unfoldable pub listedList : Side → (s table : List ℕ) → (list : List Match) → List Match
-listedList side s table list = cond (eqb (listed side s table (length list) .number) 0) (onto (matchesIn side s) list) list
+unfoldable pub listedList : Edition → Side → (s table : List ℕ) → (list : List Match) → List Match
+listedList edition side s table list = cond (eqb (listed edition side s table (length list) .number) 0) (onto (matchesIn edition side s) list) list
 
 -- the contract of the list: its answer, and the table and the list at exit
-pub record ListOutcome (side : Side) (s table : List ℕ) (list : List Match) (answer : Listed) (tableAfter : List ℕ) (listAfter : List Match) : Type 0 where
-  pub answered : answer ≡ listed side s table (length list)
-  pub tabled : tableAfter ≡ listedTable side s table (length list)
-  pub filled : listAfter ≡ listedList side s table list
+pub record ListOutcome (edition : Edition) (side : Side) (s table : List ℕ) (list : List Match) (answer : Listed) (tableAfter : List ℕ)
+    (listAfter : List Match) : Type 0 where
+  pub answered : answer ≡ listed edition side s table (length list)
+  pub tabled : tableAfter ≡ listedTable edition side s table (length list)
+  pub filled : listAfter ≡ listedList edition side s table list
 
 -- What is fetched of one text unit, with the number and place of a refusal.
 pub record Fetched : Type 0 where
@@ -157,12 +158,12 @@ abbrev pub partOf : Content → Fetched
 partOf (single value) = handed (bytesOf value)
 partOf (inPieces run) = withheld 21 0
 
-unfoldable pub fetched : (s : List ℕ) → (asked : ℕ) → Fetched
-fetched s asked = fetchedBy partOf (letterIn s) asked
+unfoldable pub fetched : Edition → (s : List ℕ) → (asked : ℕ) → Fetched
+fetched edition s asked = fetchedBy partOf (letterIn edition s) asked
 
 -- "number and place of that refusal, 0 if answered"
-abbrev pub whyNot : (s : List ℕ) → (asked : ℕ) → Reason
-whyNot s asked = record { number = fetched s asked .number; place = fetched s asked .place }
+abbrev pub whyNot : Edition → (s : List ℕ) → (asked : ℕ) → Reason
+whyNot edition s asked = record { number = fetched edition s asked .number; place = fetched edition s asked .place }
 
 -- The same question for callers that take bounds: those of the content in the unit's row, and 0 and 0 with a refusal.
 abbrev pub contentIn : Option Row → Span
@@ -172,25 +173,27 @@ contentIn (some row) = row .content
 abbrev pub locatedAt : Fetched → Span → Found
 locatedAt told pair = record { number = told .number; place = told .place; first = pair .first; past = pair .past }
 
-unfoldable pub located : (s : List ℕ) → (asked : ℕ) → Found
-located s asked = locatedAt (fetched s asked) (cond (eqb (fetched s asked .number) 0) (contentIn (getElem? (rowsIn s) asked)) noSpan)
+unfoldable pub located : Edition → (s : List ℕ) → (asked : ℕ) → Found
+located edition s asked =
+    locatedAt (fetched edition s asked)
+    (cond (eqb (fetched edition s asked .number) 0) (contentIn (getElem? (rowsIn edition s) asked)) noSpan)
 
 -- They are where the content stands that the question in its other form hands back: in the stream, and nothing is left open.
-pub record Stands (s : List ℕ) (asked first past : ℕ) : Type 0 where
-  pub part : slice first past s ≡ fetched s asked .part
+pub record Stands (edition : Edition) (s : List ℕ) (asked first past : ℕ) : Type 0 where
+  pub part : slice first past s ≡ fetched edition s asked .part
   pub order : first ≤ past
   pub inside : past ≤ length s
 
-pub record Fetches (s : List ℕ) (asked : ℕ) (told : Found) : Type 0 where
-  pub answered : told ≡ located s asked
-  pub stands : Stands s asked (told .first) (told .past)
+pub record Fetches (edition : Edition) (s : List ℕ) (asked : ℕ) (told : Found) : Type 0 where
+  pub answered : told ≡ located edition s asked
+  pub stands : Stands edition s asked (told .first) (told .past)
 
 -- The joined content: "The content is the pieces joined in order", "a 04 being one piece".
 abbrev pub allOf : Content → Fetched
 allOf content = handed (joinedContent content)
 
-unfoldable pub joinedIn : (s : List ℕ) → (asked : ℕ) → Fetched
-joinedIn s asked = fetchedBy allOf (letterIn s) asked
+unfoldable pub joinedIn : Edition → (s : List ℕ) → (asked : ℕ) → Fetched
+joinedIn edition s asked = fetchedBy allOf (letterIn edition s) asked
 
 -- It is copied "into a lent buffer": its length, "0 if refused"; 22 "copy buffer too short, after 20".
 abbrev pub copiedFrom : Fetched → (out : List ℕ) → Copied
@@ -200,14 +203,14 @@ copiedFrom content out =
     (record { number = 0; place = 0; length = length (content .part) }))
     (record { number = content .number; place = content .place; length = 0 })
 
-unfoldable pub copied : (s : List ℕ) → (asked : ℕ) → (out : List ℕ) → Copied
-copied s asked out = copiedFrom (joinedIn s asked) out
+unfoldable pub copied : Edition → (s : List ℕ) → (asked : ℕ) → (out : List ℕ) → Copied
+copied edition s asked out = copiedFrom (joinedIn edition s asked) out
 
 -- "buffer untouched"; "bytes past it stay"
-unfoldable pub copiedOutput : (s : List ℕ) → (asked : ℕ) → (out : List ℕ) → List ℕ
-copiedOutput s asked out = cond (eqb (copied s asked out .number) 0) (onto (joinedIn s asked .part) out) out
+unfoldable pub copiedOutput : Edition → (s : List ℕ) → (asked : ℕ) → (out : List ℕ) → List ℕ
+copiedOutput edition s asked out = cond (eqb (copied edition s asked out .number) 0) (onto (joinedIn edition s asked .part) out) out
 
 -- the contract of the joined content: its answer, and the buffer at exit
-pub record JoinedOutcome (s : List ℕ) (asked : ℕ) (out : List ℕ) (answer : Copied) (outAfter : List ℕ) : Type 0 where
-  pub answered : answer ≡ copied s asked out
-  pub put : outAfter ≡ copiedOutput s asked out
+pub record JoinedOutcome (edition : Edition) (s : List ℕ) (asked : ℕ) (out : List ℕ) (answer : Copied) (outAfter : List ℕ) : Type 0 where
+  pub answered : answer ≡ copied edition s asked out
+  pub put : outAfter ≡ copiedOutput edition s asked out

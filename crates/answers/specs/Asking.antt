@@ -20,7 +20,7 @@ use Rattle.letters.specs.declared.Verdict.{Verdict}
 use Rattle.letters.specs.declared.Verdict.the-variants.{Accepted, Refused as Rejected}
 use Rattle.letters.specs.declared.Held.the-variants.{Part, Pieces as PiecesIn}
 use Rattle.letters.specs.Lent.{rowsNeeded}
-use Rattle.elements.specs.declared.Edition.the-variants.{Of1988}
+use Rattle.elements.specs.declared.Edition.{Edition}
 use Rattle.letters.specs.Scratch.{Filled}
 use Rattle.letters.specs.Content.{HoldsElement}
 use Rattle.reading.specs.declared.Side.{Side}
@@ -36,18 +36,18 @@ use Rattle.answers.specs.declared.ContentFound.the-variants.{NoUnit, Con
 use Rattle.answers.specs.Answers.{listed, listedTable, matchesIn, onto, Fetched, handed, withheld, Fetches, joinedIn, copiedFrom}
 
 -- a stream was judged and accepted, and these are its rows in scratch, whatever the indexes hold
-pub record JudgedIn (s rows : List ℕ) (count : ℕ) : Type 0 where
+pub record JudgedIn (edition : Edition) (s rows : List ℕ) (count : ℕ) : Type 0 where
   pub head : List ℕ
   pub next : List ℕ
   pub head2 : List ℕ
   pub next2 : List ℕ
-  pub filled : Filled Of1988 s rows head next head2 next2 count
+  pub filled : Filled edition s rows head next head2 next2 count
 
 -- what is found of the element in row j: no text unit, or where its content stands
-pub data ContentAt (s rows : List ℕ) (j : ℕ) : ContentFound → Type 0 where
-  otherKind : (kindAt rows j ≡ unitKind → ⊥) → ContentAt s rows j NoUnit
-  heldWhole : {first past : ℕ} → kindAt rows j ≡ unitKind → HoldsElement Of1988 s j (Part first past) → ContentAt s rows j (Content first past)
-  heldInPieces : {run : Run} → kindAt rows j ≡ unitKind → HoldsElement Of1988 s j (PiecesIn run) → ContentAt s rows j (Pieces run)
+pub data ContentAt (edition : Edition) (s rows : List ℕ) (j : ℕ) : ContentFound → Type 0 where
+  otherKind : (kindAt rows j ≡ unitKind → ⊥) → ContentAt edition s rows j NoUnit
+  heldWhole : {first past : ℕ} → kindAt rows j ≡ unitKind → HoldsElement edition s j (Part first past) → ContentAt edition s rows j (Content first past)
+  heldInPieces : {run : Run} → kindAt rows j ≡ unitKind → HoldsElement edition s j (PiecesIn run) → ContentAt edition s rows j (Pieces run)
 
 -- the number, place and length that document 01 gives each case of the writer's answer
 abbrev pub writtenAs : Answer → Written
@@ -82,9 +82,9 @@ Known s (Content first past) = Unit {0}
 Known s (Pieces run) = Fine s run
 
 -- what is fetched, in numbers that fit 32 bits
-pub record FindsContent (s : List ℕ) (asked : ℕ) (found : ContentFound) : Type 0 where
-  pub fetches : Fetches s asked (toldOf found)
-  pub joins : joinedIn s asked ≡ joinedOf s found
+pub record FindsContent (edition : Edition) (s : List ℕ) (asked : ℕ) (found : ContentFound) : Type 0 where
+  pub fetches : Fetches edition s asked (toldOf found)
+  pub joins : joinedIn edition s asked ≡ joinedOf s found
   pub known : Known s found
   pub near-past : toldOf found .past ≤ streamLimit
   pub short : length (joinedOf s found .part) ≤ streamLimit
@@ -105,9 +105,9 @@ pub record Sized (s : List ℕ) (walked : Outcome) (most : ℕ) : Type 0 where
   pub enough : rowsAfter walked s ≤ most
 
 -- the reading list as numbers, three a record: as many as are answered, all matches if the number is 0
-pub record ListsFlat (side : Side) (s table : List ℕ) (room : ℕ) (answer : Listed) (tableAfter flat : List ℕ) : Type 0 where
-  pub answered : answer ≡ listed side s table room
-  pub tabled : tableAfter ≡ listedTable side s table room
-  pub stored : records flat (answer .matches) ≡ cond (eqb (answer .number) 0) (matchesIn side s) []
+pub record ListsFlat (edition : Edition) (side : Side) (s table : List ℕ) (room : ℕ) (answer : Listed) (tableAfter flat : List ℕ) : Type 0 where
+  pub answered : answer ≡ listed edition side s table room
+  pub tabled : tableAfter ≡ listedTable edition side s table room
+  pub stored : records flat (answer .matches) ≡ cond (eqb (answer .number) 0) (matchesIn edition side s) []
   pub fits : 3 * answer .matches ≤ length flat
   pub enough : answer .matches ≤ room

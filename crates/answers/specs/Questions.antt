@@ -6,6 +6,7 @@ use mathlib.Core.List.{List, []}
 use Prim.Native.Nat.{ℕ, _*_, _≤_}
 use lib.Dec.{eqb}
 use lib.ListN.{length}
+use Rattle.elements.specs.declared.Edition.{Edition}
 use Rattle.letters.specs.Lent.{rowsNeeded}
 use Rattle.reading.specs.declared.Side.{Side}
 use Rattle.reading.specs.Records.{records}
@@ -49,12 +50,12 @@ abbrev pub listedOf : Told → Listed
 listedOf t = record { number = t .number; place = t .place; elements = t .elements; matches = t .listed }
 
 -- what is told of a stream, with this table and this buffer lent
-abbrev pub toldTo : Question → (s table out : List ℕ) → Told
-toldTo Rules s table out = reasonTold (ruled s)
-toldTo Check s table out = checkTold (checked s table)
-toldTo (Content element) s table out = locatedTold (located s element)
-toldTo (Joined element) s table out = copiedTold (copied s element out)
-toldTo (Reading side room) s table out = listedTold (listed side s table room)
+abbrev pub toldTo : Edition → Question → (s table out : List ℕ) → Told
+toldTo edition Rules s table out = reasonTold (ruled edition s)
+toldTo edition Check s table out = checkTold (checked edition s table)
+toldTo edition (Content element) s table out = locatedTold (located edition s element)
+toldTo edition (Joined element) s table out = copiedTold (copied edition s element out)
+toldTo edition (Reading side room) s table out = listedTold (listed edition side s table room)
 
 -- what is told of a stream that rules 1 to 15 refuse: the check alone is told how many headers passed
 abbrev pub refusedTold : Question → (number place headers : ℕ) → Told
@@ -65,41 +66,41 @@ refusedTold (Joined element) number place headers = reasonTold (record { number 
 refusedTold (Reading side room) number place headers = reasonTold (record { number = number; place = place })
 
 -- the table at exit
-abbrev pub tableLeft : Question → (s table : List ℕ) → List ℕ
-tableLeft Rules s table = table
-tableLeft Check s table = checkedTable s table
-tableLeft (Content element) s table = table
-tableLeft (Joined element) s table = table
-tableLeft (Reading side room) s table = listedTable side s table room
+abbrev pub tableLeft : Edition → Question → (s table : List ℕ) → List ℕ
+tableLeft edition Rules s table = table
+tableLeft edition Check s table = checkedTable edition s table
+tableLeft edition (Content element) s table = table
+tableLeft edition (Joined element) s table = table
+tableLeft edition (Reading side room) s table = listedTable edition side s table room
 
 -- the buffer at exit
-abbrev pub outLeft : Question → (s out : List ℕ) → List ℕ
-outLeft Rules s out = out
-outLeft Check s out = out
-outLeft (Content element) s out = out
-outLeft (Joined element) s out = copiedOutput s element out
-outLeft (Reading side room) s out = out
+abbrev pub outLeft : Edition → Question → (s out : List ℕ) → List ℕ
+outLeft edition Rules s out = out
+outLeft edition Check s out = out
+outLeft edition (Content element) s out = out
+outLeft edition (Joined element) s out = copiedOutput edition s element out
+outLeft edition (Reading side room) s out = out
 
 -- the reading list as numbers, three a record: as many as are told, all matches if the number is 0
-pub record Numbered (side : Side) (s : List ℕ) (room number count : ℕ) (flat : List ℕ) : Type 0 where
-  pub stored : records flat count ≡ cond (eqb number 0) (matchesIn side s) []
+pub record Numbered (edition : Edition) (side : Side) (s : List ℕ) (room number count : ℕ) (flat : List ℕ) : Type 0 where
+  pub stored : records flat count ≡ cond (eqb number 0) (matchesIn edition side s) []
   pub fits : 3 * count ≤ length flat
   pub enough : count ≤ room
 
 -- what else a question leaves: of a list, its numbers
-abbrev pub Beside : Question → (s : List ℕ) → Told → (flat : List ℕ) → Type 0
-Beside Rules s told flat = Unit {0}
-Beside Check s told flat = Unit {0}
-Beside (Content element) s told flat = Stands s element (told .first) (told .past)
-Beside (Joined element) s told flat = Unit {0}
-Beside (Reading side room) s told flat = Numbered side s room (told .number) (told .listed) flat
+abbrev pub Beside : Edition → Question → (s : List ℕ) → Told → (flat : List ℕ) → Type 0
+Beside edition Rules s told flat = Unit {0}
+Beside edition Check s told flat = Unit {0}
+Beside edition (Content element) s told flat = Stands edition s element (told .first) (told .past)
+Beside edition (Joined element) s told flat = Unit {0}
+Beside edition (Reading side room) s told flat = Numbered edition side s room (told .number) (told .listed) flat
 
 -- the contract of the work, and of all that leads to it
-pub record Leaves (question : Question) (s table out : List ℕ) (told : Told) (tableAfter flat outAfter : List ℕ) : Type 0 where
-  pub answered : told ≡ toldTo question s table out
-  pub tabled : tableAfter ≡ tableLeft question s table
-  pub put : outAfter ≡ outLeft question s out
-  pub beside : Beside question s told flat
+pub record Leaves (edition : Edition) (question : Question) (s table out : List ℕ) (told : Told) (tableAfter flat outAfter : List ℕ) : Type 0 where
+  pub answered : told ≡ toldTo edition question s table out
+  pub tabled : tableAfter ≡ tableLeft edition question s table
+  pub put : outAfter ≡ outLeft edition question s out
+  pub beside : Beside edition question s told flat
 
 -- a reading list is made as numbers, so there is room for a record of each element
 abbrev pub Roomy : Question → (s : List ℕ) → (numbers : ℕ) → Type 0

@@ -8,13 +8,14 @@ use lib.Dec.{eqb, ltb}
 use lib.ListN.{length}
 use Rattle.normal.specs.Normal.{normalForm}
 use Rattle.normal.specs.Short.{shortLimit}
+use Rattle.elements.specs.declared.Edition.{Edition}
 use Rattle.letters.specs.Letter.{Letter, letter, refusal}
 use Rattle.answers.specs.declared.Written.{Written}
 use Rattle.answers.specs.Answers.{letterIn, onto}
 
 -- "1 in the new question means over 65,535"; the rules 2 to 15 are as ever
-abbrev pub shortLetter : List ℕ → Letter
-shortLetter s = cond (ltb shortLimit (length s)) (refusal 1 0 0) (letterIn s)
+abbrev pub shortLetter : Edition → List ℕ → Letter
+shortLetter edition s = cond (ltb shortLimit (length s)) (refusal 1 0 0) (letterIn edition s)
 
 -- 18 "output shorter than the normal form"
 abbrev pub shortBy : Letter → (form out : List ℕ) → Written
@@ -23,14 +24,14 @@ shortBy (letter headers elements) form out =
     cond (ltb (length out) (length form)) (record { number = 18; place = 0; length = 0 })
     (record { number = 0; place = 0; length = length form })
 
-unfoldable pub writtenShort : (s out : List ℕ) → Written
-writtenShort s out = shortBy (shortLetter s) (normalForm s) out
+unfoldable pub writtenShort : Edition → (s out : List ℕ) → Written
+writtenShort edition s out = shortBy (shortLetter edition s) (normalForm s) out
 
 -- "A refusal leaves the lent .. output untouched"
-unfoldable pub writtenShortOutput : (s out : List ℕ) → List ℕ
-writtenShortOutput s out = cond (eqb (writtenShort s out .number) 0) (onto (normalForm s) out) out
+unfoldable pub writtenShortOutput : Edition → (s out : List ℕ) → List ℕ
+writtenShortOutput edition s out = cond (eqb (writtenShort edition s out .number) 0) (onto (normalForm s) out) out
 
 -- the contract of the question: its answer, and the output at exit
-pub record ShortOutcome (s out : List ℕ) (answer : Written) (outAfter : List ℕ) : Type 0 where
-  pub answered : answer ≡ writtenShort s out
-  pub put : outAfter ≡ writtenShortOutput s out
+pub record ShortOutcome (edition : Edition) (s out : List ℕ) (answer : Written) (outAfter : List ℕ) : Type 0 where
+  pub answered : answer ≡ writtenShort edition s out
+  pub put : outAfter ≡ writtenShortOutput edition s out

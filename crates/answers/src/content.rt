@@ -23,39 +23,51 @@ ghost use Rattle.answers.specs.Asking.{JudgedIn, ContentAt, FindsContent
 const TEXT_UNIT: u32 = 3;
 
 // The content of the element whose row is given, if it is a text unit.
-fn content_at(stream: &[u8], rows: &[u32], element: usize) -> ContentFound
+fn content_at(edition: Edition, stream: &[u8], rows: &[u32], element: usize) -> ContentFound
     requires { ⌜ Fine (now stream) (wholeStream (now stream)) ⌝ }
-    requires { ⌜ (element < 4096) × RowIn Edition.Of1988 (now stream) (now rows) element ⌝ }
-    ensures { λ r. ⌜ ContentAt (now (stream .entry)) (now (rows .entry)) element r ⌝ }
+    requires { ⌜ (element < 4096) × RowIn edition (now stream) (now rows) element ⌝ }
+    ensures { λ r. ⌜ ContentAt edition (now (stream .entry)) (now (rows .entry)) element r ⌝ }
 {
     if rows[element * ROW_WIDTH] != TEXT_UNIT {
         return ContentFound::NoUnit;
     }
-    match letters::content_of(Edition::Of1988, stream, rows, element) {
+    match letters::content_of(edition, stream, rows, element) {
         Held::Part { first, past } => ContentFound::Content { first, past },
         Held::Pieces { run } => ContentFound::Pieces { run },
     }
 }
 
 // The content of an element: 20, or where it stands.
-fn fetch_judged(stream: &[u8], element: usize, rows: &[u32], count: usize) -> ContentFound
+fn fetch_judged(
+    edition: Edition,
+    stream: &[u8],
+    element: usize,
+    rows: &[u32],
+    count: usize,
+) -> ContentFound
     requires { ⌜ Accepts (now stream) (treeOf (now stream)) ⌝ }
-    requires { ⌜ JudgedIn (now stream) (now rows) count ⌝ }
-    ensures { λ r. ⌜ FindsContent (now (stream .entry)) element r ⌝ }
+    requires { ⌜ JudgedIn edition (now stream) (now rows) count ⌝ }
+    ensures { λ r. ⌜ FindsContent edition (now (stream .entry)) element r ⌝ }
 {
     if element < count {
-        return content_at(stream, rows, element);
+        return content_at(edition, stream, rows, element);
     }
     ContentFound::NoUnit
 }
 
 // Where the content of an element stands, or the number of a refusal.
-pub fn locate_judged(stream: &[u8], element: usize, rows: &[u32], count: usize) -> Found
+pub fn locate_judged(
+    edition: Edition,
+    stream: &[u8],
+    element: usize,
+    rows: &[u32],
+    count: usize,
+) -> Found
     requires { ⌜ Accepts (now stream) (treeOf (now stream)) ⌝ }
-    requires { ⌜ JudgedIn (now stream) (now rows) count ⌝ }
-    ensures { λ r. ⌜ Fetches (now (stream .entry)) element r ⌝ }
+    requires { ⌜ JudgedIn edition (now stream) (now rows) count ⌝ }
+    ensures { λ r. ⌜ Fetches edition (now (stream .entry)) element r ⌝ }
 {
-    match fetch_judged(stream, element, rows, count) {
+    match fetch_judged(edition, stream, element, rows, count) {
         ContentFound::Content { first, past } => Found {
             number: 0,
             place: 0,
@@ -79,6 +91,7 @@ pub fn locate_judged(stream: &[u8], element: usize, rows: &[u32], count: usize) 
 
 // Copies the content of an element, its pieces joined in order, to a lent buffer.
 pub fn join_judged(
+    edition: Edition,
     stream: &[u8],
     element: usize,
     rows: &[u32],
@@ -86,10 +99,10 @@ pub fn join_judged(
     out: &mut [u8],
 ) -> Copied
     requires { ⌜ Accepts (now stream) (treeOf (now stream)) ⌝ }
-    requires { ⌜ JudgedIn (now stream) (now rows) count ⌝ }
-    ensures { λ r. ⌜ JoinedOutcome (now (stream .entry)) element (now (out .entry)) r (now (out .exit)) ⌝ }
+    requires { ⌜ JudgedIn edition (now stream) (now rows) count ⌝ }
+    ensures { λ r. ⌜ JoinedOutcome edition (now (stream .entry)) element (now (out .entry)) r (now (out .exit)) ⌝ }
 {
-    match fetch_judged(stream, element, rows, count) {
+    match fetch_judged(edition, stream, element, rows, count) {
         ContentFound::Content { first, past } => copy_part(stream, first, past, out),
         ContentFound::Pieces { run } => copy_pieces(stream, run, out),
         ContentFound::NoUnit => Copied {

@@ -126,6 +126,7 @@ pub fn refused_check(number: u32, place: u32, headers: u32) -> Checked
 
 // The check of a letter: 16, or the table.
 fn check_judged(
+    edition: Edition,
     stream: &[u8],
     headers: u32,
     rows: &[u32],
@@ -133,8 +134,8 @@ fn check_judged(
     table: &mut [u32],
 ) -> Checked
     requires { ⌜ walkOf (now stream) ≡ Outcome.Ended (length (now stream)) headers ⌝ }
-    requires { ⌜ JudgedIn (now stream) (now rows) count ⌝ }
-    ensures { λ r. ⌜ CheckOutcome (now (stream .entry)) (now (table .entry)) r (now (table .exit)) ⌝ }
+    requires { ⌜ JudgedIn edition (now stream) (now rows) count ⌝ }
+    ensures { λ r. ⌜ CheckOutcome edition (now (stream .entry)) (now (table .entry)) r (now (table .exit)) ⌝ }
 {
     if table.len() / TABLE_WIDTH < count {
         return refused_check(TOO_FEW_ROWS, 0, headers);
@@ -150,6 +151,7 @@ fn check_judged(
 
 // The reading list of a letter, as numbers: 16, then the table, then 19.
 fn list_judged(
+    edition: Edition,
     stream: &[u8],
     side: Side,
     room: usize,
@@ -163,9 +165,9 @@ fn list_judged(
     flat: &mut [u32],
 ) -> Listed
     requires { ⌜ Accepts (now stream) (treeOf (now stream)) ⌝ }
-    requires { ⌜ Filled Edition.Of1988 (now stream) (now rows) (now head) (now next) (now head2) (now next2) elements ⌝ }
+    requires { ⌜ Filled edition (now stream) (now rows) (now head) (now next) (now head2) (now next2) elements ⌝ }
     requires { ⌜ 3 * rowsNeeded (now stream) ≤ length (now flat) ⌝ }
-    ensures { λ r. ⌜ ListsFlat side (now (stream .entry)) (now (table .entry)) room r (now (table .exit)) (now (flat .exit)) ⌝ }
+    ensures { λ r. ⌜ ListsFlat edition side (now (stream .entry)) (now (table .entry)) room r (now (table .exit)) (now (flat .exit)) ⌝ }
 {
     if table.len() / TABLE_WIDTH < elements {
         return Listed {
@@ -306,6 +308,7 @@ pub fn tell_refused(question: Question, number: u32, place: u32, headers: u32) -
 
 // The work of a question, of a letter. The rows and their indexes are what the judge left in its scratch.
 pub fn work(
+    edition: Edition,
     stream: &[u8],
     headers: u32,
     question: Question,
@@ -320,9 +323,9 @@ pub fn work(
     out: &mut [u8],
 ) -> Told
     requires { ⌜ walkOf (now stream) ≡ Outcome.Ended (length (now stream)) headers ⌝ }
-    requires { ⌜ Filled Edition.Of1988 (now stream) (now rows) (now head) (now next) (now head2) (now next2) count ⌝ }
+    requires { ⌜ Filled edition (now stream) (now rows) (now head) (now next) (now head2) (now next2) count ⌝ }
     requires { ⌜ Roomy question (now stream) (length (now flat)) ⌝ }
-    ensures { λ r. ⌜ Leaves question (now (stream .entry)) (now (table .entry)) (now (out .entry)) r (now (table .exit)) (now (flat .exit))
+    ensures { λ r. ⌜ Leaves edition question (now (stream .entry)) (now (table .entry)) (now (out .entry)) r (now (table .exit)) (now (flat .exit))
         (now (out .exit)) ⌝ }
 {
     match question {
@@ -330,10 +333,24 @@ pub fn work(
             number: 0,
             place: 0,
         }),
-        Question::Check => tell_checked(check_judged(stream, headers, rows, count, table)),
-        Question::Content { element } => tell_located(locate_judged(stream, element, rows, count)),
-        Question::Joined { element } => tell_copied(join_judged(stream, element, rows, count, out)),
+        Question::Check => tell_checked(check_judged(edition, stream, headers, rows, count, table)),
+        Question::Content { element } => tell_located(locate_judged(
+            edition,
+            stream,
+            element,
+            rows,
+            count,
+        )),
+        Question::Joined { element } => tell_copied(join_judged(
+            edition,
+            stream,
+            element,
+            rows,
+            count,
+            out,
+        )),
         Question::List { side, room } => tell_listed(list_judged(
+            edition,
             stream,
             side,
             room,

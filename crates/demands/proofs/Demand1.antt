@@ -17,7 +17,7 @@ use Rattle.octets.specs.Further.{told}
 use Rattle.laws.proofs.Tests.{cond-holds}
 use Rattle.octets.proofs.Half.{half}
 use Rattle.tree.specs.Tree.{treeOf}
-use Rattle.elements.specs.declared.Edition.the-variants.{Of1988}
+use Rattle.elements.specs.declared.Edition.{Edition}
 use Rattle.elements.specs.Judge.{Content, single, inPieces, Element, Judged, accepted, refused, judge}
 use Rattle.letters.specs.Letter.{Letter, letter, refusal, itemsOfStream, afterWalk, byWalk, letterOf}
 use Rattle.reading.specs.declared.Side.{Side}
@@ -47,24 +47,24 @@ told-own s own number i = record { one-of = inr i; inside = omega arith; at-star
 pub told-zero : (s own : List ℕ) → Answered s own 0 0
 told-zero s own = record { one-of = inl (omega arith); inside = omega arith; at-start = λ o. refl }
 
-pub small-in : (s : List ℕ) (number place headers : ℕ) → letterIn s ≡ refusal number place headers → Small s number place headers
-small-in s number place headers e = refusal-small Of1988 s number place headers e
+pub small-in : (edition : Edition) (s : List ℕ) (number place headers : ℕ) → letterIn edition s ≡ refusal number place headers → Small s number place headers
+small-in edition s number place headers e = refusal-small edition s number place headers e
 
-module _ (s : List ℕ) where
-  check-told-by : (table : List ℕ) (l : Letter) → letterIn s ≡ l → Answered s (16 ∷ []) (checkedBy l table .number) (checkedBy l table .place)
-  check-told-by table (refusal number place headers) e = told-small (16 ∷ []) (small-in s number place headers e)
+module _ (edition : Edition) (s : List ℕ) where
+  check-told-by : (table : List ℕ) (l : Letter) → letterIn edition s ≡ l → Answered s (16 ∷ []) (checkedBy l table .number) (checkedBy l table .place)
+  check-told-by table (refusal number place headers) e = told-small (16 ∷ []) (small-in edition s number place headers e)
   check-told-by table (letter headers elements) e =
       cond-holds (λ (a : Checked). Answered s (16 ∷ []) (a .number) (a .place)) (tooFewRows table elements) (λ _. told-own s (16 ∷ []) 16 refl) (λ _. told-zero s (16 ∷ []))
 
-  normal-told-by : (form out : List ℕ) (l : Letter) → letterIn s ≡ l → Answered s (17 ∷ 18 ∷ []) (writtenBy l form out .number) (writtenBy l form out .place)
-  normal-told-by form out (refusal number place headers) e = told-small (17 ∷ 18 ∷ []) (small-in s number place headers e)
+  normal-told-by : (form out : List ℕ) (l : Letter) → letterIn edition s ≡ l → Answered s (17 ∷ 18 ∷ []) (writtenBy l form out .number) (writtenBy l form out .place)
+  normal-told-by form out (refusal number place headers) e = told-small (17 ∷ 18 ∷ []) (small-in edition s number place headers e)
   normal-told-by form out (letter headers elements) e =
       cond-holds (λ (a : Written). Answered s (17 ∷ 18 ∷ []) (a .number) (a .place)) (ltb streamLimit (length form)) (λ _. told-own s (17 ∷ 18 ∷ []) 17 refl)
       (λ _. cond-holds (λ (a : Written). Answered s (17 ∷ 18 ∷ []) (a .number) (a .place)) (ltb (length out) (length form)) (λ _. told-own s (17 ∷ 18 ∷ []) 18 refl) (λ _. told-zero s (17 ∷ 18 ∷ [])))
 
-  list-told-by : (side : Side) (table : List ℕ) (room : ℕ) (l : Letter) → letterIn s ≡ l
+  list-told-by : (side : Side) (table : List ℕ) (room : ℕ) (l : Letter) → letterIn edition s ≡ l
       → Answered s (16 ∷ 19 ∷ []) (listedBy l side table room .number) (listedBy l side table room .place)
-  list-told-by side table room (refusal number place headers) e = told-small (16 ∷ 19 ∷ []) (small-in s number place headers e)
+  list-told-by side table room (refusal number place headers) e = told-small (16 ∷ 19 ∷ []) (small-in edition s number place headers e)
   list-told-by side table room (letter headers elements) e =
       cond-holds (λ (a : Listed). Answered s (16 ∷ 19 ∷ []) (a .number) (a .place)) (tooFewRows table elements) (λ _. told-own s (16 ∷ 19 ∷ []) 16 refl)
       (λ _. cond-holds (λ (a : Listed). Answered s (16 ∷ 19 ∷ []) (a .number) (a .place)) (ltb room (length (matches side elements))) (λ _. told-own s (16 ∷ 19 ∷ []) 19 refl) (λ _. told-zero s (16 ∷ 19 ∷ [])))
@@ -76,8 +76,8 @@ module _ (s : List ℕ) where
     fetched-told-of (some e) =
         cond-holds (λ (a : Fetched). Answered s own (a .number) (a .place)) (eqb (e .kind) unitKind) (λ _. told (e .content)) (λ _. told-own s own 20 no-unit)
 
-    fetched-told-by : (asked : ℕ) (l : Letter) → letterIn s ≡ l → Answered s own (fetchedBy wanted l asked .number) (fetchedBy wanted l asked .place)
-    fetched-told-by asked (refusal number place headers) e = told-small own (small-in s number place headers e)
+    fetched-told-by : (asked : ℕ) (l : Letter) → letterIn edition s ≡ l → Answered s own (fetchedBy wanted l asked .number) (fetchedBy wanted l asked .place)
+    fetched-told-by asked (refusal number place headers) e = told-small own (small-in edition s number place headers e)
     fetched-told-by asked (letter headers elements) e = fetched-told-of (getElem? elements asked)
 
   part-told : (c : Content) → Answered s (20 ∷ 21 ∷ []) (partOf c .number) (partOf c .place)
@@ -104,14 +104,14 @@ judged-headers : (s : List ℕ) (headers : ℕ) (j : Judged) → headersOf (afte
 judged-headers s headers (accepted elements) = refl
 judged-headers s headers (refused number element) = refl
 
-walked-headers : (s : List ℕ) (o : Outcome) → headersOf (byWalk Of1988 s o) ≡ told o .headers
-walked-headers s (Ended at headers) = judged-headers s headers (judge Of1988 (treeOf s))
-walked-headers s (Refused number place headers) = refl
+walked-headers : (edition : Edition) (s : List ℕ) (o : Outcome) → headersOf (byWalk edition s o) ≡ told o .headers
+walked-headers edition s (Ended at headers) = judged-headers s headers (judge edition (treeOf s))
+walked-headers edition s (Refused number place headers) = refl
 
 -- the check's header count is the walk's
-headers-told : (s table : List ℕ) → checked s table .headers ≡ told (walkOf s) .headers
+headers-told : (edition : Edition) (s table : List ℕ) → checked edition s table .headers ≡ told (walkOf s) .headers
 unfolding checked letterOf
-headers-told s table = check-headers table (letterIn s) ∙ walked-headers s (walkOf s)
+headers-told edition s table = check-headers table (letterIn edition s) ∙ walked-headers edition s (walkOf s)
 
 answer-headers : (n : ℕ) (e : End) → told (outcomeOf n e) .headers ≡ n
 answer-headers n (ends at) = refl
@@ -166,27 +166,27 @@ content-empty-by : (asked : ℕ) (l : Letter) → EmptyIfRefused (fetchedBy part
 content-empty-by asked (refusal number place headers) = λ n. refl
 content-empty-by asked (letter headers elements) = empty-of (getElem? elements asked)
 
-pub demand1 : Demand1
+pub demand1 : (edition : Edition) → Demand1 edition
 unfolding checked checkedTable written writtenOutput listed listedTable listedList fetched joinedIn copied copiedOutput
-demand1 = record {
-  check-told = λ s table. check-told-by s table (letterIn s) refl;
-  normal-told = λ s out. normal-told-by s (normalForm s) out (letterIn s) refl;
-  list-told = λ side s table room. list-told-by s side table room (letterIn s) refl;
-  content-told = λ s asked. fetched-told-by s (20 ∷ 21 ∷ []) refl partOf (part-told s) asked (letterIn s) refl;
-  joined-told = λ s asked out. copied-told s (joinedIn s asked) out
-      (fetched-told-by s (20 ∷ 22 ∷ []) refl allOf (λ _. told-zero s (20 ∷ 22 ∷ [])) asked (letterIn s) refl);
-  headers = λ s table l. headers-told s table ∙ walk-headers s l;
-  headers-half = λ s table. let h = half s in let e = headers-told s table in omega arith;
-  headers-after-1 = λ s table l. headers-told s table ∙ walk-over s l;
-  check-counts = λ s table. check-counts-by table (letterIn s);
-  normal-counts = λ s out. normal-counts-by (normalForm s) out (letterIn s);
-  list-counts = λ side s table room. list-counts-by side table room (letterIn s);
-  joined-counts = λ s asked out. copied-counts (joinedIn s asked) out;
-  check-untouched = λ s table n. rw (ne-eqb (checked s table .number) 0 n);
-  normal-untouched = λ s out n. rw (ne-eqb (written s out .number) 0 n);
-  list-untouched = λ side s table list n. rw (ne-eqb (listed side s table (length list) .number) 0 n);
-  list-table-untouched = λ side s table room n m. rw (ne-eqb (listed side s table room .number) 0 n, ne-eqb (listed side s table room .number) 19 m);
+demand1 edition = record {
+  check-told = λ s table. check-told-by edition s table (letterIn edition s) refl;
+  normal-told = λ s out. normal-told-by edition s (normalForm s) out (letterIn edition s) refl;
+  list-told = λ side s table room. list-told-by edition s side table room (letterIn edition s) refl;
+  content-told = λ s asked. fetched-told-by edition s (20 ∷ 21 ∷ []) refl partOf (part-told edition s) asked (letterIn edition s) refl;
+  joined-told = λ s asked out. copied-told edition s (joinedIn edition s asked) out
+      (fetched-told-by edition s (20 ∷ 22 ∷ []) refl allOf (λ _. told-zero s (20 ∷ 22 ∷ [])) asked (letterIn edition s) refl);
+  headers = λ s table l. headers-told edition s table ∙ walk-headers s l;
+  headers-half = λ s table. let h = half s in let e = headers-told edition s table in omega arith;
+  headers-after-1 = λ s table l. headers-told edition s table ∙ walk-over s l;
+  check-counts = λ s table. check-counts-by table (letterIn edition s);
+  normal-counts = λ s out. normal-counts-by (normalForm s) out (letterIn edition s);
+  list-counts = λ side s table room. list-counts-by side table room (letterIn edition s);
+  joined-counts = λ s asked out. copied-counts (joinedIn edition s asked) out;
+  check-untouched = λ s table n. rw (ne-eqb (checked edition s table .number) 0 n);
+  normal-untouched = λ s out n. rw (ne-eqb (written edition s out .number) 0 n);
+  list-untouched = λ side s table list n. rw (ne-eqb (listed edition side s table (length list) .number) 0 n);
+  list-table-untouched = λ side s table room n m. rw (ne-eqb (listed edition side s table room .number) 0 n, ne-eqb (listed edition side s table room .number) 19 m);
   list-table-finished = λ side s table room e. rw e;
-  joined-untouched = λ s asked out n. rw (ne-eqb (copied s asked out .number) 0 n);
-  content-empty = λ s asked. content-empty-by asked (letterIn s);
+  joined-untouched = λ s asked out n. rw (ne-eqb (copied edition s asked out .number) 0 n);
+  content-empty = λ s asked. content-empty-by asked (letterIn edition s);
 }

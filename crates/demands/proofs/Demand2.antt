@@ -22,7 +22,7 @@ use Rattle.normal.specs.Normal.{normalForm}
 use Rattle.normal.proofs.RoundTrip.{round-trip, form-tree}
 use Rattle.index.specs.Rows.{rowWidth}
 use Rattle.elements.specs.declared.Row.{Row}
-use Rattle.elements.specs.declared.Edition.the-variants.{Of1988}
+use Rattle.elements.specs.declared.Edition.{Edition}
 use Rattle.elements.specs.Judge.{Element, accepted, judge}
 use Rattle.letters.specs.Letter.{letter, refusal, itemsOfStream}
 use Rattle.letters.proofs.Table.{end-to-end, pairs-within}
@@ -42,23 +42,23 @@ use Rattle.answers.proofs.Checks.{checks-letter}
 headers-tree : (s : List ℕ) (at headers : ℕ) → walkOf s ≡ Ended at headers → headers ≡ itemCount (treeOf s)
 headers-tree s at headers w = stream-count s at headers w .1 ∙ count-tree (derives deepest s 0 (length s) false (omega arith))
 
-module _ (s : List ℕ) (headers : ℕ) (elements : List Element) where
-  letter-is : letterIn s ≡ letter headers elements → IsLetterOf s headers elements
+module _ (edition : Edition) (s : List ℕ) (headers : ℕ) (elements : List Element) where
+  letter-is : letterIn edition s ≡ letter headers elements → IsLetterOf edition s headers elements
   letter-is e =
-      let f = letter-found Of1988 s headers elements e in
+      let f = letter-found edition s headers elements e in
       let (c, l) = means s (treeOf s) (accepts-walked (f .walked)) in
       record { tree = treeOf s; coded = c; within = l; shaped = f .judged; counted = headers-tree s (f .at) headers (f .walked) }
 
-  is-letter : IsLetterOf s headers elements → letterIn s ≡ letter headers elements
+  is-letter : IsLetterOf edition s headers elements → letterIn edition s ≡ letter headers elements
   is-letter i =
       let a = accepts s (i .tree) (i .coded) (i .within) in
-      let j : judge Of1988 (treeOf s) ≡ accepted elements = ap (judge Of1988) (a .tree) ∙ i .shaped in
+      let j : judge edition (treeOf s) ≡ accepted elements = ap (judge edition) (a .tree) ∙ i .shaped in
       let h : a .headers ≡ headers = headers-tree s (a .at) (a .headers) (a .ended) ∙ ap itemCount (a .tree) ∙ sym (i .counted) in
-      accepted-letter Of1988 s (a .at) (a .headers) elements (a .ended) j ∙ ap (λ (n : ℕ). letter n elements) h
+      accepted-letter edition s (a .at) (a .headers) elements (a .ended) j ∙ ap (λ (n : ℕ). letter n elements) h
 
-module _ (s : List ℕ) (headers : ℕ) (elements : List Element) (e : letterIn s ≡ letter headers elements) where
-  found : Found Of1988 s headers elements
-  found = letter-found Of1988 s headers elements e
+module _ (edition : Edition) (s : List ℕ) (headers : ℕ) (elements : List Element) (e : letterIn edition s ≡ letter headers elements) where
+  found : Found edition s headers elements
+  found = letter-found edition s headers elements e
 
   -- its rows
   items-proper : Proper s deepest (itemsOfStream s)
@@ -66,23 +66,23 @@ module _ (s : List ℕ) (headers : ℕ) (elements : List Element) (e : letterIn 
       let fine = stream-fine s (found .at) headers (found .walked) in
       proper (derives deepest s 0 (length s) false (fine .order)) (fine .whole) (omega arith)
 
-  counted : length (rowsIn s) ≡ length elements
-  counted = rows-counted s items-proper elements (found .judged)
+  counted : length (rowsIn edition s) ≡ length elements
+  counted = rows-counted edition s items-proper elements (found .judged)
 
-  pub tell : (j : ℕ) (row : Row) (item : TopItem) (element : Element) → getElem? (rowsIn s) j ≡ some row → getElem? (topItems (treeOf s)) j ≡ some item
-      → getElem? elements j ≡ some element → RowTells s row item element
-  tell = rows-tell s items-proper elements (found .judged)
+  pub tell : (j : ℕ) (row : Row) (item : TopItem) (element : Element) → getElem? (rowsIn edition s) j ≡ some row → getElem? (topItems (treeOf s)) j ≡ some item
+      → getElem? elements j ≡ some element → RowTells edition s row item element
+  tell = rows-tell edition s items-proper elements (found .judged)
 
   -- each element stands in the tree
   pub top-at : (j : ℕ) (element : Element) → getElem? elements j ≡ some element → (item : TopItem) × (getElem? (topItems (treeOf s)) j ≡ some item)
-  top-at j element there = at-below (topItems (treeOf s)) j (omega (arith, below-length elements j element there, tops-counted s items-proper elements (found .judged)))
+  top-at j element there = at-below (topItems (treeOf s)) j (omega (arith, below-length elements j element there, tops-counted edition s items-proper elements (found .judged)))
 
   -- the check
   checks : (table : List ℕ) → length elements ≤ length table / rowWidth
-      → (checked s table ≡ record { number = 0; place = 0; headers = headers; elements = length elements }) × (checkedTable s table ≡ tableOf s table)
-  checks table enough = let r = checks-letter s table headers (length elements) elements e refl enough in (sym (r .answered), sym (r .tabled))
+      → (checked edition s table ≡ record { number = 0; place = 0; headers = headers; elements = length elements }) × (checkedTable edition s table ≡ tableOf edition s table)
+  checks table enough = let r = checks-letter edition s table headers (length elements) elements e refl enough in (sym (r .answered), sym (r .tabled))
 
-  checks-16 : (table : List ℕ) → (checked s table .number ≡ 16) ↔ (length table / rowWidth < length elements)
+  checks-16 : (table : List ℕ) → (checked edition s table .number ≡ 16) ↔ (length table / rowWidth < length elements)
   unfolding checked
   checks-16 table =
       cases (ltb (length table / rowWidth) (length elements))
@@ -94,14 +94,14 @@ module _ (s : List ℕ) (headers : ℕ) (elements : List Element) (e : letterIn 
   size = length (normalForm s)
 
   pub writes : (out : List ℕ) → size ≤ streamLimit → size ≤ length out
-      → (written s out ≡ record { number = 0; place = 0; length = size }) × (writtenOutput s out ≡ onto (normalForm s) out)
+      → (written edition s out ≡ record { number = 0; place = 0; length = size }) × (writtenOutput edition s out ≡ onto (normalForm s) out)
   unfolding written writtenOutput
   writes out within room =
       let a : ltb streamLimit size ≡ false = le-ltb streamLimit size within in
       let b : ltb (length out) size ≡ false = le-ltb (length out) size room in
       (rw (e, a, b), rw (e, a, b))
 
-  writes-17 : (out : List ℕ) → (written s out .number ≡ 17) ↔ (streamLimit < size)
+  writes-17 : (out : List ℕ) → (written edition s out .number ≡ 17) ↔ (streamLimit < size)
   unfolding written
   writes-17 out =
       cases (ltb streamLimit size)
@@ -112,7 +112,7 @@ module _ (s : List ℕ) (headers : ℕ) (elements : List Element) (e : letterIn 
       (λ u. rw (e, t, u) (λ p. absurd (omega arith), λ k. absurd (omega arith)))
       (λ u. rw (e, t, u) (λ p. absurd (omega arith), λ k. absurd (omega arith))))
 
-  writes-18 : (out : List ℕ) → (written s out .number ≡ 18) ↔ ((size ≤ streamLimit) × (length out < size))
+  writes-18 : (out : List ℕ) → (written edition s out .number ≡ 18) ↔ ((size ≤ streamLimit) × (length out < size))
   unfolding written
   writes-18 out =
       cases (ltb streamLimit size)
@@ -128,48 +128,48 @@ module _ (s : List ℕ) (headers : ℕ) (elements : List Element) (e : letterIn 
     accepts-again : Accepts (normalForm s) (treeOf s)
     accepts-again = round-trip s (treeOf s) (accepts-walked (found .walked)) within
 
-    pub normal-accepted : letterIn (normalForm s) ≡ letter headers elements
+    pub normal-accepted : letterIn edition (normalForm s) ≡ letter headers elements
     normal-accepted =
         let (c, l) = means (normalForm s) (treeOf s) accepts-again in
-        is-letter (normalForm s) headers elements
+        is-letter edition (normalForm s) headers elements
         (record { tree = treeOf s; coded = c; within = l; shaped = found .judged; counted = headers-tree s (found .at) headers (found .walked) })
 
   pub normal-tree : treeOf (normalForm s) ≡ treeOf s
   normal-tree = form-tree s (treeOf s) (accepts-walked (found .walked))
 
-of-letter : (s : List ℕ) (headers : ℕ) (elements : List Element) → letterIn s ≡ letter headers elements → OfLetter s headers elements
-of-letter s headers elements e =
-    let f = found s headers elements e in
+of-letter : (edition : Edition) (s : List ℕ) (headers : ℕ) (elements : List Element) → letterIn edition s ≡ letter headers elements → OfLetter edition s headers elements
+of-letter edition s headers elements e =
+    let f = found edition s headers elements e in
     let fine = stream-fine s (f .at) headers (f .walked) in
     record {
-      checks = checks s headers elements e;
-      checks-16 = checks-16 s headers elements e;
-      end-to-end = end-to-end Of1988 s fine;
-      pairs-within = pairs-within Of1988 s fine;
-      rows-counted = counted s headers elements e;
-      rows-tell = tell s headers elements e;
-      content = content s headers elements e;
-      content-20 = content-20 s headers elements e;
-      content-21 = content-21 s headers elements e;
-      joins = joins s headers elements e;
-      joins-20 = joins-20 s headers elements e;
-      joins-22 = joins-22 s headers elements e;
+      checks = checks edition s headers elements e;
+      checks-16 = checks-16 edition s headers elements e;
+      end-to-end = end-to-end edition s fine;
+      pairs-within = pairs-within edition s fine;
+      rows-counted = counted edition s headers elements e;
+      rows-tell = tell edition s headers elements e;
+      content = content edition s headers elements e;
+      content-20 = content-20 edition s headers elements e;
+      content-21 = content-21 edition s headers elements e;
+      joins = joins edition s headers elements e;
+      joins-20 = joins-20 edition s headers elements e;
+      joins-22 = joins-22 edition s headers elements e;
       joins-within = λ j unit at row p.
-          let (item, there) = top-at s headers elements e j unit (at .there) in
-          told-within s (row .content) (unit .content) (tell s headers elements e j row item unit p there (at .there) .content);
-      part-joined = part-joined s headers elements e;
-      writes = writes s headers elements e;
-      writes-17 = writes-17 s headers elements e;
-      writes-18 = writes-18 s headers elements e;
-      normal-accepted = normal-accepted s headers elements e;
-      normal-tree = normal-tree s headers elements e;
+          let (item, there) = top-at edition s headers elements e j unit (at .there) in
+          told-within s (row .content) (unit .content) (tell edition s headers elements e j row item unit p there (at .there) .content);
+      part-joined = part-joined edition s headers elements e;
+      writes = writes edition s headers elements e;
+      writes-17 = writes-17 edition s headers elements e;
+      writes-18 = writes-18 edition s headers elements e;
+      normal-accepted = normal-accepted edition s headers elements e;
+      normal-tree = normal-tree edition s headers elements e;
     }
 
 -- what every question gives to a stream that is refused
-refused-alike : (s : List ℕ) (number place headers : ℕ) → letterIn s ≡ refusal number place headers → RefusedByAll s number place headers
+refused-alike : (edition : Edition) (s : List ℕ) (number place headers : ℕ) → letterIn edition s ≡ refusal number place headers → RefusedByAll edition s number place headers
 unfolding checked written listed fetched joinedIn copied
-refused-alike s number place headers e =
-    let other : eqb number 0 ≡ false = ne-eqb number 0 (λ z. omega (arith, refusal-small Of1988 s number place headers e .low)) in
+refused-alike edition s number place headers e =
+    let other : eqb number 0 ≡ false = ne-eqb number 0 (λ z. omega (arith, refusal-small edition s number place headers e .low)) in
     record {
       check = λ table. rw e;
       normal = λ out. rw e;
@@ -178,10 +178,10 @@ refused-alike s number place headers e =
       joined = λ asked out. rw (e, other);
     }
 
-pub demand2 : Demand2
-demand2 = record {
-  accepted-is = λ s headers elements. (letter-is s headers elements, is-letter s headers elements);
-  refused-is = λ s. refused-is Of1988 s;
-  refused-alike = refused-alike;
-  of-letter = of-letter;
+pub demand2 : (edition : Edition) → Demand2 edition
+demand2 edition = record {
+  accepted-is = λ s headers elements. (letter-is edition s headers elements, is-letter edition s headers elements);
+  refused-is = λ s. refused-is edition s;
+  refused-alike = refused-alike edition;
+  of-letter = of-letter edition;
 }

@@ -13,7 +13,7 @@ use borrow.Author.Tests.{le-ltb, ltb-true, ltb-false}
 use borrow.Table.Steps.{cases}
 use Rattle.index.specs.Rows.{rowWidth}
 use Rattle.tree.specs.Tree.{treeOf}
-use Rattle.elements.specs.declared.Edition.the-variants.{Of1988}
+use Rattle.elements.specs.declared.Edition.{Edition}
 use Rattle.elements.specs.Judge.{Element}
 use Rattle.letters.specs.Letter.{letter}
 use Rattle.letters.specs.Apart.{Apart}
@@ -50,30 +50,30 @@ never-itself m (inl l) = omega arith
 never-itself m (inr (e, inl l)) = omega arith
 never-itself m (inr (e, inr (f, l))) = omega arith
 
-module _ (side : Side) (s : List ℕ) (headers : ℕ) (elements : List Element) (e : letterIn s ≡ letter headers elements) where
+module _ (edition : Edition) (side : Side) (s : List ℕ) (headers : ℕ) (elements : List Element) (e : letterIn edition s ≡ letter headers elements) where
   abbrev ms : List Match
   ms = matches side elements
 
-  the-list : matchesIn side s ≡ ms
+  the-list : matchesIn edition side s ≡ ms
   the-list = rw e
 
-  exactly : (m : Match) → In m (matchesIn side s) ↔ IsMatch side elements m
+  exactly : (m : Match) → In m (matchesIn edition side s) ↔ IsMatch side elements m
   exactly m =
       rw the-list
       (λ i. matches-are side elements m (in-member m ms (i .0) (i .1)), λ is. member-in m ms (matches-all side elements m is))
 
-  ordered : (i j : ℕ) (m n : Match) → i < j → getElem? (matchesIn side s) i ≡ some m → getElem? (matchesIn side s) j ≡ some n → Before m n
+  ordered : (i j : ℕ) (m n : Match) → i < j → getElem? (matchesIn edition side s) i ≡ some m → getElem? (matchesIn edition side s) j ≡ some n → Before m n
   ordered = rw the-list (sorted-at ms (matches-sorted side elements))
 
-  once : (i j : ℕ) (m : Match) → getElem? (matchesIn side s) i ≡ some m → getElem? (matchesIn side s) j ≡ some m → i ≡ j
+  once : (i j : ℕ) (m : Match) → getElem? (matchesIn edition side s) i ≡ some m → getElem? (matchesIn edition side s) j ≡ some m → i ≡ j
   once i j m p q =
       let not-below : i < j → ⊥ = λ l. never-itself m (ordered i j m m l p q) in
       let not-above : j < i → ⊥ = λ l. never-itself m (ordered j i m m l q p) in
       omega arith
 
-  lists : (table : List ℕ) (list : List Match) → length elements ≤ length table / rowWidth → length (matchesIn side s) ≤ length list
-      → (listed side s table (length list) ≡ record { number = 0; place = 0; elements = length elements; matches = length (matchesIn side s) })
-      × (listedTable side s table (length list) ≡ tableOf s table) × (listedList side s table list ≡ onto (matchesIn side s) list)
+  lists : (table : List ℕ) (list : List Match) → length elements ≤ length table / rowWidth → length (matchesIn edition side s) ≤ length list
+      → (listed edition side s table (length list) ≡ record { number = 0; place = 0; elements = length elements; matches = length (matchesIn edition side s) })
+      × (listedTable edition side s table (length list) ≡ tableOf edition s table) × (listedList edition side s table list ≡ onto (matchesIn edition side s) list)
   unfolding listed listedTable listedList
   lists table list rows room =
       let a : ltb (length table / rowWidth) (length elements) ≡ false = le-ltb (length table / rowWidth) (length elements) rows in
@@ -81,7 +81,7 @@ module _ (side : Side) (s : List ℕ) (headers : ℕ) (elements : List Element) 
       let b : ltb (length list) (length ms) ≡ false = le-ltb (length list) (length ms) fits in
       (rw (e, a, b), rw (e, a, b), rw (e, a, b))
 
-  lists-16 : (table : List ℕ) (room : ℕ) → (listed side s table room .number ≡ 16) ↔ (length table / rowWidth < length elements)
+  lists-16 : (table : List ℕ) (room : ℕ) → (listed edition side s table room .number ≡ 16) ↔ (length table / rowWidth < length elements)
   unfolding listed
   lists-16 table room =
       cases (ltb (length table / rowWidth) (length elements))
@@ -92,7 +92,7 @@ module _ (side : Side) (s : List ℕ) (headers : ℕ) (elements : List Element) 
       (λ u. rw (e, t, u) (λ p. absurd (omega arith), λ k. absurd (omega arith)))
       (λ u. rw (e, t, u) (λ p. absurd (omega arith), λ k. absurd (omega arith))))
 
-  lists-19 : (table : List ℕ) (room : ℕ) → (listed side s table room .number ≡ 19) ↔ ((length elements ≤ length table / rowWidth) × (room < length (matchesIn side s)))
+  lists-19 : (table : List ℕ) (room : ℕ) → (listed edition side s table room .number ≡ 19) ↔ ((length elements ≤ length table / rowWidth) × (room < length (matchesIn edition side s)))
   unfolding listed
   lists-19 table room =
       cases (ltb (length table / rowWidth) (length elements))
@@ -103,8 +103,8 @@ module _ (side : Side) (s : List ℕ) (headers : ℕ) (elements : List Element) 
       (λ u. let m = ltb-true room (length ms) u in rw (e, t, u) (λ _. (l, m), λ _. refl))
       (λ u. let m = ltb-false room (length ms) u in rw (e, t, u) (λ p. absurd (omega arith), λ k. absurd (omega arith))))
 
-  lists-else : (table : List ℕ) (room : ℕ) → (listed side s table room .number ≡ 16 → ⊥) → (listed side s table room .number ≡ 19 → ⊥)
-      → listed side s table room .number ≡ 0
+  lists-else : (table : List ℕ) (room : ℕ) → (listed edition side s table room .number ≡ 16 → ⊥) → (listed edition side s table room .number ≡ 19 → ⊥)
+      → listed edition side s table room .number ≡ 0
   unfolding listed
   lists-else table room =
       cases (ltb (length table / rowWidth) (length elements))
@@ -116,29 +116,29 @@ module _ (side : Side) (s : List ℕ) (headers : ℕ) (elements : List Element) 
 
   -- how many there are at most
   elements-apart : Apart elements
-  elements-apart = accepted-apart Of1988 (treeOf s) elements (letter-found Of1988 s headers elements e .judged)
+  elements-apart = accepted-apart edition (treeOf s) elements (letter-found edition s headers elements e .judged)
 
-  at-most-units : length (matchesIn side s) ≤ units elements
+  at-most-units : length (matchesIn edition side s) ≤ units elements
   at-most-units = rw the-list (no-more-than-units elements elements-apart side)
 
-  at-most-portions : length (matchesIn side s) ≤ portionsOn side elements
+  at-most-portions : length (matchesIn edition side s) ≤ portionsOn side elements
   at-most-portions = rw the-list (no-more-than-portions elements elements-apart side)
 
-  units-enough : (table : List ℕ) (room : ℕ) → units elements ≤ room → listed side s table room .number ≡ 19 → ⊥
+  units-enough : (table : List ℕ) (room : ℕ) → units elements ≤ room → listed edition side s table room .number ≡ 19 → ⊥
   units-enough table room enough z = let (rows, short) = lists-19 table room .0 z in omega (arith, at-most-units)
 
-pub demand3 : Demand3
-demand3 = record {
+pub demand3 : (edition : Edition) → Demand3 edition
+demand3 edition = record {
   of-letter = λ side s headers elements e. record {
-    exactly = exactly side s headers elements e;
-    once = once side s headers elements e;
-    ordered = ordered side s headers elements e;
-    lists = lists side s headers elements e;
-    lists-16 = lists-16 side s headers elements e;
-    lists-19 = lists-19 side s headers elements e;
-    lists-else = lists-else side s headers elements e;
-    at-most-units = at-most-units side s headers elements e;
-    at-most-portions = at-most-portions side s headers elements e;
-    units-enough = units-enough side s headers elements e;
+    exactly = exactly edition side s headers elements e;
+    once = once edition side s headers elements e;
+    ordered = ordered edition side s headers elements e;
+    lists = lists edition side s headers elements e;
+    lists-16 = lists-16 edition side s headers elements e;
+    lists-19 = lists-19 edition side s headers elements e;
+    lists-else = lists-else edition side s headers elements e;
+    at-most-units = at-most-units edition side s headers elements e;
+    at-most-portions = at-most-portions edition side s headers elements e;
+    units-enough = units-enough edition side s headers elements e;
   };
 }

@@ -17,6 +17,7 @@ use Rattle.contents.specs.declared.Span.{Span}
 use Rattle.contents.specs.Search.{Value, absent, octets}
 use Rattle.pieces.specs.Pieces.{joined}
 use Rattle.elements.specs.Rows.{bytesIn}
+use Rattle.elements.specs.declared.Edition.{Edition}
 use Rattle.elements.specs.Judge.{bytesOf, Content, single, inPieces, joinedContent, Element}
 use Rattle.letters.specs.Letter.{letter}
 use Rattle.reading.specs.Match.{unitKind}
@@ -104,44 +105,44 @@ all-fetched (some own) e =
     (λ t. let p : partOf (own .content) .number ≡ 0 = rw t at e in rw t (part-is-all (own .content) p))
     (λ t. let p : _≡_ {A = ℕ} 20 0 = rw t at e in absurd (omega arith))
 
-module _ (s : List ℕ) (headers : ℕ) (elements : List Element) (e : letterIn s ≡ letter headers elements) (j : ℕ) where
-  pub content : (unit : Element) → UnitAt elements j unit → (value : Value) → unit .content ≡ single value → fetched s j ≡ handed (bytesOf value)
+module _ (edition : Edition) (s : List ℕ) (headers : ℕ) (elements : List Element) (e : letterIn edition s ≡ letter headers elements) (j : ℕ) where
+  pub content : (unit : Element) → UnitAt elements j unit → (value : Value) → unit .content ≡ single value → fetched edition s j ≡ handed (bytesOf value)
   unfolding fetched
-  content unit at value is = of-unit s j e (at .there) (at .kind) partOf ∙ ap partOf is
+  content unit at value is = of-unit edition s j e (at .there) (at .kind) partOf ∙ ap partOf is
 
-  pub content-20 : (fetched s j .number ≡ 20) ↔ ((unit : Element) → UnitAt elements j unit → ⊥)
+  pub content-20 : (fetched edition s j .number ≡ 20) ↔ ((unit : Element) → UnitAt elements j unit → ⊥)
   unfolding fetched
   content-20 =
       let (there, back) = no-unit partOf part-not-20 (getElem? elements j) in
       rw e (λ p unit at. there p unit (at .there) (at .kind), λ n. back (λ unit p k. n unit (record { there = p; kind = k })))
 
-  pub content-21 : (fetched s j .number ≡ 21) ↔ PiecesAt elements j
+  pub content-21 : (fetched edition s j .number ≡ 21) ↔ PiecesAt elements j
   unfolding fetched
   content-21 = (
     λ p. pieces-at elements j (getElem? elements j) refl (rw e at p),
-    λ at. ap (λ (f : Fetched). f .number) (of-unit s j e (at .is-unit .there) (at .is-unit .kind) partOf ∙ ap partOf (at .content)),
+    λ at. ap (λ (f : Fetched). f .number) (of-unit edition s j e (at .is-unit .there) (at .is-unit .kind) partOf ∙ ap partOf (at .content)),
   )
 
   -- what is to be copied
-  joined-unit : (unit : Element) → UnitAt elements j unit → joinedIn s j ≡ handed (joinedContent (unit .content))
+  joined-unit : (unit : Element) → UnitAt elements j unit → joinedIn edition s j ≡ handed (joinedContent (unit .content))
   unfolding joinedIn
-  joined-unit unit at = of-unit s j e (at .there) (at .kind) allOf
+  joined-unit unit at = of-unit edition s j e (at .there) (at .kind) allOf
 
   pub joins : (unit : Element) → UnitAt elements j unit → (out : List ℕ) → length (joinedContent (unit .content)) ≤ length out
-      → (copied s j out ≡ record { number = 0; place = 0; length = length (joinedContent (unit .content)) })
-      × (copiedOutput s j out ≡ onto (joinedContent (unit .content)) out)
+      → (copied edition s j out ≡ record { number = 0; place = 0; length = length (joinedContent (unit .content)) })
+      × (copiedOutput edition s j out ≡ onto (joinedContent (unit .content)) out)
   joins unit at out room =
-      let r = joins-unit s j out (joined-unit unit at) (copies-all (joinedContent (unit .content)) out room refl refl) in
+      let r = joins-unit edition s j out (joined-unit unit at) (copies-all (joinedContent (unit .content)) out room refl refl) in
       (sym (r .answered), sym (r .put))
 
-  pub joins-20 : (out : List ℕ) → (copied s j out .number ≡ 20) ↔ ((unit : Element) → UnitAt elements j unit → ⊥)
+  pub joins-20 : (out : List ℕ) → (copied edition s j out .number ≡ 20) ↔ ((unit : Element) → UnitAt elements j unit → ⊥)
   unfolding copied joinedIn
   joins-20 out =
       let (there, back) = no-unit allOf (λ c p. omega arith) (getElem? elements j) in
       let (to, from) = copied-20 (fetchedOf allOf (getElem? elements j)) out in
       rw e (λ p unit at. there (to p) unit (at .there) (at .kind), λ n. from (back (λ unit p k. n unit (record { there = p; kind = k }))))
 
-  pub joins-22 : (unit : Element) → UnitAt elements j unit → (out : List ℕ) → (copied s j out .number ≡ 22) ↔ (length out < length (joinedContent (unit .content)))
+  pub joins-22 : (unit : Element) → UnitAt elements j unit → (out : List ℕ) → (copied edition s j out .number ≡ 22) ↔ (length out < length (joinedContent (unit .content)))
   unfolding copied
   joins-22 unit at out =
       let all = joinedContent (unit .content) in
@@ -150,12 +151,12 @@ module _ (s : List ℕ) (headers : ℕ) (elements : List Element) (e : letterIn 
       (λ t. rw (is, t) (λ _. ltb-true (length out) (length all) t, λ _. refl))
       (λ t. rw (is, t) (λ p. absurd (omega arith), λ l. absurd (omega (arith, ltb-false (length out) (length all) t))))
 
-  pub part-joined : fetched s j .number ≡ 0 → joinedIn s j ≡ fetched s j
+  pub part-joined : fetched edition s j .number ≡ 0 → joinedIn edition s j ≡ fetched edition s j
   unfolding fetched joinedIn
   part-joined p = rw e (all-fetched (getElem? elements j) (rw e at p))
 
 -- two streams with the same elements have the same joined contents
-pub same-joined : (s t : List ℕ) {headers : ℕ} {elements : List Element} → letterIn s ≡ letter headers elements → letterIn t ≡ letter headers elements
-    → (j : ℕ) → joinedIn t j ≡ joinedIn s j
+pub same-joined : (edition : Edition) (s t : List ℕ) {headers : ℕ} {elements : List Element} → letterIn edition s ≡ letter headers elements → letterIn edition t ≡ letter headers elements
+    → (j : ℕ) → joinedIn edition t j ≡ joinedIn edition s j
 unfolding joinedIn
-same-joined s t e f j = rw (e, f)
+same-joined edition s t e f j = rw (e, f)

@@ -12,6 +12,7 @@ use Rattle.contents.specs.declared.Span.{Span}
 use Rattle.contents.specs.Search.{Value, absent, octets}
 use Rattle.elements.specs.Rows.{noSpan}
 use Rattle.elements.specs.declared.Row.{Row}
+use Rattle.elements.specs.declared.Edition.{Edition}
 use Rattle.elements.specs.Judge.{Content, single, inPieces, Element}
 use Rattle.demands.specs.Refusals.{TopItem, topItems}
 use Rattle.demands.specs.Demands.{TellsValue, TellsContent, RowTells}
@@ -40,7 +41,7 @@ same-content : (s t : List ℕ) (pair other : Span) (content : Content) → Tell
 same-content s t pair other (single value) a b = same-pair s t pair other value a b
 same-content s t pair other (inPieces run) (c, _) (d, _) = (c, d)
 
-same-rows : {s t : List ℕ} {row other : Row} {item : TopItem} {element : Element} → RowTells s row item element → RowTells t other item element
+same-rows : {edition : Edition} {s t : List ℕ} {row other : Row} {item : TopItem} {element : Element} → RowTells edition s row item element → RowTells edition t other item element
     → SameRow element s row t other
 same-rows {s} {t} {row} {other} {element = element} a b = record {
   kind = a .kind ∙ sym (b .kind);
@@ -52,15 +53,15 @@ same-rows {s} {t} {row} {other} {element = element} a b = record {
   content = same-content s t (row .content) (other .content) (element .content) (a .content) (b .content);
 }
 
-pub keeps-letters : KeepsLetters
-keeps-letters s headers elements e within =
-    let again = normal-accepted s headers elements e within in
+pub keeps-letters : (edition : Edition) → KeepsLetters edition
+keeps-letters edition s headers elements e within =
+    let again = normal-accepted edition s headers elements e within in
     record {
       rows = λ j element row other there p q.
-          let (item, at) = top-at s headers elements e j element there in
+          let (item, at) = top-at edition s headers elements e j element there in
           let kept : getElem? (topItems (treeOf (normalForm s))) j ≡ some item =
-          ap (λ (t : Tree). getElem? (topItems t) j) (normal-tree s headers elements e) ∙ at in
-          same-rows (tell s headers elements e j row item element p at there) (tell (normalForm s) headers elements again j other item element q kept there);
-      joined = same-joined s (normalForm s) e again;
+          ap (λ (t : Tree). getElem? (topItems t) j) (normal-tree edition s headers elements e) ∙ at in
+          same-rows (tell edition s headers elements e j row item element p at there) (tell edition (normalForm s) headers elements again j other item element q kept there);
+      joined = same-joined edition s (normalForm s) e again;
       list = λ side. rw (again, e);
     }

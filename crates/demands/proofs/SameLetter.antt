@@ -19,6 +19,7 @@ use Rattle.normal.proofs.RoundTrip.{form-definite, again, same-form}
 use Rattle.normal.proofs.Shorter.{none-shorter}
 use Rattle.contents.specs.Search.{absent, amount, firstValue, firstRun}
 use Rattle.portions.specs.Portions.{allPortions, values, wellSpelt, repeats}
+use Rattle.elements.specs.declared.Edition.{Edition}
 use Rattle.elements.specs.declared.Edition.the-variants.{Of1988}
 use Rattle.elements.specs.Shape.{shapeOf}
 use Rattle.elements.specs.Judge.{single, Element, bodyOf, contentOf, elementOf, ordered, asTabled, namesFit, clash, twice, refusalOf, judgeOne, judgeFrom, judge}
@@ -33,28 +34,28 @@ use Rattle.demands.specs.SameLetter.{IsAccepted, formWritten, SameLetter
 use Rattle.demands.proofs.Demand2.{writes, normal-accepted}
 
 -- a letter is accepted with its tree
-pub accepts-letter : (s : List ℕ) → IsAccepted s → Accepts s (treeOf s)
-accepts-letter s i = accepts-walked (letter-found Of1988 s (i .headers) (i .elements) (i .judged) .walked)
+pub accepts-letter : (edition : Edition) (s : List ℕ) → IsAccepted edition s → Accepts s (treeOf s)
+accepts-letter edition s i = accepts-walked (letter-found edition s (i .headers) (i .elements) (i .judged) .walked)
 
 -- what was written of a stream that was not refused: of a letter its normal form, which is within the limit
-record Wrote (s out : List ℕ) : Type 0 where
-  is-letter : IsAccepted s
+record Wrote (edition : Edition) (s out : List ℕ) : Type 0 where
+  is-letter : IsAccepted edition s
   within : length (normalForm s) ≤ streamLimit
-  form-is : formWritten s out ≡ normalForm s
+  form-is : formWritten edition s out ≡ normalForm s
 
 -- the normal form stands in front of the output
-in-front : (s out : List ℕ) (i : IsAccepted s) → length (normalForm s) ≤ streamLimit → length (normalForm s) ≤ length out
-    → (written s out .number ≡ 0) × (formWritten s out ≡ normalForm s)
-in-front s out i within room =
-    let (answered, put) = writes s (i .headers) (i .elements) (i .judged) out within room in
-    let size : written s out .length ≡ length (normalForm s) = ap (λ (a : Written). a .length) answered in
+in-front : (edition : Edition) (s out : List ℕ) (i : IsAccepted edition s) → length (normalForm s) ≤ streamLimit → length (normalForm s) ≤ length out
+    → (written edition s out .number ≡ 0) × (formWritten edition s out ≡ normalForm s)
+in-front edition s out i within room =
+    let (answered, put) = writes edition s (i .headers) (i .elements) (i .judged) out within room in
+    let size : written edition s out .length ≡ length (normalForm s) = ap (λ (a : Written). a .length) answered in
     (ap (λ (a : Written). a .number) answered, rw (size, put) (take-append-seam (normalForm s) (drop (length (normalForm s)) out)))
 
-wrote-by : (s out : List ℕ) (l : Letter) → letterIn s ≡ l → writtenBy l (normalForm s) out .number ≡ 0 → Wrote s out
-wrote-by s out (refusal number place headers) e z = absurd (omega (arith, refusal-small Of1988 s number place headers e .low))
-wrote-by s out (letter headers elements) e z =
+wrote-by : (edition : Edition) (s out : List ℕ) (l : Letter) → letterIn edition s ≡ l → writtenBy l (normalForm s) out .number ≡ 0 → Wrote edition s out
+wrote-by edition s out (refusal number place headers) e z = absurd (omega (arith, refusal-small edition s number place headers e .low))
+wrote-by edition s out (letter headers elements) e z =
     let size = length (normalForm s) in
-    let i : IsAccepted s = record { headers = headers; elements = elements; judged = e } in
+    let i : IsAccepted edition s = record { headers = headers; elements = elements; judged = e } in
     cases (ltb streamLimit size)
     (λ t. let k : _≡_ {A = ℕ} 17 0 = rw t at z in absurd (omega arith))
     (λ t.
@@ -63,36 +64,36 @@ wrote-by s out (letter headers elements) e z =
     (λ u.
     let within : size ≤ streamLimit = ltb-false streamLimit size t in
     let room : size ≤ length out = ltb-false (length out) size u in
-    record { is-letter = i; within = within; form-is = in-front s out i within room .1 }))
+    record { is-letter = i; within = within; form-is = in-front edition s out i within room .1 }))
 
-wrote : (s out : List ℕ) → written s out .number ≡ 0 → Wrote s out
+wrote : (edition : Edition) (s out : List ℕ) → written edition s out .number ≡ 0 → Wrote edition s out
 unfolding written
-wrote s out z = wrote-by s out (letterIn s) refl z
+wrote edition s out z = wrote-by edition s out (letterIn edition s) refl z
 
-same : (s r : List ℕ) → IsAccepted s → IsAccepted r → (treeOf s ≡ treeOf r) ↔ (normalForm s ≡ normalForm r)
-same s r i j = (ap normalOf, same-form s r (treeOf s) (treeOf r) (accepts-letter s i) (accepts-letter r j))
+same : (edition : Edition) (s r : List ℕ) → IsAccepted edition s → IsAccepted edition r → (treeOf s ≡ treeOf r) ↔ (normalForm s ≡ normalForm r)
+same edition s r i j = (ap normalOf, same-form s r (treeOf s) (treeOf r) (accepts-letter edition s i) (accepts-letter edition r j))
 
 -- the normal form of a letter, if within the limit, is a letter
-form-letter : (s : List ℕ) → IsAccepted s → length (normalForm s) ≤ streamLimit → IsAccepted (normalForm s)
-form-letter s i within = record { headers = i .headers; elements = i .elements; judged = normal-accepted s (i .headers) (i .elements) (i .judged) within }
+form-letter : (edition : Edition) (s : List ℕ) → IsAccepted edition s → length (normalForm s) ≤ streamLimit → IsAccepted edition (normalForm s)
+form-letter edition s i within = record { headers = i .headers; elements = i .elements; judged = normal-accepted edition s (i .headers) (i .elements) (i .judged) within }
 
-pub same-letter : SameLetter
-same-letter = record {
-  same = same;
-  twice = λ s i. again s (treeOf s) (accepts-letter s i);
+pub same-letter : (edition : Edition) → SameLetter edition
+same-letter edition = record {
+  same = same edition;
+  twice = λ s i. again s (treeOf s) (accepts-letter edition s i);
   shortest = λ s i r coded. none-shorter r (treeOf s) coded;
-  definite = λ s i. form-definite s (treeOf s) (accepts-letter s i);
+  definite = λ s i. form-definite s (treeOf s) (accepts-letter edition s i);
   found = λ s r out other z y.
-      let a = wrote s out z in
-      let b = wrote r other y in
-      let (to, from) = same s r (a .is-letter) (b .is-letter) in
+      let a = wrote edition s out z in
+      let b = wrote edition r other y in
+      let (to, from) = same edition s r (a .is-letter) (b .is-letter) in
       (λ e. a .form-is ∙ to e ∙ sym (b .form-is), λ e. from (sym (a .form-is) ∙ e ∙ b .form-is));
   again = λ s out other z room.
-      let a = wrote s out z in
-      let once : normalForm (normalForm s) ≡ normalForm s = again s (treeOf s) (accepts-letter s (a .is-letter)) in
+      let a = wrote edition s out z in
+      let once : normalForm (normalForm s) ≡ normalForm s = again s (treeOf s) (accepts-letter edition s (a .is-letter)) in
       let within : length (normalForm (normalForm s)) ≤ streamLimit = omega (arith, a .within, ap length once) in
       let fits : length (normalForm (normalForm s)) ≤ length other = omega (arith, room, ap length once, ap length (a .form-is)) in
-      let (zero-number, put) = in-front (normalForm s) other (form-letter s (a .is-letter) (a .within)) within fits in
+      let (zero-number, put) = in-front edition (normalForm s) other (form-letter edition s (a .is-letter) (a .within)) within fits in
       rw (a .form-is) (zero-number, put ∙ once);
 }
 
@@ -100,11 +101,11 @@ same-letter = record {
 abbrev profileSays : Element
 profileSays = record { kind = 0; object = 255; identifier = absent; logical = absent; portions = []; content = single absent }
 
-one-letter : letterIn oneOrder ≡ letter 4 (profileSays ∷ [])
+one-letter : letterIn Of1988 oneOrder ≡ letter 4 (profileSays ∷ [])
 unfolding permits formAllowed bigEndianFrom misfits definiteAt indefiniteAt longAt byFirst lengthAt itemAt closingAt headAt runFor run walkOf amount firstValue firstRun allPortions values wellSpelt repeats shapeOf bodyOf contentOf elementOf ordered asTabled namesFit clash twice refusalOf judgeOne judgeFrom judge placeOf letterOf xor
 one-letter = refl
 
-other-letter : letterIn otherOrder ≡ letter 4 (profileSays ∷ [])
+other-letter : letterIn Of1988 otherOrder ≡ letter 4 (profileSays ∷ [])
 unfolding permits formAllowed bigEndianFrom misfits definiteAt indefiniteAt longAt byFirst lengthAt itemAt closingAt headAt runFor run walkOf amount firstValue firstRun allPortions values wellSpelt repeats shapeOf bodyOf contentOf elementOf ordered asTabled namesFit clash twice refusalOf judgeOne judgeFrom judge placeOf letterOf xor
 other-letter = refl
 

@@ -27,7 +27,7 @@ use Rattle.contents.proofs.Firsts.{is-field, amount-formed}
 use Rattle.portions.specs.Portions.{allPortions, values, all}
 use Rattle.elements.specs.Rows.{noSpan, bytesIn, bodyIn, holderIn, contentOctet, boundsAt, rowOf, rowsOf}
 use Rattle.elements.specs.declared.Row.{Row}
-use Rattle.elements.specs.declared.Edition.the-variants.{Of1988}
+use Rattle.elements.specs.declared.Edition.{Edition}
 use Rattle.elements.specs.Shape.{ContentItem, whole, pieced, Contents, profile, described, unit, style, Shape, shapeOf}
 use Rattle.elements.specs.Judge.{bodyOf, identifierOctet, identifierNeeded, logicalOctet, portionsOctet, barred, holdersOf, valueAt, runAt, amountAt, noneOf}
 use Rattle.elements.specs.Judge.{contentIn, contentOf, piecesAlone, Element, elementOf, ordered, asTabled, accepted, judge}
@@ -262,15 +262,16 @@ module _ (s : List ℕ) where
   content-at (pieced octet ∷ others) w {i} p =
       cases (noneOf octet (plain s i)) (λ t. rw t (content-at others (w .1) p)) (λ t. rw t (codes-at s octet (w .0) p (eqb-false _ 0 t)))
 
+module _ (edition : Edition) (s : List ℕ) where
   abbrev shapeAt : ℕ → Shape
-  shapeAt octet = shapeOf Of1988 (typeField octet)
+  shapeAt octet = shapeOf edition (typeField octet)
 
   abbrev itemAt : (octet : ℕ) → Items → TopItem
   itemAt octet inside = record { type = typeField octet; run = plain s inside }
 
   row-tells : (octet first past : ℕ) (inside : Items) → Proper s (deepest - 1) inside
       → allPortions (runAt (portionsOctet (shapeAt octet .contents)) (bodyOf (shapeAt octet .contents) (plain s inside))) ≡ true
-      → RowTells s (rowOf (shapeAt octet) s first past inside) (itemAt octet inside) (saysIn Of1988 (itemAt octet inside))
+      → RowTells edition s (rowOf (shapeAt octet) s first past inside) (itemAt octet inside) (saysIn edition (itemAt octet inside))
   unfolding rowOf elementOf contentOf contentOctet
   row-tells octet first past inside p only =
       let contents = shapeAt octet .contents in
@@ -286,10 +287,10 @@ module _ (s : List ℕ) where
             (logical-at s contents q);
         portions = subst
             (λ (t : Tree). Codes 1 (portionItems (values (runAt (portionsOctet contents) t))) (bytesIn s (boundsAt (portionsOctet contents) body))) same
-            (portions-at contents q (subst (λ (t : Tree). allPortions (runAt (portionsOctet contents) t) ≡ true) (sym same) only));
+            (portions-at s contents q (subst (λ (t : Tree). allPortions (runAt (portionsOctet contents) t) ≡ true) (sym same) only));
         no-portions = subst (λ (t : Tree). (boundsAt (portionsOctet contents) body ≡ noSpan) ↔ (amountAt (portionsOctet contents) t ≡ 0)) same
             (no-portions-at s contents q);
-        content = content-at (holdersOf contents) (holders-formed Of1988 (typeField octet)) p;
+        content = content-at s (holdersOf contents) (holders-formed edition (typeField octet)) p;
       }
 
   -- an element stands in the tree as the items inside its own
@@ -310,7 +311,7 @@ module _ (s : List ℕ) where
     row-is : rowOf (shapeAt octet) s first past inside ≡ row
     item-is : itemAt octet inside ≡ top
 
-  of-one : {i : Items} → Proper s deepest i → (j : ℕ) (row : Row) (top : TopItem) → getElem? (rowsOf Of1988 s i) j ≡ some row
+  of-one : {i : Items} → Proper s deepest i → (j : ℕ) (row : Row) (top : TopItem) → getElem? (rowsOf edition s i) j ≡ some row
       → getElem? (topItems (plain s i)) j ≡ some top → OfOne row top
   unfolding rowsOf
   of-one no-more j row top e f = let z : _≡_ {A = ℕ} 0 1 = cc in absurd (omega arith)
@@ -325,16 +326,16 @@ module _ (s : List ℕ) where
       of-one q j row top e (sym (ap (λ (ts : List TopItem). getElem? ts (suc j)) tops) ∙ f)
 
   -- as many rows as elements
-  rows-count : {i : Items} → Proper s deepest i → length (rowsOf Of1988 s i) ≡ length (topItems (plain s i))
+  rows-count : {i : Items} → Proper s deepest i → length (rowsOf edition s i) ≡ length (topItems (plain s i))
   unfolding rowsOf
   rows-count no-more = refl
   rows-count (more {octet = octet} {start} {past} {inside} {after} there n nothing-in codes p q) =
       ap suc (rows-count q) ∙ sym (ap length (same-top octet (slice start past s) inside (plain s after) nothing-in))
 
-said-at : (tops : List TopItem) (j : ℕ) (top : TopItem) → getElem? tops j ≡ some top → getElem? (map (saysIn Of1988) tops) j ≡ some (saysIn Of1988 top)
-said-at [] j top e = let z : _≡_ {A = ℕ} 0 1 = cc in absurd (omega arith)
-said-at (x ∷ tops) zero top e = let p : x ≡ top = cc in ap (λ (y : TopItem). some (saysIn Of1988 y)) p
-said-at (x ∷ tops) (suc j) top e = said-at tops j top e
+said-at : (edition : Edition) (tops : List TopItem) (j : ℕ) (top : TopItem) → getElem? tops j ≡ some top → getElem? (map (saysIn edition) tops) j ≡ some (saysIn edition top)
+said-at edition [] j top e = let z : _≡_ {A = ℕ} 0 1 = cc in absurd (omega arith)
+said-at edition (x ∷ tops) zero top e = let p : x ≡ top = cc in ap (λ (y : TopItem). some (saysIn edition y)) p
+said-at edition (x ∷ tops) (suc j) top e = said-at edition tops j top e
 
 -- of a list of tests that all hold, each does
 all-at : (tests : List Bool) → all tests ≡ true → (k : ℕ) (test : Bool) → getElem? tests k ≡ some test → test ≡ true
@@ -358,29 +359,29 @@ tabled-portions contents run e =
     ∷ allPortions (runAt (portionsOctet contents) body)
     ∷ map (λ octet. noneOf octet body) (barred contents)) e 6 (allPortions (runAt (portionsOctet contents) body)) refl
 
-module _ (s : List ℕ) {i : Items} (p : Proper s deepest i) (elements : List Element) (judged : judge Of1988 (plain s i) ≡ accepted elements) where
+module _ (edition : Edition) (s : List ℕ) {i : Items} (p : Proper s deepest i) (elements : List Element) (judged : judge edition (plain s i) ≡ accepted elements) where
   pub tops-counted : length (topItems (plain s i)) ≡ length elements
-  tops-counted = sym (length-map (topItems (plain s i)) (saysIn Of1988)) ∙ ap length (sym (accepted-elements Of1988 (plain s i) elements judged))
+  tops-counted = sym (length-map (topItems (plain s i)) (saysIn edition)) ∙ ap length (sym (accepted-elements edition (plain s i) elements judged))
 
-  pub rows-counted : length (rowsOf Of1988 s i) ≡ length elements
-  rows-counted = rows-count s p ∙ tops-counted
+  pub rows-counted : length (rowsOf edition s i) ≡ length elements
+  rows-counted = rows-count edition s p ∙ tops-counted
 
-  as-tabled : (j : ℕ) (top : TopItem) → getElem? (topItems (plain s i)) j ≡ some top → asTabled (contentsIn Of1988 top) (top .run) ≡ true
+  as-tabled : (j : ℕ) (top : TopItem) → getElem? (topItems (plain s i)) j ≡ some top → asTabled (contentsIn edition top) (top .run) ≡ true
   as-tabled j top there =
-      cases (asTabled (contentsIn Of1988 top) (top .run))
+      cases (asTabled (contentsIn edition top) (top .run))
       (λ t. t)
-      (λ t. absurd (accepted-pass Of1988 (plain s i) elements judged j top there 12 (misshapen t)))
+      (λ t. absurd (accepted-pass edition (plain s i) elements judged j top there 12 (misshapen t)))
 
-  pub rows-tell : (j : ℕ) (row : Row) (top : TopItem) (element : Element) → getElem? (rowsOf Of1988 s i) j ≡ some row
-      → getElem? (topItems (plain s i)) j ≡ some top → getElem? elements j ≡ some element → RowTells s row top element
+  pub rows-tell : (j : ℕ) (row : Row) (top : TopItem) (element : Element) → getElem? (rowsOf edition s i) j ≡ some row
+      → getElem? (topItems (plain s i)) j ≡ some top → getElem? elements j ≡ some element → RowTells edition s row top element
   rows-tell j row top element e there f =
-      let o = of-one s p j row top e there in
-      let g : some (saysIn Of1988 top) ≡ some element =
-      sym (said-at (topItems (plain s i)) j top there)
-      ∙ ap (λ (es : List Element). getElem? es j) (sym (accepted-elements Of1988 (plain s i) elements judged)) ∙ f in
-      let x : saysIn Of1988 top ≡ element = cc in
-      let tabled = subst (λ (y : TopItem). asTabled (contentsIn Of1988 y) (y .run) ≡ true) (sym (o .item-is)) (as-tabled j top there) in
-      let told = row-tells s (o .octet) (o .first) (o .past) (o .inside) (o .inside-proper) (tabled-portions _ _ tabled) in
-      let at-item = subst (λ (y : TopItem). RowTells s (rowOf (shapeAt s (o .octet)) s (o .first) (o .past) (o .inside)) y (saysIn Of1988 y)) (o .item-is) told in
-      subst (λ (r : Row). RowTells s r top element) (o .row-is)
-      (subst (RowTells s (rowOf (shapeAt s (o .octet)) s (o .first) (o .past) (o .inside)) top) x at-item)
+      let o = of-one edition s p j row top e there in
+      let g : some (saysIn edition top) ≡ some element =
+      sym (said-at edition (topItems (plain s i)) j top there)
+      ∙ ap (λ (es : List Element). getElem? es j) (sym (accepted-elements edition (plain s i) elements judged)) ∙ f in
+      let x : saysIn edition top ≡ element = cc in
+      let tabled = subst (λ (y : TopItem). asTabled (contentsIn edition y) (y .run) ≡ true) (sym (o .item-is)) (as-tabled j top there) in
+      let told = row-tells edition s (o .octet) (o .first) (o .past) (o .inside) (o .inside-proper) (tabled-portions _ _ tabled) in
+      let at-item = subst (λ (y : TopItem). RowTells edition s (rowOf (shapeAt edition s (o .octet)) s (o .first) (o .past) (o .inside)) y (saysIn edition y)) (o .item-is) told in
+      subst (λ (r : Row). RowTells edition s r top element) (o .row-is)
+      (subst (RowTells edition s (rowOf (shapeAt edition s (o .octet)) s (o .first) (o .past) (o .inside)) top) x at-item)

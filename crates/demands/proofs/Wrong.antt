@@ -17,6 +17,7 @@ use Rattle.index.specs.Rows.{nameSpaceOf}
 use Rattle.contents.specs.Search.{absent, octets, amount, firstValue, firstRun, boundsOf, itemsIn as insideOf, inOrder}
 use Rattle.pieces.specs.Pieces.{onlyPieces, joined}
 use Rattle.portions.specs.Portions.{allPortions, values, wellSpelt, among, repeats}
+use Rattle.elements.specs.declared.Edition.the-variants.{Of1988}
 use Rattle.elements.specs.Shape.{shapeOf}
 use Rattle.elements.specs.Judge.{Content, single, inPieces, contentOf, joinedContent, Element, bodyOf, elementOf, ordered, asTabled, namesFit, clash, twice, refusalOf, judgeOne, judgeFrom, judge}
 use Rattle.elements.specs.declared.Row.{Row}
@@ -53,19 +54,19 @@ Joiner = (s : List ℕ) (asked : ℕ) (out : List ℕ) → Copied × List ℕ
 
 -- programs that meet the contracts
 abbrev pub Checks : Checker → Type 0
-Checks f = (s table : List ℕ) → CheckOutcome s table (f s table .0) (f s table .1)
+Checks f = (s table : List ℕ) → CheckOutcome Of1988 s table (f s table .0) (f s table .1)
 
 abbrev pub Writes : Writer → Type 0
-Writes f = (s out : List ℕ) → NormalOutcome s out (f s out .0) (f s out .1)
+Writes f = (s out : List ℕ) → NormalOutcome Of1988 s out (f s out .0) (f s out .1)
 
 abbrev pub Lists : Lister → Type 0
-Lists f = (side : Side) (s table : List ℕ) (list : List Match) → ListOutcome side s table list (f side s table list .0) (f side s table list .1) (f side s table list .2)
+Lists f = (side : Side) (s table : List ℕ) (list : List Match) → ListOutcome Of1988 side s table list (f side s table list .0) (f side s table list .1) (f side s table list .2)
 
 abbrev pub FetchesParts : Fetcher → Type 0
-FetchesParts f = (s : List ℕ) (asked : ℕ) → f s asked ≡ fetched s asked .part
+FetchesParts f = (s : List ℕ) (asked : ℕ) → f s asked ≡ fetched Of1988 s asked .part
 
 abbrev pub Joins : Joiner → Type 0
-Joins f = (s : List ℕ) (asked : ℕ) (out : List ℕ) → JoinedOutcome s asked out (f s asked out .0) (f s asked out .1)
+Joins f = (s : List ℕ) (asked : ℕ) (out : List ℕ) → JoinedOutcome Of1988 s asked out (f s asked out .0) (f s asked out .1)
 
 -- a table of three rows
 abbrev table : List ℕ
@@ -122,39 +123,39 @@ firstElement (m ∷ ms) = m .element
 abbrev noMatch : Match
 noMatch = record { element = 9; portion = 9; unit = 9 }
 
-accepts-profile : checked profile table ≡ record { number = 0; place = 0; headers = 1; elements = 1 }
+accepts-profile : checked Of1988 profile table ≡ record { number = 0; place = 0; headers = 1; elements = 1 }
 unfolding permits formAllowed bigEndianFrom misfits definiteAt indefiniteAt longAt byFirst lengthAt itemAt closingAt headAt runFor run walkOf amount firstValue firstRun allPortions values wellSpelt repeats shapeOf bodyOf contentOf elementOf ordered asTabled namesFit clash twice refusalOf judgeOne judgeFrom judge placeOf letterOf checked xor
 accepts-profile = refl
 
-refuses-nothing : checked [] table .number ≡ 11
+refuses-nothing : checked Of1988 [] table .number ≡ 11
 unfolding runFor run walkOf judge placeOf letterOf checked
 refuses-nothing = refl
 
-two-headers : checked two table .headers ≡ 2
+two-headers : checked Of1988 two table .headers ≡ 2
 unfolding permits formAllowed bigEndianFrom misfits definiteAt indefiniteAt longAt byFirst lengthAt itemAt closingAt headAt runFor run walkOf amount firstValue firstRun allPortions values wellSpelt repeats shapeOf bodyOf contentOf elementOf ordered asTabled namesFit clash twice refusalOf judgeOne judgeFrom judge placeOf letterOf checked xor
 two-headers = refl
 
-one-header : checked marked table .headers ≡ 1
+one-header : checked Of1988 marked table .headers ≡ 1
 unfolding permits formAllowed bigEndianFrom misfits definiteAt indefiniteAt longAt byFirst lengthAt itemAt closingAt headAt runFor run walkOf amount firstValue firstRun allPortions values wellSpelt repeats shapeOf bodyOf contentOf elementOf ordered asTabled namesFit clash twice refusalOf judgeOne judgeFrom judge placeOf letterOf checked xor
 one-header = refl
 
-shorter-form : (written marked nines .number ≡ 0) × (writtenOutput marked nines ≡ 0xA0 ∷ 0x00 ∷ 9 ∷ 9 ∷ [])
+shorter-form : (written Of1988 marked nines .number ≡ 0) × (writtenOutput Of1988 marked nines ≡ 0xA0 ∷ 0x00 ∷ 9 ∷ 9 ∷ [])
 unfolding permits formAllowed bigEndianFrom misfits definiteAt indefiniteAt longAt byFirst lengthAt itemAt closingAt headAt runFor run walkOf amount firstValue firstRun allPortions values wellSpelt repeats shapeOf bodyOf contentOf elementOf ordered asTabled namesFit clash twice refusalOf judgeOne judgeFrom judge placeOf letterOf numberOctets normalOf written writtenOutput xor
 shorter-form = (refl, refl)
 
-one-match : listedList Layout printed table (noMatch ∷ []) ≡ record { element = 1; portion = 0; unit = 2 } ∷ []
+one-match : listedList Of1988 Layout printed table (noMatch ∷ []) ≡ record { element = 1; portion = 0; unit = 2 } ∷ []
 unfolding permits formAllowed bigEndianFrom misfits definiteAt indefiniteAt longAt byFirst lengthAt itemAt closingAt headAt runFor run walkOf amount firstValue firstRun inOrder allPortions values wellSpelt among repeats isDigit grouped isIdentifier allDigits isPortion same nameSpaceOf shapeOf bodyOf contentOf elementOf ordered asTabled namesFit clash twice refusalOf judgeOne judgeFrom judge placeOf letterOf joins forEach portionMatches elementMatches matches listed listedList xor
 one-match = refl
 
-some-content : fetched printed 2 .part ≡ 0x48 ∷ 0x69 ∷ []
+some-content : fetched Of1988 printed 2 .part ≡ 0x48 ∷ 0x69 ∷ []
 unfolding permits formAllowed bigEndianFrom misfits definiteAt indefiniteAt longAt byFirst lengthAt itemAt closingAt headAt runFor run walkOf amount firstValue firstRun inOrder allPortions values wellSpelt among repeats isDigit grouped isIdentifier allDigits isPortion same nameSpaceOf shapeOf bodyOf contentOf elementOf ordered asTabled namesFit clash twice refusalOf judgeOne judgeFrom judge placeOf letterOf fetched xor
 some-content = refl
 
-pieced-letter : letterIn pieced ≡ letter 5 piecedElements
+pieced-letter : letterIn Of1988 pieced ≡ letter 5 piecedElements
 unfolding permits formAllowed bigEndianFrom misfits definiteAt indefiniteAt longAt byFirst lengthAt itemAt closingAt headAt runFor run walkOf amount firstValue firstRun inOrder allPortions values wellSpelt among repeats isDigit grouped isIdentifier allDigits isPortion same nameSpaceOf onlyPieces shapeOf bodyOf contentOf elementOf ordered asTabled namesFit clash twice refusalOf judgeOne judgeFrom judge placeOf letterOf xor
 pieced-letter = refl
 
-joined-pieces : (copied pieced 1 nines .number ≡ 0) × (copiedOutput pieced 1 nines ≡ 0x48 ∷ 0x69 ∷ 9 ∷ 9 ∷ [])
+joined-pieces : (copied Of1988 pieced 1 nines .number ≡ 0) × (copiedOutput Of1988 pieced 1 nines ≡ 0x48 ∷ 0x69 ∷ 9 ∷ 9 ∷ [])
 unfolding permits formAllowed bigEndianFrom misfits definiteAt indefiniteAt longAt byFirst lengthAt itemAt closingAt headAt runFor run walkOf amount firstValue firstRun inOrder allPortions values wellSpelt among repeats isDigit grouped isIdentifier allDigits isPortion same nameSpaceOf shapeOf bodyOf contentOf elementOf ordered asTabled namesFit clash twice refusalOf judgeOne judgeFrom judge placeOf letterOf onlyPieces joined joinedIn copied copiedOutput xor
 joined-pieces = (refl, refl)
 
@@ -170,7 +171,7 @@ piecedRow = record {
   content = record { first = 6; past = 12 };
 }
 
-row-of-pieces : getElem? (rowsIn pieced) 1 ≡ some piecedRow
+row-of-pieces : getElem? (rowsIn Of1988 pieced) 1 ≡ some piecedRow
 unfolding permits formAllowed bigEndianFrom misfits definiteAt indefiniteAt longAt byFirst lengthAt itemAt closingAt headAt runFor run walkOf amount firstValue firstRun inOrder allPortions values wellSpelt among repeats isDigit grouped isIdentifier allDigits isPortion same nameSpaceOf shapeOf bodyOf contentOf elementOf ordered asTabled namesFit clash twice refusalOf judgeOne judgeFrom judge placeOf letterOf onlyPieces bodyIn contentOctet boundsOf insideOf rowOf rowsOf xor
 row-of-pieces = refl
 
@@ -189,7 +190,7 @@ fixed-answer f meets fixed wrong =
 -- none makes a header count up: a count that on one stream within the limit is not that of the tree's items breaks the contract,
 pub made-up-headers : (f : Checker) → Checks f → (s rows : List ℕ) → length s ≤ streamLimit → (f s rows .0 .headers ≡ itemCount (treeOf s) → ⊥) → ⊥
 made-up-headers f meets s rows within wrong =
-    wrong (ap (λ (x : Checked). x .headers) (meets s rows .answered) ∙ demand1 .headers s rows within
+    wrong (ap (λ (x : Checked). x .headers) (meets s rows .answered) ∙ demand1 Of1988 .headers s rows within
     ∙ count-tree (derives deepest s 0 (length s) false (omega arith)))
 
 -- and so does one that is told from the stream's length;
@@ -222,7 +223,7 @@ copies-input f meets wrong =
 
 -- no joiner gives the first piece alone;
 pub joins-first : (f : Joiner) → Joins f
-    → ((s : List ℕ) (asked : ℕ) (out : List ℕ) (headers : ℕ) (elements : List Element) (element : Element) → letterIn s ≡ letter headers elements
+    → ((s : List ℕ) (asked : ℕ) (out : List ℕ) (headers : ℕ) (elements : List Element) (element : Element) → letterIn Of1988 s ≡ letter headers elements
     → getElem? elements asked ≡ some element → f s asked out .0 .number ≡ 0 → f s asked out .1 ≡ onto (firstPiece (element .content)) out) → ⊥
 joins-first f meets wrong =
     let m = meets pieced 1 nines in
@@ -233,7 +234,7 @@ joins-first f meets wrong =
 
 -- and none copies what the row bounds, the pieces with their headers.
 pub joins-headers : (f : Joiner) → Joins f
-    → ((s : List ℕ) (asked : ℕ) (out : List ℕ) (row : Row) → getElem? (rowsIn s) asked ≡ some row → f s asked out .0 .number ≡ 0
+    → ((s : List ℕ) (asked : ℕ) (out : List ℕ) (row : Row) → getElem? (rowsIn Of1988 s) asked ≡ some row → f s asked out .0 .number ≡ 0
     → f s asked out .1 ≡ onto (bytesIn s (row .content)) out) → ⊥
 joins-headers f meets wrong =
     let m = meets pieced 1 nines in
@@ -256,16 +257,16 @@ printedElements =
     }
     ∷ []
 
-printed-letter : letterIn printed ≡ letter 11 printedElements
+printed-letter : letterIn Of1988 printed ≡ letter 11 printedElements
 unfolding permits formAllowed bigEndianFrom misfits definiteAt indefiniteAt longAt byFirst lengthAt itemAt closingAt headAt runFor run walkOf amount firstValue firstRun inOrder allPortions values wellSpelt among repeats isDigit grouped isIdentifier allDigits isPortion same nameSpaceOf shapeOf bodyOf contentOf elementOf ordered asTabled namesFit clash twice refusalOf judgeOne judgeFrom judge placeOf letterOf onlyPieces xor
 printed-letter = refl
 
-no-room : listed Layout printed table 0 .number ≡ 19
+no-room : listed Of1988 Layout printed table 0 .number ≡ 19
 unfolding permits formAllowed bigEndianFrom misfits definiteAt indefiniteAt longAt byFirst lengthAt itemAt closingAt headAt runFor run walkOf amount firstValue firstRun inOrder allPortions values wellSpelt among repeats isDigit grouped isIdentifier allDigits isPortion same nameSpaceOf shapeOf bodyOf contentOf elementOf ordered asTabled namesFit clash twice refusalOf judgeOne judgeFrom judge placeOf letterOf joins forEach portionMatches elementMatches matches listed xor
 no-room = refl
 
 -- And no promise of a list with one record fewer than there are text units could be kept: the printed letter has one unit and one match.
-pub one-record-fewer : ((s : List ℕ) (headers : ℕ) (elements : List Element) → letterIn s ≡ letter headers elements → (side : Side) (rows : List ℕ) (room : ℕ)
-    → units elements ≤ suc room → listed side s rows room .number ≡ 19 → ⊥) → ⊥
+pub one-record-fewer : ((s : List ℕ) (headers : ℕ) (elements : List Element) → letterIn Of1988 s ≡ letter headers elements → (side : Side) (rows : List ℕ) (room : ℕ)
+    → units elements ≤ suc room → listed Of1988 side s rows room .number ≡ 19 → ⊥) → ⊥
 unfolding units
 one-record-fewer promise = promise printed 11 printedElements printed-letter Layout table 0 (omega arith) no-room

@@ -5,6 +5,7 @@ use Prim.Native.Nat.{ℕ}
 use mathlib.Core.List.{List, [], _∷_}
 use lib.ListN.{take, replicate}
 use Rattle.index.specs.Rows.{rowWidth}
+use Rattle.elements.specs.declared.Edition.the-variants.{Of1988}
 use Rattle.answers.specs.Answers.{checked, written, writtenOutput, copied, copiedOutput}
 
 -- number, place and header count of the check, and the normal form that is written: none of a refused stream
@@ -26,10 +27,10 @@ out = replicate 4 0
 abbrev pub outcome : List ℕ → Example
 outcome s = record {
   stream = s;
-  number = checked s table .number;
-  place = checked s table .place;
-  headers = checked s table .headers;
-  form = take (written s out .length) (writtenOutput s out);
+  number = checked Of1988 s table .number;
+  place = checked Of1988 s table .place;
+  headers = checked Of1988 s table .headers;
+  form = take (written Of1988 s out .length) (writtenOutput Of1988 s out);
 }
 
 abbrev pub accepts : List ℕ → (headers : ℕ) → (form : List ℕ) → Example
@@ -65,9 +66,9 @@ abbrev pub joinedOutcome : (stream : List ℕ) → (asked : ℕ) → JoinedExamp
 joinedOutcome s asked = record {
   stream = s;
   asked = asked;
-  number = copied s asked out .number;
-  place = copied s asked out .place;
-  content = take (copied s asked out .length) (copiedOutput s asked out);
+  number = copied Of1988 s asked out .number;
+  place = copied Of1988 s asked out .place;
+  content = take (copied Of1988 s asked out .length) (copiedOutput Of1988 s asked out);
 }
 
 abbrev pub joins : List ℕ → (asked : ℕ) → (content : List ℕ) → JoinedExample

@@ -12,6 +12,7 @@ use Rattle.normal.specs.Normal.{normalForm}
 use Rattle.contents.specs.declared.Span.{Span}
 use Rattle.elements.specs.Rows.{noSpan, bytesIn}
 use Rattle.elements.specs.declared.Row.{Row}
+use Rattle.elements.specs.declared.Edition.{Edition}
 use Rattle.elements.specs.Judge.{Content, single, inPieces, Element}
 use Rattle.reading.specs.declared.Side.{Side}
 use Rattle.letters.specs.Letter.{letter}
@@ -40,15 +41,15 @@ pub record SameRow (element : Element) (s : List ℕ) (row : Row) (t : List ℕ)
   pub content : SameContent (element .content) s (row .content) t (other .content)
 
 -- of a letter whose normal form is within the limit
-pub record Kept (s : List ℕ) (elements : List Element) : Type 0 where
+pub record Kept (edition : Edition) (s : List ℕ) (elements : List Element) : Type 0 where
   pub rows : (j : ℕ) (element : Element) (row other : Row) → getElem? elements j ≡ some element
-      → getElem? (rowsIn s) j ≡ some row → getElem? (rowsIn (normalForm s)) j ≡ some other → SameRow element s row (normalForm s) other
+      → getElem? (rowsIn edition s) j ≡ some row → getElem? (rowsIn edition (normalForm s)) j ≡ some other → SameRow element s row (normalForm s) other
   -- "Normal form keeps the pieces": unit by unit its joined content is the same
-  pub joined : (j : ℕ) → joinedIn (normalForm s) j ≡ joinedIn s j
+  pub joined : (j : ℕ) → joinedIn edition (normalForm s) j ≡ joinedIn edition s j
   -- and each side has the same reading list
-  pub list : (side : Side) → matchesIn side (normalForm s) ≡ matchesIn side s
+  pub list : (side : Side) → matchesIn edition side (normalForm s) ≡ matchesIn edition side s
 
 -- of every letter
-abbrev pub KeepsLetters : Type 0
-KeepsLetters = (s : List ℕ) (headers : ℕ) (elements : List Element) → letterIn s ≡ letter headers elements → length (normalForm s) ≤ streamLimit
-    → Kept s elements
+abbrev pub KeepsLetters : Edition → Type 0
+KeepsLetters edition = (s : List ℕ) (headers : ℕ) (elements : List Element) → letterIn edition s ≡ letter headers elements → length (normalForm s) ≤ streamLimit
+    → Kept edition s elements

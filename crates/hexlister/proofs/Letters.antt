@@ -40,11 +40,11 @@ use Rattle.hexlister.specs.Pages.{rowLine, rowLines}
 pub record Accepted (s : List ℕ) : Type 0 where
   pub headers : ℕ
   pub elements : List Element
-  pub judged : letterIn s ≡ letter headers elements
+  pub judged : letterIn Of1988 s ≡ letter headers elements
   pub few : length elements ≤ rowsLent
 
 module _ (s : List ℕ) where
-  by-rows : (headers : ℕ) (elements : List Element) → letterIn s ≡ letter headers elements → checkedBy (letter headers elements) lentTable .number ≡ 0 → Accepted s
+  by-rows : (headers : ℕ) (elements : List Element) → letterIn Of1988 s ≡ letter headers elements → checkedBy (letter headers elements) lentTable .number ≡ 0 → Accepted s
   by-rows headers elements e =
       cases (ltb (length lentTable / rowWidth) (length elements))
       (λ t. rw t (λ n. absurd (omega arith)))
@@ -52,13 +52,13 @@ module _ (s : List ℕ) where
       let rows : length lentTable / rowWidth ≡ rowsLent = ap (λ (k : ℕ). k / rowWidth) (length-replicate {A = ℕ} tableRoom 0) in
       record { headers = headers; elements = elements; judged = e; few = omega (arith, ltb-false (length lentTable / rowWidth) (length elements) t) })
 
-  by-letter : (l : Letter) → letterIn s ≡ l → checkedBy l lentTable .number ≡ 0 → Accepted s
+  by-letter : (l : Letter) → letterIn Of1988 s ≡ l → checkedBy l lentTable .number ≡ 0 → Accepted s
   by-letter (refusal number place headers) e n = absurd (omega (arith, refusal-small Of1988 s number place headers e .low))
   by-letter (letter headers elements) e n = by-rows headers elements e n
 
-  pub accepted-on : checked s lentTable .number ≡ 0 → Accepted s
+  pub accepted-on : checked Of1988 s lentTable .number ≡ 0 → Accepted s
   unfolding checked
-  accepted-on n = by-letter (letterIn s) refl n
+  accepted-on n = by-letter (letterIn Of1988 s) refl n
 
 -- the lines of the elements, by their rows in the table
 module _ (table : List ℕ) (all : List Row) (lines : (j : ℕ) (row : Row) → getElem? all j ≡ some row → rowLine table j ≡ element j (row .whole .first) (row .whole .past) (row .kind)) where
@@ -92,61 +92,61 @@ module _ (rows : List Row) (rest : List ℕ) where
 
 -- the list of a side, asked on a table and a list as they are lent
 pub record Listing (side : Side) (s : List ℕ) (answer : Listed) (records : List Match) : Type 0 where
-  pub count : answer .matches ≡ length (matchesIn side s)
+  pub count : answer .matches ≡ length (matchesIn Of1988 side s)
   pub few : answer .matches ≤ recordsLent
-  pub first : take (answer .matches) records ≡ matchesIn side s
+  pub first : take (answer .matches) records ≡ matchesIn Of1988 side s
 
 pub lists-all :
     (side : Side) (s table : List ℕ) {answer : Listed} {tableAfter : List ℕ} {records : List Match} →
-    checked s lentTable .number ≡ 0 →
+    checked Of1988 s lentTable .number ≡ 0 →
     length table ≡ tableRoom →
-    ListOutcome side s table lentList answer tableAfter records →
+    ListOutcome Of1988 side s table lentList answer tableAfter records →
     Listing side s answer records
 lists-all side s table {answer} {tableAfter} {records} n full o =
     let a = accepted-on s n in
     let e = a .judged in
     let rows : length table / rowWidth ≡ rowsLent = ap (λ (k : ℕ). k / rowWidth) full in
     let found = letter-found Of1988 s (a .headers) (a .elements) e in
-    let same : matchesIn side s ≡ matches side (a .elements) = rw e in
-    let below : length (matchesIn side s) ≤ length (a .elements) = rw same (no-more-than-elements (a .elements) (accepted-apart Of1988 _ _ (found .judged)) side) in
+    let same : matchesIn Of1988 side s ≡ matches side (a .elements) = rw e in
+    let below : length (matchesIn Of1988 side s) ≤ length (a .elements) = rw same (no-more-than-elements (a .elements) (accepted-apart Of1988 _ _ (found .judged)) side) in
     let room : length lentList ≡ recordsLent = length-replicate recordsLent noRecord in
-    let given = demand3 .of-letter side s (a .headers) (a .elements) e .lists table lentList (omega (arith, a .few)) (omega (arith, a .few)) in
-    let count : answer .matches ≡ length (matchesIn side s) = ap (λ (r : Listed). r .matches) (o .answered ∙ given .0) in
-    record { count = count; few = omega (arith, a .few); first = rw (o .filled, given .2, count) (take-append-seam (matchesIn side s) _) }
+    let given = demand3 Of1988 .of-letter side s (a .headers) (a .elements) e .lists table lentList (omega (arith, a .few)) (omega (arith, a .few)) in
+    let count : answer .matches ≡ length (matchesIn Of1988 side s) = ap (λ (r : Listed). r .matches) (o .answered ∙ given .0) in
+    record { count = count; few = omega (arith, a .few); first = rw (o .filled, given .2, count) (take-append-seam (matchesIn Of1988 side s) _) }
 
 -- the check's answer, and the table as it leaves it
 pub record Checking (s : List ℕ) (answer : Checked) (table : List ℕ) : Type 0 where
-  pub accepted : checked s lentTable .number ≡ 0
+  pub accepted : checked Of1988 s lentTable .number ≡ 0
   pub few : answer .elements ≤ rowsLent
   pub full : length table ≡ tableRoom
-  pub lines : rowLines table 0 (answer .elements) ≡ elementLines 0 (rowsIn s)
+  pub lines : rowLines table 0 (answer .elements) ≡ elementLines 0 (rowsIn Of1988 s)
 
-pub checks-all : (s : List ℕ) {answer : Checked} {table : List ℕ} → answer .number ≡ 0 → CheckOutcome s lentTable answer table → Checking s answer table
+pub checks-all : (s : List ℕ) {answer : Checked} {table : List ℕ} → answer .number ≡ 0 → CheckOutcome Of1988 s lentTable answer table → Checking s answer table
 checks-all s {answer} {table} zero-number o =
-    let n : checked s lentTable .number ≡ 0 = ap (λ (r : Checked). r .number) (sym (o .answered)) ∙ zero-number in
+    let n : checked Of1988 s lentTable .number ≡ 0 = ap (λ (r : Checked). r .number) (sym (o .answered)) ∙ zero-number in
     let a = accepted-on s n in
-    let d = demand2 .of-letter s (a .headers) (a .elements) (a .judged) in
+    let d = demand2 Of1988 .of-letter s (a .headers) (a .elements) (a .judged) in
     let all : length lentTable ≡ tableRoom = length-replicate {A = ℕ} tableRoom 0 in
     let rows : length lentTable / rowWidth ≡ rowsLent = ap (λ (k : ℕ). k / rowWidth) all in
     let given = d .checks lentTable (omega (arith, a .few)) in
-    let count : answer .elements ≡ length (rowsIn s) = ap (λ (r : Checked). r .elements) (o .answered ∙ given .0) ∙ sym (d .rows-counted) in
-    let kept : table ≡ tableOf s lentTable = o .tabled ∙ given .1 in
-    let wide = numbers-length (rowsIn s) in
+    let count : answer .elements ≡ length (rowsIn Of1988 s) = ap (λ (r : Checked). r .elements) (o .answered ∙ given .0) ∙ sym (d .rows-counted) in
+    let kept : table ≡ tableOf Of1988 s lentTable = o .tabled ∙ given .1 in
+    let wide = numbers-length (rowsIn Of1988 s) in
     record {
       accepted = n;
       few = omega (arith, a .few, d .rows-counted);
-      full = rw kept (length-append (numbers (rowsIn s)) _ ∙ omega (arith, length-drop (length (numbers (rowsIn s))) lentTable, a .few, d .rows-counted));
-      lines = rw (kept, count) (table-lines (rowsIn s) _);
+      full = rw kept (length-append (numbers (rowsIn Of1988 s)) _ ∙ omega (arith, length-drop (length (numbers (rowsIn Of1988 s))) lentTable, a .few, d .rows-counted));
+      lines = rw (kept, count) (table-lines (rowsIn Of1988 s) _);
     }
 
 -- the lines of a stream, by the check's number
-pub refused-lines : (s : List ℕ) {answer : Checked} → answer ≡ checked s lentTable → (answer .number ≡ 0 → ⊥) → refused (answer .number) (answer .place) ≡ streamLines s
+pub refused-lines : (s : List ℕ) {answer : Checked} → answer ≡ checked Of1988 s lentTable → (answer .number ≡ 0 → ⊥) → refused (answer .number) (answer .place) ≡ streamLines s
 unfolding streamLines
 refused-lines s {answer} e other =
     let test : eqb (answer .number) 0 ≡ false = ne-eqb (answer .number) 0 other in
     rw (← e, test)
 
-pub accepted-lines : (s : List ℕ) {answer : Checked} → answer ≡ checked s lentTable → answer .number ≡ 0 → acceptedLines (answer .elements) (answer .headers) s ≡ streamLines s
+pub accepted-lines : (s : List ℕ) {answer : Checked} → answer ≡ checked Of1988 s lentTable → answer .number ≡ 0 → acceptedLines (answer .elements) (answer .headers) s ≡ streamLines s
 unfolding streamLines
 accepted-lines s {answer} e same =
     let test : eqb (answer .number) 0 ≡ true = eq-eqb (answer .number) 0 same in

@@ -11,6 +11,7 @@ use Rattle.hex.specs.Lines as hex
 use Rattle.hex.specs.Blocks.{lastLine}
 use Rattle.index.specs.Rows.{rowWidth}
 use Rattle.elements.specs.declared.Row.{Row}
+use Rattle.elements.specs.declared.Edition.the-variants.{Of1988}
 use Rattle.reading.specs.declared.Match.{Match}
 use Rattle.reading.specs.declared.Side.{Side}
 use Rattle.reading.specs.declared.Side.the-variants.{Layout, Logical}
@@ -51,11 +52,11 @@ matchLines side ms = flatten (map (matchLine side) ms)
 
 -- "then layout matches, then logical ones"
 abbrev pub sideLines : (s : List ℕ) → List ℕ
-sideLines s = matchLines Layout (matchesIn Layout s) ++ matchLines Logical (matchesIn Logical s)
+sideLines s = matchLines Layout (matchesIn Of1988 Layout s) ++ matchLines Logical (matchesIn Of1988 Logical s)
 
 -- "accepted, elements, headers; then element, first, past, kind"; then the matches
 unfoldable pub acceptedLines : (elements headers : ℕ) → (s : List ℕ) → List ℕ
-acceptedLines elements headers s = accepted elements headers ++ elementLines 0 (rowsIn s) ++ sideLines s
+acceptedLines elements headers s = accepted elements headers ++ elementLines 0 (rowsIn Of1988 s) ++ sideLines s
 
 -- "A refused stream prints `refused` with number and place"
 abbrev pub answerLines : Checked → (s : List ℕ) → List ℕ
@@ -65,7 +66,7 @@ answerLines answer s =
     (refused (answer .number) (answer .place))
 
 unfoldable pub streamLines : (s : List ℕ) → List ℕ
-streamLines s = answerLines (checked s lentTable) s
+streamLines s = answerLines (checked Of1988 s lentTable) s
 
 -- "the first line with anything else .. prints only `unreadable` and its number from 1"
 abbrev pub outcomeLines : TextMeaning → List ℕ

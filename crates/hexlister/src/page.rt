@@ -5,6 +5,7 @@ use hex::State;
 use index::ROW_WIDTH;
 use index::WHOLE;
 use odif::Checked;
+use odif::Edition;
 use odif::Listed;
 use reading::Match;
 use reading::Side;
@@ -37,14 +38,14 @@ struct SideList {
 
 // Asks the list of a side on an array of its own, and hands it back by value: whoever calls this needs no reference to a record.
 fn list_side(stream: &[u8], side: Side, table: &mut [u32]) -> SideList
-    ensures { λ r. ⌜ ListOutcome side (now (stream .entry)) (now (table .entry)) lentList (r .answer) (now (table .exit)) (r .records) ⌝ }
+    ensures { λ r. ⌜ ListOutcome Edition.Of1988 side (now (stream .entry)) (now (table .entry)) lentList (r .answer) (now (table .exit)) (r .records) ⌝ }
 {
     let mut records = [Match {
         element: 0,
         portion: 0,
         unit: 0,
     }; RECORDS];
-    let answer = odif::list(stream, side, table, &mut records);
+    let answer = odif::list(Edition::Of1988, stream, side, table, &mut records);
     SideList { answer, records }
 }
 
@@ -130,8 +131,8 @@ fn put_matches(
 
 // The matches of a side of a stream that the check has accepted.
 fn put_side(page: &mut [u8], at: usize, side: Side, stream: &[u8], table: &mut [u32]) -> usize
-    requires { ⌜ (at + sideRoom ≤ length (now page)) × (length (now table) ≡ tableRoom) × (checked (now stream) lentTable .number ≡ 0) ⌝ }
-    ensures { λ r. ⌜ PutsOnPage (matchLines side (matchesIn side (now (stream .entry)))) (now (page .entry)) at r (now (page .exit)) sideRoom ⌝ }
+    requires { ⌜ (at + sideRoom ≤ length (now page)) × (length (now table) ≡ tableRoom) × (checked Edition.Of1988 (now stream) lentTable .number ≡ 0) ⌝ }
+    ensures { λ r. ⌜ PutsOnPage (matchLines side (matchesIn Edition.Of1988 side (now (stream .entry)))) (now (page .entry)) at r (now (page .exit)) sideRoom ⌝ }
 {
     let found = list_side(stream, side, table);
     let answer = found.answer;
@@ -142,7 +143,8 @@ fn put_side(page: &mut [u8], at: usize, side: Side, stream: &[u8], table: &mut [
 
 // The matches of both sides of such a stream.
 fn put_sides(page: &mut [u8], at: usize, stream: &[u8], table: &mut [u32]) -> usize
-    requires { ⌜ (at + sideRoom + sideRoom ≤ length (now page)) × (length (now table) ≡ tableRoom) × (checked (now stream) lentTable .number ≡ 0) ⌝ }
+    requires { ⌜ (at + sideRoom + sideRoom ≤ length (now page)) × (length (now table) ≡ tableRoom)
+        × (checked Edition.Of1988 (now stream) lentTable .number ≡ 0) ⌝ }
     ensures { λ r. ⌜ PutsOnPage (sideLines (now (stream .entry))) (now (page .entry)) at r (now (page .exit)) (sideRoom + sideRoom) ⌝ }
 {
     let layout = put_side(page, at, Side::Layout, stream, table);
@@ -181,7 +183,7 @@ fn put_unreadable(page: &mut [u8], number: u64) -> usize
 
 // All lines of a stream that the check has accepted, by the check's answer and the table that it filled.
 fn put_letter(page: &mut [u8], stream: &[u8], answer: Checked, table: &mut [u32]) -> usize
-    requires { ⌜ (length (now page) ≡ pageRoom) × (answer .number ≡ 0) × CheckOutcome (now stream) lentTable answer (now table) ⌝ }
+    requires { ⌜ (length (now page) ≡ pageRoom) × (answer .number ≡ 0) × CheckOutcome Edition.Of1988 (now stream) lentTable answer (now table) ⌝ }
     ensures { λ r. ⌜ PutsOnPage (acceptedLines (answer .elements) (answer .headers) (now (stream .entry))) (now (page .entry)) 0 r
         (now (page .exit)) pageRoom ⌝ }
 {
@@ -196,7 +198,7 @@ fn put_stream(page: &mut [u8], stream: &[u8]) -> usize
     ensures { λ r. ⌜ PutsOnPage (streamLines (now (stream .entry))) (now (page .entry)) 0 r (now (page .exit)) pageRoom ⌝ }
 {
     let mut table = [0u32; ROWS * ROW_WIDTH];
-    let answer = odif::check(stream, &mut table);
+    let answer = odif::check(Edition::Of1988, stream, &mut table);
     if answer.number != 0 {
         return put_refused(page, answer.number, answer.place);
     }

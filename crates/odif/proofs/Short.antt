@@ -17,7 +17,7 @@ use Rattle.normal.specs.Normal.{normalForm}
 use Rattle.normal.specs.Writes.{outputOf}
 use Rattle.normal.specs.Short.{shortLimit, answerShort}
 use Rattle.normal.proofs.Normals.{small}
-use Rattle.elements.specs.declared.Edition.the-variants.{Of1988}
+use Rattle.elements.specs.declared.Edition.{Edition}
 use Rattle.elements.specs.Judge.{Element}
 use Rattle.letters.specs.Letter.{Letter, letter, refusal}
 use Rattle.answers.specs.declared.Reason.{Reason}
@@ -31,51 +31,51 @@ use Rattle.answers.proofs.Judging.{accepts-walked}
 use Rattle.answers.specs.Asking.{writtenAs}
 use Rattle.odif.proofs.Writing.{Fits}
 
-module _ (s : List ℕ) where
+module _ (edition : Edition) (s : List ℕ) where
   -- what the rules say of a stream, as their work tells it
-  pub reason-told : {told : Told} → told ≡ reasonTold (ruled s) → record { number = told .number; place = told .place } ≡ ruled s
+  pub reason-told : {told : Told} → told ≡ reasonTold (ruled edition s) → record { number = told .number; place = told .place } ≡ ruled edition s
   reason-told e = ap (λ (t : Told). record { number = t .number; place = t .place }) e
 
   -- and back
   pub record Refused (number place : ℕ) : Type 0 where
     pub headers : ℕ
-    pub judged : letterIn s ≡ refusal number place headers
+    pub judged : letterIn edition s ≡ refusal number place headers
 
   pub record Passed : Type 0 where
     pub headers : ℕ
     pub elements : List Element
-    pub judged : letterIn s ≡ letter headers elements
+    pub judged : letterIn edition s ≡ letter headers elements
 
-  refused-from : (l : Letter) → letterIn s ≡ l → (ruledBy l .number ≡ 0 → ⊥) → Refused (ruledBy l .number) (ruledBy l .place)
+  refused-from : (l : Letter) → letterIn edition s ≡ l → (ruledBy l .number ≡ 0 → ⊥) → Refused (ruledBy l .number) (ruledBy l .place)
   refused-from (refusal number place headers) e n = record { headers = headers; judged = e }
   refused-from (letter headers elements) e n = absurd (n refl)
 
-  passed-from : (l : Letter) → letterIn s ≡ l → ruledBy l .number ≡ 0 → Passed
-  passed-from (refusal number place headers) e z = absurd (omega (arith, refusal-small Of1988 s number place headers e .low))
+  passed-from : (l : Letter) → letterIn edition s ≡ l → ruledBy l .number ≡ 0 → Passed
+  passed-from (refusal number place headers) e z = absurd (omega (arith, refusal-small edition s number place headers e .low))
   passed-from (letter headers elements) e z = record { headers = headers; elements = elements; judged = e }
 
-  pub refused : (r : Reason) → r ≡ ruled s → (r .number ≡ 0 → ⊥) → Refused (r .number) (r .place)
+  pub refused : (r : Reason) → r ≡ ruled edition s → (r .number ≡ 0 → ⊥) → Refused (r .number) (r .place)
   unfolding ruled
-  refused r e n = rw e (refused-from (letterIn s) refl (λ z. n (ap (λ (x : Reason). x .number) e ∙ z)))
+  refused r e n = rw e (refused-from (letterIn edition s) refl (λ z. n (ap (λ (x : Reason). x .number) e ∙ z)))
 
-  pub passed : (r : Reason) → r ≡ ruled s → r .number ≡ 0 → Passed
+  pub passed : (r : Reason) → r ≡ ruled edition s → r .number ≡ 0 → Passed
   unfolding ruled
-  passed r e z = passed-from (letterIn s) refl (sym (ap (λ (x : Reason). x .number) e) ∙ z)
+  passed r e z = passed-from (letterIn edition s) refl (sym (ap (λ (x : Reason). x .number) e) ∙ z)
 
   pub passed-whole : Passed → Whole (run deepest s 0 (length s) false .how)
   passed-whole p =
-      let f = letter-found Of1988 s (p .headers) (p .elements) (p .judged) in
+      let f = letter-found edition s (p .headers) (p .elements) (p .judged) in
       whole-of s (f .at) (p .headers) (f .walked) .1
 
   -- a normal form is at most three times as long as its stream
   form-fits : Passed → length s ≤ shortLimit → length (normalForm s) ≤ streamLimit
   form-fits p l =
-      let f = letter-found Of1988 s (p .headers) (p .elements) (p .judged) in
+      let f = letter-found edition s (p .headers) (p .elements) (p .judged) in
       let few = small (means s (treeOf s) (accepts-walked (f .walked)) .0) in
       omega arith
 
   module _ (out : List ℕ) where
-    pub short-over : shortLimit < length s → ShortOutcome s out (record { number = 1; place = 0; length = 0 }) out
+    pub short-over : shortLimit < length s → ShortOutcome edition s out (record { number = 1; place = 0; length = 0 }) out
     unfolding writtenShort writtenShortOutput
     short-over l = let t = lt-ltb shortLimit (length s) l in record { answered = rw t; put = rw t }
 
@@ -83,10 +83,10 @@ module _ (s : List ℕ) where
       within : ltb shortLimit (length s) ≡ false
       within = le-ltb shortLimit (length s) l
 
-      pub short-refused : (number place : ℕ) → Refused number place → ShortOutcome s out (record { number = number; place = place; length = 0 }) out
+      pub short-refused : (number place : ℕ) → Refused number place → ShortOutcome edition s out (record { number = number; place = place; length = 0 }) out
       unfolding writtenShort writtenShortOutput
       short-refused number place r =
-          let low = refusal-small Of1988 s number place (r .headers) (r .judged) .low in
+          let low = refusal-small edition s number place (r .headers) (r .judged) .low in
           let some : eqb number 0 ≡ false = ne-eqb number 0 (λ z. omega arith) in
           record { answered = rw (within, r .judged); put = rw (within, r .judged, some) }
 
@@ -94,7 +94,7 @@ module _ (s : List ℕ) where
       abbrev expected : Answer
       expected = answerShort (normalForm s) out
 
-      pub short-letter : Passed → ShortOutcome s out (writtenAs expected) (outputOf expected (normalForm s) out) × Fits (writtenAs expected)
+      pub short-letter : Passed → ShortOutcome edition s out (writtenAs expected) (outputOf expected (normalForm s) out) × Fits (writtenAs expected)
       unfolding writtenShort writtenShortOutput answerShort
       short-letter p =
           let form = normalForm s in

@@ -12,7 +12,7 @@ use Rattle.octets.specs.Walk.{streamLimit}
 use Rattle.normal.specs.declared.Answer.{Answer}
 use Rattle.normal.specs.Normal.{normalForm}
 use Rattle.normal.specs.Writes.{answerOf, outputOf}
-use Rattle.elements.specs.declared.Edition.the-variants.{Of1988}
+use Rattle.elements.specs.declared.Edition.{Edition}
 use Rattle.elements.specs.Judge.{Element}
 use Rattle.letters.specs.Letter.{letter, refusal}
 use Rattle.answers.specs.declared.Written.{Written}
@@ -29,28 +29,28 @@ pub record Fits (answer : Written) : Type 0 where
   pub low-place : answer .place ≤ 0
   pub short : answer .length ≤ streamLimit
 
-module _ (s out : List ℕ) where
-  pub writes-refused : (number place headers : ℕ) → letterIn s ≡ refusal number place headers
-      → NormalOutcome s out (record { number = number; place = place; length = 0 }) out
+module _ (edition : Edition) (s out : List ℕ) where
+  pub writes-refused : (number place headers : ℕ) → letterIn edition s ≡ refusal number place headers
+      → NormalOutcome edition s out (record { number = number; place = place; length = 0 }) out
   unfolding written writtenOutput
   writes-refused number place headers e =
-      let low = refusal-small Of1988 s number place headers e .low in
+      let low = refusal-small edition s number place headers e .low in
       let some : eqb number 0 ≡ false = ne-eqb number 0 (λ z. omega arith) in
       record { answered = rw e; put = rw (e, some) }
 
   -- the same, of what the rules told
-  pub writes-told : {told : Told} → told ≡ reasonTold (ruled s) → (told .number ≡ 0 → ⊥)
-      → NormalOutcome s out (record { number = told .number; place = told .place; length = 0 }) out
+  pub writes-told : {told : Told} → told ≡ reasonTold (ruled edition s) → (told .number ≡ 0 → ⊥)
+      → NormalOutcome edition s out (record { number = told .number; place = told .place; length = 0 }) out
   writes-told e =
-      subst (λ (t : Told). (t .number ≡ 0 → ⊥) → NormalOutcome s out (record { number = t .number; place = t .place; length = 0 }) out) (sym e)
-      (λ some. let d = is-refused s some in writes-refused (ruled s .number) (ruled s .place) (d .headers) (d .judged))
+      subst (λ (t : Told). (t .number ≡ 0 → ⊥) → NormalOutcome edition s out (record { number = t .number; place = t .place; length = 0 }) out) (sym e)
+      (λ some. let d = is-refused edition s some in writes-refused (ruled edition s .number) (ruled edition s .place) (d .headers) (d .judged))
 
   -- the answer of the crate that writes, of a letter
   abbrev expected : Answer
   expected = answerOf (normalForm s) out
 
-  pub writes-letter : (headers : ℕ) (elements : List Element) → letterIn s ≡ letter headers elements
-      → NormalOutcome s out (writtenAs expected) (outputOf expected (normalForm s) out) × Fits (writtenAs expected)
+  pub writes-letter : (headers : ℕ) (elements : List Element) → letterIn edition s ≡ letter headers elements
+      → NormalOutcome edition s out (writtenAs expected) (outputOf expected (normalForm s) out) × Fits (writtenAs expected)
   unfolding written writtenOutput answerOf
   writes-letter headers elements e =
       let form = normalForm s in

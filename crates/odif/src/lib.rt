@@ -6,12 +6,17 @@ pub use answers::Listed;
 use answers::Question;
 pub use answers::Reason;
 pub use answers::Written;
+pub use elements::Edition;
 use normal::Answer;
 pub use reading::Match;
 pub use reading::Side;
 ghost use mathlib.Core.Path.{_≡_};
 ghost use Rattle.answers.specs.Answers.{ruled, CheckOutcome, NormalOutcome, ListOutcome, fetched, whyNot, Fetches, JoinedOutcome};
 ghost use Rattle.answers.specs.Short.{ShortOutcome};
+ghost use Rattle.making.specs.Answers.{MakeOutcome};
+ghost use Rattle.making.specs.Flat.{entriesOf};
+
+mod arriving; // arriving.rt: a letter that arrives in blocks
 
 // The most octets of a stream that the mailroom box asks about.
 const SHORT_LIMIT: usize = 65535;
@@ -19,12 +24,19 @@ const SHORT_LIMIT: usize = 65535;
 const TOO_LONG: u32 = 1;
 
 // Checks a stream and fills the element table, twelve numbers a row. The viewer asks this first.
-pub fn check(stream: &[u8], table: &mut [u32]) -> Checked
-    ensures { λ r. ⌜ CheckOutcome (now (stream .entry)) (now (table .entry)) r (now (table .exit)) ⌝ }
+pub fn check(edition: Edition, stream: &[u8], table: &mut [u32]) -> Checked
+    ensures { λ r. ⌜ CheckOutcome edition (now (stream .entry)) (now (table .entry)) r (now (table .exit)) ⌝ }
 {
     let mut numbers = [0u32; 0];
     let mut octets = [0u8; 0];
-    let told = scratch::ask(stream, Question::Check, table, &mut numbers, &mut octets);
+    let told = scratch::ask(
+        edition,
+        stream,
+        Question::Check,
+        table,
+        &mut numbers,
+        &mut octets,
+    );
     Checked {
         number: told.number,
         place: told.place,
@@ -34,13 +46,14 @@ pub fn check(stream: &[u8], table: &mut [u32]) -> Checked
 }
 
 // Writes the normal form of a stream. The archive asks this, and keeps what is written.
-pub fn normal(stream: &[u8], out: &mut [u8]) -> Written
-    ensures { λ r. ⌜ NormalOutcome (now (stream .entry)) (now (out .entry)) r (now (out .exit)) ⌝ }
+pub fn normal(edition: Edition, stream: &[u8], out: &mut [u8]) -> Written
+    ensures { λ r. ⌜ NormalOutcome edition (now (stream .entry)) (now (out .entry)) r (now (out .exit)) ⌝ }
 {
     let mut rows = [0u32; 0];
     let mut numbers = [0u32; 0];
     let mut octets = [0u8; 0];
     let ruled = scratch::ask(
+        edition,
         stream,
         Question::Rules,
         &mut rows,
@@ -69,32 +82,38 @@ pub fn normal(stream: &[u8], out: &mut [u8]) -> Written
 }
 
 // Lists the matches of a side, and fills the element table. The viewer reads the letter in this order.
-pub fn list(stream: &[u8], side: Side, table: &mut [u32], list: &mut [Match]) -> Listed
-    ensures { λ r. ⌜ ListOutcome side (now (stream .entry)) (now (table .entry)) (now (list .entry)) r (now (table .exit)) (now (list .exit)) ⌝ }
+pub fn list(
+    edition: Edition,
+    stream: &[u8],
+    side: Side,
+    table: &mut [u32],
+    list: &mut [Match],
+) -> Listed
+    ensures { λ r. ⌜ ListOutcome edition side (now (stream .entry)) (now (table .entry)) (now (list .entry)) r (now (table .exit)) (now (list .exit)) ⌝ }
 {
     let walked = octets::walk(stream);
     if scratch::needs_few(stream, walked) {
-        return scratch::list_few(stream, walked, side, table, list);
+        return scratch::list_few(edition, stream, walked, side, table, list);
     }
-    scratch::list_many(stream, walked, side, table, list)
+    scratch::list_many(edition, stream, walked, side, table, list)
 }
 
 // The content of a text unit: a part of the caller's own stream, and an empty part if the stream or the element is refused, or the content
 // is in pieces. The viewer asks this of an element of a match, and `why` if the part is empty.
-pub fn content<'a>(stream: &'a [u8], element: usize) -> &'a [u8]
-    ensures { λ r. ⌜ now r ≡ fetched (now (stream .entry)) element .part ⌝ }
+pub fn content<'a>(edition: Edition, stream: &'a [u8], element: usize) -> &'a [u8]
+    ensures { λ r. ⌜ now r ≡ fetched edition (now (stream .entry)) element .part ⌝ }
 {
-    let located = locate(stream, element);
+    let located = locate(edition, stream, element);
     let first = located.first as usize;
     let past = located.past as usize;
     &stream[first..past]
 }
 
 // Why the content of an element was refused: 0 at 0 if it was not.
-pub fn why(stream: &[u8], element: usize) -> Reason
-    ensures { λ r. ⌜ r ≡ whyNot (now (stream .entry)) element ⌝ }
+pub fn why(edition: Edition, stream: &[u8], element: usize) -> Reason
+    ensures { λ r. ⌜ r ≡ whyNot edition (now (stream .entry)) element ⌝ }
 {
-    let located = locate(stream, element);
+    let located = locate(edition, stream, element);
     Reason {
         number: located.number,
         place: located.place,
@@ -102,13 +121,14 @@ pub fn why(stream: &[u8], element: usize) -> Reason
 }
 
 // Where the content of an element stands in the stream, with the number and place of a refusal.
-fn locate(stream: &[u8], element: usize) -> Found
-    ensures { λ r. ⌜ Fetches (now (stream .entry)) element r ⌝ }
+fn locate(edition: Edition, stream: &[u8], element: usize) -> Found
+    ensures { λ r. ⌜ Fetches edition (now (stream .entry)) element r ⌝ }
 {
     let mut rows = [0u32; 0];
     let mut numbers = [0u32; 0];
     let mut octets = [0u8; 0];
     let found = scratch::ask(
+        edition,
         stream,
         Question::Content { element },
         &mut rows,
@@ -125,12 +145,13 @@ fn locate(stream: &[u8], element: usize) -> Found
 
 // Copies the content of a text unit, its pieces joined in order, to a lent buffer. The viewer asks this where the content may be in pieces;
 // nothing is written to a buffer that is too short.
-pub fn joined(stream: &[u8], element: usize, out: &mut [u8]) -> Copied
-    ensures { λ r. ⌜ JoinedOutcome (now (stream .entry)) element (now (out .entry)) r (now (out .exit)) ⌝ }
+pub fn joined(edition: Edition, stream: &[u8], element: usize, out: &mut [u8]) -> Copied
+    ensures { λ r. ⌜ JoinedOutcome edition (now (stream .entry)) element (now (out .entry)) r (now (out .exit)) ⌝ }
 {
     let mut rows = [0u32; 0];
     let mut numbers = [0u32; 0];
     let put = scratch::ask(
+        edition,
         stream,
         Question::Joined { element },
         &mut rows,
@@ -145,13 +166,14 @@ pub fn joined(stream: &[u8], element: usize, out: &mut [u8]) -> Copied
 }
 
 // Why rules 1 to 15 refuse a stream: 0 at 0 if they don't.
-fn refused_by(stream: &[u8]) -> Reason
-    ensures { λ r. ⌜ r ≡ ruled (now (stream .entry)) ⌝ }
+fn refused_by(edition: Edition, stream: &[u8]) -> Reason
+    ensures { λ r. ⌜ r ≡ ruled edition (now (stream .entry)) ⌝ }
 {
     let mut rows = [0u32; 0];
     let mut numbers = [0u32; 0];
     let mut octets = [0u8; 0];
     let told = scratch::ask(
+        edition,
         stream,
         Question::Rules,
         &mut rows,
@@ -166,8 +188,8 @@ fn refused_by(stream: &[u8]) -> Reason
 
 // Writes the normal form of a stream of at most 65,535 octets, which is never longer than the stream. The mailroom box asks this: an output
 // as long as the stream is always enough.
-pub fn normal_short(stream: &[u8], out: &mut [u8]) -> Written
-    ensures { λ r. ⌜ ShortOutcome (now (stream .entry)) (now (out .entry)) r (now (out .exit)) ⌝ }
+pub fn normal_short(edition: Edition, stream: &[u8], out: &mut [u8]) -> Written
+    ensures { λ r. ⌜ ShortOutcome edition (now (stream .entry)) (now (out .entry)) r (now (out .exit)) ⌝ }
 {
     if SHORT_LIMIT < stream.len() {
         return Written {
@@ -176,7 +198,7 @@ pub fn normal_short(stream: &[u8], out: &mut [u8]) -> Written
             length: 0,
         };
     }
-    let refused = refused_by(stream);
+    let refused = refused_by(edition, stream);
     if refused.number != 0 {
         return Written {
             number: refused.number,
@@ -198,52 +220,70 @@ pub fn normal_short(stream: &[u8], out: &mut [u8]) -> Written
     }
 }
 
+// Makes a letter of entries, of which each has an identifier, a portion and a text: six numbers an entry, a first and past in the buffer for
+// each of these. A handler's answer is made of this; nothing is written to an output that is too short.
+pub fn make(buffer: &[u8], entries: &[u32], out: &mut [u8]) -> Written
+    ensures { λ r. ⌜ MakeOutcome (now (buffer .entry)) (entriesOf (now (entries .entry))) (now (out .entry)) r (now (out .exit)) ⌝ }
+{
+    making::make(buffer, entries, out)
+}
+
 // The same questions for C, as include/odif.h declares them: a slice is a pointer and a length, and a null pointer with length 0 is fine.
 #[no_mangle]
 pub extern "C" fn odif_check(stream: &[u8], table: &mut [u32]) -> Checked
-    ensures { λ r. ⌜ CheckOutcome (now (stream .entry)) (now (table .entry)) r (now (table .exit)) ⌝ }
+    ensures { λ r. ⌜ CheckOutcome Edition.Of1988 (now (stream .entry)) (now (table .entry)) r (now (table .exit)) ⌝ }
 {
-    check(stream, table)
+    check(Edition::Of1988, stream, table)
 }
 
 #[no_mangle]
 pub extern "C" fn odif_normal(stream: &[u8], out: &mut [u8]) -> Written
-    ensures { λ r. ⌜ NormalOutcome (now (stream .entry)) (now (out .entry)) r (now (out .exit)) ⌝ }
+    ensures { λ r. ⌜ NormalOutcome Edition.Of1988 (now (stream .entry)) (now (out .entry)) r (now (out .exit)) ⌝ }
 {
-    normal(stream, out)
+    normal(Edition::Of1988, stream, out)
 }
 
 #[no_mangle]
 pub extern "C" fn odif_layout(stream: &[u8], table: &mut [u32], list: &mut [Match]) -> Listed
-    ensures { λ r. ⌜ ListOutcome Side.Layout (now (stream .entry)) (now (table .entry)) (now (list .entry)) r (now (table .exit)) (now (list .exit)) ⌝ }
+    ensures { λ r. ⌜ ListOutcome Edition.Of1988 Side.Layout (now (stream .entry)) (now (table .entry)) (now (list .entry)) r (now (table .exit))
+        (now (list .exit)) ⌝ }
 {
-    crate::list(stream, Side::Layout, table, list)
+    crate::list(Edition::Of1988, stream, Side::Layout, table, list)
 }
 
 #[no_mangle]
 pub extern "C" fn odif_logical(stream: &[u8], table: &mut [u32], list: &mut [Match]) -> Listed
-    ensures { λ r. ⌜ ListOutcome Side.Logical (now (stream .entry)) (now (table .entry)) (now (list .entry)) r (now (table .exit)) (now (list .exit)) ⌝ }
+    ensures { λ r. ⌜ ListOutcome Edition.Of1988 Side.Logical (now (stream .entry)) (now (table .entry)) (now (list .entry)) r (now (table .exit))
+        (now (list .exit)) ⌝ }
 {
-    crate::list(stream, Side::Logical, table, list)
+    crate::list(Edition::Of1988, stream, Side::Logical, table, list)
 }
 
 #[no_mangle]
 pub extern "C" fn odif_content(stream: &[u8], element: u32) -> Found
-    ensures { λ r. ⌜ Fetches (now (stream .entry)) element r ⌝ }
+    ensures { λ r. ⌜ Fetches Edition.Of1988 (now (stream .entry)) element r ⌝ }
 {
-    locate(stream, element as usize)
+    locate(Edition::Of1988, stream, element as usize)
 }
 
 #[no_mangle]
 pub extern "C" fn odif_joined(stream: &[u8], element: u32, out: &mut [u8]) -> Copied
-    ensures { λ r. ⌜ JoinedOutcome (now (stream .entry)) element (now (out .entry)) r (now (out .exit)) ⌝ }
+    ensures { λ r. ⌜ JoinedOutcome Edition.Of1988 (now (stream .entry)) element (now (out .entry)) r (now (out .exit)) ⌝ }
 {
-    joined(stream, element as usize, out)
+    joined(Edition::Of1988, stream, element as usize, out)
 }
 
 #[no_mangle]
 pub extern "C" fn odif_normal_short(stream: &[u8], out: &mut [u8]) -> Written
-    ensures { λ r. ⌜ ShortOutcome (now (stream .entry)) (now (out .entry)) r (now (out .exit)) ⌝ }
+    ensures { λ r. ⌜ ShortOutcome Edition.Of1988 (now (stream .entry)) (now (out .entry)) r (now (out .exit)) ⌝ }
 {
-    normal_short(stream, out)
+    normal_short(Edition::Of1988, stream, out)
+}
+
+// The header's `odif_make` hands its entries to this one as numbers.
+#[no_mangle]
+pub extern "C" fn odif_make_numbers(buffer: &[u8], entries: &[u32], out: &mut [u8]) -> Written
+    ensures { λ r. ⌜ MakeOutcome (now (buffer .entry)) (entriesOf (now (entries .entry))) (now (out .entry)) r (now (out .exit)) ⌝ }
+{
+    make(buffer, entries, out)
 }

@@ -4,6 +4,7 @@
 use hex::INPUT_LIMIT;
 use hex::Read;
 use libc::STDOUT_FILENO;
+use odif::Edition;
 ghost use Prim.Native.Nat.{_<_};
 
 // Room for the rows of ten elements: no example has more.
@@ -35,7 +36,7 @@ fn print_pairs(octets: &[u8]) {
 // What the check answers.
 fn print_check(stream: &[u8]) {
     let mut table = [0u32; TABLE_ROOM];
-    let answer = odif::check(stream, &mut table);
+    let answer = odif::check(Edition::Of1988, stream, &mut table);
     io::print_decimal(STDOUT_FILENO, answer.number as u64);
     io::write_all(STDOUT_FILENO, b" ");
     io::print_decimal(STDOUT_FILENO, answer.place as u64);
@@ -45,7 +46,7 @@ fn print_check(stream: &[u8]) {
 
 fn print_normal(stream: &[u8]) {
     let mut form = [0u8; INPUT_LIMIT];
-    let answer = odif::normal(stream, &mut form);
+    let answer = odif::normal(Edition::Of1988, stream, &mut form);
     if answer.number == 0 {
         print_pairs(hex::part(&form, answer.length as usize));
     } else {
@@ -55,7 +56,7 @@ fn print_normal(stream: &[u8]) {
 
 fn print_joined(stream: &[u8], element: usize) {
     let mut out = [0u8; INPUT_LIMIT];
-    let answer = odif::joined(stream, element, &mut out);
+    let answer = odif::joined(Edition::Of1988, stream, element, &mut out);
     if answer.number == 0 {
         io::print_decimal(STDOUT_FILENO, element as u64);
         io::write_all(STDOUT_FILENO, b" ");

@@ -13,6 +13,7 @@ ghost use Rattle.letters.specs.Lent.{rowsNeeded};
 ghost use Rattle.answers.specs.Questions.{Leaves, Roomy};
 
 pub fn few(
+    edition: Edition,
     stream: &[u8],
     headers: u32,
     question: Question,
@@ -23,17 +24,17 @@ pub fn few(
     requires { ⌜ walkOf (now stream) ≡ Outcome.Ended (length (now stream)) headers ⌝ }
     requires { ⌜ rowsNeeded (now stream) ≤ 512 ⌝ }
     requires { ⌜ Roomy question (now stream) (length (now flat)) ⌝ }
-    ensures { λ r. ⌜ Leaves question (now (stream .entry)) (now (table .entry)) (now (out .entry)) r (now (table .exit)) (now (flat .exit))
+    ensures { λ r. ⌜ Leaves edition question (now (stream .entry)) (now (table .entry)) (now (out .entry)) r (now (table .exit)) (now (flat .exit))
         (now (out .exit)) ⌝ }
 {
     let mut rows = [0u32; 6144];
     let mut head = [0u16; 1024];
-    let mut next = [0u16; 512];
+    let mut next = [0u16; 513];
     let mut head2 = [0u16; 1024];
-    let mut next2 = [0u16; 512];
+    let mut next2 = [0u16; 513];
     let mut bounds = [0u32; 128];
     match letters::judge_stream(
-        Edition::Of1988,
+        edition,
         stream,
         &mut rows,
         &mut head,
@@ -49,6 +50,7 @@ pub fn few(
             headers,
         ),
         Verdict::Accepted { count } => answers::work(
+            edition,
             stream,
             headers,
             question,
@@ -66,6 +68,7 @@ pub fn few(
 }
 
 pub fn many(
+    edition: Edition,
     stream: &[u8],
     headers: u32,
     question: Question,
@@ -75,17 +78,17 @@ pub fn many(
 ) -> Told
     requires { ⌜ walkOf (now stream) ≡ Outcome.Ended (length (now stream)) headers ⌝ }
     requires { ⌜ Roomy question (now stream) (length (now flat)) ⌝ }
-    ensures { λ r. ⌜ Leaves question (now (stream .entry)) (now (table .entry)) (now (out .entry)) r (now (table .exit)) (now (flat .exit))
+    ensures { λ r. ⌜ Leaves edition question (now (stream .entry)) (now (table .entry)) (now (out .entry)) r (now (table .exit)) (now (flat .exit))
         (now (out .exit)) ⌝ }
 {
     let mut rows = [0u32; 49152];
     let mut head = [0u16; 8192];
-    let mut next = [0u16; 4096];
+    let mut next = [0u16; 4097];
     let mut head2 = [0u16; 8192];
-    let mut next2 = [0u16; 4096];
+    let mut next2 = [0u16; 4097];
     let mut bounds = [0u32; 128];
     match letters::judge_stream(
-        Edition::Of1988,
+        edition,
         stream,
         &mut rows,
         &mut head,
@@ -101,6 +104,7 @@ pub fn many(
             headers,
         ),
         Verdict::Accepted { count } => answers::work(
+            edition,
             stream,
             headers,
             question,

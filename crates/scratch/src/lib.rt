@@ -2,6 +2,7 @@
 // two sizes, for few elements and for as many as a letter may have, since every letter pays for clearing one.
 use answers::Question;
 use answers::Told;
+use elements::Edition;
 use octets::Outcome;
 ghost use mathlib.Core.Path.{_≡_};
 ghost use mathlib.Core.Bool.{true, cond};
@@ -57,6 +58,7 @@ pub fn needs_few(stream: &[u8], walked: Outcome) -> bool
 
 // Puts a question to a stream. What it does not ask for may be lent with no room; a reading list is made by those of its size.
 pub fn ask(
+    edition: Edition,
     stream: &[u8],
     question: Question,
     table: &mut [u32],
@@ -64,15 +66,15 @@ pub fn ask(
     out: &mut [u8],
 ) -> Told
     requires { ⌜ Roomy question (now stream) (length (now flat)) ⌝ }
-    ensures { λ r. ⌜ Leaves question (now (stream .entry)) (now (table .entry)) (now (out .entry)) r (now (table .exit)) (now (flat .exit))
+    ensures { λ r. ⌜ Leaves edition question (now (stream .entry)) (now (table .entry)) (now (out .entry)) r (now (table .exit)) (now (flat .exit))
         (now (out .exit)) ⌝ }
 {
     match octets::walk(stream) {
         Outcome::Ended { at: _, count } => {
             if is_few(stream, count) {
-                return frames::few(stream, count as u32, question, table, flat, out);
+                return frames::few(edition, stream, count as u32, question, table, flat, out);
             }
-            frames::many(stream, count as u32, question, table, flat, out)
+            frames::many(edition, stream, count as u32, question, table, flat, out)
         }
         Outcome::Refused {
             number,

@@ -3,6 +3,7 @@ use super::FEW;
 use super::frames;
 use answers::Listed;
 use answers::Question;
+use elements::Edition;
 use octets::Outcome;
 use reading::Match;
 use reading::Side;
@@ -14,6 +15,7 @@ ghost use Rattle.answers.specs.Asking.{Sized, ListsFlat};
 // The list of a stream that was walked and has few elements. There are never more matches than elements, so numbers for as many records are
 // enough, and these are soon cleared.
 pub fn list_few(
+    edition: Edition,
     stream: &[u8],
     walked: Outcome,
     side: Side,
@@ -21,10 +23,10 @@ pub fn list_few(
     list: &mut [Match],
 ) -> Listed
     requires { ⌜ Sized (now stream) walked 512 ⌝ }
-    ensures { λ r. ⌜ ListOutcome side (now (stream .entry)) (now (table .entry)) (now (list .entry)) r (now (table .exit)) (now (list .exit)) ⌝ }
+    ensures { λ r. ⌜ ListOutcome edition side (now (stream .entry)) (now (table .entry)) (now (list .entry)) r (now (table .exit)) (now (list .exit)) ⌝ }
 {
     let mut flat = [0u32; 1536];
-    let answer = list_flat(stream, walked, side, list.len(), table, &mut flat);
+    let answer = list_flat(edition, stream, walked, side, list.len(), table, &mut flat);
     let count = answer.matches as usize;
     reading::fill(&flat, count, list);
     answer
@@ -32,6 +34,7 @@ pub fn list_few(
 
 // The list of one that has many.
 pub fn list_many(
+    edition: Edition,
     stream: &[u8],
     walked: Outcome,
     side: Side,
@@ -39,10 +42,10 @@ pub fn list_many(
     list: &mut [Match],
 ) -> Listed
     requires { ⌜ Sized (now stream) walked 4096 ⌝ }
-    ensures { λ r. ⌜ ListOutcome side (now (stream .entry)) (now (table .entry)) (now (list .entry)) r (now (table .exit)) (now (list .exit)) ⌝ }
+    ensures { λ r. ⌜ ListOutcome edition side (now (stream .entry)) (now (table .entry)) (now (list .entry)) r (now (table .exit)) (now (list .exit)) ⌝ }
 {
     let mut flat = [0u32; 12288];
-    let answer = list_flat(stream, walked, side, list.len(), table, &mut flat);
+    let answer = list_flat(edition, stream, walked, side, list.len(), table, &mut flat);
     let count = answer.matches as usize;
     reading::fill(&flat, count, list);
     answer
@@ -51,6 +54,7 @@ pub fn list_many(
 // The reading list of a side of a stream that was walked, as numbers, for a list with room for so many records. The numbers have room for a
 // record of each element, and so tell how much scratch is enough.
 pub fn list_flat(
+    edition: Edition,
     stream: &[u8],
     walked: Outcome,
     side: Side,
@@ -59,7 +63,7 @@ pub fn list_flat(
     flat: &mut [u32],
 ) -> Listed
     requires { ⌜ Sized (now stream) walked (length (now flat) / 3) ⌝ }
-    ensures { λ r. ⌜ ListsFlat side (now (stream .entry)) (now (table .entry)) room r (now (table .exit)) (now (flat .exit)) ⌝ }
+    ensures { λ r. ⌜ ListsFlat edition side (now (stream .entry)) (now (table .entry)) room r (now (table .exit)) (now (flat .exit)) ⌝ }
 {
     let mut none = [0u8; 0];
     match walked {
@@ -67,6 +71,7 @@ pub fn list_flat(
             let question = Question::List { side, room };
             if flat.len() / 3 <= FEW {
                 return answers::listed_of(frames::few(
+                    edition,
                     stream,
                     count as u32,
                     question,
@@ -75,7 +80,15 @@ pub fn list_flat(
                     &mut none,
                 ));
             }
-            answers::listed_of(frames::many(stream, count as u32, question, table, flat, &mut none))
+            answers::listed_of(frames::many(
+                edition,
+                stream,
+                count as u32,
+                question,
+                table,
+                flat,
+                &mut none,
+            ))
         }
         Outcome::Refused {
             number,

@@ -1,6 +1,7 @@
 //! `odif check`
 
 use std::io::{self, Write};
+use std::num::NonZeroUsize;
 
 use clap::Args;
 use odif::{Letter, Refusal};
@@ -9,13 +10,14 @@ use serde::Serialize;
 use crate::args::Asked;
 use crate::input::{self, Source};
 use crate::status::{Outcome, Status};
-use crate::{explain, protected, show};
+use crate::{blocks, explain, protected, show};
 
 const EXAMPLES: &str = "\
 Examples:
   odif check letter.odif
   odif check --json inbox/*.odif | grep -v accepted
   echo A00205 | odif check --hex -
+  odif check --blocks 512 letter.odif
 
 Exit status: 0 all were accepted; 1 one was refused; 2 one could not be read.";
 
@@ -29,6 +31,9 @@ Exit status: 0 all were accepted; 1 one was refused; 2 one could not be read.";
 pub struct Words {
     #[command(flatten)]
     asked: Asked,
+    /// Hands each file to the block engine in blocks of N octets: rules 1 to 8 alone
+    #[arg(long, value_name = "N")]
+    blocks: Option<NonZeroUsize>,
 }
 
 /// What JSON has besides the verdict.
@@ -47,6 +52,9 @@ fn is_none(count: &usize) -> bool {
 }
 
 pub fn run(words: &Words) -> Outcome {
+    if let Some(size) = words.blocks {
+        return blocks::run(&words.asked, size);
+    }
     input::each(&words.asked.files, words.asked.json, |source| {
         let read = Letter::read_in(source.edition, &source.stream);
         let report = match &read {

@@ -2,6 +2,7 @@
 
 mod args;
 mod beside;
+mod blocks;
 mod charset;
 mod check;
 mod explain;

@@ -4,6 +4,7 @@
 use odif::{Edition, ROW_WIDTH, SHORT_LIMIT, STREAM_LIMIT, raw};
 use reader::{Reading, Side};
 
+use crate::blocks;
 use crate::editions::{self, to_reader};
 use crate::lent::{self, Lent};
 use crate::openssl::Batch;
@@ -29,6 +30,7 @@ impl Holder {
         }
         let [of_1988, of_1993] = &readings;
         editions::hold(stream, of_1988, &origin, &mut self.tally);
+        blocks::hold(stream, of_1988, &origin, &mut self.tally, &mut rng.clone());
         if of_1993.refusal().is_none() {
             self.tally.accepted += 1;
             self.batch.add(stream, of_1993, origin, &mut self.tally);

@@ -4,6 +4,7 @@
 //! generated letters, damaged copies of them and noise, and compares the answers and all lent memory. The program
 //! `bench` measures the two beside each other.
 
+pub mod blocks;
 pub mod coding;
 pub mod damage;
 pub mod editions;

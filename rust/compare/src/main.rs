@@ -8,7 +8,7 @@ use std::time::Instant;
 use compare::hold::Holder;
 use compare::rng::Rng;
 use compare::tally::{LAST_NUMBER, Origin, Tally};
-use compare::{examples, limits, openssl, seeded, short};
+use compare::{blocks, examples, limits, openssl, seeded, short};
 
 const HELP: &str = "\
 compare [--seed N] [--streams N] [--from N] [--jobs N]
@@ -119,6 +119,7 @@ fn in_threads(jobs: usize, work: impl Fn(&mut Holder) + Sync) -> Tally {
 fn hold_examples() -> Tally {
     let mut holder = Holder::default();
     examples::hold(&mut holder);
+    blocks::hold_fixed(&mut holder.tally);
     holder.finish()
 }
 

@@ -27,11 +27,13 @@
 //!
 //! [`raw`] has the functions of the C header as they stand, for callers who lend their own memory.
 
+mod blocks;
 mod edition;
 mod letter;
 pub mod raw;
 mod refusal;
 
+pub use blocks::{Blocks, ClosedEarly, PastTotal, Walked};
 pub use edition::Edition;
 pub use letter::{Checked, Element, Kind, Letter, Match, Side, check, check_in, content, content_in};
 pub use letter::{normal_form, normal_form_in, short_normal_form, short_normal_form_in};

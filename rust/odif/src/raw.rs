@@ -3,8 +3,10 @@
 //! nothing; the one without it is that of 1988.
 //!
 //! Nothing here fails: an answer's number says whether it is a refusal. The crate's other modules are easier to use.
-//! This is the only file with `unsafe` in it.
+//! This file and `raw/blocks.rs` are the only ones with `unsafe` in them.
 #![allow(unsafe_code)]
+
+pub mod blocks;
 
 use crate::edition::Edition;
 

@@ -15,7 +15,7 @@ returns : tie.Need-returns
 returns c =
     let a = c .before .before .before .before .before in
     let l = accepted-judged (a .pre .0) (a .pre .1) in
-    let r = checks-16 (now (a .args .stream)) (now (a .args .table)) (a .args .headers) (l .elements) (l .judged) (omega arith) in
+    let r = checks-16 (a .args .edition) (now (a .args .stream)) (now (a .args .table)) (a .args .headers) (l .elements) (l .judged) (omega arith) in
     record { answered = c .refused-check .ensures ∙ r .answered; tabled = r .tabled }
 
 fill-requires : tie.Need-fill-requires
@@ -24,8 +24,8 @@ fill-requires c κs =
     let l = accepted-judged (a .pre .0) (a .pre .1) in
     (omega (arith, l .within), omega arith)
 
-cast-t12 : tie.Need-cast-t12
-cast-t12 c =
+cast-t13 : tie.Need-cast-t13
+cast-t13 c =
     let a = c .before .before .before .before .before .before .before .before in
     let l = accepted-judged (a .pre .0) (a .pre .1) in
     omega arith
@@ -39,8 +39,8 @@ returns-2 c =
     let l = accepted-judged (a .pre .0) (a .pre .1) in
     let s = now (a .args .stream) in
     let table = now (a .args .table) in
-    let r = checks-letter s table (a .args .headers) _ (l .elements) (l .judged) (l .counted) (omega arith) in
-    record { answered = r .answered; tabled = c .before .before .fill .ensures ∙ table-filled s table (now (a .args .rows)) _ (l .written) (l .within) ∙ r .tabled }
+    let r = checks-letter (a .args .edition) s table (a .args .headers) _ (l .elements) (l .judged) (l .counted) (omega arith) in
+    record { answered = r .answered; tabled = c .before .before .fill .ensures ∙ table-filled (a .args .edition) s table (now (a .args .rows)) _ (l .written) (l .within) ∙ r .tabled }
 
 pub check-judged-spec : {M : Type 1} → statement M
 check-judged-spec =
@@ -49,6 +49,6 @@ check-judged-spec =
     refused-check-requires
     returns
     fill-requires
-    cast-t12
+    cast-t13
     same-length
     returns-2)

@@ -3,7 +3,6 @@ use mathlib.Core.Path.{_∙_}
 use borrow.Author.Needs.{needs}
 use native.Mathlib.Omega.{arith}
 use denote.Ref.{now}
-use Rattle.elements.specs.declared.Edition.the-variants.{Of1988}
 use Rattle.reading.proofs.Single.{no-more-than-elements}
 use Rattle.answers.proofs.Judging.{judged-in, accepted-judged}
 use Rattle.answers.proofs.Checks.{table-filled}
@@ -15,7 +14,7 @@ returns : tie.Need-returns
 returns c =
     let a = c .before .before .before .before .before .before .before .before .before in
     let l = accepted-judged (a .pre .0 .ended) (judged-in (a .pre .1 .0)) in
-    lists-16 (a .args .side) (now (a .args .stream)) (now (a .args .table)) (now (a .args .flat)) (a .args .room) _ (l .elements) (l .judged) (omega arith)
+    lists-16 (a .args .edition) (a .args .side) (now (a .args .stream)) (now (a .args .table)) (now (a .args .flat)) (a .args .room) _ (l .elements) (l .judged) (omega arith)
 
 fill-requires : tie.Need-fill-requires
 fill-requires c κs =
@@ -27,10 +26,10 @@ list-matches-requires : tie.Need-list-matches-requires
 list-matches-requires c κs =
     let a = c .before .before .before .before .before .before .before .before .before .before .before .before .before .before in
     let l = accepted-judged (a .pre .0 .ended) (judged-in (a .pre .1 .0)) in
-    ((Of1988, a .pre .1 .0), omega arith)
+    ((a .args .edition, a .pre .1 .0), omega arith)
 
-cast-t21 : tie.Need-cast-t21
-cast-t21 c =
+cast-t22 : tie.Need-cast-t22
+cast-t22 c =
     let a = c .before .before .before .before .before .before .before .before .before .before .before .before .before .before .before .before .before .before in
     let l = accepted-judged (a .pre .0 .ended) (judged-in (a .pre .1 .0)) in
     omega arith
@@ -45,23 +44,23 @@ returns-2 : tie.Need-returns-2
 returns-2 c =
     let a = c .before .before .before .before .before .before .before .before .before .before .before .before .before .before .before .before .before .before in
     let l = accepted-judged (a .pre .0 .ended) (judged-in (a .pre .1 .0)) in
-    let lists = c .before .before .before .list-matches .ensures Of1988 (a .pre .1 .0) (l .elements) (l .judge-accepted) in
+    let lists = c .before .before .before .list-matches .ensures (a .args .edition) (a .pre .1 .0) (l .elements) (l .judge-accepted) in
     let s = now (a .args .stream) in
     let table = now (a .args .table) in
-    let tabled = c .before .before .before .before .before .before .before .fill .ensures ∙ table-filled s table (now (a .args .rows)) _ (l .written) (l .within) in
-    retabled tabled (lists-19 (a .args .side) s table _ (a .args .room) _ (l .elements) (l .judged) _ (l .counted) (omega arith) _ _ lists (omega arith))
-
-cast-t22 : tie.Need-cast-t22
-cast-t22 c =
-    let a = c .before .before .before .before .before .before .before .before .before .before .before .before .before .before .before .before .before .before in
-    let l = accepted-judged (a .pre .0 .ended) (judged-in (a .pre .1 .0)) in
-    omega arith
+    let tabled = c .before .before .before .before .before .before .before .fill .ensures ∙ table-filled (a .args .edition) s table (now (a .args .rows)) _ (l .written) (l .within) in
+    retabled tabled (lists-19 (a .args .edition) (a .args .side) s table _ (a .args .room) _ (l .elements) (l .judged) _ (l .counted) (omega arith) _ _ lists (omega arith))
 
 cast-t23 : tie.Need-cast-t23
 cast-t23 c =
     let a = c .before .before .before .before .before .before .before .before .before .before .before .before .before .before .before .before .before .before in
     let l = accepted-judged (a .pre .0 .ended) (judged-in (a .pre .1 .0)) in
-    let lists = c .before .before .before .list-matches .ensures Of1988 (a .pre .1 .0) (l .elements) (l .judge-accepted) in
+    omega arith
+
+cast-t24 : tie.Need-cast-t24
+cast-t24 c =
+    let a = c .before .before .before .before .before .before .before .before .before .before .before .before .before .before .before .before .before .before in
+    let l = accepted-judged (a .pre .0 .ended) (judged-in (a .pre .1 .0)) in
+    let lists = c .before .before .before .list-matches .ensures (a .args .edition) (a .pre .1 .0) (l .elements) (l .judge-accepted) in
     let few = no-more-than-elements (l .elements) (l .apart) (a .args .side) in
     omega (arith, lists .counted)
 
@@ -75,11 +74,11 @@ returns-3 : tie.Need-returns-3
 returns-3 c =
     let a = c .before .before .before .before .before .before .before .before .before .before .before .before .before .before .before .before .before .before in
     let l = accepted-judged (a .pre .0 .ended) (judged-in (a .pre .1 .0)) in
-    let lists = c .before .before .before .list-matches .ensures Of1988 (a .pre .1 .0) (l .elements) (l .judge-accepted) in
+    let lists = c .before .before .before .list-matches .ensures (a .args .edition) (a .pre .1 .0) (l .elements) (l .judge-accepted) in
     let s = now (a .args .stream) in
     let table = now (a .args .table) in
-    let tabled = c .before .before .before .before .before .before .before .fill .ensures ∙ table-filled s table (now (a .args .rows)) _ (l .written) (l .within) in
-    retabled tabled (lists-letter (a .args .side) s table _ (a .args .room) _ (l .elements) (l .judged) _ (l .counted) (omega arith) _ _ lists (omega arith))
+    let tabled = c .before .before .before .before .before .before .before .fill .ensures ∙ table-filled (a .args .edition) s table (now (a .args .rows)) _ (l .written) (l .within) in
+    retabled tabled (lists-letter (a .args .edition) (a .args .side) s table _ (a .args .room) _ (l .elements) (l .judged) _ (l .counted) (omega arith) _ _ lists (omega arith))
 
 pub list-judged-spec : {M : Type 1} → statement M
 list-judged-spec =
@@ -88,12 +87,12 @@ list-judged-spec =
     returns
     fill-requires
     list-matches-requires
-    cast-t21
+    cast-t22
     same-length
     same-length-2
     returns-2
-    cast-t22
     cast-t23
+    cast-t24
     same-length-3
     same-length-4
     returns-3)

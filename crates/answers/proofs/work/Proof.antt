@@ -61,7 +61,7 @@ returns c =
     let s = now (a .args .stream) in
     let l = accepted-judged (a .pre .0) (judged-in (a .pre .1 .0)) in
     as-asked (c .before .enum-told .given .1) (c .tell-reason .ensures)
-    (leaves-rules s (now (a .args .table)) (now (a .args .flat)) (now (a .args .out)) (sym (ruled-letter s (l .judged))))
+    (leaves-rules (a .args .edition) s (now (a .args .table)) (now (a .args .flat)) (now (a .args .out)) (sym (ruled-letter (a .args .edition) s (l .judged))))
 
 same-length : tie.Need-same-length
 same-length c = search needs
@@ -69,12 +69,12 @@ same-length c = search needs
 returns-2 : tie.Need-returns-2
 returns-2 c =
     let a = c .before .before .before .before .before .before .before .before .before .before .before .before .before .before .before .before in
-    as-asked (c .before .before .before .before .before .enum-told2 .given .1) (c .tell-checked .ensures) (leaves-check (now (a .args .stream)) (now (a .args .table)) (now (a .args .flat)) (now (a .args .out)) (c .before .before .before .check-judged .ensures))
+    as-asked (c .before .before .before .before .before .enum-told2 .given .1) (c .tell-checked .ensures) (leaves-check (a .args .edition) (now (a .args .stream)) (now (a .args .table)) (now (a .args .flat)) (now (a .args .out)) (c .before .before .before .check-judged .ensures))
 
 returns-3 : tie.Need-returns-3
 returns-3 c =
     let a = c .before .before .before .before .before .before .before .before .before .before .before .before .before .before in
-    as-asked (c .before .before .before .question .given .1) (c .tell-located .ensures) (leaves-content (now (a .args .stream)) (now (a .args .table)) (now (a .args .flat)) (now (a .args .out)) (c .before .locate-judged .ensures))
+    as-asked (c .before .before .before .question .given .1) (c .tell-located .ensures) (leaves-content (a .args .edition) (now (a .args .stream)) (now (a .args .table)) (now (a .args .flat)) (now (a .args .out)) (c .before .locate-judged .ensures))
 
 same-length-2 : tie.Need-same-length-2
 same-length-2 c = search needs
@@ -82,7 +82,7 @@ same-length-2 c = search needs
 returns-4 : tie.Need-returns-4
 returns-4 c =
     let a = c .before .before .before .before .before .before .before .before .before .before .before .before .before .before .before .before .before in
-    as-asked (c .before .before .before .before .before .before .question2 .given .1) (c .tell-copied .ensures) (leaves-joined (now (a .args .stream)) (now (a .args .table)) (now (a .args .flat)) (now (a .args .out)) (c .before .before .before .join-judged .ensures))
+    as-asked (c .before .before .before .before .before .before .question2 .given .1) (c .tell-copied .ensures) (leaves-joined (a .args .edition) (now (a .args .stream)) (now (a .args .table)) (now (a .args .flat)) (now (a .args .out)) (c .before .before .before .join-judged .ensures))
 
 same-length-3 : tie.Need-same-length-3
 same-length-3 c = search needs
@@ -93,7 +93,7 @@ same-length-4 c = search needs
 returns-5 : tie.Need-returns-5
 returns-5 c =
     let a = c .before .before .before .before .before .before .before .before .before .before .before .before .before .before .before .before .before .before .before .before in
-    as-asked (c .before .before .before .before .before .before .before .before .before .question3 .given .1) (c .tell-listed .ensures) (leaves-list (now (a .args .stream)) (now (a .args .table)) _ (now (a .args .out)) (c .before .before .before .before .before .list-judged .ensures))
+    as-asked (c .before .before .before .before .before .before .before .before .before .question3 .given .1) (c .tell-listed .ensures) (leaves-list (a .args .edition) (now (a .args .stream)) (now (a .args .table)) _ (now (a .args .out)) (c .before .before .before .before .before .list-judged .ensures))
 
 pub work-spec : {M : Type 1} → statement M
 work-spec =

@@ -5,7 +5,6 @@ use native.Mathlib.Omega.{arith}
 use denote.Ref.{now}
 use Rattle.tree.proofs.Meaning.{whole-of}
 use Rattle.normal.specs.declared.Answer.{Answer}
-use Rattle.elements.specs.declared.Edition.the-variants.{Of1988}
 use Rattle.answers.proofs.Letters.{letter-found}
 use Rattle.answers.proofs.Working.{letter-told}
 use Rattle.answers.specs.Asking.{writtenAs}
@@ -28,23 +27,24 @@ ask-requires c κs = tt
 returns : tie.Need-returns
 returns c =
     let a = c .before .before .before .before .before .before .before .before .before .before .before .args in
-    writes-told (now (a .stream)) (now (a .out)) (c .before .before .before .before .before .ask .ensures .answered) (c .if1 .taken)
+    writes-told (a .edition) (now (a .stream)) (now (a .out)) (c .before .before .before .before .before .ask .ensures .answered) (c .if1 .taken)
 
 write-requires : tie.Need-write-requires
 write-requires c κs =
-    let s = now (c .before .before .before .before .before .before .before .before .before .before .before .before .args .stream) in
+    let a = c .before .before .before .before .before .before .before .before .before .before .before .before .args in
+    let s = now (a .stream) in
     let d = letter-told (c .before .before .before .before .before .before .ask .ensures .answered) (c .before .if1 .left) in
-    let f = letter-found Of1988 s (d .headers) (d .elements) (d .judged) in
+    let f = letter-found (a .edition) s (d .headers) (d .elements) (d .judged) in
     whole-of s (f .at) (d .headers) (f .walked)
 
 enum-known-length : tie.Need-enum-known-length
 enum-known-length c = search needs
 
-cast-t22 : tie.Need-cast-t22
-cast-t22 c =
+cast-t23 : tie.Need-cast-t23
+cast-t23 c =
     let a = c .before .before .before .before .before .before .before .before .before .before .before .before .before .before .before .before .before .before .args in
     let d = letter-told (c .before .before .before .before .before .before .before .before .before .before .before .before .ask .ensures .answered) (c .before .before .before .before .before .before .before .if1 .left) in
-    let w = writes-letter (now (a .stream)) (now (a .out)) (d .headers) (d .elements) (d .judged) in
+    let w = writes-letter (a .edition) (now (a .stream)) (now (a .out)) (d .headers) (d .elements) (d .judged) in
     let told = sym (c .before .length .given .1) ∙ c .before .before .before .before .before .write .ensures .answered in
     let fits = subst (λ (x : Answer). Fits (writtenAs x)) (sym told) (w .1) in
     omega arith
@@ -52,20 +52,20 @@ cast-t22 c =
 enum-known-number : tie.Need-enum-known-number
 enum-known-number c = search needs
 
-cast-t23 : tie.Need-cast-t23
-cast-t23 c =
-    let a = c .before .before .before .before .before .before .before .before .before .before .before .before .before .before .before .before .before .before .args in
-    let d = letter-told (c .before .before .before .before .before .before .before .before .before .before .before .before .ask .ensures .answered) (c .before .before .before .before .before .before .before .if1 .left) in
-    let w = writes-letter (now (a .stream)) (now (a .out)) (d .headers) (d .elements) (d .judged) in
-    let told = sym (c .before .number .given .1) ∙ c .before .before .before .before .before .write .ensures .answered in
-    let fits = subst (λ (x : Answer). Fits (writtenAs x)) (sym told) (w .1) in
-    omega arith
-
 cast-t24 : tie.Need-cast-t24
 cast-t24 c =
     let a = c .before .before .before .before .before .before .before .before .before .before .before .before .before .before .before .before .before .before .args in
     let d = letter-told (c .before .before .before .before .before .before .before .before .before .before .before .before .ask .ensures .answered) (c .before .before .before .before .before .before .before .if1 .left) in
-    let w = writes-letter (now (a .stream)) (now (a .out)) (d .headers) (d .elements) (d .judged) in
+    let w = writes-letter (a .edition) (now (a .stream)) (now (a .out)) (d .headers) (d .elements) (d .judged) in
+    let told = sym (c .before .number .given .1) ∙ c .before .before .before .before .before .write .ensures .answered in
+    let fits = subst (λ (x : Answer). Fits (writtenAs x)) (sym told) (w .1) in
+    omega arith
+
+cast-t25 : tie.Need-cast-t25
+cast-t25 c =
+    let a = c .before .before .before .before .before .before .before .before .before .before .before .before .before .before .before .before .before .before .args in
+    let d = letter-told (c .before .before .before .before .before .before .before .before .before .before .before .before .ask .ensures .answered) (c .before .before .before .before .before .before .before .if1 .left) in
+    let w = writes-letter (a .edition) (now (a .stream)) (now (a .out)) (d .headers) (d .elements) (d .judged) in
     let told = sym (c .before .number .given .1) ∙ c .before .before .before .before .before .write .ensures .answered in
     let fits = subst (λ (x : Answer). Fits (writtenAs x)) (sym told) (w .1) in
     omega arith
@@ -78,7 +78,7 @@ returns-2 c =
     let a = c .before .before .before .before .before .before .before .before .before .before .before .before .before .before .before .before .before .before .args in
     let d = letter-told (c .before .before .before .before .before .before .before .before .before .before .before .before .ask .ensures .answered) (c .before .before .before .before .before .before .before .if1 .left) in
     let g = c .before .before .before .before .before .write .ensures in
-    let w = writes-letter (now (a .stream)) (now (a .out)) (d .headers) (d .elements) (d .judged) in
+    let w = writes-letter (a .edition) (now (a .stream)) (now (a .out)) (d .headers) (d .elements) (d .judged) in
     let told = sym (c .before .length .given .1) ∙ g .answered in
     record { answered = ap writtenAs told ∙ w .0 .answered; put = g .output ∙ w .0 .put }
 
@@ -90,7 +90,7 @@ returns-3 c =
     let a = c .before .before .before .before .before .before .before .before .before .before .before .before .before .before .before .before .before .before .args in
     let d = letter-told (c .before .before .before .before .before .before .before .before .before .before .before .before .ask .ensures .answered) (c .before .before .before .before .before .before .before .if1 .left) in
     let g = c .before .before .before .before .before .write .ensures in
-    let w = writes-letter (now (a .stream)) (now (a .out)) (d .headers) (d .elements) (d .judged) in
+    let w = writes-letter (a .edition) (now (a .stream)) (now (a .out)) (d .headers) (d .elements) (d .judged) in
     let told = sym (c .before .number .given .1) ∙ g .answered in
     record { answered = ap writtenAs told ∙ w .0 .answered; put = g .output ∙ w .0 .put }
 
@@ -105,10 +105,10 @@ normal-spec =
     returns
     write-requires
     enum-known-length
-    cast-t22
-    enum-known-number
     cast-t23
+    enum-known-number
     cast-t24
+    cast-t25
     same-length
     returns-2
     same-length-2

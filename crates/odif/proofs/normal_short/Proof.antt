@@ -12,7 +12,7 @@ use Rattle.odif.proofs.normal_short.Statement.{statement}
 use Rattle.odif.proofs.normal_short.Tie as tie
 
 returns : tie.Need-returns
-returns c = let a = c .before .before .before .args in short-over (now (a .stream)) (now (a .out)) (c .if1 .taken)
+returns c = let a = c .before .before .before .args in short-over (a .edition) (now (a .stream)) (now (a .out)) (c .if1 .taken)
 
 refused-by-requires : tie.Need-refused-by-requires
 refused-by-requires c κs = search needs
@@ -21,37 +21,23 @@ returns-2 : tie.Need-returns-2
 returns-2 c =
     let a = c .before .before .before .before .before .before .args in
     let r = c .before .before .refused-by in
-    short-refused (now (a .stream)) (now (a .out)) (c .before .before .before .if1 .left) _ _
-    (refused (now (a .stream)) (r .result) (r .ensures) (c .if2 .taken))
+    short-refused (a .edition) (now (a .stream)) (now (a .out)) (c .before .before .before .if1 .left) _ _
+    (refused (a .edition) (now (a .stream)) (r .result) (r .ensures) (c .if2 .taken))
 
 -- the stream is a letter
-letter-by : (c : tie.Else2) → Passed (now (c .before .before .before .before .before .before .args .stream))
+letter-by : (c : tie.Else2) → Passed (c .before .before .before .before .before .before .args .edition) (now (c .before .before .before .before .before .before .args .stream))
 letter-by c =
     let a = c .before .before .before .before .before .before .args in
     let r = c .before .before .refused-by in
-    passed (now (a .stream)) (r .result) (r .ensures) (c .if2 .left)
+    passed (a .edition) (now (a .stream)) (r .result) (r .ensures) (c .if2 .left)
 
 write-short-requires : tie.Need-write-short-requires
 write-short-requires c κs =
     let a = c .before .before .before .before .before .before .before .args in
-    (c .before .before .before .before .if1 .left, passed-whole (now (a .stream)) (letter-by (c .before)))
+    (c .before .before .before .before .if1 .left, passed-whole (a .edition) (now (a .stream)) (letter-by (c .before)))
 
 enum-known-length : tie.Need-enum-known-length
 enum-known-length c = search needs
-
-cast-t13 : tie.Need-cast-t13
-cast-t13 c =
-    let a = c .before .before .before .before .before .before .before .before .before .before .before .before .before .args in
-    let l = c .before .before .before .before .before .before .before .before .before .before .if1 .left in
-    let p = letter-by (c .before .before .before .before .before .before .before) in
-    let g = c .before .before .before .before .before .write-short .ensures in
-    let w = short-letter (now (a .stream)) (now (a .out)) l p in
-    let told = sym (c .before .length .given .1) ∙ g .answered in
-    let fits = subst (λ (x : Answer). Fits (writtenAs x)) (sym told) (w .1) in
-    omega arith
-
-enum-known-number : tie.Need-enum-known-number
-enum-known-number c = search needs
 
 cast-t14 : tie.Need-cast-t14
 cast-t14 c =
@@ -59,10 +45,13 @@ cast-t14 c =
     let l = c .before .before .before .before .before .before .before .before .before .before .if1 .left in
     let p = letter-by (c .before .before .before .before .before .before .before) in
     let g = c .before .before .before .before .before .write-short .ensures in
-    let w = short-letter (now (a .stream)) (now (a .out)) l p in
-    let told = sym (c .before .number .given .1) ∙ g .answered in
+    let w = short-letter (a .edition) (now (a .stream)) (now (a .out)) l p in
+    let told = sym (c .before .length .given .1) ∙ g .answered in
     let fits = subst (λ (x : Answer). Fits (writtenAs x)) (sym told) (w .1) in
     omega arith
+
+enum-known-number : tie.Need-enum-known-number
+enum-known-number c = search needs
 
 cast-t15 : tie.Need-cast-t15
 cast-t15 c =
@@ -70,7 +59,18 @@ cast-t15 c =
     let l = c .before .before .before .before .before .before .before .before .before .before .if1 .left in
     let p = letter-by (c .before .before .before .before .before .before .before) in
     let g = c .before .before .before .before .before .write-short .ensures in
-    let w = short-letter (now (a .stream)) (now (a .out)) l p in
+    let w = short-letter (a .edition) (now (a .stream)) (now (a .out)) l p in
+    let told = sym (c .before .number .given .1) ∙ g .answered in
+    let fits = subst (λ (x : Answer). Fits (writtenAs x)) (sym told) (w .1) in
+    omega arith
+
+cast-t16 : tie.Need-cast-t16
+cast-t16 c =
+    let a = c .before .before .before .before .before .before .before .before .before .before .before .before .before .args in
+    let l = c .before .before .before .before .before .before .before .before .before .before .if1 .left in
+    let p = letter-by (c .before .before .before .before .before .before .before) in
+    let g = c .before .before .before .before .before .write-short .ensures in
+    let w = short-letter (a .edition) (now (a .stream)) (now (a .out)) l p in
     let told = sym (c .before .number .given .1) ∙ g .answered in
     let fits = subst (λ (x : Answer). Fits (writtenAs x)) (sym told) (w .1) in
     omega arith
@@ -84,7 +84,7 @@ returns-3 c =
     let l = c .before .before .before .before .before .before .before .before .before .before .if1 .left in
     let p = letter-by (c .before .before .before .before .before .before .before) in
     let g = c .before .before .before .before .before .write-short .ensures in
-    let w = short-letter (now (a .stream)) (now (a .out)) l p in
+    let w = short-letter (a .edition) (now (a .stream)) (now (a .out)) l p in
     let told = sym (c .before .length .given .1) ∙ g .answered in
     record { answered = ap writtenAs told ∙ w .0 .answered; put = g .output ∙ w .0 .put }
 
@@ -97,7 +97,7 @@ returns-4 c =
     let l = c .before .before .before .before .before .before .before .before .before .before .if1 .left in
     let p = letter-by (c .before .before .before .before .before .before .before) in
     let g = c .before .before .before .before .before .write-short .ensures in
-    let w = short-letter (now (a .stream)) (now (a .out)) l p in
+    let w = short-letter (a .edition) (now (a .stream)) (now (a .out)) l p in
     let told = sym (c .before .number .given .1) ∙ g .answered in
     record { answered = ap writtenAs told ∙ w .0 .answered; put = g .output ∙ w .0 .put }
 
@@ -110,10 +110,10 @@ normal-short-spec =
     returns-2
     write-short-requires
     enum-known-length
-    cast-t13
-    enum-known-number
     cast-t14
+    enum-known-number
     cast-t15
+    cast-t16
     same-length
     returns-3
     same-length-2

@@ -17,7 +17,7 @@ ask-requires : tie.Need-ask-requires
 ask-requires c κs = tt
 
 returns : tie.Need-returns
-returns c = reason-told _ (c .before .before .before .ask .ensures .answered)
+returns c = reason-told _ _ (c .before .before .before .ask .ensures .answered)
 
 pub refused-by-spec : {M : Type 1} → statement M
 refused-by-spec = tie.close (tie.spec slice-aggregate-ask slice-aggregate-ask-2 slice-aggregate-ask-3 ask-requires returns)

@@ -3,7 +3,6 @@ use mathlib.Core.Path.{refl, sym, _∙_}
 use borrow.Author.Needs.{needs}
 use native.Mathlib.Omega.{arith}
 use denote.Ref.{now}
-use Rattle.elements.specs.declared.Edition.the-variants.{Of1988}
 use Rattle.answers.proofs.Small.{walk-small, headers-small}
 use Rattle.answers.proofs.Letters.{refused-walk}
 use Rattle.answers.proofs.Working.{as-asked, leaves-refused}
@@ -90,8 +89,8 @@ returns-2 c = search needs
 returns-3 : tie.Need-returns-3
 returns-3 c =
     let a = c .before .before .before .before .before .before .before .before .before .args in
-    let e = refused-walk Of1988 _ _ _ _ (sym (c .before .before .before .before .walk .ensures) ∙ c .before .before .number .given .1) in
-    as-asked refl (c .tell-refused .ensures) (leaves-refused (now (a .stream)) (now (a .table)) (now (a .flat)) (now (a .out)) (a .question) _ _ _ e)
+    let e = refused-walk (a .edition) _ _ _ _ (sym (c .before .before .before .before .walk .ensures) ∙ c .before .before .number .given .1) in
+    as-asked refl (c .tell-refused .ensures) (leaves-refused (a .edition) (now (a .stream)) (now (a .table)) (now (a .flat)) (now (a .out)) (a .question) _ _ _ e)
 
 pub ask-spec : {M : Type 1} → statement M
 ask-spec =

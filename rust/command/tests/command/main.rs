@@ -1,5 +1,6 @@
 //! The command as a user meets it: each subcommand on good, refused, empty, huge and unreadable files.
 
+mod blocks;
 mod check;
 mod editions;
 mod export;

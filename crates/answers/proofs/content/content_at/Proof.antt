@@ -2,7 +2,6 @@
 use mathlib.Core.Path.{subst}
 use borrow.Author.Needs.{needs}
 use denote.Ref.{now}
-use Rattle.elements.specs.declared.Edition.the-variants.{Of1988}
 use Rattle.letters.specs.Content.{HoldsElement}
 use Rattle.answers.specs.Asking.{otherKind, heldWhole, heldInPieces}
 use Rattle.answers.proofs.content.content_at.Statement.{statement}
@@ -32,12 +31,12 @@ enum-known-run c = search needs
 returns-2 : tie.Need-returns-2
 returns-2 c =
     let a = c .before .before .before .before .before .before .before .before .args in
-    heldWhole (c .before .before .before .before .if1 .left) (subst (HoldsElement Of1988 (now (a .stream)) (a .element)) (c .before .first .given .1) (c .before .before .before .content-of .ensures))
+    heldWhole (c .before .before .before .before .if1 .left) (subst (HoldsElement (a .edition) (now (a .stream)) (a .element)) (c .before .first .given .1) (c .before .before .before .content-of .ensures))
 
 returns-3 : tie.Need-returns-3
 returns-3 c =
     let a = c .before .before .before .before .before .before .before .before .args in
-    heldInPieces (c .before .before .before .before .if1 .left) (subst (HoldsElement Of1988 (now (a .stream)) (a .element)) (c .before .run .given .1) (c .before .before .before .content-of .ensures))
+    heldInPieces (c .before .before .before .before .if1 .left) (subst (HoldsElement (a .edition) (now (a .stream)) (a .element)) (c .before .run .given .1) (c .before .before .before .content-of .ensures))
 
 pub content-at-spec : {M : Type 1} → statement M
 content-at-spec =

@@ -18,13 +18,13 @@ returns : tie.Need-returns
 returns c =
     let a = c .before .before .before .before in
     let l = accepted-judged (a .pre .0 .ended) (a .pre .1) in
-    finds-at (now (a .args .stream)) (a .args .element) l (omega arith) (c .content-at .ensures)
+    finds-at (a .args .edition) (now (a .args .stream)) (a .args .element) l (omega arith) (c .content-at .ensures)
 
 returns-2 : tie.Need-returns-2
 returns-2 c =
     let a = c .before .before .before in
     let l = accepted-judged (a .pre .0 .ended) (a .pre .1) in
-    finds-missing (now (a .args .stream)) (a .args .element) l (omega arith)
+    finds-missing (a .args .edition) (now (a .args .stream)) (a .args .element) l (omega arith)
 
 pub fetch-judged-spec : {M : Type 1} → statement M
 fetch-judged-spec =

@@ -18,7 +18,7 @@ enum-known-first c = search needs
 copy-part-requires : tie.Need-copy-part-requires
 copy-part-requires c κs =
     let a = c .before .before .before .before .before .before .before .before .args in
-    let f = subst (FindsContent (now (a .stream)) (a .element)) (c .before .before .first .given .1) (c .before .before .before .before .fetch-judged .ensures) in
+    let f = subst (FindsContent (a .edition) (now (a .stream)) (a .element)) (c .before .before .first .given .1) (c .before .before .before .before .fetch-judged .ensures) in
     (f .fetches .stands .order, f .fetches .stands .inside, f .near-past)
 
 enum-known-run : tie.Need-enum-known-run
@@ -27,7 +27,7 @@ enum-known-run c = search needs
 copy-pieces-requires : tie.Need-copy-pieces-requires
 copy-pieces-requires c κs =
     let a = c .before .before .before .before .before .before .before .before .args in
-    let f = subst (FindsContent (now (a .stream)) (a .element)) (c .before .before .run .given .1) (c .before .before .before .before .fetch-judged .ensures) in
+    let f = subst (FindsContent (a .edition) (now (a .stream)) (a .element)) (c .before .before .run .given .1) (c .before .before .before .before .fetch-judged .ensures) in
     (f .known, f .short)
 
 enum-told : tie.Need-enum-told
@@ -39,8 +39,8 @@ same-length c = search needs
 returns : tie.Need-returns
 returns c =
     let a = c .before .before .before .before .before .before .before .before .before .before .before .args in
-    let f = subst (FindsContent (now (a .stream)) (a .element)) (c .before .before .before .before .before .first .given .1) (c .before .before .before .before .before .before .before .fetch-judged .ensures) in
-    joins-unit (now (a .stream)) (a .element) (now (a .out)) (f .joins) (c .before .before .copy-part .ensures)
+    let f = subst (FindsContent (a .edition) (now (a .stream)) (a .element)) (c .before .before .before .before .before .first .given .1) (c .before .before .before .before .before .before .before .fetch-judged .ensures) in
+    joins-unit (a .edition) (now (a .stream)) (a .element) (now (a .out)) (f .joins) (c .before .before .copy-part .ensures)
 
 same-length-2 : tie.Need-same-length-2
 same-length-2 c = search needs
@@ -48,14 +48,14 @@ same-length-2 c = search needs
 returns-2 : tie.Need-returns-2
 returns-2 c =
     let a = c .before .before .before .before .before .before .before .before .before .before .before .args in
-    let f = subst (FindsContent (now (a .stream)) (a .element)) (c .before .before .before .before .before .run .given .1) (c .before .before .before .before .before .before .before .fetch-judged .ensures) in
-    joins-unit (now (a .stream)) (a .element) (now (a .out)) (f .joins) (c .before .before .copy-pieces .ensures)
+    let f = subst (FindsContent (a .edition) (now (a .stream)) (a .element)) (c .before .before .before .before .before .run .given .1) (c .before .before .before .before .before .before .before .fetch-judged .ensures) in
+    joins-unit (a .edition) (now (a .stream)) (a .element) (now (a .out)) (f .joins) (c .before .before .copy-pieces .ensures)
 
 returns-3 : tie.Need-returns-3
 returns-3 c =
     let a = c .before .before .before .before .before .before .args in
-    let f = subst (FindsContent (now (a .stream)) (a .element)) (c .enum-told .given .1) (c .before .before .fetch-judged .ensures) in
-    joins-none (now (a .stream)) (a .element) (now (a .out)) 20 0 (λ z. omega arith) (f .joins)
+    let f = subst (FindsContent (a .edition) (now (a .stream)) (a .element)) (c .enum-told .given .1) (c .before .before .fetch-judged .ensures) in
+    joins-none (a .edition) (now (a .stream)) (a .element) (now (a .out)) 20 0 (λ z. omega arith) (f .joins)
 
 pub join-judged-spec : {M : Type 1} → statement M
 join-judged-spec =

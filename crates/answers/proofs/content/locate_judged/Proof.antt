@@ -13,16 +13,16 @@ fetch-judged-requires c κs = search needs
 enum-known-first : tie.Need-enum-known-first
 enum-known-first c = search needs
 
-cast-t9 : tie.Need-cast-t9
-cast-t9 c =
-    let a = c .before .before .before .before .before .before .args in
-    let f = subst (FindsContent (now (a .stream)) (a .element)) (c .before .first .given .1) (c .before .before .before .fetch-judged .ensures) in
-    omega arith
-
 cast-t10 : tie.Need-cast-t10
 cast-t10 c =
     let a = c .before .before .before .before .before .before .args in
-    let f = subst (FindsContent (now (a .stream)) (a .element)) (c .before .first .given .1) (c .before .before .before .fetch-judged .ensures) in
+    let f = subst (FindsContent (a .edition) (now (a .stream)) (a .element)) (c .before .first .given .1) (c .before .before .before .fetch-judged .ensures) in
+    omega arith
+
+cast-t11 : tie.Need-cast-t11
+cast-t11 c =
+    let a = c .before .before .before .before .before .before .args in
+    let f = subst (FindsContent (a .edition) (now (a .stream)) (a .element)) (c .before .first .given .1) (c .before .before .before .fetch-judged .ensures) in
     omega arith
 
 enum-told : tie.Need-enum-told
@@ -34,19 +34,19 @@ enum-told-2 c = search needs
 returns : tie.Need-returns
 returns c =
     let a = c .before .before .before .before .before .before .args in
-    let f = subst (FindsContent (now (a .stream)) (a .element)) (c .before .first .given .1) (c .before .before .before .fetch-judged .ensures) in
+    let f = subst (FindsContent (a .edition) (now (a .stream)) (a .element)) (c .before .first .given .1) (c .before .before .before .fetch-judged .ensures) in
     f .fetches
 
 returns-2 : tie.Need-returns-2
 returns-2 c =
     let a = c .before .before .before .before .before .args in
-    let f = subst (FindsContent (now (a .stream)) (a .element)) (c .enum-told .given .1) (c .before .before .fetch-judged .ensures) in
+    let f = subst (FindsContent (a .edition) (now (a .stream)) (a .element)) (c .enum-told .given .1) (c .before .before .fetch-judged .ensures) in
     f .fetches
 
 returns-3 : tie.Need-returns-3
 returns-3 c =
     let a = c .before .before .before .before .before .args in
-    let f = subst (FindsContent (now (a .stream)) (a .element)) (c .enum-told2 .given .1) (c .before .before .fetch-judged .ensures) in
+    let f = subst (FindsContent (a .edition) (now (a .stream)) (a .element)) (c .enum-told2 .given .1) (c .before .before .fetch-judged .ensures) in
     f .fetches
 
 pub locate-judged-spec : {M : Type 1} → statement M
@@ -55,8 +55,8 @@ locate-judged-spec =
     (tie.spec
     fetch-judged-requires
     enum-known-first
-    cast-t9
     cast-t10
+    cast-t11
     enum-told
     enum-told-2
     returns

@@ -4,7 +4,6 @@ use mathlib.Core.Path.{refl, subst}
 use borrow.Author.Needs.{needs}
 use native.Mathlib.Omega.{arith}
 use denote.Ref.{now}
-use Rattle.elements.specs.declared.Edition.the-variants.{Of1988}
 use Rattle.letters.specs.Scratch.{GivesVerdict}
 use Rattle.answers.proofs.Judging.{refused-stopped}
 use Rattle.answers.proofs.Working.{as-asked, leaves-refused}
@@ -33,7 +32,7 @@ slice-aggregate-judge-stream-6 c = search needs
 judge-stream-requires : tie.Need-judge-stream-requires
 judge-stream-requires c κs =
     let a = c .before .before .before .before .before .before .before .before .before .before in
-    walked-lent (now (a .args .stream)) _ _ (a .pre .0) 6144 1024 512 (omega arith) (omega arith) (omega arith) (omega arith)
+    walked-lent (now (a .args .stream)) _ _ (a .pre .0) 6144 1024 513 (omega arith) (omega arith) (omega arith) (omega arith)
 
 enum-known-number : tie.Need-enum-known-number
 enum-known-number c = search needs
@@ -42,7 +41,7 @@ cast-tell-refused : tie.Need-cast-tell-refused
 cast-tell-refused c =
     let a = c .before .before .before .before .before .before .before .before .before .before .before .before .before .before .before .before .before .before .before .before in
     let j = c .before .before .before .before .before .before .before .before .before .judge-stream in
-    let given = subst (GivesVerdict Of1988 (now (a .args .stream)) (j .last .1 .1 .0) (j .last .1 .1 .1 .0) (j .last .1 .1 .1 .1 .0) (j .last .1 .1 .1 .1 .1 .0) (j .last .1 .1 .1 .1 .1 .1 .0)) (c .before .number .given .1) (j .ensures) in
+    let given = subst (GivesVerdict (a .args .edition) (now (a .args .stream)) (j .last .1 .1 .0) (j .last .1 .1 .1 .0) (j .last .1 .1 .1 .1 .0) (j .last .1 .1 .1 .1 .1 .0) (j .last .1 .1 .1 .1 .1 .1 .0)) (c .before .number .given .1) (j .ensures) in
     let r = refused-stopped (a .pre .0) given in
     omega arith
 
@@ -50,7 +49,7 @@ cast-tell-refused-2 : tie.Need-cast-tell-refused-2
 cast-tell-refused-2 c =
     let a = c .before .before .before .before .before .before .before .before .before .before .before .before .before .before .before .before .before .before .before .before in
     let j = c .before .before .before .before .before .before .before .before .before .judge-stream in
-    let given = subst (GivesVerdict Of1988 (now (a .args .stream)) (j .last .1 .1 .0) (j .last .1 .1 .1 .0) (j .last .1 .1 .1 .1 .0) (j .last .1 .1 .1 .1 .1 .0) (j .last .1 .1 .1 .1 .1 .1 .0)) (c .before .number .given .1) (j .ensures) in
+    let given = subst (GivesVerdict (a .args .edition) (now (a .args .stream)) (j .last .1 .1 .0) (j .last .1 .1 .1 .0) (j .last .1 .1 .1 .1 .0) (j .last .1 .1 .1 .1 .1 .0) (j .last .1 .1 .1 .1 .1 .1 .0)) (c .before .number .given .1) (j .ensures) in
     let r = refused-stopped (a .pre .0) given in
     omega arith
 
@@ -79,17 +78,17 @@ work-requires : tie.Need-work-requires
 work-requires c κs =
     let a = c .before .before .before .before .before .before .before .before .before .before .before .before .before .before .before .before .before .before .before .before .before .before .before .before .before .before .before .before in
     let j = c .before .before .before .before .before .before .before .before .before .before .before .before .before .before .before .before .before .judge-stream in
-    let filled = subst (GivesVerdict Of1988 (now (a .args .stream)) (j .last .1 .1 .0) (j .last .1 .1 .1 .0) (j .last .1 .1 .1 .1 .0) (j .last .1 .1 .1 .1 .1 .0) (j .last .1 .1 .1 .1 .1 .1 .0)) (c .before .before .before .before .before .before .before .before .before .count .given .1) (j .ensures) in
+    let filled = subst (GivesVerdict (a .args .edition) (now (a .args .stream)) (j .last .1 .1 .0) (j .last .1 .1 .1 .0) (j .last .1 .1 .1 .1 .0) (j .last .1 .1 .1 .1 .1 .0) (j .last .1 .1 .1 .1 .1 .1 .0)) (c .before .before .before .before .before .before .before .before .before .count .given .1) (j .ensures) in
     (a .pre .0, (filled, a .pre .1 .1))
 
 returns : tie.Need-returns
 returns c =
     let a = c .before .before .before .before .before .before .before .before .before .before .before .before .before .before .before .before .before .before .before .before .before in
     let j = c .before .before .before .before .before .before .before .before .before .before .judge-stream in
-    let given = subst (GivesVerdict Of1988 (now (a .args .stream)) (j .last .1 .1 .0) (j .last .1 .1 .1 .0) (j .last .1 .1 .1 .1 .0) (j .last .1 .1 .1 .1 .1 .0) (j .last .1 .1 .1 .1 .1 .1 .0)) (c .before .before .number .given .1) (j .ensures) in
+    let given = subst (GivesVerdict (a .args .edition) (now (a .args .stream)) (j .last .1 .1 .0) (j .last .1 .1 .1 .0) (j .last .1 .1 .1 .1 .0) (j .last .1 .1 .1 .1 .1 .0) (j .last .1 .1 .1 .1 .1 .1 .0)) (c .before .before .number .given .1) (j .ensures) in
     let r = refused-stopped (a .pre .0) given in
     as-asked refl (c .tell-refused .ensures)
-    (leaves-refused (now (a .args .stream)) (now (a .args .table)) (now (a .args .flat)) (now (a .args .out)) (a .args .question) _ _ _ (r .judged))
+    (leaves-refused (a .args .edition) (now (a .args .stream)) (now (a .args .table)) (now (a .args .flat)) (now (a .args .out)) (a .args .question) _ _ _ (r .judged))
 
 same-length : tie.Need-same-length
 same-length c = search needs

@@ -7,7 +7,6 @@ use native.Mathlib.Omega.{arith}
 use lib.ListN.{length}
 use denote.Ref.{now}
 use Rattle.octets.specs.declared.Outcome.{Outcome}
-use Rattle.elements.specs.declared.Edition.the-variants.{Of1988}
 use Rattle.letters.specs.Lent.{rowsNeeded}
 use Rattle.answers.specs.Asking.{rowsAfter}
 use Rattle.answers.proofs.Small.{walk-small, headers-small}
@@ -75,13 +74,13 @@ listed-of-requires-2 c κs = search needs
 enum-known-walked-2 : tie.Need-enum-known-walked-2
 enum-known-walked-2 c = search needs
 
-cast-t32 : tie.Need-cast-t32
-cast-t32 c =
+cast-t33 : tie.Need-cast-t33
+cast-t33 c =
     let r = walk-small _ _ _ _ (c .before .before .before .before .before .before .pre .outcome ∙ c .before .walked2 .given .1) in
     omega arith
 
-cast-t33 : tie.Need-cast-t33
-cast-t33 c =
+cast-t34 : tie.Need-cast-t34
+cast-t34 c =
     let r = walk-small _ _ _ _ (c .before .before .before .before .before .before .pre .outcome ∙ c .before .walked2 .given .1) in
     omega arith
 
@@ -98,8 +97,8 @@ returns-3 : tie.Need-returns-3
 returns-3 c =
     let a = c .before .before .before .before .before .before in
     let x = a .args in
-    let e = refused-walk Of1988 _ _ _ _ (a .pre .outcome ∙ c .before .walked2 .given .1) in
-    lists-refused (x .side) (now (x .stream)) (now (x .table)) (now (x .flat)) (x .room) _ _ _ e
+    let e = refused-walk (x .edition) _ _ _ _ (a .pre .outcome ∙ c .before .walked2 .given .1) in
+    lists-refused (x .edition) (x .side) (now (x .stream)) (now (x .table)) (now (x .flat)) (x .room) _ _ _ e
 
 pub list-flat-spec : {M : Type 1} → statement M
 list-flat-spec =
@@ -118,8 +117,8 @@ list-flat-spec =
     many-requires
     listed-of-requires-2
     enum-known-walked-2
-    cast-t32
     cast-t33
+    cast-t34
     same-length-3
     same-length-4
     returns-2
