@@ -25,6 +25,7 @@ static const char *const sentences[] = {
     [20] = "the asked element is no text unit or does not exist",
     [21] = "the content is in pieces, and no one part of the stream",
     [22] = "the output is shorter than the joined content",
+    [25] = "the list is shorter than the children",
 };
 
 const char *odif_sentence(uint32_t number) {

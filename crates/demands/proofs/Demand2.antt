@@ -66,7 +66,7 @@ module _ (edition : Edition) (s : List ℕ) (headers : ℕ) (elements : List Ele
       let fine = stream-fine s (found .at) headers (found .walked) in
       proper (derives deepest s 0 (length s) false (fine .order)) (fine .whole) (omega arith)
 
-  counted : length (rowsIn edition s) ≡ length elements
+  pub counted : length (rowsIn edition s) ≡ length elements
   counted = rows-counted edition s items-proper elements (found .judged)
 
   pub tell : (j : ℕ) (row : Row) (item : TopItem) (element : Element) → getElem? (rowsIn edition s) j ≡ some row → getElem? (topItems (treeOf s)) j ≡ some item

@@ -8,7 +8,7 @@ use clap::{Args, CommandFactory, Parser, Subcommand, ValueEnum};
 use odif::{Letter, Side};
 
 use crate::status::{Failure, Outcome, Status, tell};
-use crate::{check, export, list, man, normal, same, survey, text, tree};
+use crate::{check, export, list, man, normal, outline, same, survey, text, tree};
 
 const EXAMPLES: &str = "\
 Examples:
@@ -45,6 +45,7 @@ enum Command {
     Text(text::Words),
     Tree(tree::Words),
     List(list::Words),
+    Outline(outline::Words),
     Normal(normal::Words),
     Survey(survey::Words),
     Same(same::Words),
@@ -130,6 +131,7 @@ fn dispatch(command: Command) -> Outcome {
         Command::Text(words) => text::run(&words),
         Command::Tree(words) => tree::run(&words),
         Command::List(words) => list::run(&words),
+        Command::Outline(words) => outline::run(&words),
         Command::Normal(words) => normal::run(&words),
         Command::Survey(words) => survey::run(&words),
         Command::Same(words) => same::run(&words),

@@ -1,5 +1,6 @@
 //! Every limit of document 01 from both sides, and every small choice that it leaves.
 
+mod parents;
 mod pieces;
 mod types;
 
@@ -16,7 +17,7 @@ const STYLES: [u8; 2] = [0xA7, 0xA8];
 const PROFILE: [u8; 2] = [0xA0, 0x00];
 
 /// The groups of cases. Each group is made when it is wanted, for some are large.
-pub const GROUPS: [fn() -> Vec<Case>; 27] = [
+pub const GROUPS: [fn() -> Vec<Case>; 29] = [
     stream_length,
     element_count,
     full_tables,
@@ -43,6 +44,8 @@ pub const GROUPS: [fn() -> Vec<Case>; 27] = [
     normal_length,
     short_length,
     name_spaces,
+    parents::places,
+    parents::many,
     two_faults,
 ];
 

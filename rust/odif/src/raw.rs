@@ -70,6 +70,20 @@ pub struct Copied {
     pub length: u32,
 }
 
+/// The answer of [`children`].
+#[repr(C)]
+#[derive(Clone, Copy, Debug, PartialEq, Eq)]
+pub struct Related {
+    /// 0, or the number of the refusal.
+    pub number: u32,
+    /// The place of the refusal.
+    pub place: u32,
+    /// The rows filled, also with 25.
+    pub elements: u32,
+    /// The numbers filled.
+    pub children: u32,
+}
+
 /// One record of a reading list.
 #[repr(C)]
 #[derive(Clone, Copy, Debug, Default, PartialEq, Eq)]
@@ -104,6 +118,15 @@ unsafe extern "C" {
     fn odif_normal_short(stream: *const u8, stream_len: usize, out: *mut u8, out_len: usize) -> Written;
     fn odif_content(stream: *const u8, stream_len: usize, element: u32) -> Found;
     fn odif_joined(stream: *const u8, stream_len: usize, element: u32, out: *mut u8, out_len: usize) -> Copied;
+    fn odif_children(
+        stream: *const u8,
+        stream_len: usize,
+        row: u32,
+        table: *mut u32,
+        table_len: usize,
+        list: *mut u32,
+        list_len: usize,
+    ) -> Related;
 }
 
 // SAFETY, for each call below: a pointer and a length come from one slice, which is lent for the call alone; the
@@ -146,4 +169,19 @@ pub fn content(stream: &[u8], element: u32) -> Found {
 /// Copies the content of a text unit, its pieces joined in order.
 pub fn joined(stream: &[u8], element: u32, out: &mut [u8]) -> Copied {
     unsafe { odif_joined(stream.as_ptr(), stream.len(), element, out.as_mut_ptr(), out.len()) }
+}
+
+/// Fills the table and the list of the children of a row.
+pub fn children(stream: &[u8], row: u32, table: &mut [u32], list: &mut [u32]) -> Related {
+    unsafe {
+        odif_children(
+            stream.as_ptr(),
+            stream.len(),
+            row,
+            table.as_mut_ptr(),
+            table.len(),
+            list.as_mut_ptr(),
+            list.len(),
+        )
+    }
 }

@@ -23,11 +23,13 @@ mod matches;
 mod names;
 mod normal;
 mod octets;
+mod parents;
 mod refusal;
 
-pub use answers::{Checked, Copied, Found, Listed, Match, Reading, Side, Written};
+pub use answers::{Checked, Copied, Found, Listed, Match, Reading, Related, Side, Written};
 pub use items::{Item, Tree};
 pub use octets::{Class, DEEPEST, Length};
+pub use parents::NO_PARENT;
 pub use refusal::{Refusal, Why};
 
 /// "stream over 1,048,576 bytes" is refused, and so is such a normal form.
@@ -37,4 +39,4 @@ pub const SHORT_LIMIT: usize = 65_535;
 /// The most elements that a stream may have.
 pub const MOST_ELEMENTS: usize = 4_096;
 /// The numbers of one table row.
-pub const ROW_WIDTH: usize = 12;
+pub const ROW_WIDTH: usize = 13;

@@ -7,6 +7,7 @@ mod help;
 mod list;
 mod names;
 mod normal;
+mod outline;
 mod output;
 mod same;
 mod support;
