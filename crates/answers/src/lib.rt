@@ -23,7 +23,7 @@ mod table; // table.rt: the lent table
 use children::children_judged;
 use content::join_judged;
 use content::locate_judged;
-use table::TABLE_WIDTH;
+pub use table::TABLE_WIDTH;
 
 // The numbers of refusals that come after rules 1 to 15, those of the questions themselves; 17 and 18 are crate normal's.
 const TOO_FEW_ROWS: u32 = 16;

@@ -261,7 +261,9 @@ impl One<'_> {
             == [wanted.number, wanted.place, wanted.elements, wanted.children];
         self.expect(same, &question, || format!("{answer:?}, not {wanted:?}"));
         self.expect(our_table == their_table, &question, || "the tables differ".into());
-        self.expect(our_list == their_list, &question, || format!("{:?}, not {:?}", our_list.cells(), their_list.cells()));
+        self.expect(our_list == their_list, &question, || {
+            format!("{:?}, not {:?}", our_list.cells(), their_list.cells())
+        });
         let used = answer.children as usize;
         self.expect(our_list.is_untouched_past(used, &list_before), &question, || "written past the children".into());
     }

@@ -9,9 +9,13 @@ static const uint8_t letter[] =
     "\xA2\x11\x02\x01\x04\x31\x0C\x41\x05" "1 0 2" "\xA1\x03\x12\x01" "0"
     "\xA3\x0F\x31\x09\x40\x07" "1 0 2 0" "\x04\x02" "Hi";
 
+/* A page after the first of its frames. */
+static const uint8_t page[] =
+    "\xA0\x00" "\xA2\x07\x31\x05\x41\x03" "1 0" "\xA2\x05\x31\x03\x41\x01" "1" "\xA2\x07\x31\x05\x41\x03" "1 1";
+
 typedef char sizes_are_as_they_should_be[
     sizeof(odif_checked) == 16 && sizeof(odif_written) == 12 && sizeof(odif_listed) == 16 && sizeof(odif_found) == 16
-    && sizeof(odif_copied) == 12 && sizeof(odif_match) == 12 ? 1 : -1];
+    && sizeof(odif_copied) == 12 && sizeof(odif_match) == 12 && sizeof(odif_related) == 16 ? 1 : -1];
 
 int main(void) {
     size_t length = sizeof letter - 1;
@@ -50,5 +54,15 @@ int main(void) {
     checked = odif_check(letter, length, table, 3 * ODIF_ROW_WIDTH - 1);
     printf("short %" PRIu32 " %" PRIu32 " %" PRIu32 " %" PRIu32 "\n", checked.number, checked.place, checked.headers,
            checked.elements);
+    uint32_t rows[4 * ODIF_ROW_WIDTH], children[2];
+    odif_related related = odif_children(page, sizeof page - 1, 2, rows, 4 * ODIF_ROW_WIDTH, children, 2);
+    printf("children %" PRIu32 " %" PRIu32 " %" PRIu32 " %" PRIu32 ": %" PRIu32 " %" PRIu32 "\n", related.number,
+           related.place, related.elements, related.children, children[0], children[1]);
+    related = odif_children(page, sizeof page - 1, 4, rows, 4 * ODIF_ROW_WIDTH, children, 2);
+    printf("none %" PRIu32 " %" PRIu32 " %" PRIu32 " %" PRIu32 "\n", related.number, related.place, related.elements,
+           related.children);
+    related = odif_children(page, sizeof page - 1, 2, rows, 4 * ODIF_ROW_WIDTH, children, 1);
+    printf("too few %" PRIu32 " %" PRIu32 " %" PRIu32 " %" PRIu32 "\n", related.number, related.place, related.elements,
+           related.children);
     return 0;
 }

@@ -11,6 +11,7 @@
 static uint8_t stream[ODIF_STREAM_LIMIT], out[ODIF_STREAM_LIMIT], stack[1 << 20];
 static uint32_t table[ODIF_ROW_WIDTH * ODIF_MOST_ELEMENTS];
 static odif_match list[ODIF_MOST_ELEMENTS];
+static uint32_t children[ODIF_MOST_ELEMENTS];
 static size_t length;
 static ucontext_t here, there;
 
@@ -26,6 +27,10 @@ static void ask_logical(void) {
 static void ask_content(void) { odif_content(stream, length, 1); }
 static void ask_joined(void) { odif_joined(stream, length, 1, out, sizeof out); }
 
+static void ask_children(void) {
+    odif_children(stream, length, 0, table, sizeof table / sizeof *table, children, ODIF_MOST_ELEMENTS);
+}
+
 static const struct {
     const char *name;
     void (*ask)(void);
@@ -38,6 +43,7 @@ static const struct {
     {"short normal form", ask_normal_short, ODIF_STACK_SMALL, ODIF_STACK},
     {"content", ask_content, ODIF_STACK_SMALL, ODIF_STACK},
     {"joined content", ask_joined, ODIF_STACK_SMALL, ODIF_STACK},
+    {"children", ask_children, ODIF_STACK_SMALL, ODIF_STACK},
 };
 
 static size_t stack_of(void (*ask)(void)) {

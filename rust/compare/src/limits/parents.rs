@@ -19,7 +19,9 @@ fn chain(octet: u8, groups: usize) -> Vec<Vec<u8>> {
 pub fn places() -> Vec<Case> {
     let mut cases = Vec::new();
     for (child, parent) in OBJECTS.into_iter().flat_map(|child| OBJECTS.map(|parent| (child, parent))) {
-        for (own, above) in [("1 0", "1"), ("1 0", "1 "), ("1 00", "1 0"), ("1 0 2", "1 0"), ("1 0 2", "1"), ("10", "1"), ("1 0", "01")] {
+        for (own, above) in
+            [("1 0", "1"), ("1 0", "1 "), ("1 00", "1 0"), ("1 0 2", "1 0"), ("1 0 2", "1"), ("10", "1"), ("1 0", "01")]
+        {
             let elements = [named(child, own), named(parent, above)];
             let name = format!("{own} of {child:02X} and {above} of {parent:02X}");
             cases.push(case(format!("{name}, the parent after"), letter(&elements)));
@@ -42,7 +44,10 @@ pub fn many() -> Vec<Case> {
     for octet in OBJECTS {
         let down = chain(octet, 32);
         cases.push(case(format!("32 groups of {octet:02X}"), letter(&down)));
-        cases.push(case(format!("32 groups of {octet:02X}, the last first"), letter(&down.into_iter().rev().collect::<Vec<_>>())));
+        cases.push(case(
+            format!("32 groups of {octet:02X}, the last first"),
+            letter(&down.into_iter().rev().collect::<Vec<_>>()),
+        ));
     }
     for count in [1, 2, 600, MOST_ELEMENTS - 2] {
         let mut elements: Vec<_> = (0..count).map(|number| named(0xA2, &format!("1 {number}"))).collect();
