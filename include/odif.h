@@ -46,15 +46,15 @@
    17   the normal form is over 1,048,576 octets                                      0
    18   the output is shorter than the normal form                                    0
    19   the list is shorter than the matches                                          0
-   20   the asked element is no text unit or does not exist; of children: no such row  0
+   20   the asked element is no text unit or does not exist; or no such row           0
    21   a part is asked of content in pieces, which is no one part of the stream      0
    22   the output is shorter than the joined content                                 0
    25   the list is shorter than the children                                         0
 
    1 comes first, then the first fault of 2 to 8 in stream order, then the elements in order, 9 to 15 in order within
-   each, then 16, 17, 18, 19 or 20 where the question can give it; 21, 22 and 25 come after 20. A refusal leaves the lent
-   table, list and output as they were, except that 19 and 25 leave the finished table. Counts are 0 with a refusal, except
-   that 19 and 25 keep the element count and the check's header count comes with every answer.
+   each, then 16, 17, 18, 19 or 20 where the question can give it; 21, 22 and 25 come after 20. A refusal leaves the
+   lent table, list and output as they were, except that 19 and 25 leave the finished table. Counts are 0 with a
+   refusal, except that 19 and 25 keep the element count and the check's header count comes with every answer.
 
    Content is one octet string, 04, or is saved in pieces: 24, which holds 04 and 24 items down to the deepest level.
    Its octets are then the pieces joined in order. odif_joined copies them, a 04 being one piece; odif_content serves a
@@ -114,8 +114,8 @@ enum {
     ODIF_CONTENT_FIRST    = 10, /* a text unit's content; if it is in pieces, the value of the 24 that holds them, with
                                    their headers */
     ODIF_CONTENT_PAST     = 11,
-    ODIF_PARENT           = 12  /* the row of the class or object of the same side whose identifier is this one's without
-                                   its last space and digits; it may come later. Otherwise ODIF_NO_PARENT */
+    ODIF_PARENT           = 12  /* the row of the class or object of the same side whose identifier is this one's
+                                   without its last space and digits, which may come later; or ODIF_NO_PARENT */
 };
 
 typedef struct {
@@ -199,9 +199,9 @@ odif_found odif_content(const uint8_t *stream, size_t stream_len, uint32_t eleme
 odif_copied odif_joined(const uint8_t *ODIF_APART stream, size_t stream_len, uint32_t element,
                         uint8_t *ODIF_APART out, size_t out_len);
 
-/* Fills the table and the list of the children of a row, which may be any number: the rows whose parent it is, in stream
-   order. list_len counts numbers; those past the last one filled stay. Climbing from parent to parent ends in at most 32
-   moves, and no row is its own ancestor. A row has fewer children than there are elements. */
+/* Fills the table and the list of the children of a row, which may be any number: the rows whose parent it is, in
+   stream order. list_len counts numbers; those past the last one filled stay. As many as there are elements are always
+   enough. Climbing from parent to parent ends in at most 32 moves, and no row is its own ancestor. */
 odif_related odif_children(const uint8_t *ODIF_APART stream, size_t stream_len, uint32_t row,
                            uint32_t *ODIF_APART table, size_t table_len,
                            uint32_t *ODIF_APART list, size_t list_len);

@@ -14,7 +14,7 @@ use Rattle.letters.proofs.Apart.{accepted-apart}
 use Rattle.parents.specs.Parent.{parent}
 use Rattle.parents.proofs.Parents.{parent-is, none-missed}
 use Rattle.parents.proofs.Climbing.{climb-ends, no-own-ancestor}
-use Rattle.parents.proofs.Children.{children-are, children-all, children-sorted, children-once}
+use Rattle.parents.proofs.Children.{children-are, children-all, children-sorted}
 use Rattle.answers.specs.declared.Related.{Related}
 use Rattle.answers.specs.Answers.{letterIn, elementsIn}
 use Rattle.answers.specs.Related.{Relates, related, relatedList}
@@ -23,6 +23,7 @@ use Rattle.answers.proofs.Tabling.{table-tells}
 use Rattle.answers.proofs.Relating.{relates-refused, relates-16, relates-20, relates-25, relates-letter}
 use Rattle.demands.specs.Family.{Tells, FamilyOf, Family}
 use Rattle.demands.proofs.Demand2.{counted, normal-accepted}
+use Rattle.demands.proofs.Demand3.{member-in, in-member, sorted-at}
 
 -- what the question tells, from a case of it
 tells-by : {edition : Edition} {s table : List ℕ} {row : ℕ} {list : List ℕ} {answer : Related} {after listAfter : List ℕ}
@@ -38,15 +39,13 @@ family edition = record {
       let apart = accepted-apart edition (treeOf s) elements (letter-found edition s headers elements e .judged) in
       record {
         last = λ table j l. table-tells edition s e (counted edition s headers elements e) table j l;
-        carries = parent-is elements apart;
-        none-missed = none-missed elements apart;
+        exactly = λ j p. (parent-is elements apart j p, none-missed elements apart j p);
         ends = climb-ends elements apart;
         no-own-ancestor = no-own-ancestor elements apart;
         normal = λ within j. let again = normal-accepted edition s headers elements e within in rw again;
-        child = children-are elements;
-        all-children = children-all elements;
-        in-order = children-sorted elements;
-        once = children-once elements;
+        exactly-children = λ row j.
+            (λ m. children-are elements row j (in-member j (children elements row) (m .0) (m .1)), λ p. member-in j (children elements row) (children-all elements row j p));
+        ordered = λ row i k c d. sorted-at _<_ (children elements row) (children-sorted elements row) i k c d;
         tells-16 = λ table row list few. tells-by (relates-16 edition s table row (length list) list headers _ elements e refl few);
         tells-20 = λ table row list enough past. tells-by (relates-20 edition s table row (length list) list headers _ elements e refl enough past);
         tells-25 = λ table row list enough below short.

@@ -1,20 +1,24 @@
 -- What is promised of parents and children (W-204): "Whose page is this block on?" Of every letter, in an edition. Definitions only: assumes nothing.
 use mathlib.Core.Path.{_≡_}
-use mathlib.Core.List.{List, List·Memᴰ}
+use mathlib.Core.Logic.{_↔_}
+use mathlib.Core.List.{List}
 use mathlib.Core.Option.{none, some}
 use Prim.Native.Nat.{ℕ, suc, _<_, _≤_}
-use lib.ListN.{length}
+use lib.ListN.{length, getElem?}
 use Rattle.octets.specs.Walk.{streamLimit}
 use Rattle.normal.specs.Normal.{normalForm}
 use Rattle.elements.specs.declared.Edition.{Edition}
 use Rattle.elements.specs.Judge.{Element}
 use Rattle.letters.specs.Letter.{letter, refusal}
-use Rattle.reading.proofs.Lists.{Sorted, Once}
 use Rattle.parents.specs.Parent.{parent, numberOf, children, IsParent, climb, mostMoves}
 use Rattle.answers.specs.declared.Related.{Related}
 use Rattle.answers.specs.Table.{rowsLent, parentAt}
 use Rattle.answers.specs.Answers.{letterIn, elementsIn, onto, tableOf}
 use Rattle.answers.specs.Related.{unrelated, related, relatedTable, relatedList}
+
+-- a row stands somewhere in a list
+abbrev pub Among : (row : ℕ) → List ℕ → Type 0
+Among row rows = (i : ℕ) × (getElem? rows i ≡ some row)
 
 -- what the question tells and leaves
 pub record Tells (edition : Edition) (s table : List ℕ) (row : ℕ) (list : List ℕ) (answer : Related) (tableAfter listAfter : List ℕ) : Type 0 where
@@ -27,18 +31,15 @@ pub record FamilyOf (edition : Edition) (s : List ℕ) (elements : List Element)
   -- "the last being the parent's row, or 65,535": in every finished table
   pub last : (table : List ℕ) → (j : ℕ) → j < length elements → parentAt (tableOf edition s table) j ≡ numberOf (parent elements j)
   -- the parent carries exactly the shorter identifier, and none is missed
-  pub carries : (j p : ℕ) → parent elements j ≡ some p → IsParent elements j p
-  pub none-missed : (j p : ℕ) → IsParent elements j p → parent elements j ≡ some p
+  pub exactly : (j p : ℕ) → (parent elements j ≡ some p) ↔ IsParent elements j p
   -- "Climbing from any row must end, in at most 32 moves": so no row is its own ancestor
   pub ends : (row : ℕ) → climb elements row mostMoves ≡ none
   pub no-own-ancestor : (row moves : ℕ) → climb elements row (suc moves) ≡ some row → ⊥
   -- the normal form has the same parents
   pub normal : length (normalForm s) ≤ streamLimit → (j : ℕ) → parent (elementsIn edition (normalForm s)) j ≡ parent elements j
   -- "the children of a row in stream order, as row numbers": exactly those whose parent it is, none twice
-  pub child : (row j : ℕ) → List·Memᴰ j (children elements row) → parent elements j ≡ some row
-  pub all-children : (row j : ℕ) → parent elements j ≡ some row → List·Memᴰ j (children elements row)
-  pub in-order : (row : ℕ) → Sorted _<_ (children elements row)
-  pub once : (row : ℕ) → Once (children elements row)
+  pub exactly-children : (row j : ℕ) → Among j (children elements row) ↔ (parent elements j ≡ some row)
+  pub ordered : (row i k c d : ℕ) → i < k → getElem? (children elements row) i ≡ some c → getElem? (children elements row) k ≡ some d → c < d
   -- "Refusals, after 16, place 0, list untouched"
   pub tells-16 : (table : List ℕ) (row : ℕ) (list : List ℕ) → rowsLent table < length elements → Tells edition s table row list (unrelated 16 0 0) table list
   -- "20 no such row, table untouched too"

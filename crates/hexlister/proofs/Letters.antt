@@ -135,7 +135,7 @@ checks-all s {answer} {table} zero-number o =
       accepted = n;
       few = omega (arith, a .few, d .rows-counted);
       full = ap length is ∙ length-append all-numbers (drop (length all-numbers) lentTable)
-      ∙ omega (arith, length-drop (length all-numbers) lentTable, a .few, d .rows-counted);
+          ∙ omega (arith, length-drop (length all-numbers) lentTable, a .few, d .rows-counted);
       lines = rw (is, count) (table-lines (a .elements) (rowsIn Of1988 s) (drop (length all-numbers) lentTable));
     }
 

@@ -1,8 +1,8 @@
 // The lister's whole output, put line by line on a page that has room for the longest.
+use answers::TABLE_WIDTH;
 use hex::INPUT_LIMIT;
 use hex::Read;
 use hex::State;
-use answers::TABLE_WIDTH;
 use index::WHOLE;
 use odif::Checked;
 use odif::Edition;

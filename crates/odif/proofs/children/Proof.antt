@@ -18,7 +18,7 @@ same-length-2 : tie.Need-same-length-2
 same-length-2 c = search needs
 
 returns : tie.Need-returns
-returns c = children-left (c .before .before .before .before .before .before .ask .ensures)
+returns c = children-left (c .before .before .before .before .before .ask .ensures)
 
 pub children-spec : {M : Type 1} → statement M
 children-spec =
