@@ -52,20 +52,22 @@
    17   the normal form is over 1,048,576 octets                                      0
    18   the output is shorter than the normal form                                    0
    19   the list is shorter than the matches                                          0
-   20   the asked element is no text unit or does not exist                           0
+   20   the asked element is no text unit or does not exist; or no such row           0
    21   a part is asked of content in pieces or tiles, which is no one part           0
         of the stream
    22   the output is shorter than the joined content                                 0
    23   not exactly one date of the document in the profile, or it is constructed     0
    24   the first ten octets of the date name no day                                  0
+   25   the list is shorter than the children                                         0
    27   a part of an entry is outside the buffer, or ends before it begins            the entry's number
    28   a block is past the total that was told                                       0
    29   a letter in blocks is closed before all its octets have come                  0
 
    1 comes first, then the first fault of 2 to 8 in stream order, then the elements in order, 9 to 15 in order within
-   each, then 16, 17, 18, 19 or 20 where the question can give it; 21 and 22 come after 20, 23 and 24 after 15. A refusal
-   leaves the lent table, list and output as they were, except that 19 leaves the finished table. Counts are 0 with a
-   refusal, except that 19 keeps the element count and the check's header count comes with every answer.
+   each, then 16, 17, 18, 19 or 20 where the question can give it; 21, 22 and 25 come after 20, 23 and 24 after 15. A
+   refusal leaves the lent table, list and output as they were, except that 19 and 25 leave the finished table. Counts
+   are 0 with a refusal, except that 19 and 25 keep the element count and the check's header count comes with every
+   answer.
 
    odif_make judges entries and no stream. Entries in order, from 0, and within one in this order, it gives 27; 14 for a
    bad identifier or portion, or both with a space between them over 64 octets; 15 for an identifier that an entry
@@ -102,7 +104,8 @@ extern "C" {
 
 #define ODIF_STREAM_LIMIT  1048576 /* the most octets of a stream, and of a normal form */
 #define ODIF_MOST_ELEMENTS 4096    /* so many rows are always enough */
-#define ODIF_ROW_WIDTH     12      /* the numbers of a row */
+#define ODIF_ROW_WIDTH     13      /* the numbers of a row */
+#define ODIF_NO_PARENT     65535   /* the parent's row where there is none */
 #define ODIF_STACK         262144  /* octets of stack: no question but the lists takes more */
 #define ODIF_STACK_LISTS   311296  /* the same for the two lists */
 #define ODIF_STACK_MAKE    131072  /* and for odif_make */
@@ -137,7 +140,9 @@ enum {
     ODIF_PORTIONS_PAST    = 9,
     ODIF_CONTENT_FIRST    = 10, /* a text unit's content; if it is in pieces or tiles, the value of the 24 or 30 that
                                    holds them, with their headers; of kinds 10 to 12 the enciphered information */
-    ODIF_CONTENT_PAST     = 11
+    ODIF_CONTENT_PAST     = 11,
+    ODIF_PARENT           = 12  /* the row of the class or object of the same side whose identifier is this one's
+                                   without its last space and digits, which may come later; or ODIF_NO_PARENT */
 };
 
 typedef struct {
@@ -172,6 +177,13 @@ typedef struct {
     uint32_t place;    /* the refusal's place */
     uint32_t length;   /* the octets copied */
 } odif_copied;
+
+typedef struct {
+    uint32_t number;   /* 0, or the refusal: 1 to 16, 20, 25 */
+    uint32_t place;    /* the refusal's place */
+    uint32_t elements; /* the rows filled, also with 25 */
+    uint32_t children; /* the numbers of the list filled */
+} odif_related;
 
 typedef struct {
     uint32_t number;   /* 0, or the refusal: 1 to 15, 23, 24 */
@@ -246,6 +258,13 @@ odif_found odif_content(const uint8_t *stream, size_t stream_len, uint32_t eleme
 odif_copied odif_joined(const uint8_t *ODIF_APART stream, size_t stream_len, uint32_t element,
                         uint8_t *ODIF_APART out, size_t out_len);
 
+/* Fills the table and the list of the children of a row, which may be any number: the rows whose parent it is, in
+   stream order. list_len counts numbers; those past the last one filled stay. As many as there are elements are always
+   enough. Climbing from parent to parent ends in at most 32 moves, and no row is its own ancestor. */
+odif_related odif_children(const uint8_t *ODIF_APART stream, size_t stream_len, uint32_t row,
+                           uint32_t *ODIF_APART table, size_t table_len,
+                           uint32_t *ODIF_APART list, size_t list_len);
+
 /* Finds the date of the document. */
 odif_dated odif_date(const uint8_t *stream, size_t stream_len);
 
@@ -270,6 +289,9 @@ odif_written odif_normal_short_1993(const uint8_t *ODIF_APART stream, size_t str
 odif_found odif_content_1993(const uint8_t *stream, size_t stream_len, uint32_t element);
 odif_copied odif_joined_1993(const uint8_t *ODIF_APART stream, size_t stream_len, uint32_t element,
                              uint8_t *ODIF_APART out, size_t out_len);
+odif_related odif_children_1993(const uint8_t *ODIF_APART stream, size_t stream_len, uint32_t row,
+                                uint32_t *ODIF_APART table, size_t table_len,
+                                uint32_t *ODIF_APART list, size_t list_len);
 odif_dated odif_date_1993(const uint8_t *stream, size_t stream_len);
 odif_first_dated odif_first_date_1993(const uint8_t *stream, size_t stream_len);
 

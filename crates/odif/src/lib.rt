@@ -7,6 +7,7 @@ pub use answers::Found;
 pub use answers::Listed;
 use answers::Question;
 pub use answers::Reason;
+pub use answers::Related;
 pub use answers::Written;
 pub use elements::Edition;
 use normal::Answer;
@@ -14,20 +15,21 @@ pub use reading::Match;
 pub use reading::Side;
 ghost use mathlib.Core.Path.{_≡_};
 ghost use Rattle.answers.specs.Answers.{ruled, CheckOutcome, NormalOutcome, ListOutcome, fetched, whyNot, Fetches, JoinedOutcome};
+ghost use Rattle.answers.specs.Related.{ChildrenOutcome};
 ghost use Rattle.answers.specs.Short.{ShortOutcome};
 ghost use Rattle.making.specs.Answers.{MakeOutcome};
 ghost use Rattle.making.specs.Flat.{entriesOf};
-
-mod arriving; // arriving.rt: a letter that arrives in blocks
 ghost use Rattle.answers.specs.Dates.{dateOf, DateOutcome};
 ghost use Rattle.answers.specs.FirstDates.{FirstDateOutcome};
+
+mod arriving; // arriving.rt: a letter that arrives in blocks
 
 // The most octets of a stream that the mailroom box asks about.
 const SHORT_LIMIT: usize = 65535;
 
 const TOO_LONG: u32 = 1;
 
-// Checks a stream and fills the element table, twelve numbers a row. The viewer asks this first.
+// Checks a stream and fills the element table, thirteen numbers a row. The viewer asks this first.
 pub fn check(edition: Edition, stream: &[u8], table: &mut [u32]) -> Checked
     ensures { λ r. ⌜ CheckOutcome edition (now (stream .entry)) (now (table .entry)) r (now (table .exit)) ⌝ }
 {
@@ -166,6 +168,35 @@ pub fn joined(edition: Edition, stream: &[u8], element: usize, out: &mut [u8]) -
         number: put.number,
         place: put.place,
         length: put.length,
+    }
+}
+
+// Lists the children of a row in stream order, as row numbers, and fills the element table. The viewer's tree pane asks this; nothing is written
+// to a list that is too short.
+pub fn children(
+    edition: Edition,
+    stream: &[u8],
+    row: usize,
+    table: &mut [u32],
+    list: &mut [u32],
+) -> Related
+    ensures { λ r. ⌜ ChildrenOutcome edition (now (stream .entry)) (now (table .entry)) row (now (list .entry)) r (now (table .exit)) (now (list .exit)) ⌝ }
+{
+    let mut octets = [0u8; 0];
+    let room = list.len();
+    let told = scratch::ask(
+        edition,
+        stream,
+        Question::Children { row, room },
+        table,
+        list,
+        &mut octets,
+    );
+    Related {
+        number: told.number,
+        place: told.place,
+        elements: told.elements,
+        children: told.listed,
     }
 }
 
@@ -357,6 +388,30 @@ pub extern "C" fn odif_normal_short(stream: &[u8], out: &mut [u8]) -> Written
     ensures { λ r. ⌜ ShortOutcome Edition.Of1988 (now (stream .entry)) (now (out .entry)) r (now (out .exit)) ⌝ }
 {
     normal_short(Edition::Of1988, stream, out)
+}
+
+#[no_mangle]
+pub extern "C" fn odif_children(
+    stream: &[u8],
+    row: u32,
+    table: &mut [u32],
+    list: &mut [u32],
+) -> Related
+    ensures { λ r. ⌜ ChildrenOutcome Edition.Of1988 (now (stream .entry)) (now (table .entry)) row (now (list .entry)) r (now (table .exit)) (now (list .exit)) ⌝ }
+{
+    children(Edition::Of1988, stream, row as usize, table, list)
+}
+
+#[no_mangle]
+pub extern "C" fn odif_children_1993(
+    stream: &[u8],
+    row: u32,
+    table: &mut [u32],
+    list: &mut [u32],
+) -> Related
+    ensures { λ r. ⌜ ChildrenOutcome Edition.Of1993 (now (stream .entry)) (now (table .entry)) row (now (list .entry)) r (now (table .exit)) (now (list .exit)) ⌝ }
+{
+    children(Edition::Of1993, stream, row as usize, table, list)
 }
 
 #[no_mangle]

@@ -8,7 +8,7 @@ use clap::{Args, CommandFactory, Parser, Subcommand, ValueEnum};
 use odif::{Edition, Letter, Side};
 
 use crate::status::{Failure, Outcome, Status, tell};
-use crate::{check, date, export, list, make, man, normal, same, survey, text, tree};
+use crate::{check, date, export, list, make, man, normal, outline, same, survey, text, tree};
 
 const EXAMPLES: &str = "\
 Examples:
@@ -50,6 +50,7 @@ enum Command {
     Text(text::Words),
     Tree(tree::Words),
     List(list::Words),
+    Outline(outline::Words),
     Normal(normal::Words),
     Make(make::Words),
     Survey(survey::Words),
@@ -176,6 +177,7 @@ fn dispatch(command: Command) -> Outcome {
         Command::Text(words) => text::run(&words),
         Command::Tree(words) => tree::run(&words),
         Command::List(words) => list::run(&words),
+        Command::Outline(words) => outline::run(&words),
         Command::Normal(words) => normal::run(&words),
         Command::Make(words) => make::run(&words),
         Command::Survey(words) => survey::run(&words),

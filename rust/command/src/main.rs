@@ -19,6 +19,7 @@ mod man;
 mod modules;
 mod names;
 mod normal;
+mod outline;
 mod pool;
 mod progress;
 mod protected;

@@ -1,7 +1,7 @@
 //! A safe binding of the proved reader of ODIF letters.
 //!
 //! [`Letter::read`] checks a stream and keeps its table; the letter then gives its elements, the reading list and the text
-//! of either side, the content of its text units, and its normal form. Content is a part of the caller's own stream, or, where it
+//! of either side, the content of its text units, the tree of its objects, and its normal form. Content is a part of the caller's own stream, or, where it
 //! was saved in pieces, those joined. What is refused comes back as a [`Refusal`], with the rule, its number, a sentence
 //! and the place.
 //!
@@ -54,4 +54,6 @@ pub const MOST_ENTRIES: usize = 2_047;
 /// The most elements of a letter.
 pub const MOST_ELEMENTS: usize = 4_096;
 /// The numbers of one table row.
-pub const ROW_WIDTH: usize = 12;
+pub const ROW_WIDTH: usize = 13;
+/// What a row of [`raw`] has as its parent's row where there is none.
+pub const NO_PARENT: u32 = 65_535;

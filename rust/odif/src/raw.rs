@@ -76,6 +76,20 @@ pub struct Copied {
     pub length: u32,
 }
 
+/// The answer of [`children`].
+#[repr(C)]
+#[derive(Clone, Copy, Debug, PartialEq, Eq)]
+pub struct Related {
+    /// 0, or the number of the refusal.
+    pub number: u32,
+    /// The place of the refusal.
+    pub place: u32,
+    /// The rows filled, also with 25.
+    pub elements: u32,
+    /// The numbers filled.
+    pub children: u32,
+}
+
 /// The answer of [`date`].
 #[repr(C)]
 #[derive(Clone, Copy, Debug, Default, PartialEq, Eq)]
@@ -145,6 +159,9 @@ twins! {
     odif_joined odif_joined_1993(
         stream: *const u8, stream_len: usize, element: u32, out: *mut u8, out_len: usize
     ) -> Copied;
+    odif_children odif_children_1993(
+        stream: *const u8, stream_len: usize, row: u32, table: *mut u32, table_len: usize, list: *mut u32, list_len: usize
+    ) -> Related;
     odif_date odif_date_1993(stream: *const u8, stream_len: usize) -> Dated;
     odif_first_date odif_first_date_1993(stream: *const u8, stream_len: usize) -> FirstDated;
 }
@@ -294,4 +311,19 @@ pub fn make(buffer: &[u8], entries: &[u32], out: &mut [u8]) -> Written {
     unsafe {
         odif_make_numbers(buffer.as_ptr(), buffer.len(), entries.as_ptr(), entries.len(), out.as_mut_ptr(), out.len())
     }
+}
+
+/// Fills the table and the list of the children of a row.
+pub fn children(stream: &[u8], row: u32, table: &mut [u32], list: &mut [u32]) -> Related {
+    children_in(Edition::Of1988, stream, row, table, list)
+}
+
+/// The same as [`children`], by an edition.
+pub fn children_in(edition: Edition, stream: &[u8], row: u32, table: &mut [u32], list: &mut [u32]) -> Related {
+    let ask = match edition {
+        Edition::Of1988 => odif_children,
+        Edition::Of1993 => odif_children_1993,
+    };
+    let (numbers, most) = (table.as_mut_ptr(), table.len());
+    unsafe { ask(stream.as_ptr(), stream.len(), row, numbers, most, list.as_mut_ptr(), list.len()) }
 }

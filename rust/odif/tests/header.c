@@ -44,10 +44,14 @@ static void print_1993(void) {
            brief.length);
 }
 
+/* A page after the first of its frames. */
+static const uint8_t page[] =
+    "\xA0\x00" "\xA2\x07\x31\x05\x41\x03" "1 0" "\xA2\x05\x31\x03\x41\x01" "1" "\xA2\x07\x31\x05\x41\x03" "1 1";
+
 typedef char sizes_are_as_they_should_be[
     sizeof(odif_checked) == 16 && sizeof(odif_written) == 12 && sizeof(odif_listed) == 16 && sizeof(odif_found) == 16
     && sizeof(odif_copied) == 12 && sizeof(odif_match) == 12 && sizeof(odif_dated) == 28
-    && sizeof(odif_first_dated) == 32 && sizeof(odif_entry) == 24 ? 1 : -1];
+    && sizeof(odif_first_dated) == 32 && sizeof(odif_entry) == 24 && sizeof(odif_related) == 16 ? 1 : -1];
 
 int main(void) {
     size_t length = sizeof letter - 1;
@@ -102,5 +106,15 @@ int main(void) {
     printf("short %" PRIu32 " %" PRIu32 " %" PRIu32 " %" PRIu32 "\n", checked.number, checked.place, checked.headers,
            checked.elements);
     print_1993();
+    uint32_t rows[4 * ODIF_ROW_WIDTH], children[2];
+    odif_related related = odif_children(page, sizeof page - 1, 2, rows, 4 * ODIF_ROW_WIDTH, children, 2);
+    printf("children %" PRIu32 " %" PRIu32 " %" PRIu32 " %" PRIu32 ": %" PRIu32 " %" PRIu32 "\n", related.number,
+           related.place, related.elements, related.children, children[0], children[1]);
+    related = odif_children(page, sizeof page - 1, 4, rows, 4 * ODIF_ROW_WIDTH, children, 2);
+    printf("none %" PRIu32 " %" PRIu32 " %" PRIu32 " %" PRIu32 "\n", related.number, related.place, related.elements,
+           related.children);
+    related = odif_children(page, sizeof page - 1, 2, rows, 4 * ODIF_ROW_WIDTH, children, 1);
+    printf("too few %" PRIu32 " %" PRIu32 " %" PRIu32 " %" PRIu32 "\n", related.number, related.place, related.elements,
+           related.children);
     return 0;
 }

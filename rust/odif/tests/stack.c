@@ -11,6 +11,7 @@
 static uint8_t stream[ODIF_STREAM_LIMIT], out[ODIF_STREAM_LIMIT], stack[1 << 20];
 static uint32_t table[ODIF_ROW_WIDTH * ODIF_MOST_ELEMENTS];
 static odif_match list[ODIF_MOST_ELEMENTS];
+static uint32_t children[ODIF_MOST_ELEMENTS];
 static size_t length;
 static uint8_t names[4 * ODIF_MOST_ENTRIES];
 static odif_entry entries[ODIF_MOST_ENTRIES];
@@ -41,6 +42,9 @@ static void ask_logical_1993(void) {
 }
 static void ask_content_1993(void) { odif_content_1993(stream, length, 1); }
 static void ask_joined_1993(void) { odif_joined_1993(stream, length, 1, out, sizeof out); }
+static void ask_children(void) {
+    odif_children(stream, length, 0, table, sizeof table / sizeof *table, children, ODIF_MOST_ELEMENTS);
+}
 
 static const struct {
     const char *name;
@@ -62,6 +66,7 @@ static const struct {
     {"short normal form, 1993", ask_normal_short_1993, ODIF_STACK_SMALL, ODIF_STACK},
     {"content, 1993", ask_content_1993, ODIF_STACK_SMALL, ODIF_STACK},
     {"joined content, 1993", ask_joined_1993, ODIF_STACK_SMALL, ODIF_STACK},
+    {"children", ask_children, ODIF_STACK_SMALL, ODIF_STACK},
 };
 
 static size_t stack_of(void (*ask)(void)) {

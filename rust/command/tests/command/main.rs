@@ -11,6 +11,7 @@ mod list;
 mod make;
 mod names;
 mod normal;
+mod outline;
 mod output;
 mod same;
 mod support;
