@@ -19,7 +19,6 @@ ghost use Rattle.making.specs.Answers.{MakeOutcome};
 ghost use Rattle.making.specs.Flat.{entriesOf};
 
 mod arriving; // arriving.rt: a letter that arrives in blocks
-
 ghost use Rattle.answers.specs.Dates.{dateOf, DateOutcome};
 ghost use Rattle.answers.specs.FirstDates.{FirstDateOutcome};
 
