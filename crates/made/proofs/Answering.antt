@@ -15,7 +15,6 @@ use Rattle.laws.proofs.Tests.{cond-holds}
 use Rattle.octets.specs.Walk.{streamLimit}
 use Rattle.normal.specs.Normal.{normalForm}
 use Rattle.elements.specs.declared.Edition.{Edition}
-use Rattle.elements.specs.declared.Edition.the-variants.{Of1988}
 use Rattle.letters.specs.Letter.{letter}
 use Rattle.reading.specs.declared.Side.the-variants.{Layout, Logical}
 use Rattle.answers.specs.declared.Written.{Written}
@@ -28,7 +27,7 @@ use Rattle.making.specs.Answers.{madeBy, made, madeOutput, MakeOutcome}
 use Rattle.made.specs.Editions.{TakesAll}
 use Rattle.made.specs.Promises.{Reads, writtenBy, Readable, Answers}
 use Rattle.making.proofs.Fitting.{AllFit, fitting-from}
-use Rattle.made.proofs.Shapes.{takes-1988}
+use Rattle.made.proofs.Shapes.{takes}
 use Rattle.made.proofs.Letters.{reads}
 use Rattle.made.proofs.Refusals.{refuses}
 
@@ -128,9 +127,10 @@ module _ (buffer : List ℕ) (entries : List Entry) (out : List ℕ) where
         joined = λ k entry e. rw (l, unit-so d edition takes k entry e);
       }
 
--- so it does in the edition of 1988
-pub readable-1988 : (buffer : List ℕ) (entries : List Entry) (out : List ℕ) → made buffer entries out .number ≡ 0 → Readable Of1988 buffer entries out
-readable-1988 buffer entries out z = readable buffer entries out Of1988 takes-1988 z
+-- so it does in both editions
+pub readable-in : (edition : Edition) (buffer : List ℕ) (entries : List Entry) (out : List ℕ) → made buffer entries out .number ≡ 0
+    → Readable edition buffer entries out
+readable-in edition buffer entries out z = readable buffer entries out edition (takes edition) z
 
 -- two outcomes that the contract allows are equal
 pub make-determined : {buffer : List ℕ} {entries : List Entry} {out : List ℕ} {a b : Written} {t u : List ℕ}

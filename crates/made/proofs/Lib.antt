@@ -1,4 +1,4 @@
--- Shapes: what the edition of 1988 says of the three elements. Judging: no element of the letter is refused. Coding: its octets are coded as
+-- Shapes: what the editions say of the three elements. Judging: no element of the letter is refused. Coding: its octets are coded as
 -- X.209 says. Matching: its matches. Letters: the theorems on what is made. Refusals: those on refusals. Answering: those on the answer and
 -- the output. Examples: the examples hold.
 pub mod Shapes

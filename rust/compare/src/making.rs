@@ -239,3 +239,19 @@ fn part(rng: &mut Rng, length: usize, size: usize) -> [u32; 2] {
     let first = rng.below(length + 1 - size.min(length));
     [first as u32, (first + size).min(length) as u32]
 }
+
+#[cfg(test)]
+mod tests {
+    use super::*;
+
+    #[test]
+    fn the_library_and_the_reader_make_the_same() {
+        let mut tally = Tally::default();
+        let mut met = hold_fixed(&mut tally);
+        for number in 0..500 {
+            hold_seeded(1, number, &mut met, &mut tally);
+        }
+        assert_eq!(tally.failed, 0);
+        assert!(tally.passed > 5_000, "{}", tally.passed);
+    }
+}
