@@ -23,7 +23,7 @@ returns c =
     let s = c .before .before .before .before in
     let a = s .args in
     let e = c .counted .ensures in
-    (s .pre .1, counted-turn (a .b) (a .block .now) (a .i) (s .pre .1) (s .pre .2) (c .counted .result) (c .before .if1 .taken) (e .1) (e .0))
+    (s .pre .1, counted-turn (a .b) (a .block .now) (a .i) (s .pre .1) (s .pre .2) (c .counted .result) (λ z. omega (arith, c .before .if1 .taken)) (e .1) (e .0))
 
 passed-requires : tie.Need-passed-requires
 passed-requires c κs =
