@@ -312,16 +312,17 @@ static inline odif_written odif_make(const uint8_t *ODIF_APART buffer, size_t bu
     return odif_make_numbers(buffer, buffer_len, (const uint32_t *)entries, 6 * entries_len, out, out_len);
 }
 
-/* A letter that arrives in blocks and is not held: rules 1 to 8 and the header count, as odif_check gives them of the whole
-   stream, for any cutting. Start with the total, hand over the blocks in order, of any length, none included, and close:
+/* A letter that arrives in blocks and is not held: rules 1 to 8 and the header count, as odif_check gives them of the
+   whole stream, for any cutting. Start with the total, hand over the blocks in order, of any length, none included, and
+   close:
 
        odif_taken now = odif_blocks_start(total);
        while (...) now = odif_blocks_take(now.state, block, block_len);
        odif_walked walked = odif_blocks_close(now.state);
 
-   The state is this struct and nothing else, with no pointer in it: copy it, keep it, go on from a copy. Its numbers are
-   the engine's own. A caller who makes one up is answered too: where it can't be gone on with, 28 with that state, and
-   29. The three functions take less than 2 KiB of stack. */
+   The state is this struct and nothing else, with no pointer in it: copy it, keep it, go on from a copy. Its numbers
+   are the engine's own. A caller who makes one up is answered too: where it can't be gone on with, 28 with that state,
+   and 29. The three functions take less than 2 KiB of stack. */
 typedef struct {
     size_t   total;    /* the octets told, and those that have come */
     size_t   taken;
@@ -348,15 +349,16 @@ typedef struct {
     uint32_t headers;  /* the items that passed 2 to 8, also with a fault; 0 after 1 and 29 */
 } odif_walked;
 
-/* A letter of so many octets, of which none has come. 1 if they are over 1,048,576; the state can still be gone on with:
-   blocks are counted, and the close gives 1. */
+/* A letter of so many octets, of which none has come. 1 if they are over 1,048,576; the state can still be gone on
+   with: blocks are counted, and the close gives 1. */
 odif_taken odif_blocks_start(size_t total);
 
 /* Takes a block. 28 if it is past the total: then the state is as it was, and what came before stands. A fault that was
    found stays, and later octets are counted. */
 odif_taken odif_blocks_take(odif_blocks state, const uint8_t *block, size_t block_len);
 
-/* What the walk of the letter tells. 29 if not all octets have come, whatever was found: the state can be gone on with. */
+/* What the walk of the letter tells. 29 if not all octets have come, whatever was found: the state can be gone on
+   with. */
 odif_walked odif_blocks_close(odif_blocks state);
 
 /* The sentence of a number of the list above, without a full stop; 0 and numbers past the list have one too. It is no

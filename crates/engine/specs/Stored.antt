@@ -17,6 +17,7 @@ use Rattle.engine.specs.declared.Blocks.{Blocks}
 use Rattle.engine.specs.declared.Taken.{Taken}
 use Rattle.engine.specs.declared.skim.Skim.{Skim}
 
+-- an open item, as its end is stored
 abbrev pub openOf : ℕ → Open
 openOf e = record { bound = e / 2; marked = eqb (e % 2) 1 }
 
@@ -25,9 +26,14 @@ abbrev pub opensOf : ℕ → List ℕ → List Open
 opensOf zero ends = []
 opensOf (suc n) ends = openOf (getD ends n 0) ∷ opensOf n ends
 
+-- where the engine stands: with a finding, or on the way to a header or in one
 abbrev pub standingOf : Blocks → Standing
-standingOf b = cond (eqb (b .number) 0) (reading (b .headers) (opensOf (b .level) (b .ends)) (b .at) (take (b .have) (b .begun))) (found (b .number) (b .place) (b .headers))
+standingOf b =
+    cond (eqb (b .number) 0)
+    (reading (b .headers) (opensOf (b .level) (b .ends)) (b .at) (take (b .have) (b .begun)))
+    (found (b .number) (b .place) (b .headers))
 
+-- what a stored state stands for
 abbrev pub stateOf : Blocks → State
 stateOf b = record { total = b .total; taken = b .taken; standing = standingOf b }
 

@@ -1,3 +1,4 @@
+-- `skim_one`: each arm is a case of what a header that was read in a block does (`Skimming`). Assumes nothing.
 use mathlib.Core.Path.{_≡_, refl, ap, sym, _∙_}
 use mathlib.Core.Bool.{true, false}
 use Prim.Native.Nat.{ℕ, _+_, _-_, _/_, _%_, _<_, _≤_}
