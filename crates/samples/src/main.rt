@@ -68,18 +68,22 @@ fn print_joined(edition: Edition, stream: &[u8], element: usize) {
     }
 }
 
+fn print_number(number: u32) {
+    io::print_decimal(STDOUT_FILENO, number as u64);
+}
+
 // Of the element after the profile, by the edition of 1993: its kind, its object type, and the bounds of its content.
 fn print_row(stream: &[u8]) {
     let mut table = [0u32; TABLE_ROOM];
     let answer = odif::check(Edition::Of1993, stream, &mut table);
     if answer.number == 0 {
-        io::print_decimal(STDOUT_FILENO, table[12] as u64);
+        print_number(table[12]);
         io::write_all(STDOUT_FILENO, b" ");
-        io::print_decimal(STDOUT_FILENO, table[13] as u64);
+        print_number(table[13]);
         io::write_all(STDOUT_FILENO, b" ");
-        io::print_decimal(STDOUT_FILENO, table[22] as u64);
+        print_number(table[22]);
         io::write_all(STDOUT_FILENO, b" ");
-        io::print_decimal(STDOUT_FILENO, table[23] as u64);
+        print_number(table[23]);
     } else {
         io::write_all(STDOUT_FILENO, b"-");
     }
