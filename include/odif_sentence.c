@@ -3,7 +3,7 @@
 
 static const char *const sentences[] = {
     [0] = "accepted",
-    [1] = "the stream is over 1,048,576 octets",
+    [1] = "the stream is over 1,048,576 octets, or over 65,535 where its short normal form is asked",
     [2] = "a 00 stands where no indefinite item is innermost, or is followed by another octet than 00",
     [3] = "an item stands at level 17; level 16 is the deepest",
     [4] = "the number of an item is over 16,383, or not in the fewest octets",
@@ -23,8 +23,14 @@ static const char *const sentences[] = {
     [18] = "the output is shorter than the normal form",
     [19] = "the list is shorter than the matches",
     [20] = "the asked element is no text unit or does not exist",
-    [21] = "the content is in pieces, and no one part of the stream",
+    [21] = "the content is in pieces or tiles, and no one part of the stream",
     [22] = "the output is shorter than the joined content",
+    [23] = "the profile does not have exactly one date of the document, or that is constructed",
+    [24] = "the date of the document does not begin with a day as in 1988-06-05",
+    [25] = "the list is shorter than the children",
+    [27] = "a part of an entry is outside the buffer, or ends before it begins",
+    [28] = "a block is past the total that was told",
+    [29] = "the letter was closed before all its octets had come",
 };
 
 const char *odif_sentence(uint32_t number) {

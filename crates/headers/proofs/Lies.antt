@@ -11,7 +11,8 @@ use Rattle.headers.specs.declared.Header.{Header}
 use Rattle.headers.specs.declared.Head.{Head}
 use Rattle.headers.specs.declared.Head.the-variants.{Item, ClosingMark, Refusal}
 use Rattle.headers.specs.declared.Field.{Field}
-use Rattle.headers.specs.Head.{number, constructed, isIn, formAllowed, aboveThirty, codeOf, misfits, octetAt, definiteAt, indefiniteAt, longAt, byFirst, lengthAt, afterField, closingAt, itemAt, headAt}
+use Rattle.headers.specs.declared.Field.the-variants.{Read, Wrong}
+use Rattle.headers.specs.Head.{number, constructed, isIn, formAllowed, aboveThirty, codeOf, misfits, octetAt, definiteAt, indefiniteAt, longAt, byFirst, lengthAt, fieldAt, afterField, closingAt, itemAt, headAt}
 use Rattle.laws.proofs.Tests.{cond-holds}
 
 -- a type field that was read at `at`, from this octet on: its code, and the place past it
@@ -68,6 +69,28 @@ pub field-past : {s : List ℕ} {octet at limit code past : ℕ} → FieldRead s
 field-past (in-one n f) = omega arith
 field-past (in-two n f l a b) = omega arith
 field-past (in-three n f l a b c) = omega arith
+
+-- a type field that is read ends within three octets
+abbrev pub FieldEnds : (at : ℕ) → Field → Type 0
+FieldEnds at (Read code past) = past ≤ at + 3
+FieldEnds at (Wrong number) = Unit {0}
+
+pub field-ends : (s : List ℕ) (octet at limit : ℕ) → FieldEnds at (fieldAt s octet at limit)
+field-ends s octet at limit =
+    let P = FieldEnds at in
+    let second = octetAt s (at + 1) in
+    cond-holds P (eqb (number octet) 31)
+    (λ _. cond-holds P (ltb (at + 1) limit)
+    (λ _. cond-holds P (ltb second 31) (λ _. tt)
+    (λ _. cond-holds P (ltb second 0x80) (λ _. cond-holds P (isIn octet aboveThirty) (λ _. omega arith) (λ _. tt))
+    (λ _. cond-holds P (eqb second 0x80) (λ _. tt)
+    (λ _. cond-holds P (ltb second 0x100)
+    (λ _. cond-holds P (ltb (at + 2) limit)
+    (λ _. cond-holds P (ltb (octetAt s (at + 2)) 0x80) (λ _. cond-holds P (isIn octet aboveThirty) (λ _. omega arith) (λ _. tt)) (λ _. tt))
+    (λ _. tt))
+    (λ _. tt)))))
+    (λ _. tt))
+    (λ _. cond-holds P (formAllowed octet) (λ _. omega arith) (λ _. tt))
 
 -- a header lies between `at` and the limit, there is room for its item, and only a constructed item is indefinite
 pub record Lies (at limit room : ℕ) (h : Header) : Type 0 where

@@ -1,15 +1,14 @@
 -- What stands where nothing is refused: each test of `headAt` that could have refused went the other way. Assumes nothing.
-use mathlib.Core.Path.{_≡_, refl, _∙_}
+use mathlib.Core.Path.{_≡_, refl, _∙_, subst}
 use mathlib.Core.Bool.{Bool, true, false}
-use mathlib.Core.List.{List, [], _∷_}
-use Prim.Native.Nat.{ℕ, _+_, _-_, _<_, _≤_}
+use mathlib.Core.List.{List}
+use Prim.Native.Nat.{ℕ, _+_, _<_, _≤_}
 use native.Mathlib.Omega.{arith}
 use lib.Dec.{leb, ltb, eqb}
-use lib.ListN.{take, drop}
 use borrow.Author.Tests.{leb-true, ltb-true, eq-eqb, ne-eqb, lt-ltb, le-ltb}
 use Rattle.headers.specs.declared.Head.{Head}
 use Rattle.headers.specs.declared.Head.the-variants.{Item, ClosingMark}
-use Rattle.headers.specs.Head.{number, constructed, codeOf, numberOf, bigEndian, misfits, octetAt, definiteAt, indefiniteAt, longAt, byFirst, lengthAt, closingAt, headAt, Passed}
+use Rattle.headers.specs.Head.{number, constructed, numberOf, misfits, octetAt, definiteAt, indefiniteAt, byFirst, lengthAt, closingAt, headAt, Passed}
 use Rattle.headers.proofs.Lies.{FieldRead, in-one, in-two, in-three, item-holds}
 use Rattle.laws.proofs.Tests.{cond-holds}
 
@@ -36,7 +35,7 @@ module _ (s : List ℕ) (at limit : ℕ) (marked : Bool) (room : ℕ) where
       let P : Head → Type 0 = λ x. Passed x → (code past : ℕ) × FieldRead s octet at limit code past × (x ≡ lengthAt s code at past limit) in
       rw (ne-eqb octet 0 n) (item-holds P s octet at limit room (λ _ _ _ p. absurd p) (λ _ code past f _. (code, past, f, refl)))
 
--- which type field was passed: the first octet tells whether it is one octet, and else the second how many follow
+-- which type field was passed: the first octet tells whether it is one octet
 module _ (s : List ℕ) (octet at limit : ℕ) where
   one-field : {code past : ℕ} → FieldRead s octet at limit code past → (number octet ≡ 31 → ⊥)
       → lengthAt s code at past limit ≡ lengthAt s octet at (at + 1) limit
@@ -44,52 +43,12 @@ module _ (s : List ℕ) (octet at limit : ℕ) where
   one-field (in-two n f l a b) ne = absurd (ne n)
   one-field (in-three n f l a b c) ne = absurd (ne n)
 
-  two-field : {code past : ℕ} → FieldRead s octet at limit code past → number octet ≡ 31 → octetAt s (at + 1) < 0x80
-      → lengthAt s code at past limit ≡ lengthAt s (codeOf (octet ∷ octetAt s (at + 1) ∷ [])) at (at + 2) limit
-  two-field (in-one n f) e l = absurd (n e)
-  two-field (in-two n f p a b) e l = refl
-  two-field (in-three n f p a b c) e l = absurd (omega arith)
-
-  three-field : {code past : ℕ} → FieldRead s octet at limit code past → number octet ≡ 31 → 0x80 ≤ octetAt s (at + 1)
-      → lengthAt s code at past limit ≡ lengthAt s (codeOf (octet ∷ octetAt s (at + 1) ∷ octetAt s (at + 2) ∷ [])) at (at + 3) limit
-  three-field (in-one n f) e l = absurd (n e)
-  three-field (in-two n f p a b) e l = absurd (omega arith)
-  three-field (in-three n f p a b c) e l = refl
-
-  -- the octets after the first are within the limit
-  second-within : {code past : ℕ} → FieldRead s octet at limit code past → number octet ≡ 31
-      → (at + 1 < limit) × (0x80 ≤ octetAt s (at + 1) → at + 2 < limit)
-  second-within (in-one n f) e = absurd (n e)
-  second-within (in-two n f p a b) e = (p, λ l. absurd (omega arith))
-  second-within (in-three n f p a b c) e = (omega arith, λ _. p)
-
 module _ (s : List ℕ) (at limit : ℕ) (marked : Bool) (room : ℕ) (p : Passed (headAt s at limit marked room)) where
   pub passed-one : (octetAt s at ≡ 0 → ⊥) → (number (octetAt s at) ≡ 31 → ⊥)
       → headAt s at limit marked room ≡ lengthAt s (octetAt s at) at (at + 1) limit
   passed-one n o =
       let (code, past, f, e) = passed-item s at limit marked room n p in
       e ∙ one-field s (octetAt s at) at limit f o
-
-  module _ (o : number (octetAt s at) ≡ 31) where
-    no-zero : octetAt s at ≡ 0 → ⊥
-    no-zero z = omega arith
-
-    pub passed-within : (at + 1 < limit) × (0x80 ≤ octetAt s (at + 1) → at + 2 < limit)
-    passed-within =
-        let (code, past, f, e) = passed-item s at limit marked room no-zero p in
-        second-within s (octetAt s at) at limit f o
-
-    pub passed-two : octetAt s (at + 1) < 0x80
-        → headAt s at limit marked room ≡ lengthAt s (codeOf (octetAt s at ∷ octetAt s (at + 1) ∷ [])) at (at + 2) limit
-    passed-two l =
-        let (code, past, f, e) = passed-item s at limit marked room no-zero p in
-        e ∙ two-field s (octetAt s at) at limit f o l
-
-    pub passed-three : 0x80 ≤ octetAt s (at + 1)
-        → headAt s at limit marked room ≡ lengthAt s (codeOf (octetAt s at ∷ octetAt s (at + 1) ∷ octetAt s (at + 2) ∷ [])) at (at + 3) limit
-    passed-three l =
-        let (code, past, f, e) = passed-item s at limit marked room no-zero p in
-        e ∙ three-field s (octetAt s at) at limit f o l
 
 module _ (s : List ℕ) (octet at from limit : ℕ) where
   -- the first length octet decides
@@ -118,15 +77,12 @@ module _ (s : List ℕ) (octet at from limit : ℕ) where
       let P : Head → Type 0 = λ x. Passed x → x ≡ Item (record { octet = octet; number = numberOf octet; start = from + 1; bound = limit; marked = true }) in
       rw (le-ltb first 0x80 (omega arith), eq-eqb first 0x80 e) (cond-holds P (constructed octet) (λ _ _. refl) (λ _ p. absurd p))
 
-  pub passed-long : (first : ℕ) → 0x80 < first → Passed (byFirst s octet at from first limit) →
-      let k = first - 0x80 in
-      let n = bigEndian (take k (drop (from + 1) s)) in
-      (byFirst s octet at from first limit ≡ definite octet (from + 1 + k) n) × (from + 1 + k + n ≤ limit) × (k ≤ 4)
-  unfolding byFirst longAt
-  passed-long first l =
-      let k = first - 0x80 in
-      let n = bigEndian (take k (drop (from + 1) s)) in
-      let P : Head → Type 0 = λ x. Passed x → (x ≡ definite octet (from + 1 + k) n) × (from + 1 + k + n ≤ limit) × (k ≤ 4) in
-      rw (le-ltb first 0x80 (omega arith), ne-eqb first 0x80 (λ z. omega arith)) (cond-holds P (ltb first 0x85)
-      (λ e. cond-holds P (leb (from + 1 + k) limit)
-      (λ _ p. let (a, b) = passed-definite (from + 1 + k) n p in (a, b, let h = ltb-true first 0x85 e in omega arith)) (λ _ p. absurd p)) (λ _ p. absurd p))
+-- an item with one type octet: the octet after it is within the limit, and decides
+pub passed-decided : (s : List ℕ) (at limit : ℕ) (marked : Bool) (room : ℕ) → Passed (headAt s at limit marked room) → (octetAt s at ≡ 0 → ⊥)
+    → (number (octetAt s at) ≡ 31 → ⊥) →
+    let by = byFirst s (octetAt s at) at (at + 1) (octetAt s (at + 1)) limit in
+    (headAt s at limit marked room ≡ by) × (at + 1 < limit) × Passed by
+passed-decided s at limit marked room p n o =
+    let e = passed-one s at limit marked room p n o in
+    let (f, l) = passed-first s (octetAt s at) at (at + 1) limit (subst Passed e p) in
+    (e ∙ f, l, subst Passed (e ∙ f) p)

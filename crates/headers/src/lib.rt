@@ -1,11 +1,10 @@
 // X.209 at one position: what reading there yields, a header, a closing mark or a refusal by one of 2 to 8.
 ghost use mathlib.Core.Path.{_≡_};
 ghost use mathlib.Core.Bool.{true, false};
-ghost use Prim.Native.Nat.{_+_, _<_, _≤_};
+ghost use Prim.Native.Nat.{_+_, _<_, _≤_, min};
 ghost use lib.ListN.{length, take, drop};
-ghost use Rattle.headers.specs.Head.{number, formAllowed, typeField, numberOf, misfits, bigEndian, definiteAt, indefiniteAt, longAt, lengthAt, closingAt};
-ghost use Rattle.headers.specs.Head.{octetAt, headAt, Passed};
-ghost use Rattle.headers.specs.declared.Head.the-variants.{Item};
+ghost use Rattle.headers.specs.Head.{number, formAllowed, typeField, misfits, bigEndian, definiteAt, indefiniteAt, longAt, lengthAt, closingAt};
+ghost use Rattle.headers.specs.Head.{headAt, Passed};
 
 mod types; // types.rt: the type field
 
@@ -118,7 +117,7 @@ fn indefinite_at(octet: usize, at: usize, from: usize, limit: usize) -> Head
 }
 
 fn long_at(s: &[u8], octet: usize, at: usize, from: usize, k: usize, limit: usize) -> Head
-    requires { ⌜ (from < limit) × (limit ≤ length (now s)) × (k ≤ 4) ⌝ }
+    requires { ⌜ (from < limit) × (min limit (from + 5) ≤ length (now s)) × (k ≤ 4) ⌝ }
     ensures { λ r. ⌜ r ≡ longAt (now (s .entry)) octet at from k limit ⌝ }
 {
     let first = from + 1;
@@ -133,7 +132,7 @@ fn long_at(s: &[u8], octet: usize, at: usize, from: usize, k: usize, limit: usiz
 
 // The length octets of the item at `at`, from `from` on, which is the place past its type field.
 fn length_at(s: &[u8], octet: usize, at: usize, from: usize, limit: usize) -> Head
-    requires { ⌜ limit ≤ length (now s) ⌝ }
+    requires { ⌜ min limit (from + 5) ≤ length (now s) ⌝ }
     ensures { λ r. ⌜ r ≡ lengthAt (now (s .entry)) octet at from limit ⌝ }
 {
     if limit <= from {
@@ -156,7 +155,7 @@ fn length_at(s: &[u8], octet: usize, at: usize, from: usize, limit: usize) -> He
 
 // A 00 at `at`.
 fn closing_at(s: &[u8], at: usize, limit: usize, marked: bool) -> Head
-    requires { ⌜ (at < limit) × (limit ≤ length (now s)) ⌝ }
+    requires { ⌜ (at < length (now s)) × (min limit (at + 8) ≤ length (now s)) ⌝ }
     ensures { λ r. ⌜ r ≡ closingAt (now (s .entry)) at limit marked ⌝ }
 {
     if marked {
@@ -183,7 +182,7 @@ fn closing_at(s: &[u8], at: usize, limit: usize, marked: bool) -> Head
 
 // What stands at `at`, rule by rule.
 fn read_head(s: &[u8], at: usize, limit: usize, marked: bool, room: usize) -> Head
-    requires { ⌜ (at < limit) × (limit ≤ length (now s)) ⌝ }
+    requires { ⌜ (at < length (now s)) × (min limit (at + 8) ≤ length (now s)) ⌝ }
     ensures { λ r. ⌜ r ≡ headAt (now (s .entry)) at limit marked room ⌝ }
 {
     let octet = s[at];
@@ -226,9 +225,10 @@ fn is_usual(octet: u8, len: u8, left: usize, room: usize) -> bool
     }
 }
 
-// What stands at `at`, before `limit`, with `room` levels left. A usual item is told at once; `read_head` has the rest.
+// What stands at `at`, before `limit`, with `room` levels left. A usual item is told at once; `read_head` has the rest. A header has eight
+// octets at most, so a slice that has these may end before the limit: a block of a letter, or a header's octets alone.
 pub fn head_at(s: &[u8], at: usize, limit: usize, marked: bool, room: usize) -> Head
-    requires { ⌜ (at < limit) × (limit ≤ length (now s)) ⌝ }
+    requires { ⌜ (at < length (now s)) × (min limit (at + 8) ≤ length (now s)) ⌝ }
     ensures { λ r. ⌜ r ≡ headAt (now (s .entry)) at limit marked room ⌝ }
 {
     let next = at + 1;
@@ -248,76 +248,9 @@ pub fn head_at(s: &[u8], at: usize, limit: usize, marked: bool, room: usize) -> 
     read_head(s, at, limit, marked, room)
 }
 
-// The header of an item with k length octets after the first, which is at `from`, that was passed before.
-fn passed_long(s: &[u8], octet: usize, from: usize, k: usize) -> Head
-    requires { ⌜ (from + 1 + k + bigEndian (take k (drop (from + 1) (now s))) ≤ length (now s)) × (k ≤ 4) ⌝ }
-    ensures { λ r. ⌜ r ≡ Item (record {
-      octet = octet;
-      number = numberOf octet;
-      start = from + 1 + k;
-      bound = from + 1 + k + bigEndian
-          (take k (drop (from + 1) (now (s .entry))));
-      marked = false;
-    }) ⌝ }
-{
-    let first = from + 1;
-    let start = first + k;
-    Head::Item(Header {
-        octet,
-        number: types::number_of(octet),
-        start,
-        bound: start + big_endian(s, first, k),
-        marked: false,
-    })
-}
-
-// What the length octets from `from` on say of an item that was passed before.
-fn passed_length(s: &[u8], octet: usize, at: usize, from: usize, limit: usize) -> Head
-    requires { ⌜ (from < limit) × (limit ≤ length (now s)) × Passed (lengthAt (now s) octet at from limit) ⌝ }
-    ensures { λ r. ⌜ r ≡ lengthAt (now (s .entry)) octet at from limit ⌝ }
-{
-    let first = s[from];
-    if first < 0x80 {
-        return Head::Item(Header {
-            octet,
-            number: types::number_of(octet),
-            start: from + 1,
-            bound: from + 1 + wide(first),
-            marked: false,
-        });
-    }
-    if first == 0x80 {
-        return Head::Item(Header {
-            octet,
-            number: types::number_of(octet),
-            start: from + 1,
-            bound: limit,
-            marked: true,
-        });
-    }
-    passed_long(s, octet, from, wide(first - 0x80))
-}
-
-// A type field of several octets, and what follows it, of an item that was passed before.
-fn passed_wide(s: &[u8], at: usize, limit: usize, marked: bool, room: usize) -> Head
-    requires { ⌜ (at < limit) × (limit ≤ length (now s)) × (number (octetAt (now s) at) ≡ 31) × Passed (headAt (now s) at limit marked room) ⌝ }
-    ensures { λ r. ⌜ r ≡ headAt (now (s .entry)) at limit marked room ⌝ }
-{
-    let first = s[at];
-    let second = s[at + 1];
-    if second < 0x80 {
-        return passed_length(s, types::code_of(first, second, 0), at, at + 2, limit);
-    }
-    passed_length(
-        s,
-        types::code_of(first, second, s[at + 2]),
-        at,
-        at + 3,
-        limit,
-    )
-}
-
-// What stands at `at` in a run whose walk ended: `head_at` again, for later passes, with nothing left to judge.
+// What stands at `at` in a run whose walk ended: `head_at` again, for later passes. An item with one type octet and one length octet is told
+// with nothing left to judge; `read_head` has the rest. It is kept short, so that the compiler makes it part of every pass over a run: as a
+// call of its own it costs each item more than it does.
 pub fn passed_head(s: &[u8], at: usize, limit: usize, marked: bool, room: usize) -> Head
     requires { ⌜ (at < limit) × (limit ≤ length (now s)) × Passed (headAt (now s) at limit marked room) ⌝ }
     ensures { λ r. ⌜ r ≡ headAt (now (s .entry)) at limit marked room ⌝ }
@@ -326,8 +259,28 @@ pub fn passed_head(s: &[u8], at: usize, limit: usize, marked: bool, room: usize)
     if octet == 0 {
         return Head::ClosingMark;
     }
-    if octet % 32 == 31 {
-        return passed_wide(s, at, limit, marked, room);
+    if octet % 32 != 31 {
+        let next = at + 1;
+        let len = s[next];
+        let start = next + 1;
+        if len < 0x80 {
+            return Head::Item(Header {
+                octet: wide(octet),
+                number: wide(octet % 32),
+                start,
+                bound: start + wide(len),
+                marked: false,
+            });
+        }
+        if len == 0x80 {
+            return Head::Item(Header {
+                octet: wide(octet),
+                number: wide(octet % 32),
+                start,
+                bound: limit,
+                marked: true,
+            });
+        }
     }
-    passed_length(s, wide(octet), at, at + 1, limit)
+    read_head(s, at, limit, marked, room)
 }

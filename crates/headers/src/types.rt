@@ -4,7 +4,7 @@ use super::wide;
 ghost use mathlib.Core.Path.{_≡_};
 ghost use mathlib.Core.Bool.{cond};
 ghost use mathlib.Core.List.{[], _∷_};
-ghost use Prim.Native.Nat.{_+_, _<_, _≤_};
+ghost use Prim.Native.Nat.{_+_, _<_, _≤_, min};
 ghost use lib.Dec.{ltb};
 ghost use lib.ListN.{length};
 ghost use Rattle.headers.specs.declared.Field.the-variants.{Wrong};
@@ -113,7 +113,7 @@ fn numbered_field(first: u8, code: usize, past: usize) -> Field
 
 // A type field whose second octet says that a third follows.
 fn third_field(s: &[u8], first: u8, second: u8, at: usize, limit: usize) -> Field
-    requires { ⌜ (at + 1 < limit) × (limit ≤ length (now s)) ⌝ }
+    requires { ⌜ (at + 1 < limit) × (min limit (at + 3) ≤ length (now s)) ⌝ }
     ensures { λ r. ⌜ r ≡ cond (ltb (at + 2) limit) (byThird first second (octetAt (now (s .entry)) (at + 2)) at) (Wrong 7) ⌝ }
 {
     let last = at + 2;
@@ -129,7 +129,7 @@ fn third_field(s: &[u8], first: u8, second: u8, at: usize, limit: usize) -> Fiel
 
 // A type field with number bits 11111.
 fn long_field(s: &[u8], first: u8, at: usize, limit: usize) -> Field
-    requires { ⌜ (at < limit) × (limit ≤ length (now s)) ⌝ }
+    requires { ⌜ (at < length (now s)) × (min limit (at + 3) ≤ length (now s)) ⌝ }
     ensures { λ r. ⌜ r ≡ longField (now (s .entry)) first at limit ⌝ }
 {
     let next = at + 1;
@@ -147,7 +147,7 @@ fn long_field(s: &[u8], first: u8, at: usize, limit: usize) -> Field
 
 // The type field at `at`, which begins with this octet.
 pub fn field_at(s: &[u8], octet: u8, at: usize, limit: usize) -> Field
-    requires { ⌜ (at < limit) × (limit ≤ length (now s)) ⌝ }
+    requires { ⌜ (at < length (now s)) × (min limit (at + 3) ≤ length (now s)) ⌝ }
     ensures { λ r. ⌜ r ≡ fieldAt (now (s .entry)) octet at limit ⌝ }
 {
     if octet % 32 == 31 {

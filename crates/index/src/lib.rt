@@ -4,10 +4,10 @@ ghost use mathlib.Core.Path.{_≡_};
 ghost use Prim.Native.Nat.{_+_, _*_, _<_, _≤_};
 ghost use lib.ListN.{length};
 ghost use Rattle.names.specs.Asked.{spelling, AskedWithin};
-ghost use Rattle.names.specs.Hash.{hash};
+ghost use Rattle.names.specs.Hash.{hash, bucket};
 ghost use Rattle.index.specs.Rows.{rowWidth, nameSpaceOf};
 ghost use Rattle.index.specs.Columns.{firstAt, pastAt, valueAt, Bounded};
-ghost use Rattle.index.specs.Index.{Indexed, named, FindsRow};
+ghost use Rattle.index.specs.Index.{Indexed, Links, named, FindsRow};
 
 // Numbers a row, and where a row has the first of its element, of its identifier, of its logical identifier and of its portions.
 pub const ROW_WIDTH: usize = 12;
@@ -116,6 +116,8 @@ pub fn insert(
     ensures { λ _. ⌜ Indexed (now (s .entry)) (now (rows .entry)) column (now (head .exit)) (now (next .exit)) (n + 1) ⌝ }
     ensures { λ _. ⌜ length (now (head .exit)) ≡ length (now (head .entry)) ⌝ }
     ensures { λ _. ⌜ length (now (next .exit)) ≡ length (now (next .entry)) ⌝ }
+    ensures { λ _. ⌜ Links (now (head .entry)) (now (next .entry)) (now (head .exit)) (now (next .exit))
+        (bucket (length (now (head .entry))) hashed) n ⌝ }
 {
     let at = n * ROW_WIDTH + column;
     if rows[at] < rows[at + 1] {

@@ -6,7 +6,7 @@ use Prim.Native.Nat.{ℕ, _*_}
 use lib.ListN.{length, take}
 use Rattle.index.specs.Rows.{rowWidth}
 use Rattle.index.specs.Columns.{identifierColumn, logicalColumn, Bounded}
-use Rattle.index.specs.Index.{Indexed}
+use Rattle.ordered.specs.Ordered.{Filed}
 use Rattle.elements.specs.declared.Row.{Row}
 use Rattle.elements.specs.Judge.{Element}
 use Rattle.elements.specs.Rows.{numbers}
@@ -22,8 +22,8 @@ pub data Saying (s : List ℕ) : List Row → List Element → Type 0 where
 pub record Indexes (s scratch head next head2 next2 : List ℕ) (n : ℕ) : Type 0 where
   pub identifiers : Bounded s scratch identifierColumn n
   pub logicals : Bounded s scratch logicalColumn n
-  pub by-identifier : Indexed s scratch identifierColumn head next n
-  pub by-logical : Indexed s scratch logicalColumn head2 next2 n
+  pub by-identifier : Filed s scratch identifierColumn head next n
+  pub by-logical : Filed s scratch logicalColumn head2 next2 n
 
 -- n elements are done: their rows are the scratch's first, and are indexed
 pub record Keeps (s scratch head next head2 next2 : List ℕ) (n : ℕ) (rows : List Row) (elements : List Element) : Type 0 where

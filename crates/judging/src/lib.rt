@@ -17,7 +17,7 @@ ghost use Rattle.names.specs.Hash.{hash};
 ghost use Rattle.portions.specs.Portions.{mostPortions};
 ghost use Rattle.portions.specs.Bounds.{bounded, Inside};
 ghost use Rattle.index.specs.Columns.{Bounded};
-ghost use Rattle.index.specs.Index.{Indexed};
+ghost use Rattle.ordered.specs.Ordered.{Filed};
 ghost use Rattle.elements.specs.Rows.{bytesIn};
 ghost use Rattle.elements.specs.Says.{Placed, RowPlaced};
 ghost use Rattle.judging.specs.Done.{Indexes};
@@ -48,7 +48,7 @@ const MOST_ELEMENTS: usize = 4096;
 const PROFILE: usize = 0xA0;
 
 // Rules 9 to 11 for element n: the number of the one that refuses, or 0. `known` is the octet of its shape.
-fn early(n: usize, octet: usize, known: usize) -> usize
+pub fn early(n: usize, octet: usize, known: usize) -> usize
     ensures { λ r. ⌜ r ≡ earlyRefusal n octet known ⌝ }
 {
     if MOST_ELEMENTS <= n {
@@ -94,7 +94,7 @@ fn is_taken(
     name: Span,
 ) -> bool
     requires { ⌜ Bounded (now s) (now rows) column n ⌝ }
-    requires { ⌜ Indexed (now s) (now rows) column (now head) (now next) n ⌝ }
+    requires { ⌜ Filed (now s) (now rows) column (now head) (now next) n ⌝ }
     requires { ⌜ Placed (now s) name × (hashed ≡ hash (bytesIn (now s) name)) ⌝ }
     ensures { λ r. ⌜ Taken (now (s .entry)) (now (rows .entry)) column n space (bytesIn (now (s .entry)) name) r ⌝ }
 {
@@ -110,7 +110,7 @@ fn is_taken(
         from: 0,
         to: 0,
     };
-    match index::find(s, rows, head, next, n, column, space, hashed, asked) {
+    match ordered::find(s, rows, head, next, n, column, space, hashed, asked) {
         RowFound::At(_) => true,
         RowFound::Nothing => false,
     }

@@ -8,8 +8,9 @@ use lib.Seq.{slice, sets}
 use Rattle.octets.specs.Walk.{streamLimit}
 use Rattle.index.specs.Rows.{rowWidth}
 use Rattle.index.specs.Columns.{identifierColumn, logicalColumn, valueAt, Bounded}
-use Rattle.index.specs.Index.{Indexed}
-use Rattle.index.proofs.Rows.{row-value, row-bounded, row-indexed}
+use Rattle.ordered.specs.Ordered.{Filed}
+use Rattle.index.proofs.Rows.{row-value, row-bounded}
+use Rattle.ordered.proofs.Rows.{row-filed}
 use Rattle.elements.specs.declared.Row.{Row}
 use Rattle.elements.specs.Judge.{Element}
 use Rattle.elements.specs.Rows.{cells}
@@ -31,18 +32,18 @@ narrow s row short placed =
 -- row n is written, and the rows before it are indexed
 pub record Written (s scratch head next : List ℕ) (column n : ℕ) (bytes : List ℕ) : Type 0 where
   pub bounded : Bounded s scratch column (n + 1)
-  pub indexed : Indexed s scratch column head next n
+  pub indexed : Filed s scratch column head next n
   pub value : valueAt s scratch column n ≡ bytes
 
 module _ {s scratch head next head2 next2 scratch' : List ℕ} {n : ℕ} {row : Row} (indexes : Indexes s scratch head next head2 next2 n)
     (long : n * rowWidth + rowWidth ≤ length scratch) (placed : RowPlaced s row) (stored : scratch' ≡ sets scratch (n * rowWidth) (cells row)) where
-  written-at : (column : ℕ) → column + 1 < rowWidth → {head next : List ℕ} → Bounded s scratch column n → Indexed s scratch column head next n
+  written-at : (column : ℕ) → column + 1 < rowWidth → {head next : List ℕ} → Bounded s scratch column n → Filed s scratch column head next n
       → getD (cells row) column 0 ≤ getD (cells row) (column + 1) 0 → getD (cells row) (column + 1) 0 ≤ length s
       → Written s scratch' head next column n (slice (getD (cells row) column 0) (getD (cells row) (column + 1) 0) s)
   written-at column in-row {head} {next} b x order inside =
       rw stored (record {
         bounded = row-bounded s scratch n (cells row) refl long column in-row b order inside;
-        indexed = row-indexed s scratch n (cells row) refl long column in-row head next x;
+        indexed = row-filed s scratch n (cells row) refl long column in-row head next x;
         value = row-value s scratch n (cells row) refl long column in-row;
       })
 
@@ -54,7 +55,7 @@ module _ {s scratch head next head2 next2 scratch' : List ℕ} {n : ℕ} {row : 
   logical-written =
       written-at logicalColumn (omega arith) (indexes .logicals) (indexes .by-logical) (placed .logical .order) (placed .logical .inside)
 
-  pub holds-more : {head' next' head2' next2' : List ℕ} → Indexed s scratch' identifierColumn head' next' (n + 1) → Indexed s scratch' logicalColumn head2' next2' (n + 1)
+  pub holds-more : {head' next' head2' next2' : List ℕ} → Filed s scratch' identifierColumn head' next' (n + 1) → Filed s scratch' logicalColumn head2' next2' (n + 1)
       → (table : List Row) (done : List Element) (e : Element) → Keeps s scratch head next head2 next2 n table done → Says s row e
       → Keeps s scratch' head' next' head2' next2' (n + 1) (table ++ row ∷ []) (done ++ e ∷ [])
   holds-more by-identifier by-logical table done e holds says =

@@ -16,7 +16,8 @@ use Rattle.runs.specs.Runs.{itemsOf, treeIn, wholeStream, tops, Fine, Meeting}
 use Rattle.runs.proofs.Laws.{start-at, no-tops}
 use Rattle.names.specs.Hash.{hashes}
 use Rattle.index.specs.Columns.{identifierColumn, logicalColumn}
-use Rattle.index.proofs.Rows.{bounded-none, indexed-none}
+use Rattle.index.proofs.Rows.{bounded-none}
+use Rattle.ordered.proofs.Rows.{filed-none}
 use Rattle.elements.specs.declared.Row.{Row}
 use Rattle.elements.specs.declared.Edition.{Edition}
 use Rattle.elements.specs.Judge.{Element, mostElements, judgeFrom, judge}
@@ -61,8 +62,8 @@ judging-none edition s scratch head next head2 next2 bounds lent fine = record {
     indexes = record {
       identifiers = bounded-none s scratch identifierColumn (omega arith);
       logicals = bounded-none s scratch logicalColumn (omega arith);
-      by-identifier = indexed-none s scratch identifierColumn head next (lent .some-heads) (lent .few-heads) (lent .empty-heads);
-      by-logical = indexed-none s scratch logicalColumn head2 next2 (lent .some-heads2) (lent .few-heads2) (lent .empty-heads2);
+      by-identifier = filed-none s scratch identifierColumn head next (lent .some-heads) (lent .few-heads) (lent .empty-heads) (omega (arith, lent .links)) (lent .unmarked);
+      by-logical = filed-none s scratch logicalColumn head2 next2 (lent .some-heads2) (lent .few-heads2) (lent .empty-heads2) (omega (arith, lent .links2)) (lent .unmarked2);
     };
   };
   judged = refl;

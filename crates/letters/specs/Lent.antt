@@ -1,4 +1,5 @@
 -- What is lent to the judge of a stream, and what it says when no element is left. Definitions only: assumes nothing.
+use mathlib.Core.Path.{_≡_}
 use mathlib.Core.Bool.{cond}
 use mathlib.Core.List.{List}
 use Prim.Native.Nat.{ℕ, _*_, min, _<_, _≤_}
@@ -9,6 +10,7 @@ use Rattle.names.specs.Hash.{hashes}
 use Rattle.portions.specs.Portions.{mostPortions}
 use Rattle.index.specs.Rows.{rowWidth}
 use Rattle.index.specs.Index.{Empty}
+use Rattle.ordered.specs.Ordered.{markOf}
 use Rattle.elements.specs.Judge.{mostElements}
 use Rattle.letters.specs.declared.Verdict.{Verdict}
 use Rattle.letters.specs.declared.Verdict.the-variants.{Accepted, Refused}
@@ -27,8 +29,10 @@ pub record Lent (s scratch head next head2 next2 bounds : List ℕ) : Type 0 whe
   pub few-heads2 : length head2 ≤ hashes
   pub empty-heads2 : Empty head2
   pub rows : rowsNeeded s * rowWidth ≤ length scratch
-  pub links : rowsNeeded s ≤ length next
-  pub links2 : rowsNeeded s ≤ length next2
+  pub links : rowsNeeded s < length next
+  pub unmarked : markOf next ≡ 0
+  pub links2 : rowsNeeded s < length next2
+  pub unmarked2 : markOf next2 ≡ 0
   pub portions : 2 * mostPortions ≤ length bounds
 
 -- 11 ".. or the stream is empty", at 0; otherwise n elements are accepted

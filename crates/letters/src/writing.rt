@@ -74,11 +74,11 @@ pub fn add_row(
 )
     requires { ⌜ Indexes (now s) (now rows) (now head) (now next) (now head2) (now next2) n ⌝ }
     requires { ⌜ RowPlaced (now s) row × (hashes ≡ hashesOf (now s) row) × (length (now s) ≤ streamLimit) ⌝ }
-    requires { ⌜ (n * rowWidth + rowWidth ≤ length (now rows)) × (n < length (now next)) × (n < length (now next2)) × (n < mostElements) ⌝ }
+    requires { ⌜ (n * rowWidth + rowWidth ≤ length (now rows)) × (n + 1 < length (now next)) × (n + 1 < length (now next2)) × (n < mostElements) ⌝ }
     ensures { λ _. ⌜ Grows (now (s .entry)) (now (rows .entry)) (now (head .entry)) (now (next .entry)) (now (head2 .entry)) (now (next2 .entry))
         (now (rows .exit)) (now (head .exit)) (now (next .exit)) (now (head2 .exit)) (now (next2 .exit)) n row ⌝ }
 {
     put_row(rows, n * index::ROW_WIDTH, row);
-    index::insert(s, rows, head, next, n, index::IDENTIFIER, hashes.identifier);
-    index::insert(s, rows, head2, next2, n, index::LOGICAL, hashes.logical);
+    ordered::insert(s, rows, head, next, n, index::IDENTIFIER, hashes.identifier);
+    ordered::insert(s, rows, head2, next2, n, index::LOGICAL, hashes.logical);
 }

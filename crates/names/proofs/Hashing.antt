@@ -1,9 +1,9 @@
--- A hash goes on byte by byte, so in parts too, and stays below 2^32; its bucket is its share of the buckets. Assumes nothing.
+-- A hash goes on byte by byte, so in parts too, and stays below 2^32; its bucket is one of the buckets. Assumes nothing.
 use mathlib.Core.Path.{_≡_, refl, sym, ap, _∙_}
 use mathlib.Core.List.{List, [], _∷_, _++_}
-use Prim.Native.Nat.{ℕ, _+_, _*_, _^_, _<_, _≤_}
-use native.Mathlib.Nat.{lt-of-lt-of-le, mul-le-mul-left, mul-lt-mul-of-pos-right, div-lt-iff-lt-mul, mul-comm}
+use Prim.Native.Nat.{ℕ, _+_, _*_, _-_, _%_, _^_, _<_, _≤_}
 use native.Mathlib.Omega.{arith}
+use lib.Bits.{and-le-r}
 use lib.ListN.{length, getD}
 use lib.Seq.{slice}
 use Rattle.names.specs.Names.{spaceByte}
@@ -32,13 +32,11 @@ unfolding hashFrom
 hash-joined xs ys p q r =
     r ∙ ap (λ (k : ℕ). hashFrom k ys) (q ∙ ap (λ (k : ℕ). hashStep k spaceByte) p) ∙ sym (hash-append 0 xs (spaceByte ∷ ys))
 
-module _ (buckets h : ℕ) (some : 0 < buckets) where
-  -- the product, which the code forms in 64 bits
-  pub bucket-fits : buckets ≤ hashes → h < hashes → h * buckets < 2 ^ 64
-  bucket-fits few low = lt-of-lt-of-le (mul-lt-mul-of-pos-right low some) (mul-le-mul-left hashes few)
+-- The shift by 6 is the product with 64, of a hash and a byte: no bit is lost of 64.
+pub shift-is : (n : ℕ) → n < 2 ^ 33 → (n * 2 ^ 6) % 2 ^ 64 ≡ n * 64
+shift-is n l = omega arith
 
-  pub bucket-below : h < hashes → bucket buckets h < buckets
-  unfolding bucket
-  bucket-below low =
-      div-lt-iff-lt-mul {k = hashes} {x = h * buckets} {y = buckets} (omega arith) .1
-      (rw (mul-comm buckets hashes) (mul-lt-mul-of-pos-right low some))
+-- what is left of a hash below the number of buckets is one of them
+pub bucket-below : (buckets h : ℕ) → 0 < buckets → bucket buckets h < buckets
+unfolding bucket
+bucket-below buckets h some = let l = and-le-r h (buckets - 1) in omega arith

@@ -14,11 +14,9 @@ const LONGEST_IDENTIFIER: usize = 64;
 
 const LONGEST_PORTION: usize = 16;
 
-const MULTIPLIER: usize = 2_654_435_761;
-
 const HASHES: usize = 4_294_967_296;
 
-fn is_digit(byte: u8) -> bool
+pub fn is_digit(byte: u8) -> bool
     ensures { λ r. ⌜ r ≡ isDigit byte ⌝ }
 {
     if byte < 48 {
@@ -141,11 +139,13 @@ fn wide(x: u8) -> usize
     x as usize
 }
 
+// The hash h after one byte more. It is made of shifts and sums, as not every machine that runs this multiplies.
 fn hash_byte(h: usize, byte: u8) -> usize
     requires { ⌜ h < hashes ⌝ }
     ensures { λ r. ⌜ (r ≡ hashStep h byte) × (r < hashes) ⌝ }
 {
-    (h + wide(byte)) * MULTIPLIER % HASHES
+    let sum = h + wide(byte);
+    ((sum << 6) + sum + (sum >> 9)) % HASHES
 }
 
 // The hash h after s[first..past].
@@ -170,10 +170,10 @@ pub fn hash_space(h: usize) -> usize
     hash_byte(h, SPACE)
 }
 
-// The bucket that the hash h has among so many.
+// The bucket that the hash h has among so many: its low bits, where their number is a power of two.
 pub fn bucket_of(buckets: usize, h: usize) -> usize
     requires { ⌜ (0 < buckets) × (buckets ≤ hashes) × (h < hashes) ⌝ }
     ensures { λ r. ⌜ (r ≡ bucket buckets h) × (r < buckets) ⌝ }
 {
-    h * buckets / HASHES
+    h & (buckets - 1)
 }

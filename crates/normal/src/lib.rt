@@ -42,7 +42,7 @@ pub enum Answer {
 }
 
 // How many length octets follow the first: told by the leading zeros of the length.
-fn further_octets(len: u32) -> usize
+pub fn further_octets(len: u32) -> usize
     ensures { λ r. ⌜ r ≡ furtherOctets len ⌝ }
 {
     let zeros = u32::leading_zeros(len);
@@ -73,7 +73,7 @@ fn put_digits(out: &mut [u8], at: usize, k: usize, n: u32)
 }
 
 // Writes the length octets of a value of `len` octets, and says the place past them.
-fn put_length(out: &mut [u8], at: usize, len: u32) -> usize
+pub fn put_length(out: &mut [u8], at: usize, len: u32) -> usize
     requires { ⌜ at + 1 + furtherOctets len ≤ length (now out) ⌝ }
     ensures { λ r. ⌜ PutsOctets (now (out .entry)) at (lengthOctets len) r (now (out .exit)) ⌝ }
 {
@@ -181,7 +181,7 @@ fn measure_run(s: &[u8], from: usize, limit: usize, marked: bool, room: usize) -
 }
 
 // Copies the octets of s from start to bound, and says the place past them.
-fn put_value(s: &[u8], start: usize, bound: usize, out: &mut [u8], begin: usize) -> usize
+pub fn put_value(s: &[u8], start: usize, bound: usize, out: &mut [u8], begin: usize) -> usize
     requires { ⌜ (start ≤ bound) × (bound ≤ length (now s)) × (begin + (bound - start) ≤ length (now out)) ⌝ }
     ensures { λ r. ⌜ PutsOctets (now (out .entry)) begin (slice start bound (now (s .entry))) r (now (out .exit)) ⌝ }
 {

@@ -16,7 +16,7 @@ use Rattle.portions.specs.Portions.{allPortions, values}
 use Rattle.index.specs.declared.RowFound.{RowFound}
 use Rattle.index.specs.declared.RowFound.the-variants.{At, Nothing}
 use Rattle.index.specs.Columns.{identifierColumn, logicalColumn, kindAt, firstAt, pastAt, Bounded}
-use Rattle.index.specs.Index.{Indexed}
+use Rattle.ordered.specs.Ordered.{Filed}
 use Rattle.tree.specs.Tree.{treeOf}
 use Rattle.elements.specs.declared.Edition.{Edition}
 use Rattle.elements.specs.Judge.{single, Element, accepted, judge}
@@ -79,7 +79,7 @@ pub record Searchable (side : Side) (s rows head next : List ℕ) (n : ℕ) : Ty
   pub ready : RowsTell s rows n elements
   pub bounded : Bounded s rows identifierColumn n
   pub bounded-on : Bounded s rows (columnOf side) n
-  pub indexed : Indexed s rows (columnOf side) head next n
+  pub indexed : Filed s rows (columnOf side) head next n
 
 -- the matches that a look-up of a portion yields
 abbrev pub foundMatches : (e p : ℕ) → RowFound → List Match

@@ -18,7 +18,8 @@ ghost use Rattle.names.specs.Names.{spaceByte};
 ghost use Rattle.names.specs.Hash.{hash, hashFrom, hashes};
 ghost use Rattle.index.specs.Rows.{rowWidth};
 ghost use Rattle.index.specs.Columns.{Bounded};
-ghost use Rattle.index.specs.Index.{Indexed, FindsRow};
+ghost use Rattle.index.specs.Index.{FindsRow};
+ghost use Rattle.ordered.specs.Ordered.{Filed};
 ghost use Rattle.elements.specs.declared.Edition.{Edition};
 ghost use Rattle.elements.specs.Rows.{bytesIn};
 ghost use Rattle.elements.specs.Says.{Placed};
@@ -165,7 +166,7 @@ fn unit_of(
     portion: Span,
 ) -> RowFound
     requires { ⌜ Bounded (now s) (now rows) column n ⌝ }
-    requires { ⌜ Indexed (now s) (now rows) column (now head) (now next) n ⌝ }
+    requires { ⌜ Filed (now s) (now rows) column (now head) (now next) n ⌝ }
     requires { ⌜ (hashed ≡ hashFrom (hash (bytesIn (now s) name)) (spaceByte ∷ [])) × (hashed < hashes) ⌝ }
     requires { ⌜ Placed (now s) name × Placed (now s) portion ⌝ }
     ensures { λ r. ⌜ FindsRow (now (s .entry)) (now (rows .entry)) column n unitSpace
@@ -179,7 +180,7 @@ fn unit_of(
         to: portion.past,
     };
     let whole = names::hash_over(s, portion.first, portion.past, hashed);
-    index::find(s, rows, head, next, n, column, UNITS, whole, asked)
+    ordered::find(s, rows, head, next, n, column, UNITS, whole, asked)
 }
 
 // Puts one record in its place.

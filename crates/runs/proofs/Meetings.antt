@@ -130,6 +130,10 @@ module _ (s : List ℕ) (r : Run) (fine : Fine s r) (l : r .at < r .limit) (h : 
   pub marked-value : h .marked ≡ true → valueOf (r .room) s h .how ≡ run (r .room - 1) s (h .start) (h .bound) true .how
   marked-value = marked-run (r .room) s h (lies .mark)
 
+  -- an indefinite item is constructed: the run inside it begins where its value starts
+  pub marked-inside : h .marked ≡ true → record { at = h .start; limit = h .bound; marked = true; room = r .room - 1 } ≡ insideOf h (r .room)
+  marked-inside m = rw (m, lies .mark m)
+
   pub marked-whole : h .marked ≡ true → Whole (run (r .room - 1) s (h .start) (h .bound) true .how)
   marked-whole m = subst Whole (marked-value m) value-whole
 

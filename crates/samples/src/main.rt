@@ -8,7 +8,7 @@ use odif::Edition;
 ghost use Prim.Native.Nat.{_<_};
 
 // Room for the rows of ten elements: no example has more.
-const TABLE_ROOM: usize = 120;
+const TABLE_ROOM: usize = 130;
 
 fn digit(value: u8) -> u8
     requires { ⌜ value < 16 ⌝ }

@@ -1,12 +1,13 @@
 -- Arrays of zeros are the scratch that the judge asks for. Assumes nothing.
 use mathlib.Core.Path.{_≡_, ap, _∙_}
 use mathlib.Core.List.{List}
-use Prim.Native.Nat.{ℕ, _*_, _<_, _≤_}
+use Prim.Native.Nat.{ℕ, _+_, _-_, _*_, _<_, _≤_}
 use native.Mathlib.Omega.{arith}
 use lib.ListN.{length, replicate, length-replicate, getD-replicate}
 use Rattle.names.specs.Hash.{hashes}
 use Rattle.index.specs.Rows.{rowWidth}
 use Rattle.index.specs.Index.{Empty}
+use Rattle.ordered.specs.Ordered.{markOf}
 use Rattle.octets.specs.declared.Outcome.the-variants.{Ended}
 use Rattle.octets.specs.Walk.{streamLimit, walkOf}
 use Rattle.runs.specs.Runs.{wholeStream, Fine}
@@ -20,8 +21,11 @@ zeros n = length-replicate n 0
 no-heads : (n : ℕ) → Empty (replicate n 0)
 no-heads n b l = getD-replicate n b 0 0 (omega (arith, zeros n))
 
+no-mark : (n : ℕ) → 0 < n → markOf (replicate n 0) ≡ 0
+no-mark n some = getD-replicate n (length (replicate {A = ℕ} n 0) - 1) 0 0 (omega (arith, zeros n))
+
 -- rows, heads, links and bounds of a letter with no more rows than are lent
-lent : (s : List ℕ) (rows heads links : ℕ) → rowsNeeded s ≤ links → links * rowWidth ≤ rows → 0 < heads → heads ≤ hashes
+lent : (s : List ℕ) (rows heads links : ℕ) → rowsNeeded s < links → links * rowWidth ≤ rows + rowWidth → 0 < heads → heads ≤ hashes
     → Lent s (replicate rows 0) (replicate heads 0) (replicate links 0) (replicate heads 0) (replicate links 0) (replicate 128 0)
 lent s rows heads links needed room some few = record {
   some-heads = omega (arith, zeros heads);
@@ -32,13 +36,15 @@ lent s rows heads links needed room some few = record {
   empty-heads2 = no-heads heads;
   rows = omega (arith, zeros rows);
   links = omega (arith, zeros links);
+  unmarked = no-mark links (omega arith);
   links2 = omega (arith, zeros links);
+  unmarked2 = no-mark links (omega arith);
   portions = omega (arith, zeros 128);
 }
 
 -- all that the judge asks, of a stream that the walk passed
 pub walked-lent : (s : List ℕ) (at headers : ℕ) → walkOf s ≡ Ended at headers → (rows heads links : ℕ)
-    → rowsNeeded s ≤ links → links * rowWidth ≤ rows → 0 < heads → heads ≤ hashes
+    → rowsNeeded s < links → links * rowWidth ≤ rows + rowWidth → 0 < heads → heads ≤ hashes
     → (Fine s (wholeStream s) × (length s ≤ streamLimit))
     × Lent s (replicate rows 0) (replicate heads 0) (replicate links 0) (replicate heads 0) (replicate links 0) (replicate 128 0)
 walked-lent s at headers w rows heads links needed room some few =

@@ -24,14 +24,14 @@ pub fn few(
     requires { ⌜ walkOf (now stream) ≡ Outcome.Ended (length (now stream)) headers ⌝ }
     requires { ⌜ rowsNeeded (now stream) ≤ 512 ⌝ }
     requires { ⌜ Roomy question (now stream) (length (now flat)) ⌝ }
-    ensures { λ r. ⌜ Leaves edition question (now (stream .entry)) (now (table .entry)) (now (out .entry)) r (now (table .exit)) (now (flat .exit))
+    ensures { λ r. ⌜ Leaves edition question (now (stream .entry)) (now (table .entry)) (now (flat .entry)) (now (out .entry)) r (now (table .exit)) (now (flat .exit))
         (now (out .exit)) ⌝ }
 {
     let mut rows = [0u32; 6144];
     let mut head = [0u16; 1024];
-    let mut next = [0u16; 512];
+    let mut next = [0u16; 513];
     let mut head2 = [0u16; 1024];
-    let mut next2 = [0u16; 512];
+    let mut next2 = [0u16; 513];
     let mut bounds = [0u32; 128];
     match letters::judge_stream(
         edition,
@@ -78,14 +78,14 @@ pub fn many(
 ) -> Told
     requires { ⌜ walkOf (now stream) ≡ Outcome.Ended (length (now stream)) headers ⌝ }
     requires { ⌜ Roomy question (now stream) (length (now flat)) ⌝ }
-    ensures { λ r. ⌜ Leaves edition question (now (stream .entry)) (now (table .entry)) (now (out .entry)) r (now (table .exit)) (now (flat .exit))
+    ensures { λ r. ⌜ Leaves edition question (now (stream .entry)) (now (table .entry)) (now (flat .entry)) (now (out .entry)) r (now (table .exit)) (now (flat .exit))
         (now (out .exit)) ⌝ }
 {
     let mut rows = [0u32; 49152];
     let mut head = [0u16; 8192];
-    let mut next = [0u16; 4096];
+    let mut next = [0u16; 4097];
     let mut head2 = [0u16; 8192];
-    let mut next2 = [0u16; 4096];
+    let mut next2 = [0u16; 4097];
     let mut bounds = [0u32; 128];
     match letters::judge_stream(
         edition,

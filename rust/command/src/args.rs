@@ -5,10 +5,10 @@ use std::io;
 use std::process::ExitCode;
 
 use clap::{Args, CommandFactory, Parser, Subcommand, ValueEnum};
-use odif::{Letter, Side};
+use odif::{Edition, Letter, Side};
 
 use crate::status::{Failure, Outcome, Status, tell};
-use crate::{check, export, list, man, normal, same, survey, text, tree};
+use crate::{check, date, export, list, make, man, normal, outline, same, survey, text, tree};
 
 const EXAMPLES: &str = "\
 Examples:
@@ -18,7 +18,11 @@ Examples:
   echo A0800000 | odif normal --hex - -o - | xxd
 
 Exit status: 0 all was accepted; 1 something was refused; 2 something could not be
-read or written, or the command was misused; 130 it was interrupted.";
+read or written, or the command was misused; 130 it was interrupted; 141 no one reads its
+output any more, as in `odif tree letter.odif | head`.";
+
+/// The signal of a pipe that no one reads.
+const SIGPIPE: u8 = 13;
 
 /// What `--version` tells: which library this is, and what proved it.
 const VERSION: &str = concat!(
@@ -31,7 +35,7 @@ const VERSION: &str = concat!(
     env!("ODIF_TOOLCHAIN")
 );
 
-/// Reads letters in the Open Document Interchange Format (ODIF, 1988)
+/// Reads letters in the Open Document Interchange Format (ODIF, 1988 and 1993)
 #[derive(Parser)]
 #[command(name = "odif", version, long_version = VERSION, after_help = EXAMPLES, max_term_width = 100)]
 pub struct Cli {
@@ -42,10 +46,13 @@ pub struct Cli {
 #[derive(Subcommand)]
 enum Command {
     Check(check::Words),
+    Date(date::Words),
     Text(text::Words),
     Tree(tree::Words),
     List(list::Words),
+    Outline(outline::Words),
     Normal(normal::Words),
+    Make(make::Words),
     Survey(survey::Words),
     Same(same::Words),
     Export(export::Words),
@@ -63,6 +70,45 @@ pub struct Files {
     /// The files are hexadecimal digits in pairs, with white space between pairs
     #[arg(long)]
     pub hex: bool,
+    #[command(flatten)]
+    pub by: By,
+}
+
+/// The files of a subcommand that answers for people or as JSON.
+#[derive(Args)]
+pub struct Asked {
+    #[command(flatten)]
+    pub files: Files,
+    /// One JSON object a line and file, with all that is known
+    #[arg(long)]
+    pub json: bool,
+}
+
+/// By what letters are read.
+#[derive(Args, Clone, Copy)]
+pub struct By {
+    /// The edition of the standard. Letters of 1993 may have protected parts, and text units without content or with
+    /// tiles; those of 1988 are letters of 1993 too
+    #[arg(long, value_name = "YEAR", default_value = "1988")]
+    edition: Year,
+}
+
+#[derive(Clone, Copy, PartialEq, Eq, ValueEnum)]
+enum Year {
+    #[value(name = "1988")]
+    Of1988,
+    #[value(name = "1993")]
+    Of1993,
+}
+
+impl By {
+    /// The edition that was asked for.
+    pub fn edition(self) -> Edition {
+        match self.edition {
+            Year::Of1988 => Edition::Of1988,
+            Year::Of1993 => Edition::Of1993,
+        }
+    }
 }
 
 /// Which side of a letter is read.
@@ -127,10 +173,13 @@ pub fn run(words: impl Iterator<Item = OsString>) -> ExitCode {
 fn dispatch(command: Command) -> Outcome {
     match command {
         Command::Check(words) => check::run(&words),
+        Command::Date(words) => date::run(&words),
         Command::Text(words) => text::run(&words),
         Command::Tree(words) => tree::run(&words),
         Command::List(words) => list::run(&words),
+        Command::Outline(words) => outline::run(&words),
         Command::Normal(words) => normal::run(&words),
+        Command::Make(words) => make::run(&words),
         Command::Survey(words) => survey::run(&words),
         Command::Same(words) => same::run(&words),
         Command::Export(words) => export::run(&words),
@@ -143,7 +192,8 @@ fn failed(failure: Failure) -> ExitCode {
     match failure {
         Failure::Usage(message) => tell(&format!("odif: {message}\nTry `odif --help`.\n")),
         Failure::File(message) => tell(&format!("odif: {message}\n")),
-        Failure::Output(error) if error.kind() == io::ErrorKind::BrokenPipe => {}
+        // As of other commands, a shell then says that a signal ended it. What was begun has been put away by now.
+        Failure::Output(error) if error.kind() == io::ErrorKind::BrokenPipe => return ExitCode::from(128 + SIGPIPE),
         Failure::Output(error) => tell(&format!("odif: standard output: {error}\n")),
         Failure::Cut(message) => {
             tell(&format!("odif: interrupted: {message}\n"));

@@ -125,6 +125,9 @@ fn letter(octet: u8, set: Charset) -> Option<char> {
 
 #[cfg(test)]
 mod tests {
+    use std::io::Write;
+    use std::process::{Command, Stdio};
+
     use super::*;
 
     #[test]
@@ -162,5 +165,53 @@ mod tests {
         assert_eq!(declared([&b"xx\x1B-A"[..], b"\x1B.A"].into_iter()), Some(Charset::Latin1));
         assert_eq!(declared([&b"\x1B-A"[..], b"\x1B)v"].into_iter()), None, "two of them");
         assert_eq!(declared([&b"abc"[..]].into_iter()), None);
+    }
+
+    /// Where glibc's tables have another character: the dash, the ohm sign for the letter, and the eth, of which the small
+    /// letter has an octet of its own.
+    const OF_ICONV: [(&[u8], &str); 3] = [(&[0xD0], "\u{2014}"), (&[0xE0], "\u{2126}"), (&[0xE2], "\u{D0}")];
+
+    /// Every octet alone, and every accent before a letter or a space.
+    fn sequences() -> Vec<Vec<u8>> {
+        let octets = (0x20..=0x7E).chain(0xA0..=0xC0).chain(0xD0..=0xFF).map(|octet| vec![octet]);
+        let accents = (0xC1..=0xCF).flat_map(|accent| {
+            let letters = (b'A'..=b'Z').chain(b'a'..=b'z').chain([b' ']);
+            letters.map(move |letter| vec![accent, letter])
+        });
+        octets.chain(accents).collect()
+    }
+
+    /// What iconv makes of each sequence, a line each; of what it has no character for it leaves out all or the first octet.
+    /// `None` where it does not have the set.
+    fn by_iconv(set: &str, sequences: &[Vec<u8>]) -> Option<Vec<String>> {
+        let mut iconv = Command::new("iconv");
+        let pipes = iconv.args(["-c", "-f", set, "-t", "UTF-8"]).stdin(Stdio::piped()).stdout(Stdio::piped());
+        let mut child = pipes.stderr(Stdio::null()).spawn().ok()?;
+        child.stdin.take()?.write_all(&sequences.join(&b'\n')).ok()?;
+        let text = String::from_utf8(child.wait_with_output().ok()?.stdout).expect("UTF-8");
+        (!text.is_empty()).then(|| text.split('\n').map(String::from).collect())
+    }
+
+    #[test]
+    fn the_tables_are_those_of_iconv() {
+        let sequences = sequences();
+        for (set, name) in [(Charset::T61, "T.61-8BIT"), (Charset::Iso6937, "ISO_6937")] {
+            let Some(lines) = by_iconv(name, &sequences) else {
+                eprintln!("iconv has no {name}, so the table is not held against it");
+                continue;
+            };
+            assert_eq!(lines.len(), sequences.len(), "{name}");
+            let mut known = 0;
+            for (sequence, line) in sequences.iter().zip(&lines) {
+                if line.is_empty() || line.as_bytes() == &sequence[1..] {
+                    continue;
+                }
+                known += 1;
+                let ours = to_utf8(sequence, set);
+                let other = OF_ICONV.iter().find(|(octets, _)| octets == sequence).map(|(_, letter)| *letter);
+                assert!(ours == *line || other == Some(line), "{name}, {sequence:02X?}: {ours}, and iconv has {line}");
+            }
+            assert!(known > 300, "{name}: iconv has {known} characters");
+        }
     }
 }

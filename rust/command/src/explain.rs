@@ -14,10 +14,10 @@ use crate::show;
 /// seems to be, and the octets around the place.
 pub fn refusal(source: &Source<'_>, refusal: &Refusal) -> String {
     let stream = &source.stream;
-    let fault = Fault::of(stream, refusal);
+    let fault = Fault::of(source.edition, &source.stream, refusal);
     let element = match (fault.element, fault.kind) {
         (Some(number), Some(kind)) if (9..=15).contains(&fault.number) => {
-            format!("element {number} (counted from 0), a {kind}: ")
+            format!("element {number} (counted from 0), {}: ", show::one(kind.name()))
         }
         (Some(number), None) if (9..=15).contains(&fault.number) => format!("element {number} (counted from 0): "),
         _ => String::new(),
@@ -26,6 +26,9 @@ pub fn refusal(source: &Source<'_>, refusal: &Refusal) -> String {
     let mut text = format!("{}: refused, number {number} at octet {place}: {element}{detail}\n", source.shown);
     if let Some(foreign) = fault.foreign {
         text += &format!("  this is {foreign}, and no letter\n");
+    }
+    if let Some(hint) = fault.hint {
+        text += &format!("  {hint}\n");
     }
     if fault.sentence != fault.detail {
         text += &format!("  rule {number}: {}\n", fault.sentence);
@@ -38,7 +41,7 @@ pub fn refusal(source: &Source<'_>, refusal: &Refusal) -> String {
 
 /// The beginning of every answer in JSON: the file, the outcome, number and place, and of a refusal what is known of it.
 #[derive(Serialize)]
-pub struct Verdict {
+struct Verdict {
     #[serde(flatten)]
     name: Name,
     outcome: &'static str,
@@ -61,6 +64,8 @@ struct Cause {
     #[serde(skip_serializing_if = "Option::is_none")]
     foreign: Option<&'static str>,
     #[serde(skip_serializing_if = "Option::is_none")]
+    hint: Option<&'static str>,
+    #[serde(skip_serializing_if = "Option::is_none")]
     around: Option<Octets>,
 }
 
@@ -71,22 +76,34 @@ struct Octets {
     hex: String,
 }
 
+/// The answer on a stream as a line of JSON: the verdict, and then what the subcommand has to say.
+pub fn answer<T>(source: &Source<'_>, verdict: &Result<T, Refusal>, more: impl Serialize) -> String {
+    #[derive(Serialize)]
+    struct Answer<M> {
+        #[serde(flatten)]
+        verdict: Verdict,
+        #[serde(flatten)]
+        more: M,
+    }
+    json(&Answer { verdict: Verdict::of(source, verdict), more }) + "\n"
+}
+
 impl Verdict {
-    /// The verdict on a stream.
-    pub fn of<T>(source: &Source<'_>, verdict: &Result<T, Refusal>) -> Verdict {
+    fn of<T>(source: &Source<'_>, verdict: &Result<T, Refusal>) -> Verdict {
         let name = Name::of(source.file);
         match verdict {
             Ok(_) => Verdict { name, outcome: "accepted", number: 0, place: 0, cause: None },
             Err(refusal) => {
                 let (number, place) = (refusal.number(), refusal.place);
-                Verdict { name, outcome: "refused", number, place, cause: Some(cause(&source.stream, refusal)) }
+                Verdict { name, outcome: "refused", number, place, cause: Some(cause(source, refusal)) }
             }
         }
     }
 }
 
-fn cause(stream: &[u8], refusal: &Refusal) -> Cause {
-    let fault = Fault::of(stream, refusal);
+fn cause(source: &Source<'_>, refusal: &Refusal) -> Cause {
+    let stream = &source.stream;
+    let fault = Fault::of(source.edition, &source.stream, refusal);
     let around = fault.has_place(stream).then(|| {
         let first = fault.place.saturating_sub(16);
         Octets { first, hex: show::hex(&stream[first..(fault.place + 16).min(stream.len())]) }
@@ -98,6 +115,7 @@ fn cause(stream: &[u8], refusal: &Refusal) -> Cause {
         kind: fault.kind.map(|kind| kind.name()),
         item: fault.item,
         foreign: fault.foreign,
+        hint: fault.hint,
         around,
     }
 }

@@ -3,7 +3,7 @@
 //! The verdict is the proved library's. It tells the rule and the place; the cases of a rule are told apart by the
 //! independent reader, which is asked only where it agrees.
 
-use odif::{Kind, Refusal};
+use odif::{Edition, Kind, Refusal};
 use reader::{Item, Length, Reading, Why};
 
 use crate::{foreign, items, show};
@@ -25,12 +25,14 @@ pub struct Fault {
     pub item: String,
     /// What the stream seems to be instead of a letter.
     pub foreign: Option<&'static str>,
+    /// What the edition of 1993 has to say to it.
+    pub hint: Option<&'static str>,
 }
 
 impl Fault {
     /// Looks for the cause of a refusal.
-    pub fn of(stream: &[u8], refusal: &Refusal) -> Fault {
-        let reading = Reading::of(stream);
+    pub fn of(edition: Edition, stream: &[u8], refusal: &Refusal) -> Fault {
+        let reading = Reading::by(of_reader(edition), stream);
         let items = reading.tree().items();
         let found = reading.refusal();
         let why = found.filter(|found| found.number() == refusal.number() && found.place as usize == refusal.place);
@@ -51,12 +53,39 @@ impl Fault {
             kind,
             item: around.item(refusal.number()),
             foreign: foreign::name(stream),
+            hint: why.and_then(|found| hint(edition, stream, found)),
         }
     }
 
     /// Do the octets at the place tell anything?
     pub fn has_place(&self, stream: &[u8]) -> bool {
         (2..=15).contains(&self.number) && !stream.is_empty()
+    }
+}
+
+/// The reader's word for an edition.
+fn of_reader(edition: Edition) -> reader::Edition {
+    match edition {
+        Edition::Of1988 => reader::Edition::Of1988,
+        Edition::Of1993 => reader::Edition::Of1993,
+    }
+}
+
+/// Is what the edition of 1988 refuses something that that of 1993 has?
+fn hint(edition: Edition, stream: &[u8], found: reader::Refusal) -> Option<&'static str> {
+    if edition != Edition::Of1988 {
+        return None;
+    }
+    let goes_further = || {
+        let refusal = Reading::by(reader::Edition::Of1993, stream).refusal();
+        refusal.is_none_or(|refusal| refusal.place > found.place)
+    };
+    match found.why {
+        Why::ElementOf1993 => Some("this is a letter of 1993, for `--edition 1993`"),
+        _ if found.number() == 12 && goes_further() => {
+            Some("the edition of 1993 has such text units, and `--edition 1993` reads them")
+        }
+        _ => None,
     }
 }
 
@@ -198,7 +227,7 @@ impl<'a> Around<'a> {
             };
             let ((number, kind), ..) = earlier.iter().find(is_same)?;
             let value = show::escaped(value);
-            Some(format!("the {name} \"{value}\" is that of element {number}, a {kind}, already"))
+            Some(format!("the {name} \"{value}\" is that of element {number}, {}, already", show::one(kind.name())))
         })
     }
 

@@ -9,6 +9,7 @@ use std::path::{Path, PathBuf};
 use clap::Args;
 use walkdir::WalkDir;
 
+use crate::args::By;
 use crate::pool;
 use crate::progress::Progress;
 use crate::show;
@@ -29,6 +30,8 @@ pub struct Places {
     /// The files are hexadecimal digits in pairs
     #[arg(long)]
     pub hex: bool,
+    #[command(flatten)]
+    pub by: By,
     /// So many files at a time [default: as many as there are processors]
     #[arg(long, value_name = "N", value_parser = at_least_one)]
     pub jobs: Option<usize>,
@@ -48,8 +51,8 @@ pub struct Entry {
 
 impl Places {
     /// One folder.
-    pub fn of(folder: &OsStr, hex: bool, jobs: Option<usize>) -> Places {
-        Places { folders: vec![folder.into()], files_from: None, null: false, hex, jobs }
+    pub fn of(folder: &OsStr, hex: bool, by: By, jobs: Option<usize>) -> Places {
+        Places { folders: vec![folder.into()], files_from: None, null: false, hex, by, jobs }
     }
 
     /// All files in the folders and their subfolders, sorted, each once, but for those that are to be written. A folder

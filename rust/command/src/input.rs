@@ -1,9 +1,11 @@
 //! Reading a stream from a file or standard input, as octets or as hexadecimal digits.
 
-use std::ffi::{OsStr, OsString};
+use std::ffi::OsStr;
 use std::fs::File;
 use std::io::{self, BufRead, BufReader, Read, Write};
 use std::path::Path;
+
+use odif::Edition;
 
 use crate::args::Files;
 use crate::names::Name;
@@ -28,6 +30,8 @@ pub struct Source<'a> {
     pub shown: String,
     pub stream: Vec<u8>,
     pub size: Option<u64>,
+    /// The edition by which it is read.
+    pub edition: Edition,
 }
 
 /// Reads the files one after another and hands on each. One that can't be read is told, as JSON on standard output if
@@ -37,7 +41,9 @@ pub fn each(files: &Files, json: bool, mut answer: impl FnMut(&Source<'_>) -> Ou
     for file in &files.files {
         let shown = show::name(file);
         let status = match read(file, files.hex) {
-            Ok(Stream { octets, size }) => answer(&Source { file, shown, stream: octets, size })?,
+            Ok(Stream { octets, size }) => {
+                answer(&Source { file, shown, stream: octets, size, edition: files.by.edition() })?
+            }
             Err(error) if json => {
                 writeln!(io::stdout(), "{}", explain::unreadable(&Name::of(file), &error))?;
                 Status::Failed
@@ -52,9 +58,33 @@ pub fn each(files: &Files, json: bool, mut answer: impl FnMut(&Source<'_>) -> Ou
     Ok(worst)
 }
 
+/// The same, where the front of a file may be enough: `front` tells what it has read, if that is so.
+pub fn each_front(
+    files: &Files,
+    json: bool,
+    front: impl Fn(&OsStr) -> io::Result<Option<Vec<u8>>>,
+    mut answer: impl FnMut(&Source<'_>) -> Outcome,
+) -> Outcome {
+    let mut worst = Status::Accepted;
+    for file in &files.files {
+        let status = match if file == "-" { Ok(None) } else { front(file) } {
+            Ok(Some(stream)) => {
+                answer(&Source { file, shown: show::name(file), stream, size: None, edition: files.by.edition() })?
+            }
+            // What can't be read is told as it is of any file.
+            Ok(None) | Err(_) => {
+                let alone = Files { files: vec![file.clone()], hex: files.hex, by: files.by };
+                each(&alone, json, &mut answer)?
+            }
+        };
+        worst = worst.max(status);
+    }
+    Ok(worst)
+}
+
 /// A line with the file's name, where there are several.
-pub fn heading(out: &mut impl Write, files: &[OsString], source: &Source<'_>) -> io::Result<()> {
-    if files.len() > 1 { writeln!(out, "==> {} <==", source.shown) } else { Ok(()) }
+pub fn heading(out: &mut impl Write, files: &Files, source: &Source<'_>) -> io::Result<()> {
+    if files.files.len() > 1 { writeln!(out, "==> {} <==", source.shown) } else { Ok(()) }
 }
 
 /// Reads a file, or standard input for `-`.

@@ -1,6 +1,6 @@
 //! Items with their names and values.
 
-use odif::Kind;
+use odif::{Edition, Kind};
 use reader::{Class, Item};
 
 use crate::modules::{self, Field, Value};
@@ -28,18 +28,16 @@ impl Named<'_> {
     }
 
     /// The value of a primitive item, as far as its type or its name tells what it is.
-    pub fn value(&self, stream: &[u8]) -> Option<Known> {
-        let octets = &stream[self.item.value()];
+    pub fn value(&self, edition: Edition, octets: &[u8]) -> Option<Known> {
         let known = self.field.map(|field| field.value).filter(|&value| value != Value::Plain);
         match known.unwrap_or_else(|| by_type(self.item)) {
             _ if self.item.is_constructed() => None,
             Value::Plain => None,
             Value::Number => number(octets).map(Known::Number),
-            Value::Named(names) => number(octets).map(|number| {
-                let name = usize::try_from(number).ok().and_then(|number| names.get(number));
-                name.map_or(Known::Number(number), |name| Known::Named(number, name))
-            }),
+            Value::Named(names) => number(octets).map(|number| meaning(number, names)),
+            Value::NamedBy(names) => number(octets).map(|number| meaning(number, names[edition as usize])),
             Value::Object => object(octets).map(Known::Object),
+            Value::Bits(names) => bits(octets).map(|bits| named_bits(bits, names)),
             Value::Text => show::is_plain_text(octets).then(|| Known::Text(show::escaped(octets))),
         }
     }
@@ -53,6 +51,13 @@ pub enum Known {
     Object(String),
     /// Printable ASCII, with line ends and the like escaped.
     Text(String),
+    /// Bits as digits, and the names of those that are set, as far as they have some.
+    Bits(String, String),
+}
+
+fn meaning(number: i64, names: &[&'static str]) -> Known {
+    let name = usize::try_from(number).ok().and_then(|number| names.get(number));
+    name.map_or(Known::Number(number), |name| Known::Named(number, name))
 }
 
 /// Each item with its name, as the items around it tell.
@@ -62,8 +67,8 @@ pub fn named(items: &[Item]) -> impl Iterator<Item = Named<'_>> {
     items.iter().map(move |item| {
         around.truncate(usize::from(item.level()) - 1);
         let field = match around.last() {
-            None => modules::field(None, item.octet()),
-            Some(holder) => holder.and_then(|holder| modules::field(Some(holder), item.octet())),
+            None => modules::field(None, item),
+            Some(holder) => holder.and_then(|holder| modules::field(Some(holder), item)),
         };
         around.push(field);
         let element = if item.level() == 1 { elements.next() } else { None };
@@ -126,6 +131,7 @@ fn by_type(item: &Item) -> Value {
     match (item.class(), item.number()) {
         (Class::Universal, 1) => Value::Named(&["false"]),
         (Class::Universal, 2 | 10) => Value::Number,
+        (Class::Universal, 3) => Value::Bits(&[]),
         (Class::Universal, 6) => Value::Object,
         (Class::Universal, 4 | 18..=27) => Value::Text,
         _ => Value::Plain,
@@ -137,6 +143,20 @@ fn number(octets: &[u8]) -> Option<i64> {
     let first = *octets.first().filter(|_| octets.len() <= 8)?;
     let sign = if first < 0x80 { 0 } else { -1 };
     Some(octets.iter().fold(sign, |number, &octet| number << 8 | i64::from(octet)))
+}
+
+/// The bits of a bit string: the first octet says how many of the last one are none.
+fn bits(octets: &[u8]) -> Option<String> {
+    let (&unused, octets) = octets.split_first()?;
+    let digits: String = octets.iter().map(|octet| format!("{octet:08b}")).collect();
+    let length = digits.len().checked_sub(usize::from(unused)).filter(|_| unused < 8)?;
+    Some(digits[..length].into())
+}
+
+fn named_bits(bits: String, names: &[&str]) -> Known {
+    let set = bits.bytes().zip(names).filter(|(bit, _)| *bit == b'1').map(|(_, name)| *name);
+    let names = set.collect::<Vec<_>>().join(", ");
+    Known::Bits(bits, names)
 }
 
 /// The numbers of an object identifier, with dots between them.
@@ -165,6 +185,13 @@ mod tests {
         assert_eq!(number(&[0, 0x80]), Some(128));
         assert_eq!(number(&[]), None);
         assert_eq!(number(&[1; 9]), None);
+    }
+
+    #[test]
+    fn bit_strings() {
+        assert_eq!(bits(&[4, 0xA5, 0xF0]).as_deref(), Some("101001011111"));
+        assert_eq!(bits(&[0]).as_deref(), Some(""));
+        assert_eq!((bits(&[]), bits(&[1]), bits(&[8, 0])), (None, None, None));
     }
 
     #[test]

@@ -7,12 +7,11 @@ use clap::Args;
 use odif::{Letter, Match, Side};
 use serde::Serialize;
 
-use crate::args::{Files, Sides};
-use crate::explain::{self, Verdict};
+use crate::args::{Asked, Sides};
 use crate::input;
-use crate::show;
 use crate::status::{Outcome, Status, tell};
 use crate::text::note_units_left_out;
+use crate::{explain, protected, show};
 
 /// The octets of a content that a line shows.
 const SHOWN: usize = 40;
@@ -28,28 +27,18 @@ Exit status: 0 listed; 1 a letter was refused; 2 a file could not be read.";
 ///
 /// Lists the matches of a side in reading order: the element, the place of the portion in it, the text unit (all
 /// counted from 0), the unit's identifier, the length of its content and how it begins. Text units that no object of
-/// the side names are not listed; a note on standard error tells how many.
+/// the side names are not listed; a note on standard error tells how many. JSON has the whole contents and their places;
+/// of a content in pieces or tiles that is the place of the value that holds them.
 #[derive(Args)]
 #[command(after_help = EXAMPLES)]
 pub struct Words {
     #[command(flatten)]
-    files: Files,
+    asked: Asked,
     #[command(flatten)]
     sides: Sides,
-    /// One JSON object a line and file, with the contents and their places; of a content in pieces it is the place of
-    /// the value that holds them
-    #[arg(long)]
-    json: bool,
 }
 
-#[derive(Serialize)]
-struct Answer {
-    #[serde(flatten)]
-    verdict: Verdict,
-    #[serde(flatten)]
-    listed: Option<Listed>,
-}
-
+/// What JSON has besides the verdict.
 #[derive(Serialize)]
 struct Listed {
     side: String,
@@ -72,28 +61,27 @@ struct Line {
 }
 
 pub fn run(words: &Words) -> Outcome {
-    input::each(&words.files, words.json, |source| {
-        let read = Letter::read(&source.stream);
-        let status = if read.is_ok() { Status::Accepted } else { Status::Refused };
+    input::each(&words.asked.files, words.asked.json, |source| {
+        let read = Letter::read_in(source.edition, &source.stream);
         let mut out = BufWriter::new(io::stdout().lock());
-        if words.json {
-            let listed = read.as_ref().ok().map(|letter| listed(letter, words.sides.of(letter)));
-            writeln!(out, "{}", explain::json(&Answer { verdict: Verdict::of(source, &read), listed }))?;
-            out.flush()?;
-            return Ok(status);
-        }
-        match read {
-            Ok(letter) => {
-                let side = words.sides.of(&letter);
-                let lines = listed(&letter, side).matches;
-                input::heading(&mut out, &words.files.files, source)?;
-                write_lines(&mut out, &letter, &lines)?;
+        match &read {
+            _ if words.asked.json => {
+                let listed = read.as_ref().ok().map(|letter| listed(letter, words.sides.of(letter)));
+                out.write_all(explain::answer(source, &read, listed).as_bytes())?;
                 out.flush()?;
-                note_units_left_out(source, &letter, side, lines.len());
             }
-            Err(refusal) => tell(&explain::refusal(source, &refusal)),
+            Ok(letter) => {
+                let side = words.sides.of(letter);
+                let lines = listed(letter, side).matches;
+                input::heading(&mut out, &words.asked.files, source)?;
+                write_lines(&mut out, letter, &lines)?;
+                out.flush()?;
+                note_units_left_out(source, letter, side, lines.len());
+                protected::note(source, letter);
+            }
+            Err(refusal) => tell(&explain::refusal(source, refusal)),
         }
-        Ok(status)
+        Ok(Status::of(&read))
     })
 }
 

@@ -2,8 +2,10 @@
 
 mod args;
 mod beside;
+mod blocks;
 mod charset;
 mod check;
+mod date;
 mod explain;
 mod export;
 mod faults;
@@ -12,12 +14,15 @@ mod foreign;
 mod input;
 mod items;
 mod list;
+mod make;
 mod man;
 mod modules;
 mod names;
 mod normal;
+mod outline;
 mod pool;
 mod progress;
+mod protected;
 mod same;
 mod show;
 mod status;

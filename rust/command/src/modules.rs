@@ -1,9 +1,13 @@
-//! The names that the modules of 1988 (T.415, 5.5 to 5.12) give to what stands in an element. Where document 01 has a
-//! word for it, that is the name. What is not named here is free to stand there all the same.
+//! The names that the modules of 1988 (T.415, 5.5 to 5.12) and of 1993 (7.6 to 7.15) give to what stands in an element.
+//! Where document 01 has a word for it, that is the name. What is not named here is free to stand there all the same.
+//! What is new in 1993 is named in letters of 1988 too: no name of 1988 stands in its place.
 
-/// An item that may stand somewhere: its first octet, its name, what its value is, and what may stand in it.
+use reader::Item;
+
+/// An item that may stand somewhere: its first octet and number, its name, what its value is, and what may stand in it.
 pub struct Field {
     octet: u8,
+    number: u16,
     pub name: &'static str,
     pub value: Value,
     inside: &'static [Field],
@@ -17,26 +21,40 @@ pub enum Value {
     Number,
     /// A number whose values, from 0, have names.
     Named(&'static [&'static str]),
+    /// The same, where 1988 and 1993 have names of their own.
+    NamedBy([&'static [&'static str]; 2]),
     Text,
     Object,
+    /// Bits, which have names from 0 on.
+    Bits(&'static [&'static str]),
 }
 
-use Value::{Named, Number, Object, Plain, Text};
+use Value::{Bits, Named, NamedBy, Number, Object, Plain, Text};
 
 const fn item(octet: u8, name: &'static str, value: Value) -> Field {
-    Field { octet, name, value, inside: &[] }
+    Field { octet, number: (octet & 0x1F) as u16, name, value, inside: &[] }
 }
 
 const fn items(octet: u8, name: &'static str, inside: &'static [Field]) -> Field {
-    Field { octet, name, value: Plain, inside }
+    Field { octet, number: (octet & 0x1F) as u16, name, value: Plain, inside }
+}
+
+/// A constructed item of the context class, with a number above 30.
+const fn items_above_30(number: u16, name: &'static str, inside: &'static [Field]) -> Field {
+    Field { octet: 0xBF, number, name, value: Plain, inside }
 }
 
 /// The field of an item at the top of a stream, or in an item of this field.
-pub fn field(around: Option<&'static Field>, octet: u8) -> Option<&'static Field> {
-    around.map_or(&ELEMENTS[..], |field| field.inside).iter().find(|field| field.octet == octet)
+pub fn field(around: Option<&'static Field>, item: &Item) -> Option<&'static Field> {
+    of_type(around, item.octet(), item.number())
 }
 
-static ELEMENTS: [Field; 8] = [
+fn of_type(around: Option<&'static Field>, octet: u8, number: u16) -> Option<&'static Field> {
+    let fields = around.map_or(&ELEMENTS[..], |field| field.inside);
+    fields.iter().find(|field| field.octet == octet && field.number == number)
+}
+
+static ELEMENTS: [Field; 12] = [
     items(0xA0, "document profile", &PROFILE),
     items(0xA1, "layout class", &LAYOUT),
     items(0xA2, "layout object", &LAYOUT),
@@ -45,13 +63,46 @@ static ELEMENTS: [Field; 8] = [
     items(0xA6, "logical object", &LOGICAL),
     items(0xA7, "presentation style", &PRESENTATION_STYLE),
     items(0xA8, "layout style", &LAYOUT_STYLE),
+    items(0xA9, "sealed document profile", &SEALED),
+    items(0xAA, "enciphered document profile", &ENCIPHERED),
+    items(0xAB, "pre-enciphered body part", &ENCIPHERED),
+    items(0xAC, "post-enciphered body part", &ENCIPHERED),
+];
+
+static SEALED: [Field; 2] =
+    [item(0x47, "protected-part identifier", Text), item(0x03, "sealed attributes", Bits(&PROFILE_ATTRIBUTES))];
+static ENCIPHERED: [Field; 2] =
+    [item(0x47, "protected-part identifier", Text), item(0x04, "enciphered information", Plain)];
+
+/// Document-Profile-Attribute-Names of 1993 (7.15), by their bits.
+#[rustfmt::skip]
+static PROFILE_ATTRIBUTES: [&str; 86] = [
+    "generic-layout-structure", "specific-layout-structure", "generic-logical-structure", "specific-logical-structure",
+    "layout-styles", "presentation-styles", "sealed-profiles", "enciphered-profiles", "pre-enciphered-body-parts",
+    "post-enciphered-body-parts", "external-document-class", "resource-document", "resources",
+    "document-application-profile", "document-application-profile-defaults", "document-architecture-class",
+    "content-architecture-classes", "interchange-format-class", "oda-version", "alternative-feature-sets",
+    "profile-character-sets", "comments-character-sets", "alternative-representation-character-sets", "page-dimensions",
+    "medium-types", "layout-paths", "protections", "block-alignments", "fill-orders", "transparencies", "colours",
+    "colours-of-layout-object", "object-colour-tables", "content-background-colours", "content-foreground-colours",
+    "content-colour-tables", "borders", "page-positions", "types-of-coding", "coding-attributes",
+    "presentation-features", "number-of-objects-per-page", "unit-scaling", "fonts-list", "colour-characteristics",
+    "colour-spaces-list", "title", "subject", "document-reference", "document-type", "abstract", "keywords",
+    "document-date-and-time", "creation-date-and-time", "local-filing-date-and-time", "expiry-date-and-time",
+    "start-date-and-time", "purge-date-and-time", "release-date-and-time", "revision-history", "organizations",
+    "preparers", "owners", "authors", "copyright", "status", "user-specific-codes", "distribution-list",
+    "additional-information", "references-to-other-documents", "superseded-documents", "local-file-references",
+    "document-size", "number-of-pages", "languages", "authorization", "security-classification", "access-rights",
+    "sealed-information-encoding", "oda-security-label", "sealed-document-profiles", "pre-sealed-document-body-parts",
+    "post-sealed-document-body-parts", "enciphered-document-profiles", "pre-enciphered-document-body-parts",
+    "post-enciphered-document-body-parts",
 ];
 
 static LAYOUT: [Field; 2] = [
     item(0x02, "object type", Named(&["document-layout-root", "page-set", "page", "frame", "block"])),
     items(0x31, "descriptor-body", &LAYOUT_BODY),
 ];
-static LAYOUT_BODY: [Field; 24] = [
+static LAYOUT_BODY: [Field; 35] = [
     item(0x41, "identifier", Text),
     items(0xA0, "subordinates", &[item(0x12, "subordinate", Text)]),
     items(0xA1, "portions", &[item(0x12, "portion", Text)]),
@@ -76,12 +127,23 @@ static LAYOUT_BODY: [Field; 24] = [
     item(0x96, "colour", COLOUR),
     items(0xB7, "border", &BORDER),
     item(0x99, "application-comments", Plain),
+    item(0x9B, "primary", Text),
+    item(0x9C, "alternative", Text),
+    items(0xBD, "colour-of-layout-object", &[]),
+    items(0xBE, "object-colour-table", &[]),
+    items_above_30(31, "content-background-colour", &[]),
+    items_above_30(32, "content-foreground-colour", &[]),
+    items_above_30(33, "content-colour-table", &[]),
+    items_above_30(34, "enciphered", &IS_ENCIPHERED),
+    items_above_30(35, "sealed", &IS_SEALED),
+    items_above_30(36, "layout-stream-categories", &[item(0x13, "category", Text)]),
+    items_above_30(37, "layout-stream-sub-categories", &[item(0x13, "category", Text)]),
 ];
 static LOGICAL: [Field; 2] = [
     item(0x02, "object type", Named(&["document-logical-root", "composite-logical-object", "basic-logical-object"])),
     items(0x31, "descriptor-body", &LOGICAL_BODY),
 ];
-static LOGICAL_BODY: [Field; 15] = [
+static LOGICAL_BODY: [Field; 19] = [
     item(0x41, "identifier", Text),
     items(0xA0, "subordinates", &[item(0x12, "subordinate", Text)]),
     items(0xA1, "portions", &[item(0x12, "portion", Text)]),
@@ -97,13 +159,25 @@ static LOGICAL_BODY: [Field; 15] = [
     item(0x94, "protection", Named(&["unprotected", "protected"])),
     item(0x98, "resource", Text),
     item(0x99, "application-comments", Plain),
+    item(0x9B, "primary", Text),
+    item(0x9C, "alternative", Text),
+    items_above_30(34, "enciphered", &IS_ENCIPHERED),
+    items_above_30(35, "sealed", &IS_SEALED),
 ];
-static UNIT: [Field; 3] = [
+static IS_ENCIPHERED: [Field; 3] = [
+    item(0x80, "enciphered-subordinates", Named(&["none", "all"])),
+    items(0xA1, "enciphered-subordinates", &[item(0x12, "subordinate", Text)]),
+    item(0x82, "protected-part identifier", Text),
+];
+static IS_SEALED: [Field; 2] =
+    [item(0x80, "sealed-status", Named(&["no", "yes"])), items(0xA1, "seal-ids", &[item(0x02, "seal-id", Number)])];
+static UNIT: [Field; 4] = [
     items(0x31, "content-portion-attributes", &UNIT_ATTRIBUTES),
     item(0x04, "content", Text),
     items(0x24, "content in pieces", &PIECES),
+    items(0x30, "tiled content", &TILES),
 ];
-static UNIT_ATTRIBUTES: [Field; 9] = [
+static UNIT_ATTRIBUTES: [Field; 10] = [
     item(0x40, "layout identifier", Text),
     item(0x84, "logical identifier", Text),
     item(0x80, "type-of-coding", Number),
@@ -113,9 +187,11 @@ static UNIT_ATTRIBUTES: [Field; 9] = [
     item(0x83, "alternative-representation", Text),
     items(0xA7, "geo-gr-coding-attributes", &[]),
     items(0xA8, "videotex-coding-attributes", &[]),
+    items(0xAB, "ext-cont-arch-coding-attributes", &[]),
 ];
+static TILES: [Field; 2] = [item(0x04, "tile", Text), items(0x24, "tile in pieces", &PIECES)];
 static PIECES: [Field; 2] = [item(0x04, "piece", Text), items(0x24, "pieces", &PIECES)];
-static PRESENTATION_STYLE: [Field; 7] = [
+static PRESENTATION_STYLE: [Field; 15] = [
     item(0x45, "identifier", Text),
     item(0x80, "user-readable-comments", Text),
     item(0x81, "user-visible-name", Text),
@@ -123,12 +199,23 @@ static PRESENTATION_STYLE: [Field; 7] = [
     items(0xA3, "presentation-attributes", &PRESENTATION),
     item(0x84, "colour", COLOUR),
     items(0xA5, "border", &BORDER),
+    item(0x99, "application-comments", Plain),
+    items(0xBD, "colour-of-layout-object", &[]),
+    items(0xBE, "object-colour-table", &[]),
+    items_above_30(31, "content-background-colour", &[]),
+    items_above_30(32, "content-foreground-colour", &[]),
+    items_above_30(33, "content-colour-table", &[]),
+    items(0xA6, "sealed", &IS_SEALED),
+    item(0x87, "derived-from", Text),
 ];
-static LAYOUT_STYLE: [Field; 4] = [
+static LAYOUT_STYLE: [Field; 7] = [
     item(0x45, "identifier", Text),
     item(0x80, "user-readable-comments", Text),
     item(0x81, "user-visible-name", Text),
     items(0xA4, "layout-directives", &[]),
+    item(0x99, "application-comments", Plain),
+    items(0xA6, "sealed", &IS_SEALED),
+    item(0x87, "derived-from", Text),
 ];
 static PRESENTATION: [Field; 6] = [
     item(0x42, "content-type", Number),
@@ -139,14 +226,15 @@ static PRESENTATION: [Field; 6] = [
     items(0xA6, "ext-cont-arch-pres-attributes", &[]),
 ];
 const TRANSPARENCY: Value = Named(&["transparent", "opaque"]);
-const COLOUR: Value = Named(&["colourless", "white"]);
-static MEASURES: [Field; 1] = [item(0x80, "measure", Number)];
-static DIMENSIONS: [Field; 5] = [
+const COLOUR: Value = NamedBy([&["colourless", "white"], &["colour-of-media", "coloured"]]);
+static MEASURES: [Field; 2] = [item(0x80, "measure", Number), item(0x84, "not present", Plain)];
+static DIMENSIONS: [Field; 6] = [
     item(0x80, "measure", Number),
     item(0x81, "variable measure", Number),
     items(0xA1, "rule-a", &[item(0x80, "minimum", Number), item(0x81, "maximum", Number)]),
     items(0xA2, "rule-b", &[item(0x80, "minimum", Number), item(0x81, "maximum", Number)]),
     item(0x83, "maximum-size", Plain),
+    item(0x84, "not present", Plain),
 ];
 static BORDER: [Field; 4] = [
     items(0xA0, "left-hand-edge", &EDGE),
@@ -157,7 +245,7 @@ static BORDER: [Field; 4] = [
 static EDGE: [Field; 3] =
     [item(0x80, "line-width", Number), item(0x81, "line-type", Number), item(0x82, "freespace-width", Number)];
 
-static PROFILE: [Field; 10] = [
+static PROFILE: [Field; 16] = [
     item(0x80, "generic-layout-structure", Text),
     item(0x81, "specific-layout-structure", Text),
     items(0xA2, "document-characteristics", &CHARACTERISTICS),
@@ -168,8 +256,14 @@ static PROFILE: [Field; 10] = [
     item(0x87, "layout-styles", Text),
     items(0xA9, "external-document-class", &REFERENCE),
     items(0xAA, "resource-document", &REFERENCE),
+    items(0xAB, "resources", &[]),
+    item(0x8C, "sealed-profiles", Text),
+    item(0x8D, "enciphered-profiles", Text),
+    item(0x8E, "preenciphered-bodyparts", Text),
+    item(0x8F, "postenciphered-bodyparts", Text),
+    items(0xB0, "document-security-attributes", &[]),
 ];
-static CHARACTERISTICS: [Field; 9] = [
+static CHARACTERISTICS: [Field; 11] = [
     item(0x80, "document-application-profile", Number),
     item(0x84, "document-application-profile", Object),
     item(0x81, "document-architecture-class", Named(&["formatted", "processable", "formatted-processable"])),
@@ -179,6 +273,8 @@ static CHARACTERISTICS: [Field; 9] = [
     item(0x86, "interchange-format-class", Named(&["if-a", "if-b"])),
     items(0xA8, "oda-version", &[item(0x43, "standard-or-recommendation", Text), item(0x44, "publication-date", Text)]),
     items(0xAA, "doc-appl-profile-defaults", &[]),
+    items(0xA9, "additional-doc-characteristics", &[]),
+    items(0xAB, "alternative-feature-sets", &[]),
 ];
 static MANAGEMENT: [Field; 8] = [
     items(0xA0, "dates-and-times", &DATES),
@@ -219,15 +315,37 @@ mod tests {
     #[test]
     fn elements_are_named_as_their_kinds() {
         for octet in 0..=0xFF_u8 {
-            let kind = Kind::from_number(u32::from(octet & 0x1F)).filter(|_| octet >> 5 == 0b101);
-            assert_eq!(field(None, octet).map(|field| field.name), kind.map(Kind::name), "{octet:02X}");
+            let number = u16::from(octet & 0x1F);
+            let kind = Kind::from_number(u32::from(number)).filter(|_| octet >> 5 == 0b101);
+            assert_eq!(of_type(None, octet, number).map(|field| field.name), kind.map(Kind::name), "{octet:02X}");
         }
     }
 
     #[test]
     fn pieces_may_hold_pieces() {
         let path = [0xA3, 0x24, 0x24, 0x24, 0x04];
-        let last = path.iter().fold(None, |around, &octet| Some(field(around, octet).unwrap()));
+        let last =
+            path.iter().fold(None, |around, &octet| Some(of_type(around, octet, u16::from(octet & 0x1F)).unwrap()));
         assert_eq!(last.map(|field| field.name), Some("piece"));
+    }
+
+    /// An octet and number names one thing wherever it stands.
+    #[test]
+    fn no_field_stands_twice() {
+        let mut waiting = vec![&ELEMENTS[..]];
+        let mut seen = Vec::new();
+        while let Some(fields) = waiting.pop() {
+            // Pieces hold pieces.
+            if seen.contains(&fields.as_ptr()) {
+                continue;
+            }
+            seen.push(fields.as_ptr());
+            for (at, field) in fields.iter().enumerate() {
+                let same = |other: &Field| (other.octet, other.number) == (field.octet, field.number);
+                assert!(!fields[..at].iter().any(same), "{}", field.name);
+                waiting.push(field.inside);
+            }
+        }
+        assert!(seen.len() > 20);
     }
 }

@@ -52,7 +52,7 @@ pub fn run(words: &Words) -> Outcome {
         return Err(Failure::Usage("with `--into` each letter needs a file name of its own".into()));
     }
     input::each(&words.files, false, |source| {
-        let normal = match odif::normal_form(&source.stream) {
+        let normal = match odif::normal_form_in(source.edition, &source.stream) {
             Ok(normal) => normal,
             Err(refusal) => {
                 tell(&explain::refusal(source, &refusal));

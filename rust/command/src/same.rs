@@ -130,7 +130,7 @@ pub fn run(words: &Words) -> Outcome {
     let mut csv = words.csv.as_deref().map(|file| Csv::create(file, &COLUMNS)).transpose()?;
     let to_stdout = words.csv.as_deref().is_some_and(csv::is_standard_output);
     let mut out = BufWriter::new(io::stdout());
-    let compare = |group: &Vec<Kept>| groups(&entries, group, words.places.hex);
+    let compare = |group: &Vec<Kept>| groups(&entries, group, &words.places);
     let progress = Progress::over(alike.len());
     let take_up = |_: &Vec<Kept>, (groups, apart): Compared| {
         progress.add(1);
@@ -169,7 +169,7 @@ fn alike(words: &Words, pool: &Pool, entries: &[Entry], counts: &mut Counts) -> 
     let mut kept = Vec::new();
     let mut place = 0;
     let progress = Progress::over(entries.len());
-    let hash = |entry: &Entry| normal_form(entry, words.places.hex).map(|read| Sha256::digest(read.normal).into());
+    let hash = |entry: &Entry| normal_form(entry, &words.places).map(|read| Sha256::digest(read.normal).into());
     let take_up = |entry: &Entry, hash: Result<[u8; 32], Apart>| {
         match hash {
             Ok(hash) => kept.push(Kept { hash, place }),
@@ -199,11 +199,11 @@ struct Group {
 type Compared = (Vec<Group>, Vec<(usize, Apart)>);
 
 /// Compares the files that have one hash, and gives the groups of equal ones; nearly always that is one.
-fn groups(entries: &[Entry], alike: &[Kept], hex: bool) -> Compared {
+fn groups(entries: &[Entry], alike: &[Kept], places: &Places) -> Compared {
     let mut groups: Vec<(Vec<u8>, Group)> = Vec::new();
     let mut apart = Vec::new();
     for Kept { hash, place } in alike {
-        match normal_form(&entries[*place], hex) {
+        match normal_form(&entries[*place], places) {
             Err(reason) => apart.push((*place, reason)),
             Ok(Read { normal, size }) => match groups.iter_mut().find(|(first, _)| *first == normal) {
                 Some((_, group)) => group.places.push((*place, size)),
@@ -245,12 +245,12 @@ struct Read {
     size: Option<u64>,
 }
 
-fn normal_form(entry: &Entry, hex: bool) -> Result<Read, Apart> {
+fn normal_form(entry: &Entry, places: &Places) -> Result<Read, Apart> {
     if let Some(trouble) = &entry.trouble {
         return Err(Apart::Unreadable(trouble.clone()));
     }
-    let stream = input::read_file(&entry.path, hex).map_err(|error| Apart::Unreadable(error.to_string()))?;
-    match odif::normal_form(&stream.octets) {
+    let stream = input::read_file(&entry.path, places.hex).map_err(|error| Apart::Unreadable(error.to_string()))?;
+    match odif::normal_form_in(places.by.edition(), &stream.octets) {
         Ok(normal) => Ok(Read { normal, size: stream.size }),
         Err(refusal) if refusal.rule == Rule::NormalFormTooLong => Err(Apart::TooLong),
         Err(_) => Err(Apart::Refused),

@@ -77,6 +77,11 @@ pub fn name(file: &OsStr) -> String {
     }
 }
 
+/// A noun with its article: a text unit, an enciphered document profile.
+pub fn one(noun: &str) -> String {
+    format!("{} {noun}", if noun.starts_with(['a', 'e', 'i', 'o', 'u']) { "an" } else { "a" })
+}
+
 /// A number with its noun: 1 element, 2 elements.
 pub fn counted(count: usize, noun: &str) -> String {
     format!("{} {noun}{}", grouped(count), if count == 1 { "" } else { "s" })

@@ -15,6 +15,11 @@ pub enum Status {
 }
 
 impl Status {
+    /// That of a verdict.
+    pub fn of<T, E>(verdict: &Result<T, E>) -> Status {
+        if verdict.is_ok() { Status::Accepted } else { Status::Refused }
+    }
+
     /// The exit status of the process.
     pub fn exit_code(self) -> ExitCode {
         ExitCode::from(self as u8)

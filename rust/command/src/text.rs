@@ -3,14 +3,14 @@
 use std::io::{self, BufWriter, IsTerminal, Write};
 
 use clap::Args;
-use odif::{Kind, Letter, Match, Side};
+use odif::{Edition, Kind, Letter, Match, Side};
 use reader::{Item, Reading};
 
 use crate::args::{Files, Sides};
 use crate::charset::{self, Charset};
 use crate::input::{self, Source};
 use crate::status::{Outcome, Status, tell};
-use crate::{explain, items, show};
+use crate::{explain, items, protected, show};
 
 const EXAMPLES: &str = "\
 Examples:
@@ -26,7 +26,8 @@ file could not be read or written.";
 ///
 /// Writes the content of the text units in the order of the objects and their portions: exactly the octets of the file,
 /// with a line break after a block that ends without one. Content that was saved in pieces is joined. To a terminal,
-/// control characters are written as with --escape. Before each of several files stands a line with its name.
+/// control characters are written as with --escape. Protected parts are not opened; a note on standard error names them.
+/// Before each of several files stands a line with its name.
 #[derive(Args)]
 #[command(after_help = EXAMPLES)]
 pub struct Words {
@@ -84,9 +85,11 @@ impl How {
     }
 
     /// The same in words, to tell one way from another.
-    pub fn words(&self) -> String {
+    pub fn words(&self, edition: Edition) -> String {
         let side = self.sides.word();
-        self.utf8.map_or(side.into(), |set| format!("{side} utf8={set:?}").to_lowercase())
+        let utf8 = self.utf8.map_or(String::new(), |set| format!(" utf8={set:?}").to_lowercase());
+        let edition = if edition == Edition::Of1988 { String::new() } else { format!(" edition={edition}") };
+        format!("{side}{utf8}{edition}")
     }
 }
 
@@ -104,7 +107,7 @@ fn declared(stream: &[u8]) -> Option<Charset> {
 pub fn run(words: &Words) -> Outcome {
     let escape = words.escape || !words.raw && words.how.utf8.is_none() && io::stdout().is_terminal();
     input::each(&words.files, false, |source| {
-        let letter = match Letter::read(&source.stream) {
+        let letter = match Letter::read_in(source.edition, &source.stream) {
             Ok(letter) => letter,
             Err(refusal) => {
                 tell(&explain::refusal(source, &refusal));
@@ -116,11 +119,12 @@ pub fn run(words: &Words) -> Outcome {
         if words.raw {
             out.write_all(&joined(&letter, &letter.reading_list(side).unwrap_or_default()))?;
         } else {
-            input::heading(&mut out, &words.files.files, source)?;
+            input::heading(&mut out, &words.files, source)?;
             out.write_all(&if escape { show::escaped_lines(&octets).into_bytes() } else { octets })?;
         }
         out.flush()?;
         let all = note_units_left_out(source, &letter, side, shown);
+        protected::note(source, &letter);
         Ok(if all || !words.strict { Status::Accepted } else { Status::Refused })
     })
 }

@@ -6,12 +6,12 @@
 use std::io::{self, BufWriter, Write};
 
 use clap::Args;
-use reader::{Length, Reading};
+use reader::{Item, Length, Reading};
 use serde::Serialize;
 
-use crate::args::Files;
-use crate::explain::{self, Verdict};
-use crate::input;
+use crate::args::Asked;
+use crate::explain;
+use crate::input::{self, Source};
 use crate::items::{self, Known, Named};
 use crate::show;
 use crate::status::{Failure, Outcome, Status, tell};
@@ -29,23 +29,19 @@ Exit status: 0 accepted; 1 one was refused; 2 one could not be read.";
 /// Lists the items, with their names and values
 ///
 /// Lists the items in stream order: offset, level, class and number or type, length (octets of the value, or
-/// `indefinite`), and the names that the modules of 1988 give, with the values. Of a refused stream it lists the items
-/// that passed, and then says what refused it. The listing is made by a reader that is not proved, and held to the
-/// library's count.
+/// `indefinite`; of a length that takes more octets than it must, how many), closing marks, and the names that the modules of 1988 and 1993 give, with the values. Of a refused stream it lists the
+/// items that passed, and then says what refused it. JSON has the whole values. The listing is made by a reader that is
+/// not proved, and held to the library's count.
 #[derive(Args)]
 #[command(after_help = EXAMPLES)]
 pub struct Words {
     #[command(flatten)]
-    files: Files,
-    /// One JSON object a line and file, with all items and whole values
-    #[arg(long)]
-    json: bool,
+    asked: Asked,
 }
 
+/// What JSON has besides the verdict.
 #[derive(Serialize)]
-struct Answer {
-    #[serde(flatten)]
-    verdict: Verdict,
+struct Items {
     items: Vec<Line>,
 }
 
@@ -60,6 +56,9 @@ struct Line {
     constructed: bool,
     header: usize,
     length: Option<usize>,
+    /// Of an indefinite item, where its closing mark stands, if it is closed.
+    #[serde(skip_serializing_if = "Option::is_none")]
+    closing_mark: Option<usize>,
     #[serde(skip_serializing_if = "Option::is_none")]
     element: Option<usize>,
     #[serde(skip_serializing_if = "Option::is_none")]
@@ -68,83 +67,125 @@ struct Line {
     #[serde(skip_serializing_if = "Option::is_none")]
     value: Option<serde_json::Value>,
     #[serde(skip_serializing_if = "Option::is_none")]
-    meaning: Option<&'static str>,
+    meaning: Option<String>,
     /// Of a primitive item, the value in hexadecimal.
     #[serde(skip_serializing_if = "Option::is_none")]
     hex: Option<String>,
 }
 
 pub fn run(words: &Words) -> Outcome {
-    input::each(&words.files, words.json, |source| {
+    input::each(&words.asked.files, words.asked.json, |source| {
         let stream = &source.stream;
-        let checked = odif::check(stream);
+        let checked = odif::check_in(source.edition, stream);
         let reading = Reading::of(stream);
         if reading.tree().items().len() != checked.headers {
             let message = format!("{}: the two readers differ on its items; please report this file", source.shown);
             return Err(Failure::File(message));
         }
         let items = items::named(reading.tree().items());
+        // Of a stream that the octet rules refuse, what lies past the place was not read.
+        let read_to = match &checked.verdict {
+            Err(refusal) if refusal.number() < 9 => refusal.place,
+            _ => stream.len(),
+        };
         let mut out = BufWriter::new(io::stdout().lock());
-        if words.json {
-            let items = items.map(|named| json_line(stream, &named)).collect();
-            writeln!(out, "{}", explain::json(&Answer { verdict: Verdict::of(source, &checked.verdict), items }))?;
+        if words.asked.json {
+            let items = items.map(|named| json_line(source, &named, read_to)).collect();
+            out.write_all(explain::answer(source, &checked.verdict, Items { items }).as_bytes())?;
         } else {
-            input::heading(&mut out, &words.files.files, source)?;
+            input::heading(&mut out, &words.asked.files, source)?;
             writeln!(out, "  offset level  item")?;
-            for item in items {
-                writeln!(out, "{}", line(stream, &item))?;
-            }
+            write_items(&mut out, source, items, read_to)?;
         }
         out.flush()?;
-        match checked.verdict {
-            Ok(_) => Ok(Status::Accepted),
-            Err(refusal) => {
-                if !words.json {
-                    tell(&explain::refusal(source, &refusal));
-                }
-                Ok(Status::Refused)
-            }
+        if let Err(refusal) = &checked.verdict
+            && !words.asked.json
+        {
+            tell(&explain::refusal(source, refusal));
         }
+        Ok(Status::of(&checked.verdict))
     })
 }
 
-fn line(stream: &[u8], named: &Named<'_>) -> String {
+/// Where the closing mark of an indefinite item stands, if it was read.
+fn closing_mark(item: &Item, read_to: usize) -> Option<usize> {
+    let end = item.value().end;
+    (item.length() == Length::Indefinite && end + 2 <= read_to).then_some(end)
+}
+
+/// Writes a line for each item, and for each closing mark where it stands.
+fn write_items<'t>(
+    out: &mut impl Write,
+    source: &Source<'_>,
+    items: impl Iterator<Item = Named<'t>>,
+    read_to: usize,
+) -> io::Result<()> {
+    let mut open: Vec<(usize, u8)> = Vec::new();
+    let close = |out: &mut dyn Write, open: &mut Vec<(usize, u8)>, before: usize| {
+        while let Some((mark, level)) = open.pop_if(|(mark, _)| *mark < before) {
+            writeln!(out, "{mark:8} {level:5}  {:pad$}closing mark", "", pad = 2 * (usize::from(level) - 1))?;
+        }
+        Ok::<(), io::Error>(())
+    };
+    for named in items {
+        close(out, &mut open, named.item.first())?;
+        writeln!(out, "{}", line(source, &named))?;
+        open.extend(closing_mark(named.item, read_to).map(|mark| (mark, named.item.level())));
+    }
+    close(out, &mut open, usize::MAX)
+}
+
+/// What is to be said of a length that is not in the fewest octets.
+fn long_length(item: &Item) -> String {
+    let octets = item.header_length() - item.type_length();
+    let fewest = match item.length() {
+        Length::Definite(length @ 0x80..) => 1 + (u32::BITS - length.leading_zeros()).div_ceil(8) as usize,
+        _ => 1,
+    };
+    if octets > fewest { format!(" in {octets} octets") } else { String::new() }
+}
+
+fn line(source: &Source<'_>, named: &Named<'_>) -> String {
     let item = named.item;
     let level = usize::from(item.level());
     let form = if item.is_constructed() { " constructed" } else { "" };
     let tag = format!("{:pad$}{}{form}", "", named.tag(), pad = 2 * (level - 1));
     let length = match item.length() {
-        Length::Definite(length) => length.to_string(),
+        Length::Definite(length) => format!("{length}{}", long_length(item)),
         Length::Indefinite => "indefinite".into(),
     };
     let element = named.element.map_or(String::new(), |number| format!("element {number} "));
-    let remark = format!("{element}{} {}", named.name().unwrap_or_default(), value(stream, named));
+    let remark = format!("{element}{} {}", named.name().unwrap_or_default(), value(source, named));
     format!("{:8} {level:5}  {tag:36} length {length:10}  {}", item.first(), remark.trim()).trim_end().into()
 }
 
 /// The value of a primitive item: what it means if that is known, else in hexadecimal.
-fn value(stream: &[u8], named: &Named<'_>) -> String {
+fn value(source: &Source<'_>, named: &Named<'_>) -> String {
     if named.item.is_constructed() {
         return String::new();
     }
-    let octets = &stream[named.item.value()];
+    let octets = &source.stream[named.item.value()];
     let (front, more) = (&octets[..octets.len().min(SHOWN)], if octets.len() > SHOWN { ".." } else { "" });
-    match named.value(stream) {
+    match named.value(source.edition, octets) {
         _ if octets.is_empty() => String::new(),
         Some(Known::Number(number)) => number.to_string(),
         Some(Known::Named(number, name)) => format!("{number} ({name})"),
         Some(Known::Object(object)) => object,
+        Some(Known::Bits(bits, names)) if names.is_empty() => format!("{}{more}", &bits[..bits.len().min(SHOWN)]),
+        Some(Known::Bits(bits, names)) => format!("{}{more} ({names})", &bits[..bits.len().min(SHOWN)]),
         _ if show::is_plain_text(front) => format!("\"{}\"{more}", show::escaped(front)),
         _ => format!("{}{more}", show::hex(front)),
     }
 }
 
-fn json_line(stream: &[u8], named: &Named<'_>) -> Line {
+fn json_line(source: &Source<'_>, named: &Named<'_>, read_to: usize) -> Line {
     let item = named.item;
-    let (value, meaning) = match named.value(stream) {
+    let octets = &source.stream[item.value()];
+    let (value, meaning) = match named.value(source.edition, octets) {
         None => (None, None),
         Some(Known::Number(number)) => (Some(number.into()), None),
-        Some(Known::Named(number, name)) => (Some(number.into()), Some(name)),
+        Some(Known::Named(number, name)) => (Some(number.into()), Some(name.into())),
+        Some(Known::Bits(bits, names)) => (Some(bits.into()), Some(names).filter(|names| !names.is_empty())),
         Some(Known::Object(text) | Known::Text(text)) => (Some(text.into()), None),
     };
     Line {
@@ -159,10 +200,11 @@ fn json_line(stream: &[u8], named: &Named<'_>) -> Line {
             Length::Definite(length) => Some(length as usize),
             Length::Indefinite => None,
         },
+        closing_mark: closing_mark(item, read_to),
         element: named.element,
         name: named.name(),
         value,
         meaning,
-        hex: (!item.is_constructed()).then(|| show::hex(&stream[item.value()])),
+        hex: (!item.is_constructed()).then(|| show::hex(octets)),
     }
 }

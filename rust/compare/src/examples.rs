@@ -1,6 +1,7 @@
-//! The examples of document 01, of type numbers above 30, X.209 and Annex D: each with what is said of it in `vectors/`.
+//! The examples of document 01, of the two editions, of type numbers above 30, X.209 and Annex D: each with what is said of
+//! it in `vectors/`.
 
-use odif::{ROW_WIDTH, raw};
+use odif::{Edition, ROW_WIDTH, raw};
 
 use crate::coding::{indefinite, item};
 use crate::hold::Holder;
@@ -8,6 +9,7 @@ use crate::rng::Rng;
 use crate::tally::Origin;
 
 const DOCUMENT_01: &str = include_str!("../../../vectors/document-01.txt");
+const EDITIONS: &str = include_str!("../../../vectors/editions-more.txt");
 const TYPES: &str = include_str!("../../../vectors/types.txt");
 const X209: &str = include_str!("../../../vectors/x209.txt");
 const LISTED: [(&str, &str, &str); 3] = [
@@ -44,6 +46,9 @@ pub fn hold(holder: &mut Holder) {
             joined_example(holder, name, &stream, element, &octets(content));
         }
     }
+    for fields in lines(EDITIONS) {
+        edition_example(holder, &fields);
+    }
     for fields in lines(X209) {
         let [name, hex, alone, within, normal] = fields[..] else { panic!("a line of five fields: {fields:?}") };
         let (value, normal) = (octets(hex), octets(normal));
@@ -69,6 +74,32 @@ fn example(holder: &mut Holder, name: &str, stream: &[u8], answer: &str, normal:
         let mut out = vec![0; normal.len()];
         let written = raw::normal(stream, &mut out);
         holder.tally.expect(written.number == 0 && out == normal, || format!("{name}: the normal form is {out:02X?}"));
+    }
+}
+
+/// Holds the library to one example by both editions: its answers, and by 1993 the last row and its content.
+fn edition_example(holder: &mut Holder, fields: &[&str]) {
+    let [name, hex, by_1988, by_1993, last, part, joined] = fields[..] else {
+        panic!("a line of seven fields: {fields:?}")
+    };
+    let stream = octets(hex);
+    holder.hold(&stream, Origin::Fixed(name.into()), &mut Rng::new(1));
+    let mut table = [0; 4 * ROW_WIDTH];
+    let given = Edition::ALL.map(|edition| {
+        let checked = raw::check_in(edition, &stream, &mut table);
+        (checked.elements, format!("{} {} {}", checked.number, checked.place, checked.headers))
+    });
+    let [(_, old), (elements, new)] = given;
+    let mut rows = table.chunks_exact(ROW_WIDTH).take(elements as usize);
+    let row = rows.next_back().map_or("-".into(), |row| format!("{} {} {} {}", row[0], row[1], row[10], row[11]));
+    let element = elements.saturating_sub(1);
+    let found = raw::content_in(Edition::Of1993, &stream, element).number.to_string();
+    let mut out = vec![0; stream.len()];
+    let copied = raw::joined_in(Edition::Of1993, &stream, element, &mut out);
+    let content: String = out[..copied.length as usize].iter().map(|octet| format!("{octet:02X}")).collect();
+    let copied = format!("{} {content}", copied.number).trim_end().to_string();
+    for (given, wanted) in [(old, by_1988), (new, by_1993), (row, last), (found, part), (copied, joined)] {
+        holder.tally.expect(given == wanted, || format!("{name}: {given}, not {wanted}"));
     }
 }
 

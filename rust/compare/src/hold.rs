@@ -1,13 +1,16 @@
-//! One stream: every question put to the library and to the reader, with the same memory lent, long enough, exact and
-//! one short.
+//! One stream: every question of both editions put to the library and to the reader, with the same memory lent, long
+//! enough, exact and one short.
 
-use odif::{ROW_WIDTH, SHORT_LIMIT, STREAM_LIMIT, raw};
+use odif::{Edition, ROW_WIDTH, SHORT_LIMIT, STREAM_LIMIT, raw};
 use reader::{Reading, Side};
 
+use crate::blocks;
+use crate::dates;
+use crate::editions::{self, to_reader};
 use crate::lent::{self, Lent};
 use crate::openssl::Batch;
 use crate::rng::Rng;
-use crate::tally::{Origin, Tally, hex};
+use crate::tally::{Origin, Question, Tally, hex};
 
 /// Compares streams and keeps count.
 #[derive(Default)]
@@ -18,12 +21,26 @@ pub struct Holder {
 }
 
 impl Holder {
-    /// Holds the library against the reader on one stream. What is lent is chosen by `rng` where there is a choice.
+    /// Holds the library against the reader on one stream, by both editions. What is lent is chosen by `rng` where there
+    /// is a choice.
     pub fn hold(&mut self, stream: &[u8], origin: Origin, rng: &mut Rng) {
-        let reading = Reading::of(stream);
+        self.tally.streams += 1;
+        let readings = Edition::ALL.map(|edition| Reading::by(to_reader(edition), stream));
+        for (edition, reading) in Edition::ALL.into_iter().zip(&readings) {
+            self.hold_in(edition, reading, stream, &origin, rng);
+        }
+        let [of_1988, of_1993] = &readings;
+        editions::hold(stream, of_1988, &origin, &mut self.tally);
+        blocks::hold(stream, of_1988, &origin, &mut self.tally, &mut rng.clone());
+        if of_1993.refusal().is_none() {
+            self.tally.accepted += 1;
+            self.batch.add(stream, of_1993, origin, &mut self.tally);
+        }
+    }
+
+    fn hold_in(&mut self, edition: Edition, reading: &Reading<'_>, stream: &[u8], origin: &Origin, rng: &mut Rng) {
         let before = stream.to_vec();
-        let mut one = One { stream, reading: &reading, origin: &origin, tally: &mut self.tally };
-        one.tally.streams += 1;
+        let mut one = One { edition, stream, reading, origin, tally: &mut self.tally };
         one.ask_check(rng);
         one.ask_list(Side::Layout, rng);
         one.ask_list(Side::Logical, rng);
@@ -31,12 +48,12 @@ impl Holder {
         one.ask_normal_short(rng);
         one.ask_content(rng);
         one.ask_joined(rng);
+        one.ask_children(rng);
         one.expect(before == stream, "the stream itself", || "it was written to".into());
+        dates::hold(edition, stream, reading, origin, one.tally, rng);
         if reading.refusal().is_none() {
-            one.tally.accepted += 1;
             one.ask_round_trip(rng);
             one.ask_binding(rng);
-            self.batch.add(stream, &reading, origin, &mut self.tally);
         }
     }
 
@@ -47,8 +64,9 @@ impl Holder {
     }
 }
 
-/// The comparisons on one stream.
+/// The comparisons on one stream by one edition.
 struct One<'a> {
+    edition: Edition,
     stream: &'a [u8],
     reading: &'a Reading<'a>,
     origin: &'a Origin,
@@ -57,8 +75,14 @@ struct One<'a> {
 
 impl One<'_> {
     fn expect(&mut self, holds: bool, question: &str, tell: impl FnOnce() -> String) {
-        let (origin, stream) = (self.origin, self.stream);
-        self.tally.expect(holds, || format!("{origin}: {question}: {}\n  {}", tell(), hex(stream)));
+        let (origin, edition, stream) = (self.origin, self.edition, self.stream);
+        self.tally.expect(holds, || format!("{origin}, by {edition}: {question}: {}\n  {}", tell(), hex(stream)));
+    }
+
+    /// Counts what the library gave for a question.
+    fn meet(&mut self, question: Question, number: u32) {
+        self.tally.meet(number);
+        self.tally.meet_in(self.edition, question, number);
     }
 
     /// Lengths of tables to lend: for an accepted stream exact, one number short, and with a part of a row more.
@@ -80,9 +104,9 @@ impl One<'_> {
         for length in self.table_lengths(rng) {
             let before = Lent::new(length, lent::numbers);
             let (mut ours, mut theirs) = (before.clone(), before.clone());
-            let answer = raw::check(self.stream, ours.lend());
+            let answer = raw::check_in(self.edition, self.stream, ours.lend());
             let wanted = self.reading.check(theirs.lend());
-            self.tally.meet(answer.number);
+            self.meet(Question::Check, answer.number);
             let question = format!("check with a table of {length} numbers");
             let same = [answer.number, answer.place, answer.headers, answer.elements]
                 == [wanted.number, wanted.place, wanted.headers, wanted.elements];
@@ -94,6 +118,7 @@ impl One<'_> {
             if answer.number == 0 {
                 let rows = &ours.cells()[..used];
                 self.expect(meet_end_to_end(rows, self.stream.len()), &question, || "the elements do not meet".into());
+                self.climbs_end(rows, &question);
             }
         }
     }
@@ -115,19 +140,24 @@ impl One<'_> {
         let list_before = Lent::new(list_length, pattern_match);
         let (mut our_table, mut their_table) = (table_before.clone(), table_before.clone());
         let mut our_list = list_before.clone();
-        let mut their_list = Lent::new(list_length, |place| to_reader(pattern_match(place)));
-        let answer = match side {
-            Side::Layout => raw::layout(self.stream, our_table.lend(), our_list.lend()),
-            Side::Logical => raw::logical(self.stream, our_table.lend(), our_list.lend()),
+        let mut their_list = Lent::new(list_length, |place| match_of_reader(pattern_match(place)));
+        let (asked, answer) = match side {
+            Side::Layout => {
+                (Question::Layout, raw::layout_in(self.edition, self.stream, our_table.lend(), our_list.lend()))
+            }
+            Side::Logical => {
+                (Question::Logical, raw::logical_in(self.edition, self.stream, our_table.lend(), our_list.lend()))
+            }
         };
         let wanted = self.reading.list(side, their_table.lend(), their_list.lend());
-        self.tally.meet(answer.number);
+        self.meet(asked, answer.number);
         let question = format!("{side:?} list with a table of {table_length} numbers and {list_length} records");
         let same = [answer.number, answer.place, answer.elements, answer.matches]
             == [wanted.number, wanted.place, wanted.elements, wanted.matches];
         self.expect(same, &question, || format!("{answer:?}, not {wanted:?}"));
         self.expect(our_table == their_table, &question, || "the tables differ".into());
-        let same = our_list.cells().iter().zip(their_list.cells()).all(|(ours, theirs)| to_reader(*ours) == *theirs);
+        let same =
+            our_list.cells().iter().zip(their_list.cells()).all(|(ours, theirs)| match_of_reader(*ours) == *theirs);
         self.expect(same, &question, || format!("{:?}, not {:?}", our_list.cells(), their_list.cells()));
         let used = answer.elements as usize * ROW_WIDTH;
         self.expect(our_table.is_untouched_past(used, &table_before), &question, || "written past the rows".into());
@@ -144,9 +174,9 @@ impl One<'_> {
         for length in lengths {
             let before = Lent::new(length, lent::octets);
             let (mut ours, mut theirs) = (before.clone(), before.clone());
-            let answer = raw::normal(self.stream, ours.lend());
+            let answer = raw::normal_in(self.edition, self.stream, ours.lend());
             let wanted = self.reading.normal(theirs.lend());
-            self.tally.meet(answer.number);
+            self.meet(Question::Normal, answer.number);
             let question = format!("normal form with an output of {length} octets");
             let same = [answer.number, answer.place, answer.length] == [wanted.number, wanted.place, wanted.length];
             self.expect(same, &question, || format!("{answer:?}, not {wanted:?}"));
@@ -166,8 +196,9 @@ impl One<'_> {
         for length in lengths {
             let before = Lent::new(length, lent::octets);
             let (mut ours, mut theirs) = (before.clone(), before.clone());
-            let answer = raw::normal_short(self.stream, ours.lend());
+            let answer = raw::normal_short_in(self.edition, self.stream, ours.lend());
             let wanted = self.reading.normal_short(theirs.lend());
+            self.meet(Question::NormalShort, answer.number);
             let question = format!("short normal form with an output of {length} octets");
             let same = [answer.number, answer.place, answer.length] == [wanted.number, wanted.place, wanted.length];
             self.expect(same, &question, || format!("{answer:?}, not {wanted:?}"));
@@ -192,9 +223,9 @@ impl One<'_> {
 
     fn ask_content(&mut self, rng: &mut Rng) {
         for element in self.elements(rng) {
-            let answer = raw::content(self.stream, element);
+            let answer = raw::content_in(self.edition, self.stream, element);
             let wanted = self.reading.content(element);
-            self.tally.meet(answer.number);
+            self.meet(Question::Content, answer.number);
             let same = [answer.number, answer.place, answer.first, answer.past]
                 == [wanted.number, wanted.place, wanted.first, wanted.past];
             self.expect(same, &format!("content of {element}"), || format!("{answer:?}, not {wanted:?}"));
@@ -217,16 +248,16 @@ impl One<'_> {
     fn ask_joined_with(&mut self, element: u32, length: usize) {
         let before = Lent::new(length, lent::octets);
         let (mut ours, mut theirs) = (before.clone(), before.clone());
-        let answer = raw::joined(self.stream, element, ours.lend());
+        let answer = raw::joined_in(self.edition, self.stream, element, ours.lend());
         let wanted = self.reading.joined(element, theirs.lend());
-        self.tally.meet(answer.number);
+        self.meet(Question::Joined, answer.number);
         let question = format!("joined content of {element} with an output of {length} octets");
         let same = [answer.number, answer.place, answer.length] == [wanted.number, wanted.place, wanted.length];
         self.expect(same, &question, || format!("{answer:?}, not {wanted:?}"));
         self.expect(ours == theirs, &question, || format!("{}, not {}", hex(ours.cells()), hex(theirs.cells())));
         let used = answer.length as usize;
         self.expect(ours.is_untouched_past(used, &before), &question, || "written past its end".into());
-        let part = raw::content(self.stream, element);
+        let part = raw::content_in(self.edition, self.stream, element);
         if answer.number == 0 && part.number == 0 {
             let part = &self.stream[part.first as usize..part.past as usize];
             let same = ours.cells().get(..used) == Some(part);
@@ -234,19 +265,66 @@ impl One<'_> {
         }
     }
 
+    /// The children of rows and of numbers that are none; the list exact, one short, longer and empty.
+    fn ask_children(&mut self, rng: &mut Rng) {
+        let tables = self.table_lengths(rng);
+        for row in self.elements(rng) {
+            let exact = self.reading.child_count(row);
+            for length in [exact, exact.saturating_sub(1), exact + rng.between(1, 4), rng.below(exact + 1)] {
+                self.ask_children_with(row, tables[0], length);
+            }
+            self.ask_children_with(row, *rng.pick(&tables), exact);
+        }
+    }
+
+    fn ask_children_with(&mut self, row: u32, table_length: usize, list_length: usize) {
+        let table_before = Lent::new(table_length, lent::numbers);
+        let list_before = Lent::new(list_length, lent::numbers);
+        let (mut our_table, mut their_table) = (table_before.clone(), table_before.clone());
+        let (mut our_list, mut their_list) = (list_before.clone(), list_before.clone());
+        let answer = raw::children_in(self.edition, self.stream, row, our_table.lend(), our_list.lend());
+        let wanted = self.reading.children(row, their_table.lend(), their_list.lend());
+        self.tally.meet(answer.number);
+        let question = format!("children of {row} with a table of {table_length} numbers and a list of {list_length}");
+        let same = [answer.number, answer.place, answer.elements, answer.children]
+            == [wanted.number, wanted.place, wanted.elements, wanted.children];
+        self.expect(same, &question, || format!("{answer:?}, not {wanted:?}"));
+        self.expect(our_table == their_table, &question, || "the tables differ".into());
+        self.expect(our_list == their_list, &question, || {
+            format!("{:?}, not {:?}", our_list.cells(), their_list.cells())
+        });
+        let used = answer.children as usize;
+        self.expect(our_list.is_untouched_past(used, &list_before), &question, || "written past the children".into());
+    }
+
+    /// Climbing from each row of a finished table ends in at most 32 moves.
+    fn climbs_end(&mut self, rows: &[u32], question: &str) {
+        let parent = |row: usize| rows[row * ROW_WIDTH + ROW_WIDTH - 1] as usize;
+        for row in 0..rows.len() / ROW_WIDTH {
+            let mut at = Some(row);
+            for _ in 0..32 {
+                at = at.map(parent).filter(|&above| above != reader::NO_PARENT as usize);
+            }
+            self.expect(at.is_none(), question, || format!("climbing from row {row} does not end"));
+        }
+    }
+
     /// The library's normal form is accepted, is its own normal form, and has the same elements, matches and contents.
     fn ask_round_trip(&mut self, rng: &mut Rng) {
         let mut out = vec![0; self.reading.normal_size().min(STREAM_LIMIT)];
-        if raw::normal(self.stream, &mut out).number != 0 {
+        if raw::normal_in(self.edition, self.stream, &mut out).number != 0 {
             return;
         }
         let mut again = vec![0; out.len()];
-        let written = raw::normal(&out, &mut again);
+        let written = raw::normal_in(self.edition, &out, &mut again);
         self.expect(written.number == 0 && again == out, "the normal form's own", || hex(&again));
-        let (mine, normal) = (answers_of(self.stream), answers_of(&out));
+        let (mine, normal) = (dates::told(self.edition, self.stream), dates::told(self.edition, &out));
+        self.expect(mine == normal, "the normal form's date", || format!("{normal:?}, not {mine:?}"));
+        let (mine, normal) = (answers_of(self.edition, self.stream), answers_of(self.edition, &out));
         self.expect(mine == normal, "the normal form's answers", || format!("{normal:?}, not {mine:?}"));
         for element in self.elements(rng) {
-            let (mine, normal) = (joined_of(self.stream, element), joined_of(&out, element));
+            let (mine, normal) =
+                (joined_of(self.edition, self.stream, element), joined_of(self.edition, &out, element));
             self.expect(mine == normal, "the normal form's contents", || format!("{normal:?}, not {mine:?}"));
         }
     }
@@ -254,35 +332,41 @@ impl One<'_> {
     /// The crate's letter, which asks the library about a unit alone, has the contents that the library gives for the
     /// whole stream.
     fn ask_binding(&mut self, rng: &mut Rng) {
-        let Ok(letter) = odif::Letter::read(self.stream) else {
+        let Ok(letter) = odif::Letter::read_in(self.edition, self.stream) else {
             return self.expect(false, "the crate's letter", || "it is refused".into());
         };
         for element in self.elements(rng) {
-            let (number, joined) = joined_of(self.stream, element);
+            let (number, joined) = joined_of(self.edition, self.stream, element);
             let wanted = (number == 0).then_some(joined);
             let content = letter.content(element as usize);
             let same = content.as_deref() == wanted.as_deref();
             self.expect(same, "the crate's content", || format!("of {element}: {content:?}, not {wanted:?}"));
+            let elements = letter.elements().iter().enumerate();
+            let wanted: Vec<usize> =
+                elements.filter(|(_, other)| other.parent == Some(element as usize)).map(|(child, _)| child).collect();
+            let children = letter.children(element as usize);
+            let same = children == letter.elements().get(element as usize).map(|_| wanted);
+            self.expect(same, "the crate's children", || format!("of {element}: {children:?}"));
         }
     }
 }
 
-/// What the library says of a stream apart from places: counts, kinds, object types and matches.
-fn answers_of(stream: &[u8]) -> (u32, u32, Vec<u32>, Vec<raw::Match>) {
+/// What the library says of a stream apart from places: counts, kinds, object types, parents and matches.
+fn answers_of(edition: Edition, stream: &[u8]) -> (u32, u32, Vec<u32>, Vec<raw::Match>) {
     let mut table = vec![0; (stream.len() / 2).min(odif::MOST_ELEMENTS) * ROW_WIDTH];
     let mut list = vec![raw::Match::default(); 2 * odif::MOST_ELEMENTS];
-    let checked = raw::check(stream, &mut table);
-    let layout = raw::layout(stream, &mut table, &mut list).matches as usize;
-    let logical = raw::logical(stream, &mut table, &mut list[layout..]).matches as usize;
+    let checked = raw::check_in(edition, stream, &mut table);
+    let layout = raw::layout_in(edition, stream, &mut table, &mut list).matches as usize;
+    let logical = raw::logical_in(edition, stream, &mut table, &mut list[layout..]).matches as usize;
     list.truncate(layout + logical);
     let rows = table.chunks_exact(ROW_WIDTH).take(checked.elements as usize);
-    (checked.number, checked.headers, rows.flat_map(|row| [row[0], row[1]]).collect(), list)
+    (checked.number, checked.headers, rows.flat_map(|row| [row[0], row[1], row[ROW_WIDTH - 1]]).collect(), list)
 }
 
 /// The number that the library gives for the joined content of an element, and the content.
-fn joined_of(stream: &[u8], element: u32) -> (u32, Vec<u8>) {
+fn joined_of(edition: Edition, stream: &[u8], element: u32) -> (u32, Vec<u8>) {
     let mut out = vec![0; stream.len()];
-    let answer = raw::joined(stream, element, &mut out);
+    let answer = raw::joined_in(edition, stream, element, &mut out);
     out.truncate(answer.length as usize);
     (answer.number, out)
 }
@@ -298,6 +382,6 @@ fn pattern_match(place: usize) -> raw::Match {
     raw::Match { element: number, portion: number ^ 1, unit: number ^ 2 }
 }
 
-fn to_reader(found: raw::Match) -> reader::Match {
+fn match_of_reader(found: raw::Match) -> reader::Match {
     reader::Match { element: found.element, portion: found.portion, unit: found.unit }
 }

@@ -1,8 +1,11 @@
-//! Generated letters: good ones with everything that document 01 lets pass, and ones with a slip or two.
+//! Generated letters of both editions: good ones with everything that they let pass, and ones with a slip or two.
 
 use std::collections::HashSet;
 
+use odif::Edition;
+
 use crate::coding::{Item, any_form};
+use crate::dates;
 use crate::rng::Rng;
 
 /// The universal octets whose form is in the table.
@@ -17,15 +20,15 @@ const OF_STYLE: [u8; 2] = [0x45, 0x65];
 /// The longest identifier.
 const LONGEST: usize = 64;
 
-/// An accepted letter, its lengths in any form.
-pub fn good(rng: &mut Rng) -> Vec<u8> {
-    let elements = elements(rng);
+/// An accepted letter of an edition, its lengths in any form.
+pub fn good(edition: Edition, rng: &mut Rng) -> Vec<u8> {
+    let elements = elements(edition, rng);
     write(&elements, rng)
 }
 
 /// A letter with a slip or two; now and then it is accepted all the same.
-pub fn slipped(rng: &mut Rng) -> Vec<u8> {
-    let mut elements = elements(rng);
+pub fn slipped(edition: Edition, rng: &mut Rng) -> Vec<u8> {
+    let mut elements = elements(edition, rng);
     for _ in 0..rng.between(1, 2) {
         slip(&mut elements, rng);
     }
@@ -38,7 +41,7 @@ fn write(elements: &[Item], rng: &mut Rng) -> Vec<u8> {
 }
 
 /// The elements of a good letter, the profile first and the others in any order.
-fn elements(rng: &mut Rng) -> Vec<Item> {
+fn elements(edition: Edition, rng: &mut Rng) -> Vec<Item> {
     let size = *rng.pick(&[1, 3, 3, 8, 8, 30]);
     let mut names = Names::default();
     let mut elements = Vec::new();
@@ -46,15 +49,19 @@ fn elements(rng: &mut Rng) -> Vec<Item> {
         elements.push(object(&mut names, rng));
     }
     for _ in 0..rng.below(size + 1) {
-        if let Some(unit) = unit(&mut names, rng) {
+        if let Some(unit) = unit(edition, &mut names, rng) {
             elements.push(unit);
         }
+    }
+    if edition == Edition::Of1993 {
+        elements.extend((0..rng.below(3)).map(|_| protected_part(&names, rng)));
     }
     for _ in 0..rng.below(3) {
         elements.push(style(&mut names, rng));
     }
     rng.shuffle(&mut elements);
-    elements.insert(0, Item::run(0xA0, free_items(rng, 2, &[])));
+    let profile = dates::profile(free_items(rng, 2, &[]), rng);
+    elements.insert(0, profile);
     elements
 }
 
@@ -158,7 +165,7 @@ fn near_miss(name: &str, rng: &mut Rng) -> String {
 }
 
 /// A text unit; `None` where its name is taken.
-fn unit(names: &mut Names, rng: &mut Rng) -> Option<Item> {
+fn unit(edition: Edition, names: &mut Names, rng: &mut Rng) -> Option<Item> {
     let mut run = Vec::new();
     if !rng.one_in(12) {
         let mut descriptor = free_items(rng, 3, &OF_UNIT);
@@ -172,8 +179,32 @@ fn unit(names: &mut Names, rng: &mut Rng) -> Option<Item> {
         rng.shuffle(&mut descriptor);
         run.push(Item::run(0x31, descriptor));
     }
-    run.push(if rng.one_in(3) { content_in_pieces(rng) } else { text(rng) });
+    run.extend(content(edition, rng));
     Some(Item::run(0xA3, run))
+}
+
+/// The content of a text unit: an octet string, in pieces or not, and in 1993 tiles, or none.
+fn content(edition: Edition, rng: &mut Rng) -> Option<Item> {
+    let sorts = if edition == Edition::Of1993 { 5 } else { 3 };
+    match rng.below(sorts) {
+        0 => Some(in_pieces(0x24, rng)),
+        1 | 2 => Some(text(rng)),
+        3 => Some(in_pieces(0x30, rng)),
+        _ => None,
+    }
+}
+
+/// A protected part of 1993: its identifier, of any spelling or that of another element, and its information.
+fn protected_part(names: &Names, rng: &mut Rng) -> Item {
+    let octet = rng.between(0xA9, 0xAC) as u8;
+    let identifier = match rng.below(4) {
+        0 => misspelt_name(rng),
+        1 => names.objects.iter().min().map_or(Vec::new(), |name| name.clone().into_bytes()),
+        _ => digits(rng).into_bytes(),
+    };
+    let length = *rng.pick(&[0, 1, 2, 16, 128]);
+    let information = Item::value(if octet == 0xA9 { 0x03 } else { 0x04 }, rng.octets(length));
+    Item::run(octet, vec![Item::value(0x47, identifier), information])
 }
 
 /// The deepest level of an item.
@@ -184,10 +215,11 @@ fn text(rng: &mut Rng) -> Item {
     Item::value(0x04, rng.octets(length))
 }
 
-/// Content in pieces: a few of them, empty and nested ones among them, now and then down to the deepest level.
-fn content_in_pieces(rng: &mut Rng) -> Item {
+/// Content in pieces, or in tiles: a few of them, empty and nested ones among them, now and then down to the deepest
+/// level.
+fn in_pieces(octet: u8, rng: &mut Rng) -> Item {
     let deepest = if rng.one_in(8) { DEEPEST } else { rng.between(3, 6) };
-    Item::run(0x24, pieces(rng, 3, deepest))
+    Item::run(octet, pieces(rng, 3, deepest))
 }
 
 /// Pieces at this level. Where they are to reach a deep level, one of them leads there.
@@ -248,11 +280,12 @@ fn free_item(rng: &mut Rng, level: usize, deepest: usize, avoid: &[u8]) -> Item 
 
 /// One slip of a writer of letters.
 fn slip(elements: &mut Vec<Item>, rng: &mut Rng) {
-    match rng.below(5) {
+    match rng.below(6) {
         0 => slip_in_value(elements, rng),
         1 => slip_in_descriptor(elements, rng),
         2 => slip_in_element(elements, rng),
         3 => slip_among_pieces(elements, rng),
+        4 => slip_in_protected_part(elements, rng),
         _ => slip_among_elements(elements, rng),
     }
 }
@@ -304,10 +337,11 @@ fn slip_in_element(elements: &mut [Item], rng: &mut Rng) {
     let Item::Constructed(_, run) = &mut elements[place] else { return };
     match rng.below(3) {
         0 => {
-            let item = match rng.below(4) {
+            let item = match rng.below(5) {
                 0 => Item::value(0x02, [0]),
                 1 => Item::value(0x04, *b"text"),
                 2 => Item::run(0x31, Vec::new()),
+                3 => Item::run(0x30, vec![Item::value(0x04, *b"tile")]),
                 _ => free_item(rng, 2, 4, &[]),
             };
             run.insert(rng.below(run.len() + 1), item);
@@ -325,7 +359,7 @@ fn slip_among_pieces(elements: &mut [Item], rng: &mut Rng) {
         Item::Constructed(0xA3, run) => run.last_mut(),
         _ => None,
     });
-    let mut in_pieces: Vec<_> = contents.filter(|content| octet_of(content) == 0x24).collect();
+    let mut in_pieces: Vec<_> = contents.filter(|content| matches!(octet_of(content), 0x24 | 0x30)).collect();
     if in_pieces.is_empty() {
         return;
     }
@@ -333,7 +367,7 @@ fn slip_among_pieces(elements: &mut [Item], rng: &mut Rng) {
     let item = match rng.below(4) {
         0 => free_item(rng, DEEPEST, DEEPEST, &[]),
         1 => Item::value(*rng.pick(&[0x03, 0x05, 0x12, 0x16, 0x44, 0x84, 0xC4]), Vec::new()),
-        _ => Item::run(*rng.pick(&[0x23, 0x31, 0x32, 0x34, 0x64, 0xA4, 0xE4]), Vec::new()),
+        _ => Item::run(*rng.pick(&[0x23, 0x30, 0x31, 0x32, 0x34, 0x64, 0xA4, 0xE4]), Vec::new()),
     };
     put_among_pieces(in_pieces.swap_remove(place), item, rng);
 }
@@ -349,12 +383,41 @@ fn put_among_pieces(pieces: &mut Item, item: Item, rng: &mut Rng) {
     }
 }
 
+/// A protected part whose items are of another octet or form, too many, too few, or in another order; where there is
+/// none, one more.
+fn slip_in_protected_part(elements: &mut Vec<Item>, rng: &mut Rng) {
+    let parts: Vec<usize> =
+        (0..elements.len()).filter(|&at| (0xA9..=0xAC).contains(&octet_of(&elements[at]))).collect();
+    let place = match parts[..] {
+        [] => elements.len(),
+        _ => *rng.pick(&parts),
+    };
+    if parts.is_empty() {
+        elements.push(protected_part(&Names::default(), rng));
+    }
+    let Item::Constructed(octet, run) = &mut elements[place] else { return };
+    let other = |rng: &mut Rng| {
+        let octet = *rng.pick(&[0x03, 0x04, 0x05, 0x23, 0x24, 0x30, 0x31, 0x41, 0x45, 0x47, 0x67]);
+        if octet & 0x20 != 0 { Item::run(octet, Vec::new()) } else { Item::value(octet, Vec::new()) }
+    };
+    match rng.below(6) {
+        // An earlier slip has been here.
+        _ if run.len() != 2 => {}
+        0 => run[0] = other(rng),
+        1 => run[1] = other(rng),
+        2 => run.insert(rng.below(3), other(rng)),
+        3 => drop(run.remove(rng.below(2))),
+        4 => run.swap(0, 1),
+        _ => *octet = *rng.pick(&[0xA4, 0xA9, 0xAA, 0xAB, 0xAC, 0xAD, 0xA3, 0xA8, 0xA0]),
+    }
+}
+
 /// An element that no letter has, a second profile, or an element twice.
 fn slip_among_elements(elements: &mut Vec<Item>, rng: &mut Rng) {
     if rng.one_in(2) {
         elements.push(rng.pick(elements).clone());
     } else {
-        let octet = *rng.pick(&[0xA0, 0xA0, 0xA4, 0xA9, 0x30, 0x60, 0xE2]);
+        let octet = *rng.pick(&[0xA0, 0xA0, 0xA4, 0xA9, 0xAA, 0xAD, 0x30, 0x60, 0xE2]);
         elements.insert(rng.below(elements.len() + 1), Item::run(octet, Vec::new()));
     }
 }

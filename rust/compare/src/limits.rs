@@ -1,6 +1,9 @@
-//! Every limit of document 01 from both sides, and every small choice that it leaves.
+//! Every limit of document 01 from both sides, and every small choice that it and the edition of 1993 leave.
 
+mod dates;
+mod parents;
 mod pieces;
+mod protected;
 mod types;
 
 use odif::{MOST_ELEMENTS, SHORT_LIMIT, STREAM_LIMIT};
@@ -16,7 +19,7 @@ const STYLES: [u8; 2] = [0xA7, 0xA8];
 const PROFILE: [u8; 2] = [0xA0, 0x00];
 
 /// The groups of cases. Each group is made when it is wanted, for some are large.
-pub const GROUPS: [fn() -> Vec<Case>; 27] = [
+pub const GROUPS: [fn() -> Vec<Case>; 39] = [
     stream_length,
     element_count,
     full_tables,
@@ -34,15 +37,27 @@ pub const GROUPS: [fn() -> Vec<Case>; 27] = [
     types::numbers,
     types::cut,
     types::places,
+    dates::days,
+    dates::years,
+    dates::spellings,
+    dates::paths,
+    dates::fronts,
     contents,
     pieces::short_runs,
     pieces::deep,
     pieces::many,
     pieces::most,
+    pieces::tiles,
+    protected::contents,
+    protected::named,
+    protected::many,
+    protected::before_and_after,
     descriptors,
     normal_length,
     short_length,
     name_spaces,
+    parents::places,
+    parents::many,
     two_faults,
 ];
 
@@ -94,7 +109,12 @@ fn element_count() -> Vec<Case> {
     for count in [MOST_ELEMENTS - 1, MOST_ELEMENTS, MOST_ELEMENTS + 1, MOST_ELEMENTS + 900] {
         cases.push(case(format!("{count} elements"), elements(count)));
     }
-    for (name, last) in [("unknown", [0xA4, 0x00]), ("a profile", [0xA0, 0x00]), ("without content", [0xA3, 0x00])] {
+    for (name, last) in [
+        ("unknown", [0xA4, 0x00]),
+        ("a profile", [0xA0, 0x00]),
+        ("without content", [0xA3, 0x00]),
+        ("protected", [0xAA, 0x00]),
+    ] {
         for count in [MOST_ELEMENTS, MOST_ELEMENTS + 1] {
             let stream = [elements(count - 1), last.to_vec()].concat();
             cases.push(case(format!("the last of {count} elements is {name}"), stream));
@@ -379,8 +399,8 @@ fn runs_of(items: &[Vec<u8>], most: usize) -> Vec<Vec<u8>> {
 fn contents() -> Vec<Case> {
     let named = item(0x31, &[item(0x41, b"1"), portions(&["0".into()])].concat());
     let unit_named = item(0x31, &[item(0x40, b"1 0"), item(0x84, b"1 0")].concat());
-    let items =
-        [item(0x02, &[1]), item(0x31, &[]), named, unit_named, item(0x04, b"t"), item(0x24, &[]), item(0x45, b"1")];
+    let mut items = vec![item(0x02, &[1]), item(0x31, &[]), named, unit_named, item(0x04, b"t"), item(0x24, &[])];
+    items.extend([item(0x30, &item(0x04, b"t")), item(0x45, b"1"), item(0x47, b"1")]);
     let mut cases = Vec::new();
     for run in runs_of(&items, 3) {
         for octet in 0xA0..=0xA8 {

@@ -3,7 +3,7 @@
 use std::io::Write;
 use std::process::{Command, Stdio};
 
-use odif::{MOST_ELEMENTS, ROW_WIDTH, raw};
+use odif::{Edition, MOST_ELEMENTS, ROW_WIDTH, raw};
 use reader::{Item, Length, Reading};
 
 use crate::tally::{Origin, Tally, hex};
@@ -43,12 +43,12 @@ pub fn version() -> Result<String, String> {
 }
 
 impl Batch {
-    /// Adds an accepted stream. The library's header count and elements must be those of the items that openssl will be
+    /// Adds a stream that the edition of 1993 accepts, and with it every one that that of 1988 does. The library's header count and elements must be those of the items that openssl will be
     /// asked about.
     pub fn add(&mut self, stream: &[u8], reading: &Reading<'_>, origin: Origin, tally: &mut Tally) {
         let items = reading.tree().items();
         let mut table = vec![0; (stream.len() / 2).min(MOST_ELEMENTS) * ROW_WIDTH];
-        let checked = raw::check(stream, &mut table);
+        let checked = raw::check_in(Edition::Of1993, stream, &mut table);
         let tops = items.iter().filter(|item| item.level() == 1).map(|item| item.first());
         let rows = table.chunks_exact(ROW_WIDTH).take(checked.elements as usize);
         let same = checked.headers as usize == items.len() && rows.clone().map(|row| row[2] as usize).eq(tops);

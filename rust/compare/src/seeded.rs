@@ -1,5 +1,7 @@
 //! The generated streams of a seed.
 
+use odif::Edition;
+
 use crate::damage;
 use crate::letters;
 use crate::rng::Rng;
@@ -7,16 +9,17 @@ use crate::rng::Rng;
 /// The stream with this number among those of the seed, and the numbers with which it is compared.
 pub fn stream(seed: u64, number: u64) -> (Vec<u8>, Rng) {
     let mut rng = Rng::of_stream(seed, number);
+    let edition = *rng.pick(&Edition::ALL);
     let stream = match rng.below(16) {
-        0..4 => letters::good(&mut rng),
-        4..8 => letters::slipped(&mut rng),
+        0..4 => letters::good(edition, &mut rng),
+        4..8 => letters::slipped(edition, &mut rng),
         8..13 => {
-            let mut stream = letters::good(&mut rng);
+            let mut stream = letters::good(edition, &mut rng);
             damage::damage(&mut stream, &mut rng);
             stream
         }
         13 => {
-            let (one, other) = (letters::good(&mut rng), letters::good(&mut rng));
+            let [one, other] = Edition::ALL.map(|edition| letters::good(edition, &mut rng));
             damage::spliced(&one, &other, &mut rng)
         }
         _ => damage::noise(&mut rng),
@@ -27,6 +30,7 @@ pub fn stream(seed: u64, number: u64) -> (Vec<u8>, Rng) {
 #[cfg(test)]
 mod tests {
     use super::*;
+    use crate::editions::to_reader;
 
     #[test]
     fn a_stream_comes_again() {
@@ -39,9 +43,11 @@ mod tests {
     #[test]
     fn good_letters_are_good() {
         for number in 0..2_000 {
-            let letter = letters::good(&mut Rng::of_stream(1, number));
-            let reading = reader::Reading::of(&letter);
-            assert_eq!(reading.refusal(), None, "letter {number}");
+            for edition in Edition::ALL {
+                let letter = letters::good(edition, &mut Rng::of_stream(1, number));
+                let reading = reader::Reading::by(to_reader(edition), &letter);
+                assert_eq!(reading.refusal(), None, "letter {number} of {edition}");
+            }
         }
     }
 }

@@ -2,10 +2,53 @@
 
 use std::fmt;
 
+use odif::Edition;
+
 /// The greatest refusal number.
-pub const LAST_NUMBER: usize = 22;
+pub const LAST_NUMBER: usize = 25;
 /// How many failures each thread prints in full.
 const SHOWN: u64 = 10;
+
+/// The questions, by their names in C.
+#[derive(Clone, Copy, Debug)]
+pub enum Question {
+    /// `odif_check`
+    Check,
+    /// `odif_layout`
+    Layout,
+    /// `odif_logical`
+    Logical,
+    /// `odif_normal`
+    Normal,
+    /// `odif_normal_short`
+    NormalShort,
+    /// `odif_content`
+    Content,
+    /// `odif_joined`
+    Joined,
+}
+
+impl Question {
+    const ALL: [Question; 7] = {
+        use Question::*;
+        [Check, Layout, Logical, Normal, NormalShort, Content, Joined]
+    };
+
+    /// The refusals above 15 that it can give; those up to 15 are every question's.
+    fn refusals(self) -> &'static [usize] {
+        match self {
+            Question::Check => &[16],
+            Question::Layout | Question::Logical => &[16, 19],
+            Question::Normal => &[17, 18],
+            Question::NormalShort => &[18],
+            Question::Content => &[20, 21],
+            Question::Joined => &[20, 22],
+        }
+    }
+}
+
+/// How often each number was given.
+type Counts = [u64; LAST_NUMBER + 1];
 
 /// Where a stream comes from, and how to see it again.
 #[derive(Clone, Debug)]
@@ -48,7 +91,9 @@ pub struct Tally {
     /// Elements of them that openssl was not asked about.
     pub left_out: u64,
     /// How often the library gave each number, over all questions.
-    pub met: [u64; LAST_NUMBER + 1],
+    pub met: Counts,
+    /// The same for each question of each edition.
+    met_in: [[Counts; Question::ALL.len()]; Edition::ALL.len()],
 }
 
 impl Tally {
@@ -71,6 +116,13 @@ impl Tally {
         }
     }
 
+    /// Counts a number that the library gave for a question of an edition.
+    pub fn meet_in(&mut self, edition: Edition, question: Question, number: u32) {
+        if let Some(count) = self.met_in[edition as usize][question as usize].get_mut(number as usize) {
+            *count += 1;
+        }
+    }
+
     /// Adds the counts of another thread.
     pub fn add(&mut self, other: &Tally) {
         self.passed += other.passed;
@@ -81,6 +133,23 @@ impl Tally {
         self.left_out += other.left_out;
         for (sum, count) in self.met.iter_mut().zip(other.met) {
             *sum += count;
+        }
+        let theirs = other.met_in.as_flattened().as_flattened();
+        for (sum, count) in self.met_in.as_flattened_mut().as_flattened_mut().iter_mut().zip(theirs) {
+            *sum += count;
+        }
+    }
+
+    /// Every refusal that a question can give must have been met, by each edition, and no other.
+    pub fn expect_every_refusal(&mut self) {
+        for (edition, question) in Edition::ALL.into_iter().flat_map(|edition| Question::ALL.map(|one| (edition, one)))
+        {
+            let counts = self.met_in[edition as usize][question as usize];
+            for (number, count) in counts.into_iter().enumerate().skip(1) {
+                let possible = number <= 15 || question.refusals().contains(&number);
+                let tell = || format!("{question:?} by {edition}: refusal {number} was met {count} times");
+                self.expect((count > 0) == possible, tell);
+            }
         }
     }
 

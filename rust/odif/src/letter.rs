@@ -4,9 +4,10 @@ use std::borrow::Cow;
 use std::fmt;
 use std::ops::Range;
 
+use crate::edition::Edition;
 use crate::raw;
 use crate::refusal::{Refusal, Rule};
-use crate::{MOST_ELEMENTS, ROW_WIDTH, SHORT_LIMIT, STREAM_LIMIT};
+use crate::{MOST_ELEMENTS, NO_PARENT, ROW_WIDTH, SHORT_LIMIT, STREAM_LIMIT};
 
 /// One side of a letter.
 #[derive(Clone, Copy, Debug, PartialEq, Eq)]
@@ -46,13 +47,21 @@ pub enum Kind {
     PresentationStyle,
     /// A8
     LayoutStyle,
+    /// A9, of 1993
+    SealedProfile,
+    /// AA, of 1993
+    EncipheredProfile,
+    /// AB, of 1993
+    PreEncipheredPart,
+    /// AC, of 1993
+    PostEncipheredPart,
     /// Another number: the library is newer than this crate.
     #[non_exhaustive]
     Unknown(u32),
 }
 
 impl Kind {
-    /// The kind of a number of the table, 0 to 8, if there is one.
+    /// The kind of a number of the table, if there is one: 0 to 8, and in 1993 9 to 12.
     pub fn from_number(number: u32) -> Option<Kind> {
         Some(match number {
             0 => Kind::DocumentProfile,
@@ -63,6 +72,10 @@ impl Kind {
             6 => Kind::LogicalObject,
             7 => Kind::PresentationStyle,
             8 => Kind::LayoutStyle,
+            9 => Kind::SealedProfile,
+            10 => Kind::EncipheredProfile,
+            11 => Kind::PreEncipheredPart,
+            12 => Kind::PostEncipheredPart,
             _ => return None,
         })
     }
@@ -78,6 +91,10 @@ impl Kind {
             Kind::LogicalObject => "logical object",
             Kind::PresentationStyle => "presentation style",
             Kind::LayoutStyle => "layout style",
+            Kind::SealedProfile => "sealed document profile",
+            Kind::EncipheredProfile => "enciphered document profile",
+            Kind::PreEncipheredPart => "pre-enciphered body part",
+            Kind::PostEncipheredPart => "post-enciphered body part",
             Kind::Unknown(_) => "element of an unknown kind",
         }
     }
@@ -105,9 +122,12 @@ pub struct Element {
     pub logical_identifier: Option<Range<usize>>,
     /// The portions of a class or object.
     pub portions: Option<Range<usize>>,
-    /// A text unit's content. If that is in pieces, it is the value that holds them, with their headers; the joined
-    /// octets are [`Letter::content`].
+    /// A text unit's content. If that is in pieces or tiled, it is the value that holds them, with their headers; the
+    /// joined octets are [`Letter::content`]. Of an enciphered part, the enciphered information.
     pub content: Option<Range<usize>>,
+    /// The number of the class or object of its side that it is a child of: the one whose identifier is its own without the
+    /// last group. A parent may stand after its child.
+    pub parent: Option<usize>,
 }
 
 impl Element {
@@ -122,6 +142,7 @@ impl Element {
             logical_identifier: value(6),
             portions: value(8),
             content: value(10),
+            parent: (row[12] != NO_PARENT).then_some(row[12] as usize),
         }
     }
 }
@@ -150,11 +171,16 @@ pub struct Checked {
 
 /// Checks a stream by the rules 1 to 15.
 pub fn check(stream: &[u8]) -> Checked {
-    check_with_table(stream, &mut new_table(stream))
+    check_in(Edition::Of1988, stream)
 }
 
-fn check_with_table(stream: &[u8], table: &mut [u32]) -> Checked {
-    let answer = raw::check(stream, table);
+/// The same, by an edition.
+pub fn check_in(edition: Edition, stream: &[u8]) -> Checked {
+    check_with_table(edition, stream, &mut new_table(stream))
+}
+
+fn check_with_table(edition: Edition, stream: &[u8], table: &mut [u32]) -> Checked {
+    let answer = raw::check_in(edition, stream, table);
     let verdict = Refusal::unless_accepted(answer.number, answer.place).map(|()| answer.elements as usize);
     Checked { headers: answer.headers as usize, verdict }
 }
@@ -162,19 +188,24 @@ fn check_with_table(stream: &[u8], table: &mut [u32]) -> Checked {
 /// Fetches the content of a text unit: a part of the stream, or, where it was saved in pieces, those joined in order. For
 /// many units of one letter [`Letter::content`] is quicker: it does not check the whole stream again.
 pub fn content(stream: &[u8], element: usize) -> Result<Cow<'_, [u8]>, Refusal> {
+    content_in(Edition::Of1988, stream, element)
+}
+
+/// The same, by an edition. Tiles are joined in order, and a unit without content has an empty one.
+pub fn content_in(edition: Edition, stream: &[u8], element: usize) -> Result<Cow<'_, [u8]>, Refusal> {
     let element = u32::try_from(element).unwrap_or(u32::MAX);
-    let answer = raw::content(stream, element);
+    let answer = raw::content_in(edition, stream, element);
     match Refusal::unless_accepted(answer.number, answer.place) {
         Ok(()) => Ok(Cow::Borrowed(&stream[answer.first as usize..answer.past as usize])),
-        Err(refusal) if refusal.rule == Rule::InPieces => joined(stream, element, stream.len()).map(Cow::Owned),
+        Err(refusal) if refusal.rule == Rule::InPieces => joined(edition, stream, element).map(Cow::Owned),
         Err(refusal) => Err(refusal),
     }
 }
 
-/// The joined content of a text unit, which has at most so many octets.
-fn joined(stream: &[u8], element: u32, most: usize) -> Result<Vec<u8>, Refusal> {
-    let mut out = vec![0; most];
-    let answer = raw::joined(stream, element, &mut out);
+/// The joined content of a text unit, which is shorter than the stream.
+fn joined(edition: Edition, stream: &[u8], element: u32) -> Result<Vec<u8>, Refusal> {
+    let mut out = vec![0; stream.len()];
+    let answer = raw::joined_in(edition, stream, element, &mut out);
     Refusal::unless_accepted(answer.number, answer.place)?;
     out.truncate(answer.length as usize);
     Ok(out)
@@ -182,10 +213,15 @@ fn joined(stream: &[u8], element: u32, most: usize) -> Result<Vec<u8>, Refusal> 
 
 /// Makes the normal form of a stream.
 pub fn normal_form(stream: &[u8]) -> Result<Vec<u8>, Refusal> {
+    normal_form_in(Edition::Of1988, stream)
+}
+
+/// The same, by an edition.
+pub fn normal_form_in(edition: Edition, stream: &[u8]) -> Result<Vec<u8>, Refusal> {
     // An item's header grows by at most one octet, and only where its value is over 65,535 octets.
     let longest = (stream.len() + stream.len() / 4_096 + 16).min(STREAM_LIMIT);
     let mut out = vec![0; longest];
-    let answer = raw::normal(stream, &mut out);
+    let answer = raw::normal_in(edition, stream, &mut out);
     Refusal::unless_accepted(answer.number, answer.place)?;
     out.truncate(answer.length as usize);
     Ok(out)
@@ -194,8 +230,13 @@ pub fn normal_form(stream: &[u8]) -> Result<Vec<u8>, Refusal> {
 /// Makes the normal form of a stream of at most [`SHORT_LIMIT`](crate::SHORT_LIMIT) octets, which is never longer than the
 /// stream. A longer one is refused by rule 1.
 pub fn short_normal_form(stream: &[u8]) -> Result<Vec<u8>, Refusal> {
+    short_normal_form_in(Edition::Of1988, stream)
+}
+
+/// The same, by an edition.
+pub fn short_normal_form_in(edition: Edition, stream: &[u8]) -> Result<Vec<u8>, Refusal> {
     let mut out = vec![0; stream.len().min(SHORT_LIMIT)];
-    let answer = raw::normal_short(stream, &mut out);
+    let answer = raw::normal_short_in(edition, stream, &mut out);
     Refusal::unless_accepted(answer.number, answer.place)?;
     out.truncate(answer.length as usize);
     Ok(out)
@@ -212,6 +253,7 @@ fn new_table(stream: &[u8]) -> Vec<u32> {
 /// An accepted letter: the caller's stream with its table.
 #[derive(Clone, Debug)]
 pub struct Letter<'a> {
+    edition: Edition,
     stream: &'a [u8],
     headers: usize,
     elements: Vec<Element>,
@@ -220,11 +262,21 @@ pub struct Letter<'a> {
 impl<'a> Letter<'a> {
     /// Checks a stream and takes up its elements.
     pub fn read(stream: &'a [u8]) -> Result<Self, Refusal> {
+        Letter::read_in(Edition::Of1988, stream)
+    }
+
+    /// The same, by an edition, by which the letter then answers everything.
+    pub fn read_in(edition: Edition, stream: &'a [u8]) -> Result<Self, Refusal> {
         let mut table = new_table(stream);
-        let checked = check_with_table(stream, &mut table);
+        let checked = check_with_table(edition, stream, &mut table);
         let count = checked.verdict?;
         let elements = table.chunks_exact(ROW_WIDTH).take(count).map(Element::from_row).collect();
-        Ok(Letter { stream, headers: checked.headers, elements })
+        Ok(Letter { edition, stream, headers: checked.headers, elements })
+    }
+
+    /// The edition by which it was read.
+    pub fn edition(&self) -> Edition {
+        self.edition
     }
 
     /// The stream it was read from.
@@ -242,15 +294,15 @@ impl<'a> Letter<'a> {
         &self.elements
     }
 
-    /// The content of a text unit: a part of the caller's own stream, or, where it was saved in pieces, those joined in
-    /// order. `None` where the element is no text unit or does not exist.
+    /// The content of a text unit: a part of the caller's own stream, or, where it was saved in pieces or tiles, those
+    /// joined in order. It is empty where the unit has none. `None` where the element is no text unit or does not exist.
     pub fn content(&self, element: usize) -> Option<Cow<'a, [u8]>> {
-        let unit = self.elements.get(element)?;
-        let part = &self.stream[unit.content.clone()?];
+        let unit = self.elements.get(element).filter(|element| element.kind == Kind::TextUnit)?;
+        let part = &self.stream[unit.content.clone().unwrap_or_default()];
         // The unit alone behind an empty profile is a letter too, no longer than this one, and its content is the same.
         // So the library says how it was saved, and no other element is looked at again.
         let alone = [&EMPTY_PROFILE, &self.stream[unit.place.clone()]].concat();
-        match content(&alone, 1).expect("a unit of an accepted letter") {
+        match content_in(self.edition, &alone, 1).expect("a unit of an accepted letter") {
             Cow::Borrowed(_) => Some(Cow::Borrowed(part)),
             Cow::Owned(joined) => Some(Cow::Owned(joined)),
         }
@@ -275,8 +327,8 @@ impl<'a> Letter<'a> {
         let mut table = vec![0; self.elements.len() * ROW_WIDTH];
         let mut list = vec![raw::Match::default(); units];
         let answer = match side {
-            Side::Layout => raw::layout(self.stream, &mut table, &mut list),
-            Side::Logical => raw::logical(self.stream, &mut table, &mut list),
+            Side::Layout => raw::layout_in(self.edition, self.stream, &mut table, &mut list),
+            Side::Logical => raw::logical_in(self.edition, self.stream, &mut table, &mut list),
         };
         Refusal::unless_accepted(answer.number, answer.place)?;
         list.truncate(answer.matches as usize);
@@ -288,6 +340,17 @@ impl<'a> Letter<'a> {
         Ok(widened.collect())
     }
 
+    /// The children of an element in stream order, by number: the elements whose parent it is. `None` where the element does
+    /// not exist.
+    pub fn children(&self, element: usize) -> Option<Vec<usize>> {
+        let row = u32::try_from(element).ok().filter(|_| element < self.elements.len())?;
+        let mut table = vec![0; self.elements.len() * ROW_WIDTH];
+        let mut list = vec![0; self.elements.len()];
+        let answer = raw::children_in(self.edition, self.stream, row, &mut table, &mut list);
+        list.truncate(answer.children as usize);
+        (answer.number == 0).then(|| list.into_iter().map(|child| child as usize).collect())
+    }
+
     /// The text of a side: the content of each unit of its reading list, in that order.
     pub fn text(&self, side: Side) -> Result<Vec<Cow<'a, [u8]>>, Refusal> {
         let list = self.reading_list(side)?;
@@ -296,6 +359,6 @@ impl<'a> Letter<'a> {
 
     /// Makes the normal form.
     pub fn normal_form(&self) -> Result<Vec<u8>, Refusal> {
-        normal_form(self.stream)
+        normal_form_in(self.edition, self.stream)
     }
 }

@@ -3,11 +3,14 @@
 use crate::ROW_WIDTH;
 use crate::SHORT_LIMIT;
 use crate::STREAM_LIMIT;
-use crate::elements::{self, Row};
+use crate::date::{self, Dated};
+use crate::edition::Edition;
+use crate::elements::{self, Row, kind};
 use crate::items::Tree;
 use crate::letter::{self, Letter};
 use crate::matches;
 use crate::normal;
+use crate::parents;
 use crate::refusal::Refusal;
 
 /// One side of a letter.
@@ -80,6 +83,19 @@ pub struct Copied {
     pub length: u32,
 }
 
+/// The answer about a row's children.
+#[derive(Clone, Copy, Debug, Default, PartialEq, Eq)]
+pub struct Related {
+    /// 0, or the number of the refusal.
+    pub number: u32,
+    /// The place of the refusal.
+    pub place: u32,
+    /// The element count.
+    pub elements: u32,
+    /// The child count.
+    pub children: u32,
+}
+
 /// One record of a reading list.
 #[derive(Clone, Copy, Debug, Default, PartialEq, Eq)]
 pub struct Match {
@@ -100,9 +116,14 @@ pub struct Reading<'a> {
 }
 
 impl<'a> Reading<'a> {
-    /// Reads and judges the stream.
+    /// Reads and judges the stream by the edition of 1988.
     pub fn of(stream: &'a [u8]) -> Self {
-        let (tree, letter) = letter::judge(stream);
+        Reading::by(Edition::Of1988, stream)
+    }
+
+    /// Reads and judges the stream by an edition.
+    pub fn by(edition: Edition, stream: &'a [u8]) -> Self {
+        let (tree, letter) = letter::judge(stream, edition);
         Reading { stream, tree, letter }
     }
 
@@ -120,9 +141,9 @@ impl<'a> Reading<'a> {
     pub fn check(&self, table: &mut [u32]) -> Checked {
         let headers = self.tree.items().len() as u32;
         match self.rows_for(table.len()) {
-            Ok(rows) => {
-                fill(table, rows);
-                Checked { headers, elements: rows.len() as u32, ..Checked::default() }
+            Ok(letter) => {
+                fill(table, self.stream, letter);
+                Checked { headers, elements: letter.rows.len() as u32, ..Checked::default() }
             }
             Err((number, place)) => Checked { number, place, headers, elements: 0 },
         }
@@ -130,12 +151,12 @@ impl<'a> Reading<'a> {
 
     /// Fills the table and makes the reading list of a side.
     pub fn list(&self, side: Side, table: &mut [u32], list: &mut [Match]) -> Listed {
-        let rows = match self.rows_for(table.len()) {
-            Ok(rows) => rows,
+        let letter = match self.rows_for(table.len()) {
+            Ok(letter) => letter,
             Err((number, place)) => return Listed { number, place, ..Listed::default() },
         };
-        fill(table, rows);
-        let elements = rows.len() as u32;
+        fill(table, self.stream, letter);
+        let elements = letter.rows.len() as u32;
         let matches = self.matches(side);
         match list.get_mut(..matches.len()) {
             Some(room) => {
@@ -172,22 +193,23 @@ impl<'a> Reading<'a> {
         self.normal(out)
     }
 
-    /// Where the content of a text unit lies, if it is one part of the stream.
+    /// Where the content of a text unit lies, if it is one part of the stream. A unit without content has an empty one.
     pub fn content(&self, element: u32) -> Found {
-        match self.content_of(element) {
+        match self.unit(element) {
             Err((number, place)) => Found { number, place, ..Found::default() },
-            Ok((_, place)) if self.tree.items()[place].is_constructed() => Found { number: 21, ..Found::default() },
-            Ok((row, _)) => Found { first: row.content.first, past: row.content.past, ..Found::default() },
+            Ok(Row { unit_content: Some(place), .. }) if self.tree.items()[*place].is_constructed() => {
+                Found { number: 21, ..Found::default() }
+            }
+            Ok(row) => Found { first: row.content.first, past: row.content.past, ..Found::default() },
         }
     }
 
-    /// Copies the content of a text unit, its pieces joined in order.
+    /// Copies the content of a text unit, its pieces or tiles joined in order.
     pub fn joined(&self, element: u32, out: &mut [u8]) -> Copied {
-        let pieces: Vec<&[u8]> = match self.content_of(element) {
+        let joined = match self.unit(element) {
             Err((number, place)) => return Copied { number, place, ..Copied::default() },
-            Ok((_, place)) => elements::pieces(&self.tree, place).map(|item| &self.stream[item.value()]).collect(),
+            Ok(row) => self.pieces(row).collect::<Vec<_>>().concat(),
         };
-        let joined = pieces.concat();
         match out.get_mut(..joined.len()) {
             Some(room) => {
                 room.copy_from_slice(&joined);
@@ -195,6 +217,38 @@ impl<'a> Reading<'a> {
             }
             None => Copied { number: 22, ..Copied::default() },
         }
+    }
+
+    /// The date of the document.
+    pub fn date(&self) -> Dated {
+        match &self.letter {
+            Ok(_) => date::of_letter(self.stream, &self.tree),
+            Err(refusal) => (*refusal).into(),
+        }
+    }
+
+    /// Fills the table and lists the children of a row.
+    pub fn children(&self, row: u32, table: &mut [u32], list: &mut [u32]) -> Related {
+        let letter = match self.rows_for(table.len()) {
+            Ok(letter) if (row as usize) < letter.rows.len() => letter,
+            Ok(_) => return Related { number: 20, ..Related::default() },
+            Err((number, place)) => return Related { number, place, ..Related::default() },
+        };
+        fill(table, self.stream, letter);
+        let elements = letter.rows.len() as u32;
+        let children = parents::children(self.stream, letter, row);
+        match list.get_mut(..children.len()) {
+            Some(room) => {
+                room.copy_from_slice(&children);
+                Related { elements, children: children.len() as u32, ..Related::default() }
+            }
+            None => Related { number: 25, elements, ..Related::default() },
+        }
+    }
+
+    /// How many children a row has; none where the stream is refused or has no such row.
+    pub fn child_count(&self, row: u32) -> usize {
+        self.letter.as_ref().map_or(0, |letter| parents::children(self.stream, letter, row).len())
     }
 
     /// The element count; 0 where the stream is refused.
@@ -214,27 +268,34 @@ impl<'a> Reading<'a> {
 
     /// The size of the joined content of a text unit; `None` where there is none.
     pub fn joined_size(&self, element: u32) -> Option<usize> {
-        let (_, place) = self.content_of(element).ok()?;
-        Some(elements::pieces(&self.tree, place).map(|item| item.value().len()).sum())
+        let row = self.unit(element).ok()?;
+        Some(self.pieces(row).map(<[u8]>::len).sum())
     }
 
-    /// The row of a text unit, with the place of its content in the tree.
-    fn content_of(&self, element: u32) -> Result<(&Row, usize), (u32, u32)> {
+    /// The row of a text unit.
+    fn unit(&self, element: u32) -> Result<&Row, (u32, u32)> {
         let letter = self.letter.as_ref().map_err(|refusal| (refusal.number(), refusal.place))?;
-        let row = letter.rows.get(element as usize).ok_or((20, 0))?;
-        row.content_place.map(|place| (row, place)).ok_or((20, 0))
+        let row = letter.rows.get(element as usize);
+        row.filter(|row| row.kind == kind::TEXT_UNIT).ok_or((20, 0))
     }
 
-    /// The rows, if the stream is accepted and a table of `numbers` numbers holds them.
-    fn rows_for(&self, numbers: usize) -> Result<&[Row], (u32, u32)> {
+    /// The octets of each piece of a unit's content, in order; none where it has no content.
+    fn pieces(&self, row: &Row) -> impl Iterator<Item = &[u8]> {
+        let items = row.unit_content.into_iter().flat_map(|place| elements::pieces(&self.tree, place));
+        items.map(|item| &self.stream[item.value()])
+    }
+
+    /// The letter, if the stream is accepted and a table of `numbers` numbers holds its rows.
+    fn rows_for(&self, numbers: usize) -> Result<&Letter<'a>, (u32, u32)> {
         let letter = self.letter.as_ref().map_err(|refusal| (refusal.number(), refusal.place))?;
-        if numbers / ROW_WIDTH < letter.rows.len() { Err((16, 0)) } else { Ok(&letter.rows) }
+        if numbers / ROW_WIDTH < letter.rows.len() { Err((16, 0)) } else { Ok(letter) }
     }
 }
 
-fn fill(table: &mut [u32], rows: &[Row]) {
-    for (numbers, row) in table.chunks_exact_mut(ROW_WIDTH).zip(rows) {
-        numbers.copy_from_slice(&row.numbers());
+fn fill(table: &mut [u32], stream: &[u8], letter: &Letter<'_>) {
+    for (numbers, row) in table.chunks_exact_mut(ROW_WIDTH).zip(&letter.rows) {
+        let parent = parents::parent(stream, letter, row).unwrap_or(parents::NO_PARENT);
+        numbers.copy_from_slice(&row.numbers(parent));
     }
 }
 
@@ -264,7 +325,7 @@ mod tests {
         let reading = Reading::of(&stream);
         let mut table = [0; 2 * ROW_WIDTH];
         assert_eq!(reading.check(&mut table), Checked { number: 0, place: 0, headers: 5, elements: 2 });
-        assert_eq!(table[ROW_WIDTH..], [3, 255, 2, 12, 0, 0, 0, 0, 0, 0, 6, 12]);
+        assert_eq!(table[ROW_WIDTH..], [3, 255, 2, 12, 0, 0, 0, 0, 0, 0, 6, 12, parents::NO_PARENT]);
         assert_eq!(reading.content(1), Found { number: 21, ..Found::default() });
         assert_eq!(reading.content(0), Found { number: 20, ..Found::default() });
         assert_eq!(joined(&stream), b"Hi");
@@ -281,7 +342,7 @@ mod tests {
         assert_eq!(joined(&unit(&marked)), b"\0bc");
         let mut table = [0; 2 * ROW_WIDTH];
         Reading::of(&unit(&marked)).check(&mut table);
-        assert_eq!(table[ROW_WIDTH + 10..], [6, 6 + 14]);
+        assert_eq!(table[ROW_WIDTH + 10..ROW_WIDTH + 12], [6, 6 + 14]);
     }
 
     #[test]

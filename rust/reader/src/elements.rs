@@ -3,6 +3,7 @@
 use std::ops::Range;
 
 use crate::ROW_WIDTH;
+use crate::edition::Edition;
 use crate::items::{Item, Run, Tree};
 use crate::names;
 use crate::refusal::Why;
@@ -12,16 +13,20 @@ const MOST_PORTIONS: usize = 64;
 /// What a row has as its object type where there is none.
 const NO_OBJECT_TYPE: u32 = 255;
 
-/// The octets of the items that document 01 names.
+/// The octets of the items that document 01 names, and those of 1993.
 mod octet {
     pub const OBJECT_TYPE: u8 = 0x02;
+    pub const SEALED_INFORMATION: u8 = 0x03;
     pub const CONTENT: u8 = 0x04;
     pub const CONTENT_IN_PIECES: u8 = 0x24;
+    pub const ENCIPHERED_INFORMATION: u8 = 0x04;
     pub const PORTION: u8 = 0x12;
+    pub const TILES: u8 = 0x30;
     pub const DESCRIPTOR: u8 = 0x31;
     pub const UNIT_LAYOUT_IDENTIFIER: u8 = 0x40;
     pub const IDENTIFIER: u8 = 0x41;
     pub const STYLE_IDENTIFIER: u8 = 0x45;
+    pub const PROTECTED_PART_IDENTIFIER: u8 = 0x47;
     pub const UNIT_LOGICAL_IDENTIFIER: u8 = 0x84;
     pub const PORTIONS: u8 = 0xA1;
 }
@@ -36,11 +41,21 @@ pub(crate) mod kind {
     pub const LOGICAL_OBJECT: u8 = 6;
     pub const PRESENTATION_STYLE: u8 = 7;
     pub const LAYOUT_STYLE: u8 = 8;
+    pub const SEALED_PROFILE: u8 = 9;
+    pub const ENCIPHERED_PROFILE: u8 = 10;
+    pub const PREENCIPHERED_PART: u8 = 11;
+    pub const POSTENCIPHERED_PART: u8 = 12;
 }
 
-/// The kind of the element that begins with this octet, if one does.
-pub(crate) fn kind_of(octet: u8) -> Option<u8> {
-    matches!(octet, 0xA0..=0xA3 | 0xA5..=0xA8).then_some(octet & 0x1F)
+/// Rule 10: the kind of the element that begins with this octet.
+pub(crate) fn kind_of(octet: u8, edition: Edition) -> Result<u8, Why> {
+    if edition.has_element(octet) {
+        Ok(octet & 0x1F)
+    } else if Edition::Of1993.has_element(octet) {
+        Err(Why::ElementOf1993)
+    } else {
+        Err(Why::NoSuchElement)
+    }
 }
 
 /// First and past; an absent one is 0 and 0, where no value can lie.
@@ -70,15 +85,16 @@ pub(crate) struct Row {
     pub identifier: Span,
     pub logical_identifier: Span,
     pub portions: Span,
+    /// A text unit's content, or enciphered information.
     pub content: Span,
-    /// The place of the content in the tree's list.
-    pub content_place: Option<usize>,
+    /// The place of a text unit's content in the tree's list.
+    pub unit_content: Option<usize>,
     pub keys: Range<u32>,
 }
 
 impl Row {
-    /// The twelve numbers in the table's order.
-    pub fn numbers(&self) -> [u32; ROW_WIDTH] {
+    /// The thirteen numbers in the table's order, with its parent's row.
+    pub fn numbers(&self, parent: u32) -> [u32; ROW_WIDTH] {
         let spans = [self.element, self.identifier, self.logical_identifier, self.portions, self.content];
         let mut numbers = [0; ROW_WIDTH];
         numbers[0] = u32::from(self.kind);
@@ -86,6 +102,7 @@ impl Row {
         for (pair, span) in numbers[2..].chunks_exact_mut(2).zip(spans) {
             pair.copy_from_slice(&[span.first, span.past]);
         }
+        numbers[ROW_WIDTH - 1] = parent;
         numbers
     }
 }
@@ -101,10 +118,16 @@ struct Parts<'t> {
 }
 
 /// Judges the element at this place of the tree by 12, 13 and 14, and adds its portions to `keys`.
-pub(crate) fn judge(stream: &[u8], tree: &Tree, place: usize, keys: &mut Vec<u64>) -> Result<Row, Why> {
+pub(crate) fn judge(
+    stream: &[u8],
+    edition: Edition,
+    tree: &Tree,
+    place: usize,
+    keys: &mut Vec<u64>,
+) -> Result<Row, Why> {
     let element = &tree.items()[place];
     let kind = element.number() as u8;
-    let parts = contents(tree, place, kind)?;
+    let parts = contents(tree, place, kind, edition)?;
     let object_type = parts.object_type.map(|item| object_type(&stream[item.value()], kind)).transpose()?;
     for item in [parts.identifier, parts.logical_identifier].into_iter().flatten() {
         if !names::is_identifier(&stream[item.value()]) {
@@ -128,7 +151,7 @@ pub(crate) fn judge(stream: &[u8], tree: &Tree, place: usize, keys: &mut Vec<u64
         logical_identifier: Span::of_value(parts.logical_identifier),
         portions: Span::of_value(parts.portions.map(|(_, item)| item)),
         content: Span::of_value(parts.content.map(|(_, item)| item)),
-        content_place: parts.content.map(|(place, _)| place),
+        unit_content: parts.content.filter(|_| kind == kind::TEXT_UNIT).map(|(place, _)| place),
         keys: first_key as u32..keys.len() as u32,
     })
 }
@@ -144,11 +167,19 @@ fn object_type(value: &[u8], kind: u8) -> Result<u8, Why> {
 }
 
 /// Rule 12: the element's items, if they are as tabled.
-fn contents(tree: &Tree, place: usize, kind: u8) -> Result<Parts<'_>, Why> {
+fn contents(tree: &Tree, place: usize, kind: u8, edition: Edition) -> Result<Parts<'_>, Why> {
     match kind {
         kind::PROFILE => Ok(Parts::default()),
-        kind::TEXT_UNIT => unit(tree, place),
+        kind::TEXT_UNIT => unit(tree, place, edition),
         kind::PRESENTATION_STYLE | kind::LAYOUT_STYLE => style(tree.run(place)),
+        kind::SEALED_PROFILE => {
+            protected(tree.run(place), octet::SEALED_INFORMATION)?;
+            Ok(Parts::default())
+        }
+        kind::ENCIPHERED_PROFILE | kind::PREENCIPHERED_PART | kind::POSTENCIPHERED_PART => {
+            let content = protected(tree.run(place), octet::ENCIPHERED_INFORMATION)?;
+            Ok(Parts { content: Some(content), ..Parts::default() })
+        }
         kind::LAYOUT_CLASS | kind::LOGICAL_CLASS => {
             let parts = class_or_object(tree, place)?;
             // An identifier lies in the 31, so where there is one the 31 is there too.
@@ -181,18 +212,20 @@ fn class_or_object(tree: &Tree, place: usize) -> Result<Parts<'_>, Why> {
     Ok(parts)
 }
 
-/// "31 or nothing, then 04", or "24, holding 04 and 24 items down to the level limit".
-fn unit(tree: &Tree, place: usize) -> Result<Parts<'_>, Why> {
+/// "31 or nothing, then 04", or "24, holding 04 and 24 items down to the level limit". In 1993 the content is optional,
+/// and may be tiled: "Tiled-Content ::= SEQUENCE OF OCTET STRING", a 30 with such 04 and 24 items.
+fn unit(tree: &Tree, place: usize, edition: Edition) -> Result<Parts<'_>, Why> {
     let mut run = tree.run(place).peekable();
     let descriptor = run.next_if(|(_, item)| item.octet() == octet::DESCRIPTOR);
-    let (content, item) = run.next().ok_or(Why::ItemMissing)?;
-    if !is_piece(item) || run.next().is_some() {
-        return Err(Why::ItemOutOfPlace);
+    let content = run.next();
+    match content {
+        None if edition == Edition::Of1988 => return Err(Why::ItemMissing),
+        Some((_, item)) if !is_content(item, edition) => return Err(Why::ItemOutOfPlace),
+        _ if run.next().is_some() => return Err(Why::ItemOutOfPlace),
+        Some((content, _)) if !tree.inside(content).iter().all(is_piece) => return Err(Why::NotAPiece),
+        _ => {}
     }
-    if !tree.inside(content).iter().all(is_piece) {
-        return Err(Why::NotAPiece);
-    }
-    let mut parts = Parts { content: Some((content, item)), ..Parts::default() };
+    let mut parts = Parts { content, ..Parts::default() };
     if let Some((descriptor, _)) = descriptor {
         let once = [octet::UNIT_LAYOUT_IDENTIFIER, octet::UNIT_LOGICAL_IDENTIFIER];
         let [layout, logical] = sift(tree.run(descriptor), once, &[0x60, 0xA4])?;
@@ -202,12 +235,17 @@ fn unit(tree: &Tree, place: usize) -> Result<Parts<'_>, Why> {
     Ok(parts)
 }
 
+/// May it be the content of a text unit?
+fn is_content(item: &Item, edition: Edition) -> bool {
+    is_piece(item) || edition == Edition::Of1993 && item.octet() == octet::TILES
+}
+
 /// Is it a 04, or a 24 that holds pieces?
 fn is_piece(item: &Item) -> bool {
     matches!(item.octet(), octet::CONTENT | octet::CONTENT_IN_PIECES)
 }
 
-/// The pieces of the content at this place, in order: a 04 is one piece, a 24 has those of every 04 in it.
+/// The pieces of the content at this place, in order: a 04 is one piece, a 24 or 30 has those of every 04 in it.
 pub(crate) fn pieces(tree: &Tree, place: usize) -> impl Iterator<Item = &Item> {
     let content = &tree.items()[place];
     std::iter::once(content).chain(tree.inside(place)).filter(|item| item.octet() == octet::CONTENT)
@@ -218,6 +256,17 @@ fn style(run: Run<'_>) -> Result<Parts<'_>, Why> {
     let [identifier] = sift(run, [octet::STYLE_IDENTIFIER], &[0x65])?;
     let (_, identifier) = identifier.ok_or(Why::ItemMissing)?;
     Ok(Parts { identifier: Some(identifier), ..Parts::default() })
+}
+
+/// "SEQUENCE { Protected-Part-Identifier, .. }": a 47, then the information, both primitive, and nothing else.
+fn protected(mut run: Run<'_>, information: u8) -> Result<(usize, &Item), Why> {
+    let is_identifier = |item: &Item| item.octet() == octet::PROTECTED_PART_IDENTIFIER;
+    match [run.next(), run.next(), run.next()] {
+        [Some((_, first)), Some(last), None] if is_identifier(first) && last.1.octet() == information => Ok(last),
+        [None, ..] => Err(Why::ItemMissing),
+        [Some((_, first)), None, _] if is_identifier(first) => Err(Why::ItemMissing),
+        _ => Err(Why::ItemOutOfPlace),
+    }
 }
 
 /// The items of a run with the octets of `once`, each at most one, where none has an octet of `never`.

@@ -2,6 +2,7 @@
 
 use std::collections::hash_map::Entry;
 
+use crate::edition::Edition;
 use crate::elements::{self, Row, kind};
 use crate::items::{Item, Tree};
 use crate::names::Names;
@@ -11,6 +12,7 @@ use crate::{MOST_ELEMENTS, STREAM_LIMIT, items};
 /// An accepted stream: its rows, and what the matching needs.
 #[derive(Debug, Default)]
 pub(crate) struct Letter<'a> {
+    edition: Edition,
     pub rows: Vec<Row>,
     /// The portions of all elements, one after another; each row has its range.
     pub keys: Vec<u64>,
@@ -22,24 +24,24 @@ pub(crate) struct Letter<'a> {
 }
 
 /// Judges a stream by 1 to 15: the items that passed 2 to 8, and the letter or its refusal.
-pub(crate) fn judge(stream: &[u8]) -> (Tree, Result<Letter<'_>, Refusal>) {
+pub(crate) fn judge(stream: &[u8], edition: Edition) -> (Tree, Result<Letter<'_>, Refusal>) {
     if stream.len() > STREAM_LIMIT {
         return (Tree::default(), Err(Refusal { why: Why::StreamTooLong, place: 0 }));
     }
     let (tree, fault) = items::read(stream);
     let letter = match fault {
         Some(refusal) => Err(refusal),
-        None => judge_elements(stream, &tree),
+        None => judge_elements(stream, edition, &tree),
     };
     (tree, letter)
 }
 
 /// "Then elements in order, 9 to 15 in order within each."
-fn judge_elements<'a>(stream: &'a [u8], tree: &Tree) -> Result<Letter<'a>, Refusal> {
+fn judge_elements<'a>(stream: &'a [u8], edition: Edition, tree: &Tree) -> Result<Letter<'a>, Refusal> {
     if stream.is_empty() {
         return Err(Refusal { why: Why::EmptyStream, place: 0 });
     }
-    let mut letter = Letter::default();
+    let mut letter = Letter { edition, ..Letter::default() };
     letter.rows.reserve(tree.elements().count().min(MOST_ELEMENTS));
     for (place, element) in tree.elements() {
         letter.add(stream, tree, place, element).map_err(|why| Refusal { why, place: element.first() as u32 })?;
@@ -54,14 +56,14 @@ impl<'a> Letter<'a> {
         if count == MOST_ELEMENTS {
             return Err(Why::TooManyElements);
         }
-        let kind = elements::kind_of(element.octet()).ok_or(Why::NoSuchElement)?;
+        let kind = elements::kind_of(element.octet(), self.edition)?;
         match (count, kind) {
             (0, kind::PROFILE) => {}
             (0, _) => return Err(Why::ProfileMissing),
             (_, kind::PROFILE) => return Err(Why::ProfileAgain),
             _ => {}
         }
-        let row = elements::judge(stream, tree, place, &mut self.keys)?;
+        let row = elements::judge(stream, self.edition, tree, place, &mut self.keys)?;
         if has_repetition(&self.keys[row.keys.start as usize..]) {
             return Err(Why::PortionAgain);
         }
@@ -70,7 +72,7 @@ impl<'a> Letter<'a> {
         Ok(())
     }
 
-    /// Rule 15 for the identifiers: enters them in their name spaces.
+    /// Rule 15 for the identifiers: enters them in their name spaces. A protected part has none in its row.
     fn enter_names(&mut self, stream: &'a [u8], row: &Row, element: u32) -> Result<(), Why> {
         let space = match row.kind {
             kind::TEXT_UNIT => &mut self.layout_identifiers,

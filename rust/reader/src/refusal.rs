@@ -61,6 +61,8 @@ pub enum Why {
     TooManyElements,
     /// 10: an octet that is not in the element table.
     NoSuchElement,
+    /// 10: in 1988, an octet that begins a protected part of 1993.
+    ElementOf1993,
     /// 11: the first element is no profile.
     ProfileMissing,
     /// 11: a later element is one.
@@ -125,6 +127,7 @@ impl Why {
             EmptyNumber => (8, "a universal 2 or 10 (integer, enumerated) is empty"),
             TooManyElements => (9, "this is the 4,097th element"),
             NoSuchElement => (10, "no element begins with this octet"),
+            ElementOf1993 => (10, "this is an element of 1993, and no letter of 1988 has it"),
             ProfileMissing => (11, "the first element is no document profile"),
             ProfileAgain => (11, "a document profile stands after the first element"),
             EmptyStream => (11, "the stream is empty"),

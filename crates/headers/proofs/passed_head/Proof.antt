@@ -1,18 +1,19 @@
--- `headers::passed_head` meets its contract: what is not refused is what the octets say. Assumes nothing.
-use mathlib.Core.Path.{_≡_, sym, _∙_, subst}
-use Prim.Native.Nat.{_+_, _<_}
+-- `headers::passed_head` meets its contract: what is not refused is what the octets say, and `read_head` answers for the rest. Assumes nothing.
+use mathlib.Core.Path.{_≡_, sym, _∙_}
+use mathlib.Core.List.{List}
+use Prim.Native.Nat.{ℕ, _+_, _<_}
 use native.Mathlib.Omega.{arith}
 use denote.Ref.{now}
 use borrow.Author.Needs.{needs}
-use Rattle.headers.specs.Head.{octetAt, lengthAt, headAt, Passed}
-use Rattle.headers.proofs.Passed.{passed-mark, passed-one, passed-first}
+use borrow.Author.Tests.{ne-eqb}
+use Rattle.headers.specs.Head.{number, octetAt, byFirst, headAt, Passed}
+use Rattle.headers.proofs.Passed.{passed-mark, passed-decided, passed-short, passed-open}
 use Rattle.headers.proofs.passed_head.Statement.{statement}
 use Rattle.headers.proofs.passed_head.Tie as tie
-use Rattle.headers.proofs.passed_length.Reads as passed-length-reads
-use Rattle.headers.proofs.wide.Reads as wide-reads
-use Rattle.headers.proofs.passed_wide.Reads as passed-wide-reads
-use Rattle.headers.proofs.passed_head.Lts as lts
 use Rattle.headers.proofs.passed_head.Reads as reads
+use Rattle.headers.proofs.passed_head.Lts as lts
+use Rattle.headers.proofs.read_head.Reads as read-head-reads
+use Rattle.headers.proofs.wide.Reads as wide-reads
 
 shared-slice-read-octet : tie.Need-shared-slice-read-octet
 shared-slice-read-octet c = search needs
@@ -23,42 +24,72 @@ returns c =
     sym (passed-mark (now (a .s)) (a .at) (a .limit) (a .marked) (a .room) (c .if1 .taken) (c .before .before .before .pre .2))
 
 abbrev calls : lts.Claims
-calls = (passed-wide-reads.Asked, passed-wide-reads.Learnt, wide-reads.Asked, wide-reads.Learnt, passed-length-reads.Asked, passed-length-reads.Learnt)
+calls = (wide-reads.Asked, wide-reads.Learnt, read-head-reads.Asked, read-head-reads.Learnt)
 
--- the length octets follow a type field of one octet
-decided : (c : lts.Else2 calls reads.Pre reads.Post) →
-    let a = c .before .before .before .before .args in
-    let s = now (a .s) in
-    let len = lengthAt s (octetAt s (a .at)) (a .at) (a .at + 1) (a .limit) in
-    (headAt s (a .at) (a .limit) (a .marked) (a .room) ≡ len) × (a .at + 1 < a .limit) × Passed len
-decided c =
-    let a = c .before .before .before .before .args in
-    let p = c .before .before .before .before .pre .2 in
-    let e = passed-one (now (a .s)) (a .at) (a .limit) (a .marked) (a .room) p (c .before .if1 .left) (c .if2 .left) in
-    let q = subst Passed e p in
-    (e, passed-first (now (a .s)) (octetAt (now (a .s)) (a .at)) (a .at) (a .at + 1) (a .limit) q .1, q)
+-- where the type field is one octet
+module _ (c : lts.Then2 calls reads.Pre reads.Post) where
+  abbrev s : List ℕ
+  s = now (c .before .before .before .before .args .s)
 
-passed-wide-requires : tie.Need-passed-wide-requires
-passed-wide-requires c κs = search needs
+  -- the octet after it decides
+  decided :
+      let a = c .before .before .before .before .args in
+      let by = byFirst s (octetAt s (a .at)) (a .at) (a .at + 1) (octetAt s (a .at + 1)) (a .limit) in
+      (headAt s (a .at) (a .limit) (a .marked) (a .room) ≡ by) × (a .at + 1 < a .limit) × Passed by
+  decided =
+      let a = c .before .before .before .before .args in
+      passed-decided s (a .at) (a .limit) (a .marked) (a .room) (c .before .before .before .before .pre .2) (c .before .if1 .left) (c .if2 .taken)
 
-returns-2 : tie.Need-returns-2
-returns-2 c = search needs
+add-next : tie.Need-add-next
+add-next c = search needs
+
+shared-slice-read-len : tie.Need-shared-slice-read-len
+shared-slice-read-len c = omega (arith, decided (c .before) .1)
+
+add-start : tie.Need-add-start
+add-start c = search needs
 
 wide-requires : tie.Need-wide-requires
 wide-requires c κs = search needs
 
-add-passed-length : tie.Need-add-passed-length
-add-passed-length c = search needs
+wide-requires-2 : tie.Need-wide-requires-2
+wide-requires-2 c κs = search needs
 
-passed-length-requires : tie.Need-passed-length-requires
-passed-length-requires c κs =
-    let (e, l, p) = decided (c .before) in
-    rw (c .wide .ensures) (l, omega arith, p)
+wide-requires-3 : tie.Need-wide-requires-3
+wide-requires-3 c κs = search needs
+
+add-bound : tie.Need-add-t20
+add-bound c = search needs
+
+returns-2 : tie.Need-returns-2
+returns-2 c =
+    let p = c .before .before .before .before .before in
+    let a = p .before .before .before .before .args in
+    let (e, l, q) = decided p in
+    let one = ne-eqb (number (octetAt (s p) (a .at))) 31 (p .if2 .taken) in
+    let f = passed-short (s p) (octetAt (s p) (a .at)) (a .at) (a .at + 1) (a .limit) _ (c .before .before .before .if3 .taken) q .0 in
+    rw (c .before .before .wide .ensures, c .before .wide2 .ensures, c .wide3 .ensures) (sym (e ∙ f ∙ rw one))
+
+wide-requires-4 : tie.Need-wide-requires-4
+wide-requires-4 c κs = search needs
+
+wide-requires-5 : tie.Need-wide-requires-5
+wide-requires-5 c κs = search needs
 
 returns-3 : tie.Need-returns-3
 returns-3 c =
-    let (e, l, p) = decided (c .before .before) in
-    c .passed-length .ensures ∙ rw (c .before .wide .ensures) (sym e)
+    let p = c .before .before .before .before .before in
+    let a = p .before .before .before .before .args in
+    let (e, l, q) = decided p in
+    let one = ne-eqb (number (octetAt (s p) (a .at))) 31 (p .if2 .taken) in
+    let f = passed-open (s p) (octetAt (s p) (a .at)) (a .at) (a .at + 1) (a .limit) _ (c .before .before .if4 .taken) q in
+    rw (c .before .wide4 .ensures, c .wide5 .ensures) (sym (e ∙ f ∙ rw one))
+
+read-head-requires : tie.Need-read-head-requires
+read-head-requires c κs = search needs
+
+returns-4 : tie.Need-returns-4
+returns-4 c = search needs
 
 pub passed-head-spec : {M : Type 1} → statement M
 passed-head-spec =
@@ -66,9 +97,16 @@ passed-head-spec =
     (tie.spec
     shared-slice-read-octet
     returns
-    passed-wide-requires
-    returns-2
+    add-next
+    shared-slice-read-len
+    add-start
     wide-requires
-    add-passed-length
-    passed-length-requires
-    returns-3)
+    wide-requires-2
+    wide-requires-3
+    add-bound
+    returns-2
+    wide-requires-4
+    wide-requires-5
+    returns-3
+    read-head-requires
+    returns-4)

@@ -1,8 +1,11 @@
 -- `headers::read_head` meets its contract: the tests that led to each return say which case of `headAt` holds. Assumes nothing.
-use mathlib.Core.Path.{_∙_, sym}
+use mathlib.Core.Path.{_∙_, sym, subst}
+use native.Mathlib.Omega.{arith}
+use denote.Ref.{now}
 use borrow.Author.Needs.{needs}
 use borrow.Author.Tests.{eq-eqb, ne-eqb}
-use Rattle.headers.specs.Head.{headAt, itemAt}
+use Rattle.headers.specs.Head.{octetAt, headAt, itemAt}
+use Rattle.headers.proofs.Lies.{FieldEnds, field-ends}
 use Rattle.headers.proofs.read_head.Statement.{statement}
 use Rattle.headers.proofs.read_head.Tie as tie
 
@@ -27,7 +30,11 @@ enum-known-octet : tie.Need-enum-known-octet
 enum-known-octet c = search needs
 
 length-at-requires : tie.Need-length-at-requires
-length-at-requires c κs = search needs
+length-at-requires c κs =
+    let told = sym (c .before .before .before .field-at .ensures) ∙ c .before .octet .given .1 in
+    let a = c .before .before .before .before .before .before .before .before .args in
+    let ends = subst (FieldEnds (a .at)) told (field-ends (now (a .s)) (octetAt (now (a .s)) (a .at)) (a .at) (a .limit)) in
+    omega arith
 
 enum-known-number : tie.Need-enum-known-number
 enum-known-number c = search needs

@@ -6,7 +6,7 @@ use lib.ListN.{length, length-set}
 use Rattle.names.specs.Hash.{hashes, hash, bucket}
 use Rattle.names.proofs.Hashing.{hash-below}
 use Rattle.index.specs.Columns.{valueAt}
-use Rattle.index.proofs.Grow.{skipped, added}
+use Rattle.index.proofs.Grow.{skipped, added, links-added, links-none}
 use borrow.Author.Needs.{needs}
 use Rattle.index.proofs.insert.Statement.{statement}
 use Rattle.index.proofs.insert.Tie as tie
@@ -73,15 +73,16 @@ same-length-2 c = search needs
 returns : tie.Need-returns
 returns c =
     let p = c .before .before .before .before .before .before .before .before .before .pre .1 in
+    let a = c .before .before .before .before .before .before .before .before .before .args in
     let b = c .before .bucket-of .ensures in (
-      added (p .0) (p .1 .0) (b .0 ∙ ap (bucket (length (c .before .before .before .before .before .before .before .before .before .args .head .now))) (p .1 .1 .1)) (b .1) (c .before .before .if1 .taken),
-      (simp length-set, simp length-set),
+      added (p .0) (p .1 .0) (b .0 ∙ ap (bucket (length (a .head .now))) (p .1 .1 .1)) (b .1) (c .before .before .if1 .taken),
+      (simp length-set, (simp length-set, links-added (a .head .now) (a .next .now) (b .0) (b .1) (p .1 .0))),
     )
 
 returns-2 : tie.Need-returns-2
 returns-2 c =
     let p = c .before .before .before .before .before .before .before .pre .1 in
-    (skipped (p .0) (p .1 .0) (λ l. absurd (omega (arith, l, c .if1 .left))), (refl, refl))
+    (skipped (p .0) (p .1 .0) (λ l. absurd (omega (arith, l, c .if1 .left))), (refl, (refl, links-none _ _ _ _)))
 
 pub insert-spec : {M : Type 1} → statement M
 insert-spec =

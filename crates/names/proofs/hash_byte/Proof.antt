@@ -1,21 +1,30 @@
--- `names::hash_byte` meets its contract: the same sum, product and remainder. Assumes nothing.
+-- `names::hash_byte` meets its contract: the shift is the product, and the rest is the same. Assumes nothing.
 use mathlib.Core.Path.{_≡_}
+use Prim.Native.Nat.{_+_, _^_, _<_}
 use native.Mathlib.Omega.{arith}
 use borrow.Author.Needs.{needs}
+use Rattle.names.proofs.Hashing.{shift-is}
 use Rattle.names.proofs.hash_byte.Statement.{statement}
 use Rattle.names.proofs.hash_byte.Tie as tie
 
 wide-requires : tie.Need-wide-requires
 wide-requires c κs = search needs
 
+add-sum : tie.Need-add-sum
+add-sum c = search needs
+
 add-result : tie.Need-add-result
 add-result c = search needs
 
-mul-result : tie.Need-mul-result
-mul-result c = search needs
+add-result-2 : tie.Need-add-result-2
+add-result-2 c = search needs
 
 returns : tie.Need-returns
-returns c = let e : c .wide .result ≡ c .before .args .byte = c .wide .ensures in (rw e, omega arith)
+returns c =
+    let a = c .before .args in
+    let e : c .wide .result ≡ a .byte = c .wide .ensures in
+    let l : a .h + a .byte < 2 ^ 33 = omega arith in
+    (rw (e, shift-is (a .h + a .byte) l), omega arith)
 
 pub hash-byte-spec : {M : Type 1} → statement M
-hash-byte-spec = tie.close (tie.spec wide-requires add-result mul-result returns)
+hash-byte-spec = tie.close (tie.spec wide-requires add-sum add-result add-result-2 returns)

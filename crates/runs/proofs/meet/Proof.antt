@@ -14,7 +14,7 @@ use Rattle.octets.proofs.Turns.{tree-ends, tree-closes, tree-refuses}
 use Rattle.headers.proofs.passed_head.Reads as passed-head-reads
 use Rattle.runs.specs.declared.Run.{Run}
 use Rattle.runs.specs.Runs.{Fine}
-use Rattle.runs.proofs.Meetings.{passed, lies, definite-ends, marked-value, marked-whole, marked-end, meets}
+use Rattle.runs.proofs.Meetings.{passed, lies, definite-ends, marked-value, marked-inside, marked-whole, marked-end, meets}
 use Rattle.runs.proofs.end_of_marked.Reads as end-of-marked-reads
 use Rattle.runs.proofs.inside_of.Reads as inside-of-reads
 use Rattle.runs.proofs.meet.Statement.{statement}
@@ -26,7 +26,7 @@ use Rattle.runs.proofs.meet.Lts as lts
 abbrev Reached : Type 0
 Reached =
     lts.After-h
-    (passed-head-reads.Asked, passed-head-reads.Learnt, inside-of-reads.Asked, inside-of-reads.Learnt, end-of-marked-reads.Asked, end-of-marked-reads.Learnt)
+    (passed-head-reads.Asked, passed-head-reads.Learnt, end-of-marked-reads.Asked, end-of-marked-reads.Learnt, inside-of-reads.Asked, inside-of-reads.Learnt)
     reads.Pre
     reads.Post
 
@@ -75,27 +75,21 @@ enum-told-2 c = search needs
 enum-known-h : tie.Need-enum-known-h
 enum-known-h c = search needs
 
-inside-of-requires : tie.Need-inside-of-requires
-inside-of-requires c κs =
-    let p = c .before in
-    let o = lies (stream p) (its-run p) (its-fine p) (before-limit p) (header p) (read p) in
-    (o .deep, o .mark)
-
-sub-end-of-marked : tie.Need-sub-end-of-marked
-sub-end-of-marked c =
-    let p = c .before .before .before in
+sub-below : tie.Need-sub-below
+sub-below c =
+    let p = c .before .before in
     let o = lies (stream p) (its-run p) (its-fine p) (before-limit p) (header p) (read p) in
     omega (arith, o .deep)
 
 end-of-marked-requires : tie.Need-end-of-marked-requires
 end-of-marked-requires c κs =
-    let p = c .before .before .before in
+    let p = c .before .before in
     let o = lies (stream p) (its-run p) (its-fine p) (before-limit p) (header p) (read p) in
     (o .order, omega (arith, o .within, its-fine p .inside), marked-whole (stream p) (its-run p) (its-fine p) (before-limit p) (header p) (read p) (c .if2 .taken))
 
 sub-t16 : tie.Need-sub-t16
 sub-t16 c =
-    let p = c .before .before .before .before in
+    let p = c .before .before .before in
     let m = c .before .if2 .taken in
     let v = marked-value (stream p) (its-run p) (its-fine p) (before-limit p) (header p) (read p) m ∙ c .end-of-marked .ensures in
     let two = marked-end (stream p) (its-run p) (its-fine p) (before-limit p) (header p) (read p) (c .end-of-marked .result) v m in
@@ -103,11 +97,18 @@ sub-t16 c =
 
 returns-2 : tie.Need-returns-2
 returns-2 c =
-    let p = c .before .before .before .before in
+    let p = c .before .before .before in
     let m : header p .marked ≡ true = c .before .if2 .taken in
     let v = marked-value (stream p) (its-run p) (its-fine p) (before-limit p) (header p) (read p) m ∙ c .end-of-marked .ensures in
     meets (stream p) (its-run p) (its-fine p) (before-limit p) (header p) (read p) (c .end-of-marked .result) v (octet-small p)
-    (c .end-of-marked .result - 2) (sym (ap (λ (b : Bool). pastOf b (c .end-of-marked .result)) m)) (c .before .before .inside-of .result) (c .before .before .inside-of .ensures)
+    (c .end-of-marked .result - 2) (sym (ap (λ (b : Bool). pastOf b (c .end-of-marked .result)) m)) _
+    (marked-inside (stream p) (its-run p) (its-fine p) (before-limit p) (header p) (read p) m)
+
+inside-of-requires : tie.Need-inside-of-requires
+inside-of-requires c κs =
+    let p = c .before .before in
+    let o = lies (stream p) (its-run p) (its-fine p) (before-limit p) (header p) (read p) in
+    (o .deep, o .mark)
 
 returns-3 : tie.Need-returns-3
 returns-3 c =
@@ -126,10 +127,10 @@ returns-4 c =
 returns-5 : tie.Need-returns-5
 returns-5 c =
     let p = c .before .before .before in
-    let m : header p .marked ≡ false = c .if2 .left in
+    let m : header p .marked ≡ false = c .before .if2 .left in
     let v = definite-ends (stream p) (its-run p) (its-fine p) (before-limit p) (header p) (read p) m in
     meets (stream p) (its-run p) (its-fine p) (before-limit p) (header p) (read p) (header p .bound) v (octet-small p)
-    (header p .bound) (sym (ap (λ (b : Bool). pastOf b (header p .bound)) m)) (c .before .inside-of .result) (c .before .inside-of .ensures)
+    (header p .bound) (sym (ap (λ (b : Bool). pastOf b (header p .bound)) m)) (c .inside-of .result) (c .inside-of .ensures)
 
 pub meet-spec : {M : Type 1} → statement M
 meet-spec =
@@ -140,11 +141,11 @@ meet-spec =
     enum-told
     enum-told-2
     enum-known-h
-    inside-of-requires
-    sub-end-of-marked
+    sub-below
     end-of-marked-requires
     sub-t16
     returns-2
+    inside-of-requires
     returns-3
     returns-4
     returns-5)

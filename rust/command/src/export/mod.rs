@@ -11,6 +11,7 @@ use odif::Letter;
 use sha2::{Digest, Sha256};
 
 use self::manifest::{COLUMNS, Journal, Line};
+use crate::args::By;
 use crate::beside;
 use crate::faults::Fault;
 use crate::files::{Entry, Places, at_least_one};
@@ -19,7 +20,7 @@ use crate::progress::Progress;
 use crate::status::{Failure, Outcome, Status};
 use crate::survey::csv::Csv;
 use crate::text::{How, Text};
-use crate::{input, show};
+use crate::{date, input, show};
 
 const EXAMPLES: &str = "\
 Examples:
@@ -51,6 +52,8 @@ pub struct Words {
     /// The files are hexadecimal digits in pairs
     #[arg(long)]
     hex: bool,
+    #[command(flatten)]
+    by: By,
     /// So many files at a time [default: as many as there are processors]
     #[arg(long, value_name = "N", value_parser = at_least_one)]
     jobs: Option<usize>,
@@ -72,13 +75,13 @@ pub fn run(words: &Words) -> Outcome {
     if lies_in(&words.out, &words.archive) {
         return Err(Failure::Usage("the folder to write to lies in the archive".into()));
     }
-    let entries = Places::of(words.archive.as_os_str(), words.hex, words.jobs).list(&[])?;
+    let entries = Places::of(words.archive.as_os_str(), words.hex, words.by, words.jobs).list(&[])?;
     let (manifest, part) = (words.out.join("manifest.csv"), words.out.join("manifest.part"));
     let earlier = manifest::earlier([&manifest, &part]);
     let mut journal = Journal::create(&part, &earlier)?;
     let mut lines = Csv::create(&manifest, &COLUMNS)?;
     let mut counts = Counts::default();
-    let how = words.how.words();
+    let how = words.how.words(words.by.edition());
     let progress = Progress::over(entries.len());
     let work = |entry: &Entry| {
         let file = below(&words.archive, &entry.path);
@@ -153,12 +156,12 @@ fn export(words: &Words, entry: &Entry, file: &Path, line: Line) -> Result<Line,
         Ok(stream) => stream,
         Err(error) => return Ok(unreadable(error.to_string())),
     };
-    let letter = match Letter::read(&stream.octets) {
+    let letter = match Letter::read_in(words.by.edition(), &stream.octets) {
         Ok(letter) => letter,
         Err(refusal) => {
             // The text of what stood there before is not that of this file.
             let _ = fs::remove_file(&target);
-            let Fault { number, place, detail: reason, .. } = Fault::of(&stream.octets, &refusal);
+            let Fault { number, place, detail: reason, .. } = Fault::of(words.by.edition(), &stream.octets, &refusal);
             let (number, place) = (Some(number), Some(place));
             return Ok(Line { outcome: "refused".into(), number, place, reason, ..line });
         }
@@ -177,6 +180,7 @@ fn export(words: &Words, entry: &Entry, file: &Path, line: Line) -> Result<Line,
         left_out: Some(units - shown),
         text_octets: Some(octets.len() as u64),
         text_sha256: show::hex(&Sha256::digest(&octets)).to_lowercase(),
+        date: date::column(letter.edition(), letter.stream()),
         ..line
     })
 }

@@ -58,13 +58,13 @@ impl Csv {
         let mut lines = csv::WriterBuilder::new().has_headers(false).from_writer(out);
         match lines.write_record(columns) {
             Ok(()) => Ok(Csv { name, lines }),
-            Err(error) => Err(failure(&name, error.into())),
+            Err(error) => Err(failure(&name, written(error))),
         }
     }
 
     /// Adds a line.
     pub fn add(&mut self, record: &impl Serialize) -> Result<(), Failure> {
-        self.lines.serialize(record).map_err(|error| failure(&self.name, error.into()))
+        self.lines.serialize(record).map_err(|error| failure(&self.name, written(error)))
     }
 
     /// Puts the finished file in its place.
@@ -75,6 +75,14 @@ impl Csv {
             Ok(Out::Stdout(mut out) | Out::Terminal(mut out)) => out.flush().map_err(|error| failure(&name, error)),
             Err(error) => Err(failure(&name, io::Error::new(error.error().kind(), error.error().to_string()))),
         }
+    }
+}
+
+/// What went wrong as the writer below has it, with its kind.
+fn written(error: csv::Error) -> io::Error {
+    match error.into_kind() {
+        csv::ErrorKind::Io(error) => error,
+        other => io::Error::other(format!("{other:?}")),
     }
 }
 

@@ -113,7 +113,7 @@ fn survey(words: &Words, report: &mut Report<'_>) -> Result<(), Failure> {
         let of = format!("after {} of {} files", show::grouped(done), show::grouped(entries.len()));
         words.csv.as_deref().map_or(of.clone(), |csv| of + &fate(csv))
     };
-    let work = |entry: &_| Record::of(entry, words.places.hex);
+    let work = |entry: &_| Record::of(entry, words.places.hex, words.places.by.edition());
     let take_up = |_: &_, record: Record| {
         progress.add(1);
         progress.say(|| format!(", {} refused, {} unreadable", report.tally.refused(), report.tally.unreadable()));

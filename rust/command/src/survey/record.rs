@@ -2,9 +2,10 @@
 
 use std::path::Path;
 
-use odif::Refusal;
+use odif::Edition;
 use serde::{Deserialize, Serialize};
 
+use crate::date;
 use crate::faults::Fault;
 use crate::files::Entry;
 use crate::input;
@@ -20,7 +21,7 @@ pub enum Verdict {
 }
 
 /// The names of the columns.
-pub const COLUMNS: [&str; 13] = [
+pub const COLUMNS: [&str; 14] = [
     "file",
     "outcome",
     "number",
@@ -33,6 +34,7 @@ pub const COLUMNS: [&str; 13] = [
     "kind",
     "item",
     "foreign",
+    "date",
     "file_octets",
 ];
 
@@ -56,13 +58,16 @@ pub struct Record {
     pub item: String,
     /// What the file seems to be instead of a letter.
     pub foreign: String,
+    /// The date of the document by its first element, whether or not the rest is accepted.
+    #[serde(default)]
+    pub date: String,
     /// The file's name in hexadecimal, where it is no UTF-8.
     pub file_octets: String,
 }
 
 impl Record {
     /// Judges a file.
-    pub fn of(entry: &Entry, hex: bool) -> Record {
+    pub fn of(entry: &Entry, hex: bool, edition: Edition) -> Record {
         let unreadable = |reason| Record { reason, ..Record::new(&entry.path, Verdict::Unreadable) };
         if let Some(trouble) = &entry.trouble {
             return unreadable(trouble.clone());
@@ -71,7 +76,7 @@ impl Record {
             Ok(stream) => stream,
             Err(error) => return unreadable(error.to_string()),
         };
-        let checked = odif::check(&stream.octets);
+        let checked = odif::check_in(edition, &stream.octets);
         let verdict = match checked.verdict {
             Ok(elements) => Record {
                 number: Some(0),
@@ -79,9 +84,17 @@ impl Record {
                 elements: Some(elements),
                 ..Record::new(&entry.path, Verdict::Accepted)
             },
-            Err(refusal) => Record::new(&entry.path, Verdict::Refused).refused(&stream.octets, &refusal),
+            Err(refusal) => {
+                let fault = Fault::of(edition, &stream.octets, &refusal);
+                Record::new(&entry.path, Verdict::Refused).refused(fault)
+            }
         };
-        Record { octets: stream.size, headers: Some(checked.headers), ..verdict }
+        Record {
+            octets: stream.size,
+            headers: Some(checked.headers),
+            date: date::column(edition, &stream.octets),
+            ..verdict
+        }
     }
 
     fn new(path: &Path, outcome: Verdict) -> Record {
@@ -89,8 +102,7 @@ impl Record {
         Record { file, outcome, file_octets, ..Record::default() }
     }
 
-    fn refused(self, stream: &[u8], refusal: &Refusal) -> Record {
-        let fault = Fault::of(stream, refusal);
+    fn refused(self, fault: Fault) -> Record {
         Record {
             number: Some(fault.number),
             place: Some(fault.place),

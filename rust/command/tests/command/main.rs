@@ -1,12 +1,17 @@
 //! The command as a user meets it: each subcommand on good, refused, empty, huge and unreadable files.
 
+mod blocks;
 mod check;
+mod date;
+mod editions;
 mod export;
 mod faults;
 mod help;
 mod list;
+mod make;
 mod names;
 mod normal;
+mod outline;
 mod output;
 mod same;
 mod support;

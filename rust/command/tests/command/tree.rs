@@ -1,8 +1,8 @@
 //! `odif tree`
 
-use std::process::Stdio;
+use std::process::Command;
 
-use super::support::{Scratch, assert_unreadable_json, command, letter, odif, odif_with};
+use super::support::{Scratch, assert_unreadable_json, letter, odif, odif_with, repository};
 
 #[test]
 fn items_with_their_names() {
@@ -40,7 +40,8 @@ fn pieces_with_their_names() {
 fn a_refused_stream_up_to_its_fault() {
     let run = odif_with(&["tree", "--hex", "-"], b"A080 3080 0101FF 0000 0500 0500");
     assert_eq!(run.status, 1);
-    assert_eq!(run.text().lines().count(), 6);
+    assert_eq!(run.text().lines().count(), 7);
+    assert_eq!(run.text().matches("closing mark").count(), 1, "that of the 30, and none of the A0");
     assert!(run.text().contains("context 0 constructed                length indefinite"));
     assert!(run.stderr.contains("number 7 at octet 13: "), "{}", run.stderr);
     assert!(
@@ -52,11 +53,31 @@ fn a_refused_stream_up_to_its_fault() {
 }
 
 #[test]
+fn closing_marks_long_lengths_and_bits() {
+    let stream = b"A080 0000 A380 2480 0484000000024869 0000 0000 A782 0008 450131 030304A5F0 A900";
+    let run = odif_with(&["tree", "--hex", "-"], stream);
+    let wanted = "  offset level  item
+       0     1  context 0 constructed                length indefinite  element 0 document profile
+       2     1  closing mark
+       4     1  context 3 constructed                length indefinite  element 1 text unit
+       6     2    OCTET STRING constructed           length indefinite  content in pieces
+       8     3      OCTET STRING                     length 2 in 5 octets  piece \"Hi\"
+      16     2    closing mark
+      18     1  closing mark
+      20     1  context 7 constructed                length 8 in 3 octets  element 2 presentation style
+      24     2    application 5                      length 1           identifier \"1\"
+      27     2    BIT STRING                         length 3           101001011111
+      32     1  context 9 constructed                length 0           element 3 sealed document profile
+";
+    assert_eq!(run.text(), wanted);
+}
+
+#[test]
 fn json() {
     let run = odif_with(&["tree", "--json", "--hex", "-"], b"A080 0500 0000");
     let items = "{\"file\":\"-\",\"outcome\":\"accepted\",\"number\":0,\"place\":0,\"items\":[\
         {\"offset\":0,\"level\":1,\"class\":\"context\",\"number\":0,\"constructed\":true,\"header\":2,\
-        \"length\":null,\"element\":0,\"name\":\"document profile\"},\
+        \"length\":null,\"closing_mark\":4,\"element\":0,\"name\":\"document profile\"},\
         {\"offset\":2,\"level\":2,\"class\":\"universal\",\"number\":5,\"type\":\"NULL\",\"constructed\":false,\"header\":2,\
         \"length\":0,\"hex\":\"\"}]}\n";
     assert_eq!(run.text(), items);
@@ -98,15 +119,54 @@ fn empty_huge_and_unreadable_files() {
     assert_unreadable_json("tree");
 }
 
+/// A line of `openssl asn1parse`, in the tree's words.
+struct Told {
+    offset: usize,
+    level: usize,
+    length: String,
+    tag: String,
+}
+
+fn of_openssl(line: &str) -> Option<Told> {
+    let (offset, rest) = line.split_once(":d=")?;
+    let (depth, rest) = rest.split_once(" hl=")?;
+    let (_, rest) = rest.split_once(" l=")?;
+    let (length, rest) = rest.split_once(':')?;
+    let (length, form) = length.trim().split_once(' ')?;
+    let kind = rest.split(':').next()?.trim();
+    let tag = match kind.strip_suffix(" ]").and_then(|tag| tag.split_once(" [ ")) {
+        Some(("cont", number)) => format!("context {number}"),
+        Some(("appl", number)) => format!("application {number}"),
+        _ if kind == "EOC" => "closing mark".into(),
+        _ if kind == "OBJECT" => "object identifier".into(),
+        _ => kind.to_lowercase(),
+    };
+    let length = match length {
+        _ if kind == "EOC" => String::new(),
+        "inf" => "length indefinite".into(),
+        _ => format!("length {length}"),
+    };
+    let form = if form.trim() == "cons" { " constructed" } else { "" };
+    // To openssl a closing mark is an item in the one that it closes.
+    let level = depth.trim().parse::<usize>().ok()? + usize::from(kind != "EOC");
+    Some(Told { offset: offset.trim().parse().ok()?, level, length, tag: tag + form })
+}
+
+/// Each line of openssl's is one of the tree's, in the same order, with all that it tells; the tree has no others.
 #[test]
-fn a_reader_that_goes_away() {
-    let scratch = Scratch::new("tree-pipe");
-    let mut stream = vec![0xA0, 0x83, 0x07, 0xA1, 0x20];
-    stream.extend([0x05, 0x00].repeat(250_000));
-    let file = scratch.write("long", &stream);
-    let mut child = command(&["tree", &file]).stdout(Stdio::piped()).stderr(Stdio::piped()).spawn().unwrap();
-    drop(child.stdout.take());
-    let output = child.wait_with_output().unwrap();
-    assert_eq!(output.status.code(), Some(2));
-    assert!(output.stderr.is_empty(), "{}", String::from_utf8_lossy(&output.stderr));
+fn as_telling_as_openssl() {
+    for letter in ["claim", "in-pieces", "annex-d-1", "annex-d-2"] {
+        let file = repository().join(format!("samples/letters/{letter}.odif"));
+        let theirs = Command::new("openssl").args(["asn1parse", "-inform", "DER", "-in"]).arg(&file).output().unwrap();
+        let theirs = String::from_utf8_lossy(&theirs.stdout).into_owned();
+        // Where a value has line ends, openssl goes on in lines that are none of its own.
+        let theirs: Vec<_> = theirs.lines().filter_map(|line| Some((line, of_openssl(line)?))).collect();
+        let ours = odif(&["tree", file.to_str().unwrap()]);
+        assert_eq!(theirs.len(), ours.text().lines().count() - 1, "{letter}");
+        for ((their, told), our) in theirs.into_iter().zip(ours.text().lines().skip(1)) {
+            let Told { offset, level, length, tag } = told;
+            assert!(our.starts_with(&format!("{offset:8} {level:5} ")), "{their}: {our}");
+            assert!(our.to_lowercase().contains(&tag) && our.contains(&length), "{their}: {our}");
+        }
+    }
 }

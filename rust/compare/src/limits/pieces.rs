@@ -1,4 +1,4 @@
-//! Content in pieces: nested and empty pieces, every level, wrong items among them, and as many as there can be.
+//! Content in pieces and, in 1993, in tiles: nested and empty pieces, every level, wrong items among them, and as many as there can be.
 
 use odif::{MOST_ELEMENTS, STREAM_LIMIT};
 
@@ -21,6 +21,7 @@ pub fn short_runs() -> Vec<Case> {
         item(0x24, &[item(0x04, b"z"), item(0x12, b"1")].concat()),
         indefinite(0x24, &item(0x24, &item(0x31, &[]))),
         item(0xA4, &item(0x04, b"q")),
+        item(0x30, &item(0x04, b"r")),
     ];
     let mut cases = Vec::new();
     for run in runs_of(&items, 3) {
@@ -122,4 +123,17 @@ pub fn most() -> Vec<Case> {
     let units: Vec<_> = (0..MOST_ELEMENTS - 1).map(unit).collect();
     cases.push(case("all elements are units in pieces", letter(&units)));
     cases
+}
+
+/// The same with tiles: each 24 that is a unit's own item is a 30 instead.
+pub fn tiles() -> Vec<Case> {
+    let tiled = |(name, mut stream): Case| {
+        let reading = reader::Reading::of(&stream);
+        let items = reading.tree().items().iter();
+        let contents: Vec<usize> =
+            items.filter(|item| item.level() == 2 && item.octet() == 0x24).map(reader::Item::first).collect();
+        contents.into_iter().for_each(|content| stream[content] = 0x30);
+        case(format!("{name}, as tiles"), stream)
+    };
+    [short_runs(), deep(), many(), most()].into_iter().flatten().map(tiled).collect()
 }

@@ -32,7 +32,7 @@ slice-aggregate-judge-stream-6 c = search needs
 judge-stream-requires : tie.Need-judge-stream-requires
 judge-stream-requires c κs =
     let a = c .before .before .before .before .before .before .before .before .before .before in
-    walked-lent (now (a .args .stream)) _ _ (a .pre .0) 49152 8192 4096 (omega arith) (omega arith) (omega arith) (omega arith)
+    walked-lent (now (a .args .stream)) _ _ (a .pre .0) 49152 8192 4097 (omega arith) (omega arith) (omega arith) (omega arith)
 
 enum-known-number : tie.Need-enum-known-number
 enum-known-number c = search needs

@@ -1,0 +1,44 @@
+-- The block engine's three questions: start, take a block, close (W-209). Definitions only: assumes nothing.
+use Prim.Native.Nat.{ℕ, _+_, _-_}
+use mathlib.Core.Bool.{Bool, cond}
+use mathlib.Core.List.{List, [], _∷_, _++_}
+use lib.ListN.{length}
+use lib.Dec.{eqb, leb}
+use Rattle.octets.specs.Walk.{streamLimit}
+use Rattle.octets.specs.Further.{Told}
+use Rattle.blocks.specs.Engine.{Standing, reading, found, State, feed, fresh}
+
+-- a number and a state: what the start gives, and what taking a block gives
+pub record Taken : Type 0 where
+  pub number : ℕ
+  pub state : State
+
+-- "1 at the start, for the total told"; the state has that finding, so blocks are counted and the close tells it
+unfoldable pub start : (total : ℕ) → Taken
+start total = record { number = cond (leb total streamLimit) 0 1; state = fresh total }
+
+-- "28 a block past the total, state unchanged"
+unfoldable pub take : State → List ℕ → Taken
+take s block =
+    cond (leb (s .taken + length block) (s .total))
+    (record { number = 0; state = feed s block })
+    (record { number = 28; state = s })
+
+-- the number, place and header count of where the engine stands
+abbrev pub toldOf : Standing → Told
+toldOf (reading headers opens at begun) = record { number = 0; place = 0; headers = headers }
+toldOf (found number place headers) = record { number = number; place = place; headers = headers }
+
+-- "29 closing early, state unchanged": the answer has no state, so a caller goes on with the one it has
+unfoldable pub close : State → Told
+close s = cond (eqb (s .taken) (s .total)) (toldOf (s .standing)) (record { number = 29; place = 0; headers = 0 })
+
+-- one block after another
+abbrev pub takes : State → List (List ℕ) → State
+takes s [] = s
+takes s (block ∷ blocks) = takes (take s block .state) blocks
+
+-- the octets of the blocks that are not refused, where so many are left to come
+abbrev pub kept : (left : ℕ) → List (List ℕ) → List ℕ
+kept left [] = []
+kept left (block ∷ blocks) = cond (leb (length block) left) (block ++ kept (left - length block) blocks) (kept left blocks)

@@ -1,0 +1,35 @@
+use mathlib.Core.Path.{_≡_, refl, ap, sym, _∙_}
+use mathlib.Core.Bool.{true, false}
+use Prim.Native.Nat.{ℕ, _+_, _-_, _<_, _≤_, min}
+use native.Mathlib.Omega.{arith}
+use lib.ListN.{length, length-map, take}
+use borrow.Author.Tests.{lt-ltb, le-ltb, leb-false}
+use borrow.Author.Needs.{needs}
+use Rattle.engine.proofs.header.further_of.Statement.{statement}
+use Rattle.engine.proofs.header.further_of.Tie as tie
+use Rattle.engine.proofs.header.further_of.Reads as reads
+use Rattle.engine.proofs.header.further_of.Lts as lts
+use Rattle.engine.proofs.wide.Reads as wide-reads
+
+returns : tie.Need-returns
+returns c =
+    let n = c .before .args .first in
+    let t = lt-ltb n 0x85 (omega arith) in
+    let z : n - 0x80 ≡ 0 = omega arith in
+    (rw (t, z), omega arith)
+
+widened-requires : tie.Need-widened-requires
+widened-requires c κs = search needs
+
+returns-2 : tie.Need-returns-2
+returns-2 c =
+    let n = c .before .before .before .args .first in
+    (c .widened .ensures ∙ rw (lt-ltb n 0x85 (omega arith)), omega arith)
+
+returns-3 : tie.Need-returns-3
+returns-3 c =
+    let n = c .before .before .args .first in
+    (rw (le-ltb n 0x85 (omega arith)), omega arith)
+
+pub further-of-spec : {M : Type 1} → statement M
+further-of-spec = tie.close (tie.spec returns widened-requires returns-2 returns-3)

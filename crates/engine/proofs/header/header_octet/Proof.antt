@@ -1,0 +1,139 @@
+-- `header_octet`: the octet is kept, and if the header has come with it, `head_at` on the octets kept says what it is. Assumes nothing.
+use mathlib.Core.Path.{_≡_, sym, ap, _∙_}
+use mathlib.Core.Bool.{true, false}
+use Prim.Native.Nat.{_+_, _-_}
+use native.Mathlib.Omega.{arith}
+use lib.ListN.{length, set, take, length-set, length-map}
+use borrow.Author.Tests.{not-true, not-false}
+use Rattle.headers.specs.Head.{headAt}
+use Rattle.headers.proofs.Lies.{head-ok}
+use Rattle.blocks.specs.Engine.{limitOf, markedOf, whole}
+use Rattle.engine.specs.Stored.{opens, stands}
+use Rattle.engine.proofs.Stores.{numbered, part-octet, whole-octet}
+use borrow.Author.Needs.{needs}
+use Rattle.engine.proofs.header.header_octet.Statement.{statement}
+use Rattle.engine.proofs.header.header_octet.Tie as tie
+
+wide-requires : tie.Need-wide-requires
+wide-requires c κs = search needs
+
+element-write-b : tie.Need-element-write-b
+element-write-b c = search needs
+
+add-b : tie.Need-add-b
+add-b c = search needs
+
+limit-at-requires : tie.Need-limit-at-requires
+limit-at-requires c κs = search needs
+
+left-of-requires : tie.Need-left-of-requires
+left-of-requires c κs = search needs
+
+add-is-whole : tie.Need-add-is-whole
+add-is-whole c = search needs
+
+is-whole-requires : tie.Need-is-whole-requires
+is-whole-requires c κs =
+    let i = c .before .before .before .before .before .before .before in
+    let b = i .args .t1 in
+    let x = i .args .octet in
+    let have = c .before .before .before .before .before .before .wide .ensures in
+    let eight : length (b .begun) ≡ 8 = omega (arith, i .good, length-map (b .begun) (λ v. v)) in
+    let same = length-set (b .begun) (b .have) x in
+    rw have (omega arith, omega arith)
+
+returns : tie.Need-returns
+returns c =
+    let i = c .before .before .before .before .before .before .before .before .before in
+    let b = i .args .t1 in
+    let x = i .args .octet in
+    let have = c .before .before .before .before .before .before .before .before .wide .ensures in
+    let eight : length (b .begun) ≡ 8 = omega (arith, i .good, length-map (b .begun) (λ v. v)) in
+    let same = length-set (b .begun) (b .have) x in
+    let w = c .before .is-whole .ensures in
+    let left = c .before .before .before .before .left-of in
+    let limit = c .before .before .before .before .before .limit-at in
+    let e : left .result ≡ limitOf (b .total) (opens b) - b .at = left .ensures ∙ rw (limit .ensures .0) in
+    let no = not-true (c .before .is-whole .result) (c .if1 .taken) in
+    let few = w .1 no in
+    let part : whole (take (b .have + 1) (set (b .begun) (b .have) x)) (left .result) ≡ false = rw (← have) (sym (w .0) ∙ no) in
+    (rw have (part-octet b x (omega arith) (left .result) e (i .pre .0) part), i .pre .1, omega arith, omega arith)
+
+marked-at-requires : tie.Need-marked-at-requires
+marked-at-requires c κs = search needs
+
+slice-aggregate-head-at : tie.Need-slice-aggregate-head-at
+slice-aggregate-head-at c = search needs
+
+sub-head-at : tie.Need-sub-head-at
+sub-head-at c = search needs
+
+head-at-requires : tie.Need-head-at-requires
+head-at-requires c κs =
+    let i = c .before .before .before .before .before .before .before .before .before .before .before .before in
+    let b = i .args .t1 in
+    let x = i .args .octet in
+    let have = c .before .before .before .before .before .before .before .before .before .before .before .wide .ensures in
+    let eight : length (b .begun) ≡ 8 = omega (arith, i .good, length-map (b .begun) (λ v. v)) in
+    let same = length-set (b .begun) (b .have) x in
+    rw have (omega arith, omega arith)
+
+decided-requires : tie.Need-decided-requires
+decided-requires c κs =
+    let i = c .before .before .before .before .before .before .before .before .before .before .before .before .before in
+    let b = i .args .t1 in
+    let x = i .args .octet in
+    let have = c .before .before .before .before .before .before .before .before .before .before .before .before .wide .ensures in
+    let eight : length (b .begun) ≡ 8 = omega (arith, i .good, length-map (b .begun) (λ v. v)) in
+    let same = length-set (b .begun) (b .have) x in
+    let l = c .before .before .before .before .before .before .before .before .before .limit-at in
+    let left = c .before .before .before .before .before .before .before .before .left-of in
+    let octets = set (b .begun) (b .have) x in
+    let marked = c .before .before .marked-at .result in
+    let e : c .head-at .result ≡ headAt octets 0 (l .result - b .at) marked (16 - b .level) = c .head-at .ensures ∙ rw (have, left .ensures) in (
+      i .pre .0,
+      i .pre .1,
+      i .pre .3,
+      l .ensures .1,
+      rw e (head-ok octets 0 (l .result - b .at) (16 - b .level) marked),
+      rw e (numbered octets (l .result - b .at) marked (16 - b .level)),
+      i .pre .5,
+    )
+
+returns-2 : tie.Need-returns-2
+returns-2 c =
+    let i = c .before .before .before .before .before .before .before .before .before .before .before .before .before .before in
+    let b = i .args .t1 in
+    let x = i .args .octet in
+    let have = c .before .before .before .before .before .before .before .before .before .before .before .before .before .wide .ensures in
+    let eight : length (b .begun) ≡ 8 = omega (arith, i .good, length-map (b .begun) (λ v. v)) in
+    let same = length-set (b .begun) (b .have) x in
+    let w = c .before .before .before .before .before .before .is-whole .ensures in
+    let left = c .before .before .before .before .before .before .before .before .before .left-of in
+    let limit = c .before .before .before .before .before .before .before .before .before .before .limit-at in
+    let e : left .result ≡ limitOf (b .total) (opens b) - b .at = left .ensures ∙ rw (limit .ensures .0) in
+    let yes = not-false (c .before .before .before .before .before .before .is-whole .result) (c .before .before .before .before .before .if1 .left) in
+    let h : c .before .head-at .result ≡ headAt (set (b .begun) (b .have) x) 0 (left .result) (markedOf (opens b)) (16 - b .level) =
+    c .before .head-at .ensures ∙ rw (have, c .before .before .before .marked-at .ensures) in
+    let all : whole (take (b .have + 1) (set (b .begun) (b .have) x)) (left .result) ≡ true = rw (← have) (sym (w .0) ∙ yes) in
+    let d = c .decided .ensures in
+    (d .0 ∙ ap (stands b) (whole-octet b x (omega arith) (left .result) e (c .before .head-at .result) h all), d .1, d .2, d .3)
+
+pub header-octet-spec : {M : Type 1} → statement M
+header-octet-spec =
+    tie.close
+    (tie.spec
+    wide-requires
+    element-write-b
+    add-b
+    limit-at-requires
+    left-of-requires
+    add-is-whole
+    is-whole-requires
+    returns
+    marked-at-requires
+    slice-aggregate-head-at
+    sub-head-at
+    head-at-requires
+    decided-requires
+    returns-2)

@@ -1,0 +1,33 @@
+use mathlib.Core.Path.{_≡_, refl, ap, sym, _∙_}
+use mathlib.Core.Bool.{true, false}
+use Prim.Native.Nat.{ℕ, _+_, _-_, _<_, _≤_, min}
+use native.Mathlib.Omega.{arith}
+use lib.ListN.{length, length-map, take}
+use borrow.Author.Tests.{lt-ltb, le-ltb, leb-false}
+use Rattle.blocks.specs.Engine.{wanted}
+use Rattle.engine.proofs.Stores.{whole-is}
+use borrow.Author.Needs.{needs}
+use Rattle.engine.proofs.header.is_whole.Statement.{statement}
+use Rattle.engine.proofs.header.is_whole.Tie as tie
+use Rattle.engine.proofs.header.is_whole.Reads as reads
+use Rattle.engine.proofs.header.is_whole.Lts as lts
+use Rattle.engine.proofs.header.wanted_of.Reads as wanted-of-reads
+
+wanted-of-requires : tie.Need-wanted-of-requires
+wanted-of-requires c κs = search needs
+
+returns : tie.Need-returns
+returns c =
+    let a = c .before .before .args in
+    let w = c .before .wanted-of .ensures in
+    (whole-is (a .have) (a .octets .now) (a .left) (a .left) (omega arith) (omega arith), λ e. let l = leb-false (a .left) (a .have) e in omega arith)
+
+returns-2 : tie.Need-returns-2
+returns-2 c =
+    let a = c .before .before .args in
+    let w = c .before .wanted-of .ensures in
+    let r = c .before .wanted-of .result in
+    (whole-is (a .have) (a .octets .now) (a .left) r (omega arith) (omega arith), λ e. let l = leb-false r (a .have) e in omega arith)
+
+pub is-whole-spec : {M : Type 1} → statement M
+is-whole-spec = tie.close (tie.spec wanted-of-requires returns returns-2)

@@ -1,0 +1,162 @@
+-- What the stored state stands for, and what the three questions answer of it. The ends of the open items lie in an array, the outermost
+-- first, each twice and one more if the item waits for its closing mark. Definitions only: assumes nothing.
+use Prim.Native.Nat.{ℕ, zero, suc, _+_, _-_, _/_, _%_, _<_, _≤_}
+use mathlib.Core.Path.{_≡_}
+use mathlib.Core.Bool.{Bool, true, false, cond, _&&_}
+use mathlib.Core.List.{List, [], _∷_}
+use lib.ListN.{getD, take, drop, length}
+use lib.Dec.{eqb, leb}
+use Rattle.headers.specs.declared.Head.{Head}
+use Rattle.headers.specs.declared.Head.the-variants.{Item, ClosingMark, Refusal}
+use Rattle.headers.specs.Head.{constructed, headAt}
+use Rattle.octets.specs.Walk.{streamLimit, deepest}
+use Rattle.blocks.specs.Engine.{Open, Standing, reading, found, State, limitOf, markedOf, arrive, feed, decide}
+use Rattle.octets.specs.Further.{Told}
+use Rattle.blocks.specs.Blocks.{Taken as Given, start, take as taking, close}
+use Rattle.engine.specs.declared.Blocks.{Blocks}
+use Rattle.engine.specs.declared.Taken.{Taken}
+use Rattle.engine.specs.declared.skim.Skim.{Skim}
+
+abbrev pub openOf : ℕ → Open
+openOf e = record { bound = e / 2; marked = eqb (e % 2) 1 }
+
+-- the first n ends, the last of them innermost
+abbrev pub opensOf : ℕ → List ℕ → List Open
+opensOf zero ends = []
+opensOf (suc n) ends = openOf (getD ends n 0) ∷ opensOf n ends
+
+abbrev pub standingOf : Blocks → Standing
+standingOf b = cond (eqb (b .number) 0) (reading (b .headers) (opensOf (b .level) (b .ends)) (b .at) (take (b .have) (b .begun))) (found (b .number) (b .place) (b .headers))
+
+abbrev pub stateOf : Blocks → State
+stateOf b = record { total = b .total; taken = b .taken; standing = standingOf b }
+
+-- the letter, the octets counted, and where the engine stands
+abbrev pub stands : Blocks → Standing → State
+stands b w = record { total = b .total; taken = b .taken; standing = w }
+
+-- the open items, innermost first
+abbrev pub opens : Blocks → List Open
+opens b = opensOf (b .level) (b .ends)
+
+-- what the code needs of a state that it goes on reading with
+pub record Fine (b : Blocks) : Type 0 where
+  pub depth : b .level ≤ deepest
+  pub kept : b .have ≤ 7
+  pub counted : b .headers ≤ b .taken
+  pub small : b .total ≤ streamLimit
+
+-- a state in which the code can go on: there is a finding, or it is fine
+abbrev pub Sound : Blocks → Type 0
+Sound b = b .number ≡ 0 → Fine b
+
+-- r is b with the engine standing so, and as many headers
+pub record Comes (b : Blocks) (w : Standing) (r : Blocks) : Type 0 where
+  pub state : stateOf r ≡ stands b w
+  pub depth : r .level ≤ deepest
+  pub kept : r .have ≤ 7
+  pub headers : r .headers ≡ b .headers
+
+-- what a header read from its own octets gives: a refusal is one of 2 to 8, at its first octet
+abbrev pub Numbered : Head → Type 0
+Numbered (Item h) = Unit {0}
+Numbered ClosingMark = Unit {0}
+Numbered (Refusal number place) = (0 < number) × (number ≤ 8) × (place ≡ 0)
+
+-- One turn: from place i of a block the engine goes on to place j, having taken what stands between.
+pub record Turns (b : Blocks) (block : List ℕ) (i : ℕ) (r : Blocks) (j : ℕ) : Type 0 where
+  pub further : i ≤ j
+  pub within : j ≤ length block
+  pub sound : Sound r
+  pub fits : r .taken + (length block - j) ≤ r .total
+  pub total : r .total ≡ b .total
+  pub state : feed (stateOf b) (drop i block) ≡ feed (stateOf r) (drop j block)
+
+-- whether the code can go on with a state: every state that an engine gave is so
+abbrev pub sound : Blocks → Bool
+sound b =
+    cond (eqb (b .number) 0)
+    (cond (leb (b .level) deepest) (cond (leb (b .have) 7) (cond (leb (b .headers) (b .taken)) (leb (b .total) streamLimit) false) false) false)
+    true
+
+-- what is given for the total told: its number, and the state that stands for the one defined
+pub record Starts (total : ℕ) (r : Taken) : Type 0 where
+  pub number : r .number ≡ start total .number
+  pub state : stateOf (r .state) ≡ start total .state
+  pub goes-on : sound (r .state) ≡ true
+
+-- A block, as the engine takes it. A state that no engine gave is refused as a block past the total is.
+abbrev pub takenOf : Blocks → List ℕ → Given
+takenOf b block = cond (sound b) (taking (stateOf b) block) (record { number = 28; state = stateOf b })
+
+-- The close, as the engine's. A state that no engine gave is refused as closing early is.
+abbrev pub closedOf : Blocks → Told
+closedOf b = cond (sound b) (close (stateOf b)) (record { number = 29; place = 0; headers = 0 })
+
+-- what is given back for a block: with 28 the state as it was, number for number
+pub record Takes (b : Blocks) (block : List ℕ) (r : Taken) : Type 0 where
+  pub number : r .number ≡ takenOf b block .number
+  pub state : stateOf (r .state) ≡ takenOf b block .state
+  pub unchanged : r .number ≡ 28 → r .state ≡ b
+  pub goes-on : sound b ≡ true → sound (r .state) ≡ true
+
+-- the state before a header of which nothing has come
+abbrev pub atHeader : (total headers : ℕ) → List Open → (at : ℕ) → State
+atHeader total headers os at = record { total = total; taken = at; standing = reading headers os at [] }
+
+-- What was read at place i of a block, as the letter has it at the place `at`.
+abbrev pub back : (i at : ℕ) → Head → Head
+back i at (Item h) = Item (record { octet = h .octet; number = h .number; start = at + (h .start - i); bound = at + (h .bound - i); marked = h .marked })
+back i at ClosingMark = ClosingMark
+back i at (Refusal number place) = Refusal number (at + (place - i))
+
+-- what was read at place i from a header of so many octets
+abbrev pub Ahead : (size i : ℕ) → Head → Type 0
+Ahead size i (Item h) = i + size ≤ h .start
+Ahead size i ClosingMark = size ≤ 2
+Ahead size i (Refusal number place) = (0 < number) × (number ≤ 8) × (place ≡ i)
+
+-- A header that lies in a block at i is read there: of so many octets, and what it does.
+pub record Seen (total headers : ℕ) (os : List Open) (at : ℕ) (block : List ℕ) (i : ℕ) (head : Head) : Type 0 where
+  pub size : ℕ
+  pub some : 0 < size
+  pub eight : size ≤ 8
+  pub ahead : Ahead size i head
+  pub state : feed (atHeader total headers os at) (take size (drop i block))
+      ≡ record { total = total; taken = at + size; standing = decide (at + size) headers os at (back i at head) }
+
+-- What reading the header at i of a block leaves: so many levels and headers, the place of the next header and the ends, or a number.
+pub record Skims (total headers level : ℕ) (ends : List ℕ) (at : ℕ) (block : List ℕ) (i : ℕ) (r : Skim) (after : List ℕ) : Type 0 where
+  pub size : ℕ
+  pub some : 0 < size
+  pub eight : size ≤ 8
+  pub depth : r .level ≤ deepest
+  pub counted : r .headers ≤ headers + 1
+  pub ahead : r .number ≡ 0 → at + size ≤ r .at
+  pub kept : length after ≡ length ends
+  pub state : feed (atHeader total headers (opensOf level ends) at) (take size (drop i block))
+      ≡ record {
+        total = total;
+        taken = at + size;
+        standing = cond (eqb (r .number) 0) (arrive (at + size) (r .headers) (opensOf (r .level) after) (r .at)) (found (r .number) at (r .headers));
+      }
+
+-- the place past an item that leaves nothing open: it is primitive, or nothing stands in it; 0 of anything else
+abbrev pub passedTo : Head → ℕ
+passedTo (Item h) = cond (constructed (h .octet)) (cond (eqb (h .start) (h .bound)) (cond (h .marked) 0 (h .bound)) 0) (h .bound)
+passedTo ClosingMark = 0
+passedTo (Refusal number place) = 0
+
+-- Items that leave nothing open stand from one place of a block to another, so many of them, in a run that goes on to `stop`: taking them moves
+-- the engine, in whatever items it stands; and then a header stands there.
+pub record Passes (block : List ℕ) (from stop : ℕ) (marked : Bool) (room to count : ℕ) (head : Head) : Type 0 where
+  pub further : from ≤ to
+  pub before : to < stop
+  pub eight : to + 8 ≤ length block
+  pub counted : count ≤ to - from
+  pub read : head ≡ headAt block to stop marked room
+  pub state : (total headers level : ℕ) (ends : List ℕ) (at : ℕ) → level ≤ deepest → length ends ≡ deepest → total ≤ streamLimit
+      → headers ≤ at → at + (length block - from) ≤ total → at < limitOf total (opensOf level ends) → stop ≡ from + (limitOf total (opensOf level ends) - at)
+      → marked ≡ markedOf (opensOf level ends) → room ≡ deepest - level
+      → feed (atHeader total headers (opensOf level ends) at) (drop from block)
+      ≡ feed (atHeader total (headers + count) (opensOf level ends) (at + (to - from))) (drop to block)

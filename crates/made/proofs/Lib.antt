@@ -1,0 +1,11 @@
+-- Shapes: what the edition of 1988 says of the three elements. Judging: no element of the letter is refused. Coding: its octets are coded as
+-- X.209 says. Matching: its matches. Letters: the theorems on what is made. Refusals: those on refusals. Answering: those on the answer and
+-- the output. Examples: the examples hold.
+pub mod Shapes
+pub mod Judging
+pub mod Coding
+pub mod Matching
+pub mod Letters
+pub mod Refusals
+pub mod Answering
+pub mod Examples

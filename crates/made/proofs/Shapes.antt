@@ -1,0 +1,18 @@
+-- The edition of 1988 takes the profile, the block and the text unit that are made: computed from its shapes, but for the spelling. The one
+-- file that looks at shapes. Assumes nothing.
+use mathlib.Core.Path.{refl}
+use Rattle.contents.specs.Search.{amount, firstValue, firstRun, inOrder}
+use Rattle.pieces.specs.Pieces.{onlyPieces}
+use Rattle.portions.specs.Portions.{allPortions, values, wellSpelt}
+use Rattle.elements.specs.Shape.{shapeOf}
+use Rattle.elements.specs.declared.Edition.the-variants.{Of1988}
+use Rattle.elements.specs.Judge.{bodyOf, contentOf, elementOf, ordered, asTabled, namesFit, shapeRefusal}
+use Rattle.made.specs.Editions.{TakesAll}
+
+pub takes-1988 : TakesAll Of1988
+unfolding amount firstValue firstRun inOrder onlyPieces allPortions values wellSpelt shapeOf bodyOf contentOf elementOf ordered asTabled namesFit shapeRefusal
+takes-1988 = record {
+  profile = record { known = refl; passes = refl; says = refl };
+  block = λ said spelt. record { known = refl; passes = rw (spelt .identifier, spelt .portion); says = refl };
+  unit = λ said spelt. record { known = refl; passes = rw (spelt .unit); says = refl };
+}

@@ -1,0 +1,106 @@
+-- A row more for an entry more: scratch keeps it, and the rows before it. Assumes nothing.
+use mathlib.Core.Path.{_≡_, refl, ap, sym, _∙_, subst}
+use mathlib.Core.List.{List, [], _∷_, _++_}
+use Prim.Native.Nat.{ℕ, _+_, _*_, _<_, _≤_}
+use native.Mathlib.Omega.{arith}
+use lib.Dec.{eqb}
+use lib.ListN.{length, getD, set, length-append, length-set}
+use lib.Seq.{slice, getD-set-same, getD-set-other}
+use borrow.Author.Tests.{eqb-true, eqb-false}
+use borrow.Table.Steps.{cases}
+use Rattle.names.specs.Hash.{hashes}
+use Rattle.index.specs.Rows.{rowWidth}
+use Rattle.index.specs.Columns.{identifierColumn, kindAt, firstAt, pastAt, valueAt, Bounded}
+use Rattle.index.specs.Index.{Empty}
+use Rattle.ordered.specs.Ordered.{markOf, Filed}
+use Rattle.index.proofs.Rows.{Kept, kind-kept, value-kept, bounded-kept, bounded-more, bounded-none}
+use Rattle.ordered.proofs.Rows.{filed-kept, filed-none}
+use Rattle.judging.proofs.Lists.{Last, before, last, below-length, at-last}
+use Rattle.making.specs.declared.Entry.{Entry}
+use Rattle.making.specs.Entries.{Said, saidBy}
+use Rattle.making.specs.Keeps.{blockKind, Keeps}
+
+-- nothing is done yet
+pub keeps-none : (buffer rows head next : List ℕ) → 0 < length head → length head ≤ hashes → Empty head → 0 < length next → markOf next ≡ 0
+    → Keeps buffer rows head next 0 []
+keeps-none buffer rows head next some few empty links unmarked = record {
+  counted = refl;
+  bounded = bounded-none buffer rows identifierColumn (omega arith);
+  filed = filed-none buffer rows identifierColumn head next some few empty links unmarked;
+  kinds = λ j l. absurd (omega arith);
+  values = λ j x e. let z : _≡_ {A = ℕ} 0 1 = cc in absurd (omega arith);
+}
+
+-- the rows with row n written: its kind, and the bounds of its identifier
+module _ (rows : List ℕ) (n first past : ℕ) (long : n * rowWidth + rowWidth ≤ length rows) where
+  abbrev pub rowPut : List ℕ
+  rowPut = set (set (set rows (n * rowWidth) blockKind) (n * rowWidth + 4) first) (n * rowWidth + 4 + 1) past
+
+  pub put-kept : Kept rows rowPut n
+  put-kept i l =
+      getD-set-other (set (set rows (n * rowWidth) blockKind) (n * rowWidth + 4) first) (n * rowWidth + 4 + 1) i past 0 (λ e. absurd (omega arith))
+      ∙ getD-set-other (set rows (n * rowWidth) blockKind) (n * rowWidth + 4) i first 0 (λ e. absurd (omega arith))
+      ∙ getD-set-other rows (n * rowWidth) i blockKind 0 (λ e. absurd (omega arith))
+
+  pub put-length : length rowPut ≡ length rows
+  put-length = simp length-set refl
+
+  pub put-kind : kindAt rowPut n ≡ blockKind
+  put-kind =
+      getD-set-other (set (set rows (n * rowWidth) blockKind) (n * rowWidth + 4) first) (n * rowWidth + 4 + 1) (n * rowWidth) past 0 (λ e. absurd (omega arith))
+      ∙ getD-set-other (set rows (n * rowWidth) blockKind) (n * rowWidth + 4) (n * rowWidth) first 0 (λ e. absurd (omega arith))
+      ∙ getD-set-same rows (n * rowWidth) blockKind 0 (omega arith)
+
+  pub put-first : firstAt rowPut identifierColumn n ≡ first
+  put-first =
+      let size : length (set rows (n * rowWidth) blockKind) ≡ length rows = simp length-set refl in
+      getD-set-other (set (set rows (n * rowWidth) blockKind) (n * rowWidth + 4) first) (n * rowWidth + 4 + 1) (n * rowWidth + 4) past 0 (λ e. absurd (omega arith))
+      ∙ getD-set-same (set rows (n * rowWidth) blockKind) (n * rowWidth + 4) first 0 (omega arith)
+
+  pub put-past : pastAt rowPut identifierColumn n ≡ past
+  put-past =
+      let size : length (set (set rows (n * rowWidth) blockKind) (n * rowWidth + 4) first) ≡ length rows = simp length-set refl in
+      getD-set-same (set (set rows (n * rowWidth) blockKind) (n * rowWidth + 4) first) (n * rowWidth + 4 + 1) past 0 (omega arith)
+
+  module _ (buffer : List ℕ) where
+    pub put-value : valueAt buffer rowPut identifierColumn n ≡ slice first past buffer
+    put-value = rw (put-first, put-past)
+
+    pub put-bounded : first ≤ past → past ≤ length buffer → Bounded buffer rows identifierColumn n → Bounded buffer rowPut identifierColumn (n + 1)
+    put-bounded order inside b =
+        let size = put-length in
+        bounded-more buffer rowPut identifierColumn n (bounded-kept buffer rows rowPut identifierColumn n (omega arith) put-kept (omega arith) b)
+        (omega arith) (omega (arith, put-first, put-past)) (omega (arith, put-past))
+
+    pub put-filed : (head next : List ℕ) → Filed buffer rows identifierColumn head next n → Filed buffer rowPut identifierColumn head next n
+    put-filed head next = filed-kept buffer rows rowPut identifierColumn n (omega arith) put-kept head next
+
+    module _ (head next : List ℕ) (done : List Said) (keeps : Keeps buffer rows head next n done) (entry : Entry)
+        (same-first : entry .identifier .first ≡ first) (same-past : entry .identifier .past ≡ past) where
+      abbrev said : Said
+      said = saidBy buffer entry
+
+      value-there : valueAt buffer rowPut identifierColumn n ≡ said .identifier
+      value-there = put-value ∙ rw (same-first, same-past)
+
+      value-of : (j : ℕ) (x : Said) → Last done said j x → valueAt buffer rowPut identifierColumn j ≡ x .identifier
+      value-of j x (before e) =
+          value-kept buffer rows rowPut identifierColumn n (omega arith) put-kept j (omega (arith, below-length done j x e, keeps .counted))
+          ∙ keeps .values j x e
+      value-of j x (last p q) =
+          ap (valueAt buffer rowPut identifierColumn) (p ∙ keeps .counted) ∙ value-there ∙ ap (λ (y : Said). y .identifier) (sym q)
+
+      pub keeps-more : (head' next' : List ℕ) → Bounded buffer rowPut identifierColumn (n + 1)
+          → Filed buffer rowPut identifierColumn head' next' (n + 1) → Keeps buffer rowPut head' next' (n + 1) (done ++ (said ∷ []))
+      keeps-more head' next' bounded filed = record {
+        counted = length-append done (said ∷ []) ∙ omega (arith, keeps .counted);
+        bounded = bounded;
+        filed = filed;
+        kinds = λ j l.
+            cases (eqb j n)
+            (λ t. ap (kindAt rowPut) (eqb-true j n t) ∙ put-kind)
+            (λ t.
+            let b : j < n = omega (arith, eqb-false j n t) in
+            kind-kept buffer rows rowPut identifierColumn n (omega arith) put-kept j b ∙ keeps .kinds j b);
+        values = λ j x e. value-of j x (at-last done said j x e);
+      }

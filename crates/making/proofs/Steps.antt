@@ -1,0 +1,104 @@
+-- The steps of code that makes a letter: one entry more that is judged, looked up, measured or written. Assumes nothing.
+use mathlib.Core.Path.{_≡_, refl, ap, sym, _∙_}
+use mathlib.Core.Bool.{true, false, false≢true, and-eq-true-iff}
+use mathlib.Core.List.{List, [], _∷_, _++_, append-assoc}
+use mathlib.Core.Option.{some}
+use Prim.Native.Nat.{ℕ, _+_, _<_, _≤_}
+use native.Mathlib.Omega.{arith}
+use lib.Dec.{leb}
+use lib.ListN.{length, getElem?}
+use lib.Seq.{length-slice}
+use borrow.Author.Tests.{ne-eqb, leb-true}
+use borrow.Table.Steps.{cases}
+use Rattle.names.specs.Names.{longestIdentifier, grouped, isIdentifier, same}
+use Rattle.names.proofs.Same.{same-eq, same-refl}
+use Rattle.index.specs.declared.RowFound.{RowFound}
+use Rattle.index.specs.declared.RowFound.the-variants.{At, Nothing}
+use Rattle.index.specs.Columns.{identifierColumn, firstAt, pastAt}
+use Rattle.index.specs.Rows.{nameSpaceOf}
+use Rattle.index.specs.Index.{Has, FindsRow}
+use Rattle.judging.proofs.Lists.{below-length, at-below, any-true, any-false}
+use Rattle.making.specs.declared.Entry.{Entry}
+use Rattle.making.specs.Entries.{Said, saidBy, unitName, used, entryRefusal, refused, judgeFrom, Spelt}
+use Rattle.making.specs.Octets.{entrySize, entryOctets, blockOctets, unitOctets, entriesOctets, entriesSize}
+use Rattle.making.specs.Keeps.{blockSpace, Keeps, isFound}
+use Rattle.making.proofs.Fitting.{AllFit}
+use Rattle.making.proofs.Octets.{Short}
+
+-- one entry judged: the judge goes on with the next, or ends
+module _ (buffer : List ℕ) (done : List Said) (entry : Entry) (entries : List Entry) where
+  pub judge-more : entryRefusal buffer done entry ≡ 0
+      → judgeFrom buffer done (entry ∷ entries) ≡ judgeFrom buffer (done ++ (saidBy buffer entry ∷ [])) entries
+  unfolding judgeFrom
+  judge-more e = rw e
+
+  pub judge-stops : (entryRefusal buffer done entry ≡ 0 → ⊥)
+      → judgeFrom buffer done (entry ∷ entries) ≡ refused (entryRefusal buffer done entry) (length done)
+  unfolding judgeFrom
+  judge-stops n = rw (ne-eqb (entryRefusal buffer done entry) 0 n)
+
+-- 15 by the index: a row with the identifier is found exactly when it was used before
+module _ {buffer rows head next : List ℕ} {n : ℕ} {done : List Said} (keeps : Keeps buffer rows head next n done) (said : Said) (spelt : Spelt said) where
+  -- no identifier is empty
+  some-octets : (xs : List ℕ) → isIdentifier xs ≡ true → 0 < length xs
+  unfolding isIdentifier grouped
+  some-octets [] e = absurd (false≢true e)
+  some-octets (x ∷ xs) e = omega arith
+
+  has : (j : ℕ) (x : Said) → getElem? done j ≡ some x → same (x .identifier) (said .identifier) ≡ true
+      → Has buffer rows identifierColumn n blockSpace (said .identifier) j
+  unfolding nameSpaceOf
+  has j x e t =
+      let l : j < n = omega (arith, below-length done j x e, keeps .counted) in
+      let v = keeps .values j x e ∙ same-eq (x .identifier) (said .identifier) t in
+      let size = length-slice (firstAt rows identifierColumn j) (pastAt rows identifierColumn j) buffer (keeps .bounded .inside j l) in
+      let s = some-octets (said .identifier) (spelt .identifier) in
+      record { below = l; present = omega (arith, ap length v); of-space = ap nameSpaceOf (keeps .kinds j l); of-bytes = v }
+
+  pub used-found : (found : RowFound) → FindsRow buffer rows identifierColumn n blockSpace (said .identifier) found → used done said ≡ isFound found
+  unfolding used
+  used-found (At j) (h, last) =
+      let (x, e) = at-below done j (omega (arith, h .below, keeps .counted)) in
+      let v : x .identifier ≡ said .identifier = sym (keeps .values j x e) ∙ h .of-bytes in
+      any-true (λ d. same (d .identifier) (said .identifier)) done j x e (rw v (same-refl (said .identifier)))
+  used-found Nothing none =
+      any-false (λ d. same (d .identifier) (said .identifier)) done
+      (λ j x e. cases (same (x .identifier) (said .identifier)) (λ t. absurd (none j (has j x e t))) (λ t. t))
+
+-- the octets of an entry go before what follows,
+pub entry-then : (said : Said) (after : List ℕ) → blockOctets said (unitOctets said after) ≡ entryOctets said ++ after
+unfolding blockOctets unitOctets
+entry-then said after = simp append-assoc
+
+-- so an entry more is written after those that are done, and adds its size
+pub written-more : (done : List Said) (said : Said) → entriesOctets (done ++ (said ∷ [])) ≡ entriesOctets done ++ entryOctets said
+unfolding entriesOctets
+written-more [] said = refl
+written-more (x ∷ done) said =
+    ap (λ (l : List ℕ). blockOctets x (unitOctets x l)) (written-more done said)
+    ∙ entry-then x (entriesOctets done ++ entryOctets said)
+    ∙ sym (append-assoc (entryOctets x) (entriesOctets done) (entryOctets said))
+    ∙ ap (λ (l : List ℕ). l ++ entryOctets said) (sym (entry-then x (entriesOctets done)))
+
+pub measured-more : (done : List Said) (said : Said) → entriesSize (done ++ (said ∷ [])) ≡ entriesSize done + entrySize said
+unfolding entriesSize
+measured-more [] said = omega arith
+measured-more (x ∷ done) said = let e = measured-more done said in omega arith
+
+-- a size that is over the limit stays over it, and a text over it is enough: so code need not add up such sizes
+pub measured-on : (done more : List Said) → entriesSize done ≤ entriesSize (done ++ more)
+unfolding entriesSize
+measured-on [] more = omega arith
+measured-on (x ∷ done) more = let e = measured-on done more in omega arith
+
+pub text-within : (said : Said) → length (said .text) ≤ entrySize said
+text-within said = omega arith
+
+-- entries that fit have short names
+pub name-fits : (xs : List ℕ) → isIdentifier xs ≡ true → length xs ≤ longestIdentifier
+unfolding isIdentifier
+name-fits xs e = leb-true (length xs) longestIdentifier (and-eq-true-iff (leb (length xs) longestIdentifier) (grouped false xs) .0 e .0)
+
+pub fit-short : (done said : List Said) → AllFit done said → Short said
+fit-short done [] f = tt
+fit-short done (x ∷ said) (f, more) = (name-fits (unitName x) (f .well .unit), fit-short (done ++ (x ∷ [])) said more)

@@ -1,0 +1,99 @@
+-- `making::rules::keep` meets its contract: three numbers of a row are written, and the row is put into the index. Assumes nothing.
+use mathlib.Core.Path.{ap, sym, _∙_}
+use native.Mathlib.Omega.{arith}
+use lib.ListN.{length-set}
+use denote.Ref.{now}
+use Rattle.names.specs.Hash.{hash}
+use Rattle.making.proofs.Keeping.{put-value, put-bounded, put-filed, keeps-more}
+use borrow.Author.Needs.{needs}
+use Rattle.making.proofs.rules.keep.Statement.{statement}
+use Rattle.making.proofs.rules.keep.Tie as tie
+
+mul-at : tie.Need-mul-at
+mul-at c = search needs
+
+mul-rows : tie.Need-mul-rows
+mul-rows c = search needs
+
+slice-write-rows : tie.Need-slice-write-rows
+slice-write-rows c = search needs
+
+add-rows : tie.Need-add-rows
+add-rows c = search needs
+
+mul-rows-2 : tie.Need-mul-rows-2
+mul-rows-2 c = search needs
+
+slice-write-rows-2 : tie.Need-slice-write-rows-2
+slice-write-rows-2 c = simp length-set (omega arith)
+
+add-rows-2 : tie.Need-add-rows-2
+add-rows-2 c = search needs
+
+add-rows-3 : tie.Need-add-rows-3
+add-rows-3 c = search needs
+
+mul-rows-3 : tie.Need-mul-rows-3
+mul-rows-3 c = search needs
+
+slice-write-rows-3 : tie.Need-slice-write-rows-3
+slice-write-rows-3 c = simp length-set (omega arith)
+
+insert-requires : tie.Need-insert-requires
+insert-requires c κs =
+    let a = c .before .before .before .before .before .before .before in
+    let rows = now (a .args .rows) in
+    let buffer = now (a .args .buffer) in
+    let n = a .args .n in
+    let first = a .args .first in
+    let past = a .args .past in
+    let long = a .pre .1 .0 .0 in
+    let bounded = put-bounded rows n first past long buffer (a .pre .1 .1 .0) (a .pre .1 .1 .1) (a .pre .0 .0) in (
+      bounded,
+      (
+        put-filed rows n first past long buffer (now (a .args .head)) (now (a .args .next)) (a .pre .0 .1),
+        (a .pre .1 .0 .1, (omega arith, a .pre .1 .1 .2 ∙ ap hash (sym (put-value rows n first past long buffer)))),
+      ),
+    )
+
+same-length : tie.Need-same-length
+same-length c = search needs
+
+same-length-2 : tie.Need-same-length-2
+same-length-2 c = search needs
+
+same-length-3 : tie.Need-same-length-3
+same-length-3 c = search needs
+
+returns : tie.Need-returns
+returns c =
+    let a = c .before .before .before .before .before .before .before .before .before .before .before .before in
+    let rows = now (a .args .rows) in
+    let buffer = now (a .args .buffer) in
+    let n = a .args .n in
+    let first = a .args .first in
+    let past = a .args .past in
+    let long = a .pre .1 .0 .0 in
+    let bounded = put-bounded rows n first past long buffer (a .pre .1 .1 .0) (a .pre .1 .1 .1) (a .pre .0 .0) in
+    λ done entry keeps e f.
+    keeps-more rows n first past long buffer (now (a .args .head)) (now (a .args .next)) done keeps entry e f _ _ bounded (c .before .before .before .before .insert .ensures .0)
+
+pub keep-spec : {M : Type 1} → statement M
+keep-spec =
+    tie.close
+    (tie.spec
+    mul-at
+    mul-rows
+    slice-write-rows
+    add-rows
+    mul-rows-2
+    slice-write-rows-2
+    add-rows-2
+    add-rows-3
+    mul-rows-3
+    slice-write-rows-3
+    insert-requires
+    same-length
+    same-length-2
+    same-length-3
+    returns)
