@@ -10,6 +10,15 @@ ghost use Prim.Native.Nat.{_<_};
 // Room for the rows of ten elements: no example has more.
 const TABLE_ROOM: usize = 130;
 
+// Where the second row has the kind, the object type, and the bounds of the content.
+const KIND: usize = 13;
+
+const OBJECT_TYPE: usize = 14;
+
+const CONTENT_FIRST: usize = 23;
+
+const CONTENT_PAST: usize = 24;
+
 fn digit(value: u8) -> u8
     requires { ⌜ value < 16 ⌝ }
 {
@@ -77,13 +86,13 @@ fn print_row(stream: &[u8]) {
     let mut table = [0u32; TABLE_ROOM];
     let answer = odif::check(Edition::Of1993, stream, &mut table);
     if answer.number == 0 {
-        print_number(table[12]);
+        print_number(table[KIND]);
         io::write_all(STDOUT_FILENO, b" ");
-        print_number(table[13]);
+        print_number(table[OBJECT_TYPE]);
         io::write_all(STDOUT_FILENO, b" ");
-        print_number(table[22]);
+        print_number(table[CONTENT_FIRST]);
         io::write_all(STDOUT_FILENO, b" ");
-        print_number(table[23]);
+        print_number(table[CONTENT_PAST]);
     } else {
         io::write_all(STDOUT_FILENO, b"-");
     }
