@@ -120,7 +120,7 @@ atMostOne octet run = leb (amount octet run) 1
 abbrev pub noneOf : (octet : ℕ) → Tree → Bool
 noneOf octet run = eqb (amount octet run) 0
 
--- A content: the value of one item, if there is one; or pieces, "the octet string is constructed, 24" (W-201).
+-- A content: the value of one item, if there is one; or pieces, "the octet string is constructed, 24" (W-201), or tiles, 30 (W-213).
 pub data Content : Type 0 where
   single : Value → Content
   inPieces : Tree → Content

@@ -33,7 +33,7 @@ bodyIn (unit needed holders) items = itemsIn 0x31 items
 bodyIn style items = items
 bodyIn (protected enciphered) items = none
 
--- the octet of the item that holds the content: "The content fields of the row give the value of the 24." (W-201)
+-- the octet of the item that holds the content: "The content fields of the row give the value of the 24" (W-201), or of the 30
 abbrev pub holderIn : List ContentItem → Tree → Option ℕ
 holderIn [] run = nowhere
 holderIn (holder ∷ others) run = cond (noneOf (octetOf holder) run) (holderIn others run) (some (octetOf holder))

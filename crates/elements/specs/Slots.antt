@@ -14,8 +14,8 @@ use Rattle.portions.specs.Portions.{all, allPortions, values}
 use Rattle.elements.specs.declared.Row.{Row}
 use Rattle.elements.specs.declared.Slots.{Slots}
 use Rattle.elements.specs.Shape.{ContentItem, Contents, profile, described, unit, style, protected, Shape, holders1988, holders1993}
-use Rattle.elements.specs.Judge.{required, optional, asked, protectedOctet, typeOf, atMostOne, noneOf, Content, single, inPieces, piecesAlone, Element, typeFits}
-use Rattle.elements.specs.Judge.{namesFit, firstOf, contentsRules}
+use Rattle.elements.specs.Judge.{required, optional, asked, protectedOctet, typeOf, atMostOne, noneOf, Content, single, inPieces, piecesAlone}
+use Rattle.elements.specs.Judge.{Element, typeFits, namesFit, firstOf, contentsRules}
 
 -- no item, and one that is needed and that no element has
 abbrev pub nothing : Slot
@@ -138,6 +138,7 @@ protectedSlots octet second content = record {
 abbrev pub tilesOctet : (needed : Bool) → ℕ
 tilesOctet needed = cond needed 0 0x30
 
+-- the item with enciphered information
 abbrev pub encipheredOctet : (enciphered : Bool) → ℕ
 encipheredOctet enciphered = cond enciphered 0x04 0
 

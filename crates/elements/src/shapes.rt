@@ -150,7 +150,7 @@ fn style_slots(octet: usize) -> Slots
     }
 }
 
-// A protected part: the item after its 47, and the one of these two that has enciphered information.
+// A protected part: 47, then `second`. Nothing names it. `content` is the octet of enciphered information, or 0.
 fn protected_slots(octet: usize, second: usize, content: usize) -> Slots
     ensures { λ r. ⌜ r ≡ protectedSlots octet second content ⌝ }
 {

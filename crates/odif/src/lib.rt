@@ -104,8 +104,8 @@ pub fn list(
     scratch::list_many(edition, stream, walked, side, table, list)
 }
 
-// The content of a text unit: a part of the caller's own stream, and an empty part if the stream or the element is refused, or the content
-// is in pieces. The viewer asks this of an element of a match, and `why` if the part is empty.
+// The content of a text unit: a part of the caller's own stream, and an empty part if the stream or the element is refused, the content is in
+// pieces or tiles, or there is none. The viewer asks this of an element of a match, and `why` if the part is empty.
 pub fn content<'a>(edition: Edition, stream: &'a [u8], element: usize) -> &'a [u8]
     ensures { λ r. ⌜ now r ≡ fetched edition (now (stream .entry)) element .part ⌝ }
 {

@@ -10,6 +10,15 @@ ghost use Prim.Native.Nat.{_<_};
 // Room for the rows of ten elements: no example has more.
 const TABLE_ROOM: usize = 130;
 
+// Where the second row has the kind, the object type, and the bounds of the content.
+const KIND: usize = 13;
+
+const OBJECT_TYPE: usize = 14;
+
+const CONTENT_FIRST: usize = 23;
+
+const CONTENT_PAST: usize = 24;
+
 fn digit(value: u8) -> u8
     requires { ⌜ value < 16 ⌝ }
 {
@@ -68,18 +77,22 @@ fn print_joined(edition: Edition, stream: &[u8], element: usize) {
     }
 }
 
+fn print_number(number: u32) {
+    io::print_decimal(STDOUT_FILENO, number as u64);
+}
+
 // Of the element after the profile, by the edition of 1993: its kind, its object type, and the bounds of its content.
 fn print_row(stream: &[u8]) {
     let mut table = [0u32; TABLE_ROOM];
     let answer = odif::check(Edition::Of1993, stream, &mut table);
     if answer.number == 0 {
-        io::print_decimal(STDOUT_FILENO, table[12] as u64);
+        print_number(table[KIND]);
         io::write_all(STDOUT_FILENO, b" ");
-        io::print_decimal(STDOUT_FILENO, table[13] as u64);
+        print_number(table[OBJECT_TYPE]);
         io::write_all(STDOUT_FILENO, b" ");
-        io::print_decimal(STDOUT_FILENO, table[22] as u64);
+        print_number(table[CONTENT_FIRST]);
         io::write_all(STDOUT_FILENO, b" ");
-        io::print_decimal(STDOUT_FILENO, table[23] as u64);
+        print_number(table[CONTENT_PAST]);
     } else {
         io::write_all(STDOUT_FILENO, b"-");
     }
