@@ -11,7 +11,7 @@ use Rattle.elements.specs.declared.Edition.{Edition}
 use Rattle.elements.specs.Judge.{Element}
 use Rattle.letters.specs.Letter.{letter, refusal}
 use Rattle.letters.proofs.Apart.{accepted-apart}
-use Rattle.parents.specs.Parent.{parent}
+use Rattle.parents.specs.Parent.{parent, children}
 use Rattle.parents.proofs.Parents.{parent-is, none-missed}
 use Rattle.parents.proofs.Climbing.{climb-ends, no-own-ancestor}
 use Rattle.parents.proofs.Children.{children-are, children-all, children-sorted}
