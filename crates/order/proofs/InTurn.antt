@@ -19,8 +19,9 @@ use Rattle.order.proofs.Lacking.{keep-in, keep-of, everything-in, every
 use Rattle.order.proofs.Keeping.{ascending-left}
 use Rattle.order.proofs.RanksA.{some-told, some-of}
 use Rattle.order.proofs.Counting.{answer-clash}
-use Rattle.order.proofs.OrderA.{of-kind, kind-of, apart-unit, kind-side}
-use Rattle.order.proofs.PassA.{slot-beyond, slot-some}
+use Rattle.order.proofs.FrontA.{of-kind, kind-of}
+use Rattle.order.proofs.OrderA.{apart-unit, kind-side}
+use Rattle.order.proofs.SightsA.{slot-beyond, slot-some}
 
 slot-first : (n : ℕ) (l : Listed) (ls : List Listed) (u : Element) → answers (l .by) (l .portion) u ≡ true → slotIn n (l ∷ ls) u ≡ suc n
 unfolding slotIn

@@ -24,7 +24,7 @@ use Rattle.order.specs.Fault.{faultFrom, faultOf}
 use Rattle.order.specs.PassB.{layoutOwner, sightOf, StateB, startB, canCome, stepB, passB, placeB}
 use Rattle.order.proofs.Tests.{both, all-in}
 use Rattle.order.proofs.Answering.{answers-told, answers-one, owns-told, owns-named}
-use Rattle.order.proofs.OrderB.{tabled-side, one-more, go-on-named, next-told, profile-tabled}
+use Rattle.order.proofs.CutB.{tabled-side, one-more, go-on-named, next-told, profile-tabled}
 use Rattle.order.proofs.Counting.{answered-count}
 use Rattle.order.proofs.Place.{no-clash-left}
 
