@@ -9,7 +9,7 @@ use native.Mathlib.Omega.{arith}
 use lib.Dec.{eqb, leb}
 use lib.ListN.{length, take, getElem?}
 use lib.Seq.{length-take-le}
-use borrow.Author.Tests.{eqb-true, not-true, not-false}
+use borrow.Author.Tests.{eqb-true, leb-true, not-true, not-false}
 use borrow.Table.Steps.{cases}
 use Rattle.laws.proofs.Tests.{cond-holds}
 use Rattle.headers.specs.Head.{constructed, codeOf, typeField}
@@ -23,8 +23,8 @@ use Rattle.portions.specs.Portions.{values, all}
 use Rattle.elements.specs.declared.Edition.{Edition}
 use Rattle.elements.specs.declared.Edition.the-variants.{Of1988, Of1993}
 use Rattle.elements.specs.declared.Row.{Row}
-use Rattle.elements.specs.Shape.{unit, protected, holders1988, Shape, noShape, Shapes, shapes1993, shapeIn, shapeOf}
-use Rattle.elements.specs.Judge.{noneOf, bodyOf, contentOf, Element, elementOf, asTabled, mostElements, profileOctet, refusalOf, Judged, accepted, refused, judgeOne, judgeFrom, judge}
+use Rattle.elements.specs.Shape.{Contents, profile, protected, entry, Shape, noShape, Shapes, shapes1993, shapeIn, shapeOf}
+use Rattle.elements.specs.Judge.{noneOf, bodyOf, contentOf, Element, elementOf, mostElements, profileOctet, refusalOf, Judged, accepted, refused, judgeOne, judgeFrom, judge}
 use Rattle.elements.specs.Rows.{bodyIn, contentOctet, rowOf, rowsOf, placeOf}
 use Rattle.letters.specs.Letter.{Letter, letter, refusal, itemsOfStream, afterWalk, byWalk, letterOf}
 use Rattle.reading.specs.declared.Side.{Side}
@@ -39,7 +39,7 @@ use Rattle.demands.specs.Refusals.{TopItem, topItems, saysIn, Refuses, t
 use Rattle.demands.specs.Editions.{isProtected, readAlike, agree, SameAnswers, SameLetterIn, Unnamed, PassedBefore, Editions}
 use Rattle.demands.proofs.Refusals.{accepted-elements, accepted-pass, by-refused}
 use Rattle.demands.proofs.Telling.{both}
-use Rattle.demands.proofs.OneElement.{ordered-holds, ordered-untiled, tabled-ordered, tabled, Alike, shapes-agree, refusals-agree, elements-agree}
+use Rattle.demands.proofs.OneElement.{ordered-holds, ordered-untiled, tabled-ordered, unit-tabled, Alike, shapes-agree, refusals-agree, elements-agree}
 
 -- all elements of a tree are read alike
 abbrev AllAlike : Tree → Type 0
@@ -145,15 +145,11 @@ module _ (done : List Element) (type : List ℕ) (run : Tree) (passed : refusalO
       (λ t. absurd (false≢true (sym (protected-unknown type t) ∙ known Of1988 done type run passed)))
       (λ t. t)
 
-  passed-tabled : is 0xA3 type ≡ true → asTabled (unit true holders1988) run ≡ true
-  unfolding shapeOf
-  passed-tabled t = let e : codeOf type ≡ 0xA3 = eqb-true (codeOf type) 0xA3 t in rw e at tabled Of1988 done type run passed
-
   passed-alike : Alike type run
-  passed-alike = record { unprotected = passed-free; held = λ t. ordered-holds run (tabled-ordered run (passed-tabled t)) }
+  passed-alike = record { unprotected = passed-free; held = λ t. ordered-holds run (tabled-ordered run (unit-tabled done type run t passed)) }
 
   passed-untiled : Untiled type run
-  passed-untiled = record { unprotected = passed-free; untiled = λ t. ordered-untiled run (tabled-ordered run (passed-tabled t)) }
+  passed-untiled = record { unprotected = passed-free; untiled = λ t. ordered-untiled run (tabled-ordered run (unit-tabled done type run t passed)) }
 
 -- what both editions need of all elements of a letter of 1988
 abbrev Contained : Tree → Type 0
@@ -284,17 +280,46 @@ among : (shapes : Shapes) → AllOf NoName shapes → NoName noShape → (type :
 among [] m n type = n
 among (shape ∷ shapes) m n type = one-of (is (shape .octet) type) shape (shapeIn shapes type) (m .0) (among shapes (m .1) n type)
 
+low-kind : (octet : ℕ) (contents : Contents) → leb (octet % 32) 8 ≡ true → NoName (entry octet contents)
+unfolding elementOf
+low-kind octet contents low run above = absurd (omega (arith, leb-true (octet % 32) 8 low))
+
+no-name : (octet : ℕ) (enciphered : Bool) → NoName (entry octet (protected enciphered))
+unfolding elementOf bodyOf values
+no-name octet enciphered run above = record { object = refl; identifier = refl; logical = refl; portions = refl }
+
 no-names : (type : List ℕ) → NoName (shapeOf Of1993 type)
-unfolding shapeOf elementOf bodyOf values
+unfolding shapeOf
 no-names type =
-    let low : {shape : Shape} → (8 < shape .octet % 32 → ⊥) → NoName shape = λ no run l. absurd (no l) in
-    let unnamed : (octet : ℕ) (enciphered : Bool) → NoName (record { octet = octet; contents = protected enciphered }) =
-    λ octet enciphered run l. record { object = refl; identifier = refl; logical = refl; portions = refl } in
-    among shapes1993
-    (low (λ l. omega arith), (unnamed 0xA9 false, (unnamed 0xAA true, (unnamed 0xAB true, (unnamed 0xAC true,
-    (low (λ l. omega arith), (low (λ l. omega arith), (low (λ l. omega arith), (low (λ l. omega arith),
-    (low (λ l. omega arith), (low (λ l. omega arith), (low (λ l. omega arith), (low (λ l. omega arith), tt)))))))))))))
-    (low (λ l. omega arith)) type
+    among shapes1993 (
+      low-kind _ _ refl,
+      (
+        no-name 0xA9 false,
+        (
+          no-name 0xAA true,
+          (
+            no-name 0xAB true,
+            (
+              no-name 0xAC true,
+              (
+                low-kind _ _ refl,
+                (
+                  low-kind _ _ refl,
+                  (
+                    low-kind _ _ refl,
+                    (
+                      low-kind _ _ refl,
+                      (low-kind _ _ refl, (low-kind _ _ refl, (low-kind _ _ refl, (low-kind _ _ refl, tt)))),
+                    ),
+                  ),
+                ),
+              ),
+            ),
+          ),
+        ),
+      ),
+    )
+    (low-kind 0 profile refl) type
 
 -- what is in a list that was made of another comes from there
 made-from : (items : List TopItem) (j : ℕ) (element : Element) → getElem? (map (saysIn Of1993) items) j ≡ some element

@@ -14,10 +14,9 @@ use Rattle.headers.specs.Head.{codeOf}
 use Rattle.tree.specs.Tree.{Tree, empty, leaf, branch}
 use Rattle.contents.specs.declared.Slot.{Slot}
 use Rattle.contents.specs.Search.{is, amount, ends, slot, inOrder}
-use Rattle.portions.specs.Portions.{all}
 use Rattle.elements.specs.declared.Edition.{Edition}
 use Rattle.elements.specs.declared.Edition.the-variants.{Of1988, Of1993}
-use Rattle.elements.specs.Shape.{unit, holders1988, holders1993, shapeOf}
+use Rattle.elements.specs.Shape.{entry, unit, holders1988, holders1993, Shape, shapeOf}
 use Rattle.elements.specs.Judge.{required, optional, noneOf, Content, bodyOf, contentOf, Element, elementOf, ordered, asTabled, namesFit, clash, twice, mostElements, profileOctet, refusalOf}
 use Rattle.demands.specs.Editions.{isProtected}
 
@@ -187,10 +186,10 @@ content-agrees : (run : Tree) → noneOf 0x30 run ≡ true → contentOf (unit f
 unfolding contentOf
 content-agrees run n = rw n
 
--- of a list of tests that hold the first does
-first-test : (a : Bool) (others : List Bool) → all (a ∷ others) ≡ true → a ≡ true
-first-test true others e = refl
-first-test false others e = absurd (false≢true e)
+-- of tests that hold the first does
+first-test : (a b : Bool) → a && b ≡ true → a ≡ true
+first-test true b e = refl
+first-test false b e = absurd (false≢true e)
 
 pub tabled-ordered : (run : Tree) → asTabled (unit true holders1988) run ≡ true → ordered (unit true holders1988) run ≡ true
 unfolding asTabled
@@ -204,7 +203,7 @@ tabled-agrees run h =
     (λ o. rw (ordered-agree run h, o))
 
 -- an element that no rule refuses has its contents as tabled
-pub tabled : (edition : Edition) (done : List Element) (type : List ℕ) (run : Tree) → refusalOf edition done type run ≡ 0
+tabled : (edition : Edition) (done : List Element) (type : List ℕ) (run : Tree) → refusalOf edition done type run ≡ 0
     → asTabled (shapeOf edition type .contents) run ≡ true
 unfolding refusalOf
 tabled edition done type run =
@@ -214,6 +213,15 @@ tabled edition done type run =
     cond-holds P (not (is (shape .octet) type)) (λ _ z. absurd (omega arith)) (λ _.
     cond-holds P (xor (eqb (length done) 0) (is profileOctet type)) (λ _ z. absurd (omega arith)) (λ _.
     cond-holds P (not (asTabled (shape .contents) run)) (λ _ z. absurd (omega arith)) (λ t _. not-false (asTabled (shape .contents) run) t))))
+
+-- the same of a text unit of 1988
+text-unit : (type : List ℕ) → is 0xA3 type ≡ true → shapeOf Of1988 type ≡ entry 0xA3 (unit true holders1988)
+unfolding shapeOf
+text-unit type t = let e : codeOf type ≡ 0xA3 = eqb-true (codeOf type) 0xA3 t in rw e
+
+pub unit-tabled : (done : List Element) (type : List ℕ) (run : Tree) → is 0xA3 type ≡ true → refusalOf Of1988 done type run ≡ 0
+    → asTabled (unit true holders1988) run ≡ true
+unit-tabled done type run t z = subst (λ (shape : Shape). asTabled (shape .contents) run ≡ true) (text-unit type t) (tabled Of1988 done type run z)
 
 -- both editions read an element alike
 pub record Alike (type : List ℕ) (run : Tree) : Type 0 where
@@ -249,6 +257,6 @@ elements-agree done type run h z =
     cases (is 0xA3 type)
     (λ t.
     let e : codeOf type ≡ 0xA3 = eqb-true (codeOf type) 0xA3 t in
-    let as : asTabled (unit true holders1988) run ≡ true = rw e at tabled Of1988 done type run z in
-    rw (e, content-agrees run (ordered-untiled run (tabled-ordered run as))))
+    let fits = unit-tabled done type run t z in
+    rw (e, content-agrees run (ordered-untiled run (tabled-ordered run fits))))
     (λ t. let same = shapes-agree type t (h .unprotected) in rw same)
