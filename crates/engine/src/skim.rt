@@ -59,7 +59,7 @@ fn pass_items(block: &[u8], from: usize, stop: usize, marked: bool, room: usize)
     let mut i = from;
     let mut count: u32 = 0;
     loop {
-        let head = headers::head_at(block, i, stop, marked, room);
+        let head = headers::head_apart(block, i, stop, marked, room);
         let past = passed_to(head);
         if past == 0 {
             return Stopped { to: i, count, head };

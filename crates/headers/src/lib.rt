@@ -248,6 +248,29 @@ pub fn head_at(s: &[u8], at: usize, limit: usize, marked: bool, room: usize) -> 
     read_head(s, at, limit, marked, room)
 }
 
+// The same, for callers other than the walk of a whole stream: the block engine, and the walk of one item. The compiler makes a function with
+// one caller part of it, and with more than one the walk would call `head_at` for each item and hand its answer through memory.
+pub fn head_apart(s: &[u8], at: usize, limit: usize, marked: bool, room: usize) -> Head
+    requires { ⌜ (at < length (now s)) × (min limit (at + 8) ≤ length (now s)) ⌝ }
+    ensures { λ r. ⌜ r ≡ headAt (now (s .entry)) at limit marked room ⌝ }
+{
+    let next = at + 1;
+    if next < limit {
+        let octet = s[at];
+        let len = s[next];
+        if is_usual(octet, len, limit - next, room) {
+            return Head::Item(Header {
+                octet: wide(octet),
+                number: wide(octet % 32),
+                start: next + 1,
+                bound: next + 1 + wide(len),
+                marked: false,
+            });
+        }
+    }
+    read_head(s, at, limit, marked, room)
+}
+
 // What stands at `at` in a run whose walk ended: `head_at` again, for later passes. An item with one type octet and one length octet is told
 // with nothing left to judge; `read_head` has the rest. It is kept short, so that the compiler makes it part of every pass over a run: as a
 // call of its own it costs each item more than it does.

@@ -24,8 +24,8 @@ loop-holds : tie.Need-loop-holds Inv-loop μ-loop
 loop-holds c =
     let p = c .before .pre in (omega arith, p .0, p .1, omega arith, passing-none (c .before .args .block .now) (c .before .args .from) (c .before .args .stop) (c .before .args .marked) (c .before .args .room))
 
-head-at-requires : tie.Need-head-at-requires Inv-loop μ-loop
-head-at-requires c κs = let v = c .loop .inv in (omega (arith, v .2), omega (arith, v .2))
+head-apart-requires : tie.Need-head-apart-requires Inv-loop μ-loop
+head-apart-requires c κs = let v = c .loop .inv in (omega (arith, v .2), omega (arith, v .2))
 
 passed-to-requires : tie.Need-passed-to-requires Inv-loop μ-loop
 passed-to-requires c κs = search needs
@@ -39,7 +39,7 @@ returns c =
       before = v .1;
       eight = v .2;
       counted = v .3;
-      read = c .before .before .head-at .ensures;
+      read = c .before .before .head-apart .ensures;
       state = v .4;
     }
 
@@ -52,7 +52,7 @@ returns-2 c =
       before = v .1;
       eight = v .2;
       counted = v .3;
-      read = c .before .before .before .head-at .ensures;
+      read = c .before .before .before .head-apart .ensures;
       state = v .4;
     }
 
@@ -65,7 +65,7 @@ returns-3 c =
       before = v .1;
       eight = v .2;
       counted = v .3;
-      read = c .before .before .before .before .head-at .ensures;
+      read = c .before .before .before .before .head-apart .ensures;
       state = v .4;
     }
 
@@ -80,7 +80,7 @@ loop-less c =
     let l = c .before .before .before .before .before .loop in
     let v = l .inv in
     let past = c .before .before .before .passed-to in
-    let h = c .before .before .before .before .head-at in
+    let h = c .before .before .before .before .head-apart in
     let last = c .before .before .before .before .before .before .shared-slice-known .given in
     let two = passing-less (a .block .now) (l .i) (a .stop) (a .marked) (a .room) (h .result) (h .ensures) (past .result) (past .ensures) (omega arith) in
     omega (arith, two, c .if3 .left, v .2)
@@ -92,7 +92,7 @@ loop-again c =
     let l = c .before .before .before .before .before .loop in
     let v = l .inv in
     let past = c .before .before .before .passed-to in
-    let h = c .before .before .before .before .head-at in
+    let h = c .before .before .before .before .head-apart in
     let last = c .before .before .before .before .before .before .shared-slice-known .given in
     let two = passing-less (a .block .now) (l .i) (a .stop) (a .marked) (a .room) (h .result) (h .ensures) (past .result) (past .ensures) (omega arith) in
     let near : past .result + 8 ≤ length (a .block .now) = omega (arith, c .if3 .left, v .2) in (
@@ -112,7 +112,7 @@ pass-items-spec =
     μ-loop
     sub-last
     loop-holds
-    head-at-requires
+    head-apart-requires
     passed-to-requires
     returns
     returns-2
