@@ -68,11 +68,11 @@ fn one_line_of_csv_a_file_in_order_with_any_number_of_jobs() {
         lines[0],
         "file,outcome,number,place,octets,headers,elements,reason,detail,kind,item,foreign,date,file_octets"
     );
-    assert_eq!(lines[1], "a/b/good-2.odif,accepted,0,0,39,11,3,,,,,,");
+    assert_eq!(lines[1], "a/b/good-2.odif,accepted,0,0,39,11,3,,,,,,,");
     let cut = "a/cut.odif,refused,7,21,30,7,0,the value of an item passes its limit,the item A3 says that its value has \
-        18 octets; up to the end of the stream there is room for 7,text unit,A3,,";
+        18 octets; up to the end of the stream there is room for 7,text unit,A3,,,";
     assert_eq!(lines[2], cut);
-    let last = "\"z,\"\"z\"\".odif\",refused,10,2,4,2,0,no element begins with this octet,no element begins with octet A4,,A4,,";
+    let last = "\"z,\"\"z\"\".odif\",refused,10,2,4,2,0,no element begins with this octet,no element begins with octet A4,,A4,,,";
     assert_eq!(*lines.last().unwrap(), last);
 }
 
