@@ -8,7 +8,7 @@ import ctypes.util
 import os
 import sys
 
-STREAM_LIMIT, MOST_ELEMENTS, ROW_WIDTH = 1_048_576, 4_096, 12
+STREAM_LIMIT, MOST_ELEMENTS, ROW_WIDTH = 1_048_576, 4_096, 13
 
 
 def answer(name, *fields):

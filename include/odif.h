@@ -1,4 +1,4 @@
-/* odif.h: a reader of ODIF letters (CCITT T.415, ISO 8613-5, 1988), proved to its contracts.
+/* odif.h: a reader of ODIF letters (CCITT T.415, ISO 8613-5, of 1988 and of 1993), proved to its contracts.
 
    Link with target/staticlib/libodif.a: an ELF archive for Linux on x86-64, and for no other machine. The functions
    keep no state, allocate nothing and may be called from any number of threads at once. They take any octets whatever
@@ -12,16 +12,22 @@
    cost n checks. Where that is too much, ask about each unit alone: the octets A0 00 and behind them the unit, from
    ODIF_FIRST to ODIF_PAST of its row, are a letter no longer than the one it stands in, and the content of its element
    1 is the same. odif_normal measures an item before it writes it, so one at level 16 is passed over 16 times. A check
-   takes time as the stream is long, some 3 ns an octet; but if names were chosen to collide in the library's index, it
-   takes as the square of their number, some 0.2 s for 4,095 of them.
+   takes time as the stream is long, some 3 ns an octet, whoever chose the names: a letter made to be slow takes some ten
+   times as long as others of its length.
 
    Their scratch memory is on the stack. Of a small stream, which has up to 512 elements and up to 8,192 items in all, a
    question takes up to 40 KiB of it, the two lists up to 88 KiB; of any other up to 256 KiB, the lists up to 304 KiB. It
    clears 31 kB of that for a small stream and 246 kB for any other, the lists somewhat more. Mind it where threads are
    started with small stacks: 128 KiB are enough for small streams alone.
 
-   Every answer begins with a number and a place. Number 0 is accepted or answered, with place 0. Any other number is
-   a refusal; places count octets of the stream from 0.
+   A question reads by the edition of 1988, and its twin with _1993 at its end by that of 1993. The octet rules are the
+   same. In 1993 a text unit may have no content, or content in tiles, and there are four elements more, the protected
+   parts: a sealed document profile, A9, an enciphered one, AA, and body parts that were enciphered before or after the
+   layout, AB and AC. Every letter of 1988 is one of 1993 with the same rows and matches. A letter with a protected part
+   is none of 1988: it is refused by 10 there.
+
+   Every answer begins with a number and, but for odif_taken, a place. Number 0 is accepted or answered, with place 0.
+   Any other number is a refusal; places count octets of the stream from 0.
 
    no.  when                                                                          place
     1   the stream is over 1,048,576 octets; of odif_normal_short, over 65,535        0
@@ -46,20 +52,36 @@
    17   the normal form is over 1,048,576 octets                                      0
    18   the output is shorter than the normal form                                    0
    19   the list is shorter than the matches                                          0
-   20   the asked element is no text unit or does not exist                           0
-   21   a part is asked of content in pieces, which is no one part of the stream      0
+   20   the asked element is no text unit or does not exist; or no such row           0
+   21   a part is asked of content in pieces or tiles, which is no one part           0
+        of the stream
    22   the output is shorter than the joined content                                 0
+   23   not exactly one date of the document in the profile, or it is constructed     0
+   24   the first ten octets of the date name no day                                  0
+   25   the list is shorter than the children                                         0
+   27   a part of an entry is outside the buffer, or ends before it begins            the entry's number
    28   a block is past the total that was told                                       0
    29   a letter in blocks is closed before all its octets have come                  0
 
    1 comes first, then the first fault of 2 to 8 in stream order, then the elements in order, 9 to 15 in order within
-   each, then 16, 17, 18, 19 or 20 where the question can give it; 21 and 22 come after 20. A refusal leaves the lent
-   table, list and output as they were, except that 19 leaves the finished table. Counts are 0 with a refusal, except
-   that 19 keeps the element count and the check's header count comes with every answer.
+   each, then 16, 17, 18, 19 or 20 where the question can give it; 21, 22 and 25 come after 20, 23 and 24 after 15. A
+   refusal leaves the lent table, list and output as they were, except that 19 and 25 leave the finished table. Counts
+   are 0 with a refusal, except that 19 and 25 keep the element count and the check's header count comes with every
+   answer.
+
+   odif_make judges entries and no stream. Entries in order, from 0, and within one in this order, it gives 27; 14 for a
+   bad identifier or portion, or both with a space between them over 64 octets; 15 for an identifier that an entry
+   before has; 9 for entry 2,047; all with the entry's number as their place. Then 17 and 18 of the letter, at 0.
 
    Content is one octet string, 04, or is saved in pieces: 24, which holds 04 and 24 items down to the deepest level.
-   Its octets are then the pieces joined in order. odif_joined copies them, a 04 being one piece; odif_content serves a
-   04 without a copy. */
+   Its octets are then the pieces joined in order. In 1993 it may be tiled: 30, which holds 04 and 24 items, and its
+   octets are those of the tiles joined in order; or missing, and it has no octets then. odif_joined copies them, a 04
+   being one piece; odif_content serves a 04 without a copy. A protected part is no text unit: asked for its content it
+   is refused by 20. What is enciphered is not opened.
+
+   The date of the document is the one item 80 in an A0 in an A3 of the profile, over all of these (T.415, 5.6): its first
+   ten octets are four, two and two digits with hyphens between, as 1988-06-05, and name a day of the Gregorian calendar
+   from 0001 on. What follows them is not judged. */
 #ifndef ODIF_H
 #define ODIF_H
 
@@ -82,9 +104,12 @@ extern "C" {
 
 #define ODIF_STREAM_LIMIT  1048576 /* the most octets of a stream, and of a normal form */
 #define ODIF_MOST_ELEMENTS 4096    /* so many rows are always enough */
-#define ODIF_ROW_WIDTH     12      /* the numbers of a row */
+#define ODIF_ROW_WIDTH     13      /* the numbers of a row */
+#define ODIF_NO_PARENT     65535   /* the parent's row where there is none */
 #define ODIF_STACK         262144  /* octets of stack: no question but the lists takes more */
 #define ODIF_STACK_LISTS   311296  /* the same for the two lists */
+#define ODIF_STACK_MAKE    131072  /* and for odif_make */
+#define ODIF_MOST_ENTRIES  2047    /* the most entries of a letter that is made */
 #define ODIF_SHORT_LIMIT   65535   /* the most octets of a stream that odif_normal_short takes */
 
 /* How much to lend. A side has no more matches than the letter has text units, nor than portions are listed on that
@@ -101,19 +126,23 @@ extern "C" {
    absent one is 0 and 0. */
 enum {
     ODIF_KIND             = 0,  /* 0 document profile, 1 layout class, 2 layout object, 3 text unit, 5 logical class,
-                                   6 logical object, 7 presentation style, 8 layout style */
+                                   6 logical object, 7 presentation style, 8 layout style; in 1993 also
+                                   9 sealed document profile, 10 enciphered document profile,
+                                   11 pre-enciphered body part, 12 post-enciphered body part */
     ODIF_OBJECT_TYPE      = 1,  /* 0 to 4 for layout, 0 to 2 for logical, 255 if none */
     ODIF_FIRST            = 2,  /* the element, with its header and its closing mark */
     ODIF_PAST             = 3,
-    ODIF_IDENTIFIER_FIRST = 4,  /* its identifier; for a text unit the layout identifier */
+    ODIF_IDENTIFIER_FIRST = 4,  /* its identifier; for a text unit the layout identifier; none of kinds 9 to 12 */
     ODIF_IDENTIFIER_PAST  = 5,
     ODIF_LOGICAL_FIRST    = 6,  /* a text unit's logical identifier */
     ODIF_LOGICAL_PAST     = 7,
     ODIF_PORTIONS_FIRST   = 8,  /* the portions of a class or object */
     ODIF_PORTIONS_PAST    = 9,
-    ODIF_CONTENT_FIRST    = 10, /* a text unit's content; if it is in pieces, the value of the 24 that holds them, with
-                                   their headers */
-    ODIF_CONTENT_PAST     = 11
+    ODIF_CONTENT_FIRST    = 10, /* a text unit's content; if it is in pieces or tiles, the value of the 24 or 30 that
+                                   holds them, with their headers; of kinds 10 to 12 the enciphered information */
+    ODIF_CONTENT_PAST     = 11,
+    ODIF_PARENT           = 12  /* the row of the class or object of the same side whose identifier is this one's
+                                   without its last space and digits, which may come later; or ODIF_NO_PARENT */
 };
 
 typedef struct {
@@ -124,7 +153,7 @@ typedef struct {
 } odif_checked;
 
 typedef struct {
-    uint32_t number;   /* 0, or the refusal: 1 to 15, 17, 18 */
+    uint32_t number;   /* 0, or the refusal: 1 to 15, 17, 18; of odif_make 9, 14, 15, 17, 18, 27 */
     uint32_t place;    /* the refusal's place */
     uint32_t length;   /* the octets written */
 } odif_written;
@@ -149,12 +178,51 @@ typedef struct {
     uint32_t length;   /* the octets copied */
 } odif_copied;
 
+typedef struct {
+    uint32_t number;   /* 0, or the refusal: 1 to 16, 20, 25 */
+    uint32_t place;    /* the refusal's place */
+    uint32_t elements; /* the rows filled, also with 25 */
+    uint32_t children; /* the numbers of the list filled */
+} odif_related;
+
+typedef struct {
+    uint32_t number;   /* 0, or the refusal: 1 to 15, 23, 24 */
+    uint32_t place;    /* the refusal's place */
+    uint32_t first;    /* the date is stream[first] to stream[past - 1]; all of these are 0 with a refusal */
+    uint32_t past;
+    uint32_t year;     /* 1 to 9999 */
+    uint32_t month;    /* 1 to 12 */
+    uint32_t day;      /* 1 to the days of the month */
+} odif_dated;
+
+typedef struct {
+    uint32_t number;   /* 0, or the refusal: 1 to 8, 10, 11, 23, 24 */
+    uint32_t place;    /* the refusal's place */
+    uint32_t first;    /* as in odif_dated */
+    uint32_t past;
+    uint32_t year;
+    uint32_t month;
+    uint32_t day;
+    uint32_t unread;   /* always 1: what follows the first element is unread */
+} odif_first_dated;
+
 /* One match: the text unit's identifier is the element's identifier, one space, the portion. All count from 0. */
 typedef struct {
     uint32_t element;  /* the row of the class or object */
     uint32_t portion;  /* the portion's place in it */
     uint32_t unit;     /* the row of the text unit */
 } odif_match;
+
+/* One entry of a letter that is made: where its identifier, its portion and its text stand in the buffer. Each is from
+   first to past - 1; parts may overlap one another. */
+typedef struct {
+    uint32_t identifier_first;
+    uint32_t identifier_past;
+    uint32_t portion_first;
+    uint32_t portion_past;
+    uint32_t text_first;
+    uint32_t text_past;
+} odif_entry;
 
 /* Checks a stream and fills one row an element. table_len counts numbers; numbers past the last row filled stay, and
    an incomplete last row is not used. */
@@ -190,20 +258,75 @@ odif_found odif_content(const uint8_t *stream, size_t stream_len, uint32_t eleme
 odif_copied odif_joined(const uint8_t *ODIF_APART stream, size_t stream_len, uint32_t element,
                         uint8_t *ODIF_APART out, size_t out_len);
 
-/* A letter that arrives in blocks and is not held: rules 1 to 8 and the header count, as odif_check gives them of the whole
-   stream, for any cutting. Start with the total, hand over the blocks in order, of any length, none included, and close:
+/* Fills the table and the list of the children of a row, which may be any number: the rows whose parent it is, in
+   stream order. list_len counts numbers; those past the last one filled stay. As many as there are elements are always
+   enough. Climbing from parent to parent ends in at most 32 moves, and no row is its own ancestor. */
+odif_related odif_children(const uint8_t *ODIF_APART stream, size_t stream_len, uint32_t row,
+                           uint32_t *ODIF_APART table, size_t table_len,
+                           uint32_t *ODIF_APART list, size_t list_len);
+
+/* Finds the date of the document. */
+odif_dated odif_date(const uint8_t *stream, size_t stream_len);
+
+/* Finds the date of the document by the first element alone: rules 1 to 8, 10 and 11 are tried on that, and no octet after
+   it is read. Of a letter it is what odif_date finds. The front of a stream is enough, if the first element is whole in it;
+   else 7 is given, or what stands there is refused. It takes time as the first element is long, and little stack. */
+odif_first_dated odif_first_date(const uint8_t *stream, size_t stream_len);
+
+/* The same questions by the edition of 1993. */
+odif_checked odif_check_1993(const uint8_t *ODIF_APART stream, size_t stream_len,
+                             uint32_t *ODIF_APART table, size_t table_len);
+odif_written odif_normal_1993(const uint8_t *ODIF_APART stream, size_t stream_len,
+                              uint8_t *ODIF_APART out, size_t out_len);
+odif_listed odif_layout_1993(const uint8_t *ODIF_APART stream, size_t stream_len,
+                             uint32_t *ODIF_APART table, size_t table_len,
+                             odif_match *ODIF_APART list, size_t list_len);
+odif_listed odif_logical_1993(const uint8_t *ODIF_APART stream, size_t stream_len,
+                              uint32_t *ODIF_APART table, size_t table_len,
+                              odif_match *ODIF_APART list, size_t list_len);
+odif_written odif_normal_short_1993(const uint8_t *ODIF_APART stream, size_t stream_len,
+                                    uint8_t *ODIF_APART out, size_t out_len);
+odif_found odif_content_1993(const uint8_t *stream, size_t stream_len, uint32_t element);
+odif_copied odif_joined_1993(const uint8_t *ODIF_APART stream, size_t stream_len, uint32_t element,
+                             uint8_t *ODIF_APART out, size_t out_len);
+odif_related odif_children_1993(const uint8_t *ODIF_APART stream, size_t stream_len, uint32_t row,
+                                uint32_t *ODIF_APART table, size_t table_len,
+                                uint32_t *ODIF_APART list, size_t list_len);
+odif_dated odif_date_1993(const uint8_t *stream, size_t stream_len);
+odif_first_dated odif_first_date_1993(const uint8_t *stream, size_t stream_len);
+
+/* Makes a letter of entries, which lie apart from the output as all that is lent does: an empty profile, and for each
+   entry a block with the identifier and that one portion, and a text unit with the text. It is accepted, its layout list
+   has the entries in their order and no others, and it is its own normal form. The output and the buffer may not
+   overlap. Octets of out past the letter stay. No more than 2,047 entries fit. The numbers of the entries are those of
+   odif_entry, six an entry; entries_len counts numbers, and an incomplete last entry is not used. It takes up to 128 KiB
+   of stack, of which it clears 7 kB for up to 128 entries, and 107 kB for more. */
+odif_written odif_make_numbers(const uint8_t *ODIF_APART buffer, size_t buffer_len,
+                               const uint32_t *ODIF_APART entries, size_t entries_len,
+                               uint8_t *ODIF_APART out, size_t out_len);
+
+/* The same of so many entries. */
+static inline odif_written odif_make(const uint8_t *ODIF_APART buffer, size_t buffer_len,
+                                     const odif_entry *ODIF_APART entries, size_t entries_len,
+                                     uint8_t *ODIF_APART out, size_t out_len) {
+    return odif_make_numbers(buffer, buffer_len, (const uint32_t *)entries, 6 * entries_len, out, out_len);
+}
+
+/* A letter that arrives in blocks and is not held: rules 1 to 8 and the header count, as odif_check gives them of the
+   whole stream, for any cutting. Start with the total, hand over the blocks in order, of any length, none included, and
+   close:
 
        odif_taken now = odif_blocks_start(total);
        while (...) now = odif_blocks_take(now.state, block, block_len);
        odif_walked walked = odif_blocks_close(now.state);
 
-   The state is this struct and nothing else, with no pointer in it: copy it, keep it, go on from a copy. Its numbers are
-   the engine's own. A caller who makes one up is answered too: where it can't be gone on with, 28 with that state, and
-   29. */
+   The state is this struct and nothing else, with no pointer in it: copy it, keep it, go on from a copy. Its numbers
+   are the engine's own. A caller who makes one up is answered too: where it can't be gone on with, 28 with that state,
+   and 29. The three functions take less than 2 KiB of stack. */
 typedef struct {
     size_t   total;    /* the octets told, and those that have come */
     size_t   taken;
-    size_t   at;       /* where the next header stands, or past it, and how many items are open there */
+    size_t   at;       /* where the next header stands, and how many items are open there */
     size_t   level;
     uint32_t headers;  /* the items that passed 2 to 8 */
     uint32_t number;   /* the finding, 1 to 8, and its place; 0 if there is none yet */
@@ -226,15 +349,16 @@ typedef struct {
     uint32_t headers;  /* the items that passed 2 to 8, also with a fault; 0 after 1 and 29 */
 } odif_walked;
 
-/* A letter of so many octets, of which none has come. 1 if they are over 1,048,576; the state can still be gone on with:
-   blocks are counted, and the close gives 1. */
+/* A letter of so many octets, of which none has come. 1 if they are over 1,048,576; the state can still be gone on
+   with: blocks are counted, and the close gives 1. */
 odif_taken odif_blocks_start(size_t total);
 
 /* Takes a block. 28 if it is past the total: then the state is as it was, and what came before stands. A fault that was
    found stays, and later octets are counted. */
 odif_taken odif_blocks_take(odif_blocks state, const uint8_t *block, size_t block_len);
 
-/* What the walk of the letter tells. 29 if not all octets have come, whatever was found: the state can be gone on with. */
+/* What the walk of the letter tells. 29 if not all octets have come, whatever was found: the state can be gone on
+   with. */
 odif_walked odif_blocks_close(odif_blocks state);
 
 /* The sentence of a number of the list above, without a full stop; 0 and numbers past the list have one too. It is no

@@ -25,6 +25,10 @@ static const char *const sentences[] = {
     [20] = "the asked element is no text unit or does not exist",
     [21] = "the content is in pieces or tiles, and no one part of the stream",
     [22] = "the output is shorter than the joined content",
+    [23] = "the profile does not have exactly one date of the document, or that is constructed",
+    [24] = "the date of the document does not begin with a day as in 1988-06-05",
+    [25] = "the list is shorter than the children",
+    [27] = "a part of an entry is outside the buffer, or ends before it begins",
     [28] = "a block is past the total that was told",
     [29] = "the letter was closed before all its octets had come",
 };

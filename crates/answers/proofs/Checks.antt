@@ -1,28 +1,18 @@
 -- The check's answer and table, case by case: what the stream is decides both. Assumes nothing.
-use mathlib.Core.Path.{_≡_, ap, sym, _∙_}
+use mathlib.Core.Path.{_≡_}
 use mathlib.Core.Bool.{true, false}
 use mathlib.Core.List.{List}
-use Prim.Native.Nat.{ℕ, _*_, _<_, _≤_}
+use Prim.Native.Nat.{ℕ, _<_, _≤_}
 use native.Mathlib.Omega.{arith}
 use lib.Dec.{eqb, ltb}
-use lib.ListN.{length, take}
-use lib.Seq.{length-take-le}
+use lib.ListN.{length}
 use borrow.Author.Tests.{ne-eqb, lt-ltb, le-ltb}
-use Rattle.index.specs.Rows.{rowWidth}
 use Rattle.elements.specs.declared.Edition.{Edition}
 use Rattle.elements.specs.Judge.{Element}
-use Rattle.elements.specs.Rows.{numbers}
 use Rattle.letters.specs.Letter.{letter, refusal}
-use Rattle.answers.specs.Table.{rowsLent, filledFrom}
-use Rattle.answers.specs.Answers.{letterIn, rowsIn, tableOf, refusedCheck, checked, checkedTable, CheckOutcome}
+use Rattle.answers.specs.Table.{rowsLent}
+use Rattle.answers.specs.Answers.{letterIn, tableOf, refusedCheck, checked, checkedTable, CheckOutcome}
 use Rattle.answers.proofs.Small.{refusal-small}
-
--- a stream's rows in scratch, in front of what the table held, are the finished table
-pub table-filled : (edition : Edition) (s table scratch : List ℕ) (n : ℕ) → take (n * rowWidth) scratch ≡ numbers (rowsIn edition s) → n * rowWidth ≤ length scratch
-    → filledFrom scratch n table ≡ tableOf edition s table
-table-filled edition s table scratch n w long =
-    let size : length (numbers (rowsIn edition s)) ≡ n * rowWidth = ap length (sym w) ∙ length-take-le (n * rowWidth) scratch long in
-    rw (w, size)
 
 module _ (edition : Edition) (s table : List ℕ) where
   pub checks-refused : (number place headers : ℕ) → letterIn edition s ≡ refusal number place headers

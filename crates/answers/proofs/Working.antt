@@ -2,6 +2,7 @@
 use mathlib.Core.Path.{_≡_, refl, ap, sym, _∙_, subst}
 use mathlib.Core.List.{List}
 use Prim.Native.Nat.{ℕ}
+use lib.ListN.{length}
 use native.Mathlib.Omega.{arith}
 use Rattle.elements.specs.declared.Edition.{Edition}
 use Rattle.elements.specs.Judge.{Element}
@@ -12,17 +13,20 @@ use Rattle.answers.specs.declared.Listed.{Listed}
 use Rattle.answers.specs.declared.Reason.{Reason}
 use Rattle.answers.specs.declared.Found.{Found}
 use Rattle.answers.specs.declared.Copied.{Copied}
+use Rattle.answers.specs.declared.Related.{Related}
 use Rattle.answers.specs.declared.Told.{Told}
 use Rattle.answers.specs.declared.Question.{Question}
-use Rattle.answers.specs.declared.Question.the-variants.{Rules, Check, Content, Joined, List as Reading}
+use Rattle.answers.specs.declared.Question.the-variants.{Rules, Check, Content, Joined, List as Reading, Children}
 use Rattle.answers.specs.Answers.{letterIn, ruledBy, ruled, CheckOutcome, Fetches, JoinedOutcome}
 use Rattle.answers.specs.Asking.{ListsFlat}
-use Rattle.answers.specs.Questions.{reasonTold, checkTold, locatedTold, copiedTold, listedTold, checkOf, locatedOf, copiedOf, listedOf, refusedTold, Leaves}
+use Rattle.answers.specs.Related.{Relates, ChildrenOutcome, relatedList, related}
+use Rattle.answers.specs.Questions.{reasonTold, checkTold, locatedTold, copiedTold, listedTold, relatedTold, checkOf, locatedOf, copiedOf, listedOf, relatedOf, refusedTold, Leaves}
 use Rattle.answers.proofs.Small.{refusal-small}
 use Rattle.answers.proofs.Checks.{checks-refused}
 use Rattle.answers.proofs.Fetching.{fetches-refused, joins-refused}
 use Rattle.answers.proofs.Copying.{joins-none}
 use Rattle.answers.proofs.Listing.{lists-refused}
+use Rattle.answers.proofs.Relating.{relates-refused}
 
 -- a stream that is refused by one of rules 1 to 15
 pub ruled-refused : (edition : Edition) (s : List ℕ) {number place headers : ℕ} → letterIn edition s ≡ refusal number place headers
@@ -69,32 +73,32 @@ pub letter-told : {edition : Edition} {s : List ℕ} {told : Told} → told ≡ 
 letter-told {edition} {s} e zero = is-letter edition s (ap (λ (t : Told). t .number) (sym e) ∙ zero)
 
 -- a question that is known, and what it is told, by other names
-pub as-asked : {edition : Edition} {question known : Question} {s table out : List ℕ} {told same : Told} {tableAfter flat outAfter : List ℕ} → question ≡ known → told ≡ same
-    → Leaves edition known s table out same tableAfter flat outAfter → Leaves edition question s table out told tableAfter flat outAfter
-as-asked {edition = edition} {known = known} {s = s} {table = table} {out = out} {told = told} {tableAfter = tableAfter} {flat = flat} {outAfter = outAfter} q t l =
-    subst (λ (x : Question). Leaves edition x s table out told tableAfter flat outAfter) (sym q)
-    (subst (λ (x : Told). Leaves edition known s table out x tableAfter flat outAfter) (sym t) l)
+pub as-asked : {edition : Edition} {question known : Question} {s table flat out : List ℕ} {told same : Told} {tableAfter flatAfter outAfter : List ℕ} → question ≡ known
+    → told ≡ same → Leaves edition known s table flat out same tableAfter flatAfter outAfter → Leaves edition question s table flat out told tableAfter flatAfter outAfter
+as-asked {edition = edition} {known = known} {s = s} {table = table} {flat = flat} {out = out} {told = told} {tableAfter = tableAfter} {flatAfter = flatAfter} {outAfter = outAfter} q t l =
+    subst (λ (x : Question). Leaves edition x s table flat out told tableAfter flatAfter outAfter) (sym q)
+    (subst (λ (x : Told). Leaves edition known s table flat out x tableAfter flatAfter outAfter) (sym t) l)
 
 pub refused-as : {question known : Question} {told : Told} (number place headers : ℕ) → question ≡ known → told ≡ refusedTold known number place headers
     → told ≡ refusedTold question number place headers
 refused-as number place headers q t = t ∙ ap (λ (x : Question). refusedTold x number place headers) (sym q)
 
 module _ (edition : Edition) (s table flat out : List ℕ) where
-  pub leaves-rules : {r : Reason} → r ≡ ruled edition s → Leaves edition Rules s table out (reasonTold r) table flat out
+  pub leaves-rules : {r : Reason} → r ≡ ruled edition s → Leaves edition Rules s table flat out (reasonTold r) table flat out
   leaves-rules e = record { answered = ap reasonTold e; tabled = refl; put = refl; beside = tt }
 
-  pub leaves-check : {r : Checked} {after : List ℕ} → CheckOutcome edition s table r after → Leaves edition Check s table out (checkTold r) after flat out
+  pub leaves-check : {r : Checked} {after : List ℕ} → CheckOutcome edition s table r after → Leaves edition Check s table flat out (checkTold r) after flat out
   leaves-check e = record { answered = ap checkTold (e .answered); tabled = e .tabled; put = refl; beside = tt }
 
-  pub leaves-content : {element : ℕ} {r : Found} → Fetches edition s element r → Leaves edition (Content element) s table out (locatedTold r) table flat out
+  pub leaves-content : {element : ℕ} {r : Found} → Fetches edition s element r → Leaves edition (Content element) s table flat out (locatedTold r) table flat out
   leaves-content e = record { answered = ap locatedTold (e .answered); tabled = refl; put = refl; beside = e .stands }
 
   pub leaves-joined : {element : ℕ} {r : Copied} {after : List ℕ} → JoinedOutcome edition s element out r after
-      → Leaves edition (Joined element) s table out (copiedTold r) table flat after
+      → Leaves edition (Joined element) s table flat out (copiedTold r) table flat after
   leaves-joined e = record { answered = ap copiedTold (e .answered); tabled = refl; put = e .put; beside = tt }
 
-  pub leaves-list : {side : Side} {room : ℕ} {r : Listed} {after : List ℕ} → ListsFlat edition side s table room r after flat
-      → Leaves edition (Reading side room) s table out (listedTold r) after flat out
+  pub leaves-list : {side : Side} {room : ℕ} {r : Listed} {after flatAfter : List ℕ} → ListsFlat edition side s table room r after flatAfter
+      → Leaves edition (Reading side room) s table flat out (listedTold r) after flatAfter out
   leaves-list e = record {
     answered = ap listedTold (e .answered);
     tabled = e .tabled;
@@ -102,9 +106,13 @@ module _ (edition : Edition) (s table flat out : List ℕ) where
     beside = record { stored = e .stored; fits = e .fits; enough = e .enough };
   }
 
+  pub leaves-children : {row room : ℕ} {r : Related} {after flatAfter : List ℕ} → Relates edition s table row room flat r after flatAfter
+      → Leaves edition (Children row room) s table flat out (relatedTold r) after flatAfter out
+  leaves-children e = record { answered = ap relatedTold (e .answered); tabled = e .tabled; put = refl; beside = e .filled }
+
   -- whatever is asked, nothing that was lent is touched
   pub leaves-refused : (question : Question) (number place headers : ℕ) → letterIn edition s ≡ refusal number place headers
-      → Leaves edition question s table out (refusedTold question number place headers) table flat out
+      → Leaves edition question s table flat out (refusedTold question number place headers) table flat out
   leaves-refused Rules number place headers e = let r = ruled-refused edition s e in record { answered = rw r; tabled = refl; put = refl; beside = tt }
   leaves-refused Check number place headers e = leaves-check (checks-refused edition s table number place headers e)
   leaves-refused (Content element) number place headers e = leaves-content (fetches-refused edition s element number place headers e)
@@ -112,21 +120,29 @@ module _ (edition : Edition) (s table flat out : List ℕ) where
       let low = refusal-small edition s number place headers e .low in
       leaves-joined (joins-none edition s element out number place (λ z. omega arith) (joins-refused edition s element number place headers e))
   leaves-refused (Reading side room) number place headers e = leaves-list (lists-refused edition side s table flat room number place headers e)
+  leaves-refused (Children row room) number place headers e = leaves-children (relates-refused edition s table row room flat number place headers e)
 
 -- what each question answers, from what its work left
-module _ {edition : Edition} {s table out : List ℕ} {told : Told} {tableAfter flat outAfter : List ℕ} where
-  pub check-left : Leaves edition Check s table out told tableAfter flat outAfter → CheckOutcome edition s table (checkOf told) tableAfter
+module _ {edition : Edition} {s table flat out : List ℕ} {told : Told} {tableAfter flatAfter outAfter : List ℕ} where
+  pub check-left : Leaves edition Check s table flat out told tableAfter flatAfter outAfter → CheckOutcome edition s table (checkOf told) tableAfter
   check-left l = record { answered = ap checkOf (l .answered); tabled = l .tabled }
 
-  pub content-left : {element : ℕ} → Leaves edition (Content element) s table out told tableAfter flat outAfter → Fetches edition s element (locatedOf told)
+  pub content-left : {element : ℕ} → Leaves edition (Content element) s table flat out told tableAfter flatAfter outAfter → Fetches edition s element (locatedOf told)
   content-left l = record { answered = ap locatedOf (l .answered); stands = l .beside }
 
-  pub joined-left : {element : ℕ} → Leaves edition (Joined element) s table out told tableAfter flat outAfter → JoinedOutcome edition s element out (copiedOf told) outAfter
+  pub joined-left : {element : ℕ} → Leaves edition (Joined element) s table flat out told tableAfter flatAfter outAfter → JoinedOutcome edition s element out (copiedOf told) outAfter
   joined-left l = record { answered = ap copiedOf (l .answered); put = l .put }
 
-  pub lists-told : {side : Side} {room : ℕ} {answer : Listed} → answer ≡ listedOf told → Leaves edition (Reading side room) s table out told tableAfter flat outAfter
-      → ListsFlat edition side s table room answer tableAfter flat
+  pub lists-told : {side : Side} {room : ℕ} {answer : Listed} → answer ≡ listedOf told → Leaves edition (Reading side room) s table flat out told tableAfter flatAfter outAfter
+      → ListsFlat edition side s table room answer tableAfter flatAfter
   lists-told {side} {room} e l =
       let b = l .beside in
-      subst (λ (r : Listed). ListsFlat edition side s table room r tableAfter flat) (sym e)
+      subst (λ (r : Listed). ListsFlat edition side s table room r tableAfter flatAfter) (sym e)
       (record { answered = ap listedOf (l .answered); tabled = l .tabled; stored = b .stored; fits = b .fits; enough = b .enough })
+
+  pub children-left : {row : ℕ} → Leaves edition (Children row (length flat)) s table flat out told tableAfter flatAfter outAfter
+      → ChildrenOutcome edition s table row flat (relatedOf told) tableAfter flatAfter
+  unfolding relatedList
+  children-left {row} l =
+      let told-is : told .number ≡ related edition s table row (length flat) .number = ap (λ (t : Told). t .number) (l .answered) in
+      record { answered = ap relatedOf (l .answered); tabled = l .tabled; filled = l .beside ∙ rw told-is }

@@ -42,9 +42,17 @@ rowsIn edition s = rowsOfStream edition s
 abbrev pub onto : {A : Type 0} → List A → List A → List A
 onto values lent = values ++ drop (length values) lent
 
+-- what its elements say
+abbrev pub elementsBy : Letter → List Element
+elementsBy (refusal number place headers) = []
+elementsBy (letter headers elements) = elements
+
+abbrev pub elementsIn : Edition → List ℕ → List Element
+elementsIn edition s = elementsBy (letterIn edition s)
+
 -- the finished table
 abbrev pub tableOf : Edition → (s table : List ℕ) → List ℕ
-tableOf edition s table = onto (tableNumbers (rowsIn edition s)) table
+tableOf edition s table = onto (tableNumbers (elementsIn edition s) (rowsIn edition s)) table
 
 -- The rules alone, for a question that wants no more: the number and place of a refusal by 1 to 15, 0 and 0 of a letter.
 abbrev pub ruledBy : Letter → Reason

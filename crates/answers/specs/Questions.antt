@@ -15,10 +15,12 @@ use Rattle.answers.specs.declared.Listed.{Listed}
 use Rattle.answers.specs.declared.Reason.{Reason}
 use Rattle.answers.specs.declared.Found.{Found}
 use Rattle.answers.specs.declared.Copied.{Copied}
+use Rattle.answers.specs.declared.Related.{Related}
 use Rattle.answers.specs.declared.Told.{Told}
 use Rattle.answers.specs.declared.Question.{Question}
-use Rattle.answers.specs.declared.Question.the-variants.{Rules, Check, Content, Joined, List as Reading}
+use Rattle.answers.specs.declared.Question.the-variants.{Rules, Check, Content, Joined, List as Reading, Children}
 use Rattle.answers.specs.Answers.{checked, checkedTable, listed, listedTable, matchesIn, ruled, refusedCheck, located, Stands, copied, copiedOutput}
+use Rattle.answers.specs.Related.{related, relatedTable, childrenOnto}
 
 -- each answer in the one form in which the work tells it: what a question does not ask for is 0
 abbrev pub reasonTold : Reason → Told
@@ -36,6 +38,9 @@ copiedTold r = record { number = r .number; place = r .place; headers = 0; eleme
 abbrev pub listedTold : Listed → Told
 listedTold r = record { number = r .number; place = r .place; headers = 0; elements = r .elements; listed = r .matches; length = 0; first = 0; past = 0 }
 
+abbrev pub relatedTold : Related → Told
+relatedTold r = record { number = r .number; place = r .place; headers = 0; elements = r .elements; listed = r .children; length = 0; first = 0; past = 0 }
+
 -- and the answer again, of what was told
 abbrev pub checkOf : Told → Checked
 checkOf t = record { number = t .number; place = t .place; headers = t .headers; elements = t .elements }
@@ -49,6 +54,9 @@ copiedOf t = record { number = t .number; place = t .place; length = t .length }
 abbrev pub listedOf : Told → Listed
 listedOf t = record { number = t .number; place = t .place; elements = t .elements; matches = t .listed }
 
+abbrev pub relatedOf : Told → Related
+relatedOf t = record { number = t .number; place = t .place; elements = t .elements; children = t .listed }
+
 -- what is told of a stream, with this table and this buffer lent
 abbrev pub toldTo : Edition → Question → (s table out : List ℕ) → Told
 toldTo edition Rules s table out = reasonTold (ruled edition s)
@@ -56,6 +64,7 @@ toldTo edition Check s table out = checkTold (checked edition s table)
 toldTo edition (Content element) s table out = locatedTold (located edition s element)
 toldTo edition (Joined element) s table out = copiedTold (copied edition s element out)
 toldTo edition (Reading side room) s table out = listedTold (listed edition side s table room)
+toldTo edition (Children row room) s table out = relatedTold (related edition s table row room)
 
 -- what is told of a stream that rules 1 to 15 refuse: the check alone is told how many headers passed
 abbrev pub refusedTold : Question → (number place headers : ℕ) → Told
@@ -64,6 +73,7 @@ refusedTold Check number place headers = checkTold (refusedCheck number place he
 refusedTold (Content element) number place headers = reasonTold (record { number = number; place = place })
 refusedTold (Joined element) number place headers = reasonTold (record { number = number; place = place })
 refusedTold (Reading side room) number place headers = reasonTold (record { number = number; place = place })
+refusedTold (Children row room) number place headers = reasonTold (record { number = number; place = place })
 
 -- the table at exit
 abbrev pub tableLeft : Edition → Question → (s table : List ℕ) → List ℕ
@@ -72,6 +82,7 @@ tableLeft edition Check s table = checkedTable edition s table
 tableLeft edition (Content element) s table = table
 tableLeft edition (Joined element) s table = table
 tableLeft edition (Reading side room) s table = listedTable edition side s table room
+tableLeft edition (Children row room) s table = relatedTable edition s table row room
 
 -- the buffer at exit
 abbrev pub outLeft : Edition → Question → (s out : List ℕ) → List ℕ
@@ -80,6 +91,7 @@ outLeft edition Check s out = out
 outLeft edition (Content element) s out = out
 outLeft edition (Joined element) s out = copiedOutput edition s element out
 outLeft edition (Reading side room) s out = out
+outLeft edition (Children row room) s out = out
 
 -- the reading list as numbers, three a record: as many as are told, all matches if the number is 0
 pub record Numbered (edition : Edition) (side : Side) (s : List ℕ) (room number count : ℕ) (flat : List ℕ) : Type 0 where
@@ -87,25 +99,27 @@ pub record Numbered (edition : Edition) (side : Side) (s : List ℕ) (room numbe
   pub fits : 3 * count ≤ length flat
   pub enough : count ≤ room
 
--- what else a question leaves: of a list, its numbers
-abbrev pub Beside : Edition → Question → (s : List ℕ) → Told → (flat : List ℕ) → Type 0
-Beside edition Rules s told flat = Unit {0}
-Beside edition Check s told flat = Unit {0}
-Beside edition (Content element) s told flat = Stands edition s element (told .first) (told .past)
-Beside edition (Joined element) s told flat = Unit {0}
-Beside edition (Reading side room) s told flat = Numbered edition side s room (told .number) (told .listed) flat
+-- what else a question leaves: of a list, its numbers; of the children, the lent list itself
+abbrev pub Beside : Edition → Question → (s : List ℕ) → Told → (flat flatAfter : List ℕ) → Type 0
+Beside edition Rules s told flat flatAfter = Unit {0}
+Beside edition Check s told flat flatAfter = Unit {0}
+Beside edition (Content element) s told flat flatAfter = Stands edition s element (told .first) (told .past)
+Beside edition (Joined element) s told flat flatAfter = Unit {0}
+Beside edition (Reading side room) s told flat flatAfter = Numbered edition side s room (told .number) (told .listed) flatAfter
+Beside edition (Children row room) s told flat flatAfter = flatAfter ≡ childrenOnto edition s row (told .number) flat
 
 -- the contract of the work, and of all that leads to it
-pub record Leaves (edition : Edition) (question : Question) (s table out : List ℕ) (told : Told) (tableAfter flat outAfter : List ℕ) : Type 0 where
+pub record Leaves (edition : Edition) (question : Question) (s table flat out : List ℕ) (told : Told) (tableAfter flatAfter outAfter : List ℕ) : Type 0 where
   pub answered : told ≡ toldTo edition question s table out
   pub tabled : tableAfter ≡ tableLeft edition question s table
   pub put : outAfter ≡ outLeft edition question s out
-  pub beside : Beside edition question s told flat
+  pub beside : Beside edition question s told flat flatAfter
 
--- a reading list is made as numbers, so there is room for a record of each element
+-- a reading list is made as numbers, so there is room for a record of each element; children are put to the lent list, which has the room that is told
 abbrev pub Roomy : Question → (s : List ℕ) → (numbers : ℕ) → Type 0
 Roomy Rules s numbers = Unit {0}
 Roomy Check s numbers = Unit {0}
 Roomy (Content element) s numbers = Unit {0}
 Roomy (Joined element) s numbers = Unit {0}
 Roomy (Reading side room) s numbers = 3 * rowsNeeded s ≤ numbers
+Roomy (Children row room) s numbers = room ≤ numbers

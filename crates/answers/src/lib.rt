@@ -13,15 +13,22 @@ ghost use Rattle.tree.specs.Accepts.{Accepts};
 ghost use Rattle.letters.specs.Lent.{rowsNeeded};
 ghost use Rattle.letters.specs.Scratch.{Filled};
 ghost use Rattle.answers.specs.Answers.{refusedCheck, CheckOutcome};
-ghost use Rattle.answers.specs.Asking.{JudgedIn, ListsFlat};
-ghost use Rattle.answers.specs.Questions.{reasonTold, checkTold, locatedTold, copiedTold, listedTold, listedOf, refusedTold, Leaves, Roomy};
+ghost use Rattle.answers.specs.Asking.{ListsFlat};
+ghost use Rattle.answers.specs.Questions.{reasonTold, checkTold, locatedTold, copiedTold, listedTold, relatedTold, listedOf, refusedTold, Leaves, Roomy};
 
+mod children; // children.rt: the children of a row
 mod content; // content.rt: the content of one element, as a part or copied
+mod date; // date.rt: the date of the document
+mod first_date; // first_date.rt: the same by the first element alone
 mod table; // table.rt: the lent table
 
+use children::children_judged;
 use content::join_judged;
 use content::locate_judged;
-use table::TABLE_WIDTH;
+pub use date::date_of_letter;
+pub use date::refused_date;
+pub use first_date::date_of_first;
+pub use table::TABLE_WIDTH;
 
 // The numbers of refusals that come after rules 1 to 15, those of the questions themselves; 17 and 18 are crate normal's.
 const TOO_FEW_ROWS: u32 = 16;
@@ -33,6 +40,11 @@ const NO_UNIT: u32 = 20;
 const IN_PIECES: u32 = 21;
 
 const COPY_TOO_SHORT: u32 = 22;
+
+// Document 01's 20 is what does not exist: a text unit there, a row here.
+const NO_ROW: u32 = 20;
+
+const CHILDREN_TOO_SHORT: u32 = 25;
 
 // What the check answers. Number 0 is accepted.
 #[repr(C)]
@@ -84,13 +96,48 @@ pub struct Copied {
     pub length: u32,
 }
 
-// A question that is put to a stream. Those that want a list say how many records it has room for.
+// The date of the document: the bounds of its octets in the stream, and its day. With a refusal they are 0.
+#[repr(C)]
+pub struct Dated {
+    pub number: u32,
+    pub place: u32,
+    pub first: u32,
+    pub past: u32,
+    pub year: u32,
+    pub month: u32,
+    pub day: u32,
+}
+
+// The same by the first element alone, with the note that the remainder is unread: always 1.
+#[repr(C)]
+pub struct FirstDated {
+    pub number: u32,
+    pub place: u32,
+    pub first: u32,
+    pub past: u32,
+    pub year: u32,
+    pub month: u32,
+    pub day: u32,
+    pub unread: u32,
+}
+
+// What is answered of the children of a row.
+#[repr(C)]
+pub struct Related {
+    pub number: u32,
+    pub place: u32,
+    pub elements: u32,
+    pub children: u32,
+}
+
+// A question that is put to a stream. Those that want a list say how many records or rows it has room for.
 pub enum Question {
     Rules,
     Check,
     Content { element: usize },
     Joined { element: usize },
     List { side: Side, room: usize },
+    Children { row: usize, room: usize },
 }
 
 // What the work of any question tells. What the question does not ask for is 0.
@@ -130,17 +177,21 @@ fn check_judged(
     stream: &[u8],
     headers: u32,
     rows: &[u32],
+    head: &[u16],
+    next: &[u16],
+    head2: &[u16],
+    next2: &[u16],
     count: usize,
     table: &mut [u32],
 ) -> Checked
     requires { ⌜ walkOf (now stream) ≡ Outcome.Ended (length (now stream)) headers ⌝ }
-    requires { ⌜ JudgedIn edition (now stream) (now rows) count ⌝ }
+    requires { ⌜ Filled edition (now stream) (now rows) (now head) (now next) (now head2) (now next2) count ⌝ }
     ensures { λ r. ⌜ CheckOutcome edition (now (stream .entry)) (now (table .entry)) r (now (table .exit)) ⌝ }
 {
     if table.len() / TABLE_WIDTH < count {
         return refused_check(TOO_FEW_ROWS, 0, headers);
     }
-    table::fill(rows, count, table);
+    table::fill(stream, rows, head, next, count, table);
     Checked {
         number: 0,
         place: 0,
@@ -177,7 +228,7 @@ fn list_judged(
             matches: 0,
         };
     }
-    table::fill(rows, elements, table);
+    table::fill(stream, rows, head, next, elements, table);
     let matches = reading::list_matches(
         stream,
         rows,
@@ -281,6 +332,21 @@ fn tell_listed(r: Listed) -> Told
     }
 }
 
+fn tell_related(r: Related) -> Told
+    ensures { λ told. ⌜ told ≡ relatedTold r ⌝ }
+{
+    Told {
+        number: r.number,
+        place: r.place,
+        headers: 0,
+        elements: r.elements,
+        listed: r.children,
+        length: 0,
+        first: 0,
+        past: 0,
+    }
+}
+
 // The list's answer, of what was told.
 pub fn listed_of(told: Told) -> Listed
     ensures { λ r. ⌜ r ≡ listedOf told ⌝ }
@@ -303,6 +369,7 @@ pub fn tell_refused(question: Question, number: u32, place: u32, headers: u32) -
         Question::Content { element: _ } => tell_reason(Reason { number, place }),
         Question::Joined { element: _ } => tell_reason(Reason { number, place }),
         Question::List { side: _, room: _ } => tell_reason(Reason { number, place }),
+        Question::Children { row: _, room: _ } => tell_reason(Reason { number, place }),
     }
 }
 
@@ -325,7 +392,7 @@ pub fn work(
     requires { ⌜ walkOf (now stream) ≡ Outcome.Ended (length (now stream)) headers ⌝ }
     requires { ⌜ Filled edition (now stream) (now rows) (now head) (now next) (now head2) (now next2) count ⌝ }
     requires { ⌜ Roomy question (now stream) (length (now flat)) ⌝ }
-    ensures { λ r. ⌜ Leaves edition question (now (stream .entry)) (now (table .entry)) (now (out .entry)) r (now (table .exit)) (now (flat .exit))
+    ensures { λ r. ⌜ Leaves edition question (now (stream .entry)) (now (table .entry)) (now (flat .entry)) (now (out .entry)) r (now (table .exit)) (now (flat .exit))
         (now (out .exit)) ⌝ }
 {
     match question {
@@ -333,7 +400,18 @@ pub fn work(
             number: 0,
             place: 0,
         }),
-        Question::Check => tell_checked(check_judged(edition, stream, headers, rows, count, table)),
+        Question::Check => tell_checked(check_judged(
+            edition,
+            stream,
+            headers,
+            rows,
+            head,
+            next,
+            head2,
+            next2,
+            count,
+            table,
+        )),
         Question::Content { element } => tell_located(locate_judged(
             edition,
             stream,
@@ -353,6 +431,20 @@ pub fn work(
             edition,
             stream,
             side,
+            room,
+            rows,
+            head,
+            next,
+            head2,
+            next2,
+            count,
+            table,
+            flat,
+        )),
+        Question::Children { row, room } => tell_related(children_judged(
+            edition,
+            stream,
+            row,
             room,
             rows,
             head,

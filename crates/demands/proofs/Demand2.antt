@@ -20,7 +20,7 @@ use Rattle.tree.proofs.Meaning.{means, accepts}
 use Rattle.runs.proofs.Laws.{stream-fine, stream-count}
 use Rattle.normal.specs.Normal.{normalForm}
 use Rattle.normal.proofs.RoundTrip.{round-trip, form-tree}
-use Rattle.index.specs.Rows.{rowWidth}
+use Rattle.answers.specs.Table.{tableWidth}
 use Rattle.elements.specs.declared.Row.{Row}
 use Rattle.elements.specs.declared.Edition.{Edition}
 use Rattle.elements.specs.Judge.{Element, accepted, judge}
@@ -66,7 +66,7 @@ module _ (edition : Edition) (s : List ℕ) (headers : ℕ) (elements : List Ele
       let fine = stream-fine s (found .at) headers (found .walked) in
       proper (derives deepest s 0 (length s) false (fine .order)) (fine .whole) (omega arith)
 
-  counted : length (rowsIn edition s) ≡ length elements
+  pub counted : length (rowsIn edition s) ≡ length elements
   counted = rows-counted edition s items-proper elements (found .judged)
 
   pub tell : (j : ℕ) (row : Row) (item : TopItem) (element : Element) → getElem? (rowsIn edition s) j ≡ some row → getElem? (topItems (treeOf s)) j ≡ some item
@@ -78,16 +78,16 @@ module _ (edition : Edition) (s : List ℕ) (headers : ℕ) (elements : List Ele
   top-at j element there = at-below (topItems (treeOf s)) j (omega (arith, below-length elements j element there, tops-counted edition s items-proper elements (found .judged)))
 
   -- the check
-  checks : (table : List ℕ) → length elements ≤ length table / rowWidth
+  checks : (table : List ℕ) → length elements ≤ length table / tableWidth
       → (checked edition s table ≡ record { number = 0; place = 0; headers = headers; elements = length elements }) × (checkedTable edition s table ≡ tableOf edition s table)
   checks table enough = let r = checks-letter edition s table headers (length elements) elements e refl enough in (sym (r .answered), sym (r .tabled))
 
-  checks-16 : (table : List ℕ) → (checked edition s table .number ≡ 16) ↔ (length table / rowWidth < length elements)
+  checks-16 : (table : List ℕ) → (checked edition s table .number ≡ 16) ↔ (length table / tableWidth < length elements)
   unfolding checked
   checks-16 table =
-      cases (ltb (length table / rowWidth) (length elements))
-      (λ t. rw (e, t) (λ _. ltb-true (length table / rowWidth) (length elements) t, λ _. refl))
-      (λ t. rw (e, t) (λ p. absurd (omega arith), λ l. absurd (omega (arith, ltb-false (length table / rowWidth) (length elements) t))))
+      cases (ltb (length table / tableWidth) (length elements))
+      (λ t. rw (e, t) (λ _. ltb-true (length table / tableWidth) (length elements) t, λ _. refl))
+      (λ t. rw (e, t) (λ p. absurd (omega arith), λ l. absurd (omega (arith, ltb-false (length table / tableWidth) (length elements) t))))
 
   -- the normal form that is written
   abbrev size : ℕ

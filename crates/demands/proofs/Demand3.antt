@@ -11,7 +11,7 @@ use lib.Dec.{ltb}
 use lib.ListN.{length, getElem?}
 use borrow.Author.Tests.{le-ltb, ltb-true, ltb-false}
 use borrow.Table.Steps.{cases}
-use Rattle.index.specs.Rows.{rowWidth}
+use Rattle.answers.specs.Table.{tableWidth}
 use Rattle.tree.specs.Tree.{treeOf}
 use Rattle.elements.specs.declared.Edition.{Edition}
 use Rattle.elements.specs.Judge.{Element}
@@ -28,22 +28,23 @@ use Rattle.answers.proofs.Letters.{letter-found}
 use Rattle.answers.specs.Answers.{letterIn, onto, tableOf, listed, listedTable, matchesIn, listedList}
 use Rattle.demands.specs.Demands.{In, Demand3}
 
--- a member of a list stands somewhere in it
-member-in : (m : Match) (ms : List Match) → List·Memᴰ m ms → In m ms
-member-in m (x ∷ ms) (List·Memᴰ·head e) = (0, ap some (sym e))
-member-in m (x ∷ ms) (List·Memᴰ·tail i) = let (k, e) = member-in m ms i in (suc k, e)
+module _ {A : Type 0} where
+  -- a member of a list stands somewhere in it
+  pub member-in : (m : A) (ms : List A) → List·Memᴰ m ms → (i : ℕ) × (getElem? ms i ≡ some m)
+  member-in m (x ∷ ms) (List·Memᴰ·head e) = (0, ap some (sym e))
+  member-in m (x ∷ ms) (List·Memᴰ·tail i) = let (k, e) = member-in m ms i in (suc k, e)
 
-in-member : (m : Match) (ms : List Match) (i : ℕ) → getElem? ms i ≡ some m → List·Memᴰ m ms
-in-member m [] i e = let z : _≡_ {A = ℕ} 0 1 = cc in absurd (omega arith)
-in-member m (x ∷ ms) zero e = let f : m ≡ x = cc in List·Memᴰ·head f
-in-member m (x ∷ ms) (suc i) e = List·Memᴰ·tail (in-member m ms i e)
+  pub in-member : (m : A) (ms : List A) (i : ℕ) → getElem? ms i ≡ some m → List·Memᴰ m ms
+  in-member m [] i e = let z : _≡_ {A = ℕ} 0 1 = cc in absurd (omega arith)
+  in-member m (x ∷ ms) zero e = let f : m ≡ x = cc in List·Memᴰ·head f
+  in-member m (x ∷ ms) (suc i) e = List·Memᴰ·tail (in-member m ms i e)
 
--- of a sorted list an earlier one stands before a later one
-sorted-at : (ms : List Match) → Sorted Before ms → (i j : ℕ) (m n : Match) → i < j → getElem? ms i ≡ some m → getElem? ms j ≡ some n → Before m n
-sorted-at [] o i j m n l p q = let z : _≡_ {A = ℕ} 0 1 = cc in absurd (omega arith)
-sorted-at (x ∷ ms) o i zero m n l p q = absurd (omega arith)
-sorted-at (x ∷ ms) o zero (suc j) m n l p q = let f : x ≡ m = cc in subst (λ (y : Match). Before y n) f (o .0 n (in-member n ms j q))
-sorted-at (x ∷ ms) o (suc i) (suc j) m n l p q = sorted-at ms (o .1) i j m n (omega arith) p q
+  -- of a sorted list an earlier one stands before a later one
+  pub sorted-at : (R : A → A → Type 0) (ms : List A) → Sorted R ms → (i j : ℕ) (m n : A) → i < j → getElem? ms i ≡ some m → getElem? ms j ≡ some n → R m n
+  sorted-at R [] o i j m n l p q = let z : _≡_ {A = ℕ} 0 1 = cc in absurd (omega arith)
+  sorted-at R (x ∷ ms) o i zero m n l p q = absurd (omega arith)
+  sorted-at R (x ∷ ms) o zero (suc j) m n l p q = let f : x ≡ m = cc in subst (λ (y : A). R y n) f (o .0 n (in-member n ms j q))
+  sorted-at R (x ∷ ms) o (suc i) (suc j) m n l p q = sorted-at R ms (o .1) i j m n (omega arith) p q
 
 never-itself : (m : Match) → Before m m → ⊥
 never-itself m (inl l) = omega arith
@@ -63,7 +64,7 @@ module _ (edition : Edition) (side : Side) (s : List ℕ) (headers : ℕ) (eleme
       (λ i. matches-are side elements m (in-member m ms (i .0) (i .1)), λ is. member-in m ms (matches-all side elements m is))
 
   ordered : (i j : ℕ) (m n : Match) → i < j → getElem? (matchesIn edition side s) i ≡ some m → getElem? (matchesIn edition side s) j ≡ some n → Before m n
-  ordered = rw the-list (sorted-at ms (matches-sorted side elements))
+  ordered = rw the-list (sorted-at Before ms (matches-sorted side elements))
 
   once : (i j : ℕ) (m : Match) → getElem? (matchesIn edition side s) i ≡ some m → getElem? (matchesIn edition side s) j ≡ some m → i ≡ j
   once i j m p q =
@@ -71,34 +72,34 @@ module _ (edition : Edition) (side : Side) (s : List ℕ) (headers : ℕ) (eleme
       let not-above : j < i → ⊥ = λ l. never-itself m (ordered j i m m l q p) in
       omega arith
 
-  lists : (table : List ℕ) (list : List Match) → length elements ≤ length table / rowWidth → length (matchesIn edition side s) ≤ length list
+  lists : (table : List ℕ) (list : List Match) → length elements ≤ length table / tableWidth → length (matchesIn edition side s) ≤ length list
       → (listed edition side s table (length list) ≡ record { number = 0; place = 0; elements = length elements; matches = length (matchesIn edition side s) })
       × (listedTable edition side s table (length list) ≡ tableOf edition s table) × (listedList edition side s table list ≡ onto (matchesIn edition side s) list)
   unfolding listed listedTable listedList
   lists table list rows room =
-      let a : ltb (length table / rowWidth) (length elements) ≡ false = le-ltb (length table / rowWidth) (length elements) rows in
+      let a : ltb (length table / tableWidth) (length elements) ≡ false = le-ltb (length table / tableWidth) (length elements) rows in
       let fits : length ms ≤ length list = subst (λ (l : List Match). length l ≤ length list) the-list room in
       let b : ltb (length list) (length ms) ≡ false = le-ltb (length list) (length ms) fits in
       (rw (e, a, b), rw (e, a, b), rw (e, a, b))
 
-  lists-16 : (table : List ℕ) (room : ℕ) → (listed edition side s table room .number ≡ 16) ↔ (length table / rowWidth < length elements)
+  lists-16 : (table : List ℕ) (room : ℕ) → (listed edition side s table room .number ≡ 16) ↔ (length table / tableWidth < length elements)
   unfolding listed
   lists-16 table room =
-      cases (ltb (length table / rowWidth) (length elements))
-      (λ t. rw (e, t) (λ _. ltb-true (length table / rowWidth) (length elements) t, λ _. refl))
+      cases (ltb (length table / tableWidth) (length elements))
+      (λ t. rw (e, t) (λ _. ltb-true (length table / tableWidth) (length elements) t, λ _. refl))
       (λ t.
-      let l = ltb-false (length table / rowWidth) (length elements) t in
+      let l = ltb-false (length table / tableWidth) (length elements) t in
       cases (ltb room (length ms))
       (λ u. rw (e, t, u) (λ p. absurd (omega arith), λ k. absurd (omega arith)))
       (λ u. rw (e, t, u) (λ p. absurd (omega arith), λ k. absurd (omega arith))))
 
-  lists-19 : (table : List ℕ) (room : ℕ) → (listed edition side s table room .number ≡ 19) ↔ ((length elements ≤ length table / rowWidth) × (room < length (matchesIn edition side s)))
+  lists-19 : (table : List ℕ) (room : ℕ) → (listed edition side s table room .number ≡ 19) ↔ ((length elements ≤ length table / tableWidth) × (room < length (matchesIn edition side s)))
   unfolding listed
   lists-19 table room =
-      cases (ltb (length table / rowWidth) (length elements))
-      (λ t. let l = ltb-true (length table / rowWidth) (length elements) t in rw (e, t) (λ p. absurd (omega arith), λ k. absurd (omega arith)))
+      cases (ltb (length table / tableWidth) (length elements))
+      (λ t. let l = ltb-true (length table / tableWidth) (length elements) t in rw (e, t) (λ p. absurd (omega arith), λ k. absurd (omega arith)))
       (λ t.
-      let l = ltb-false (length table / rowWidth) (length elements) t in
+      let l = ltb-false (length table / tableWidth) (length elements) t in
       cases (ltb room (length ms))
       (λ u. let m = ltb-true room (length ms) u in rw (e, t, u) (λ _. (l, m), λ _. refl))
       (λ u. let m = ltb-false room (length ms) u in rw (e, t, u) (λ p. absurd (omega arith), λ k. absurd (omega arith))))
@@ -107,7 +108,7 @@ module _ (edition : Edition) (side : Side) (s : List ℕ) (headers : ℕ) (eleme
       → listed edition side s table room .number ≡ 0
   unfolding listed
   lists-else table room =
-      cases (ltb (length table / rowWidth) (length elements))
+      cases (ltb (length table / tableWidth) (length elements))
       (λ t. rw (e, t) (λ n m. absurd (n refl)))
       (λ t.
       cases (ltb room (length ms))

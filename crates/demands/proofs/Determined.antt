@@ -11,6 +11,8 @@ use Rattle.answers.specs.declared.Listed.{Listed}
 use Rattle.answers.specs.declared.Reason.{Reason}
 use Rattle.answers.specs.declared.Found.{Found}
 use Rattle.answers.specs.declared.Copied.{Copied}
+use Rattle.answers.specs.declared.Related.{Related}
+use Rattle.answers.specs.Related.{ChildrenOutcome}
 use Rattle.answers.specs.Short.{ShortOutcome}
 use Rattle.answers.specs.Answers.{CheckOutcome, NormalOutcome, ListOutcome, fetched, whyNot, Fetches, JoinedOutcome}
 
@@ -40,3 +42,7 @@ located-determined x y = x .answered ∙ sym (y .answered)
 pub joined-determined : {edition : Edition} {s : List ℕ} {asked : ℕ} {out : List ℕ} {a b : Copied} {t u : List ℕ}
     → JoinedOutcome edition s asked out a t → JoinedOutcome edition s asked out b u → (a ≡ b) × (t ≡ u)
 joined-determined x y = (x .answered ∙ sym (y .answered), x .put ∙ sym (y .put))
+
+pub children-determined : {edition : Edition} {s table : List ℕ} {row : ℕ} {list : List ℕ} {a b : Related} {t u m n : List ℕ}
+    → ChildrenOutcome edition s table row list a t m → ChildrenOutcome edition s table row list b u n → (a ≡ b) × (t ≡ u) × (m ≡ n)
+children-determined x y = (x .answered ∙ sym (y .answered), x .tabled ∙ sym (y .tabled), x .filled ∙ sym (y .filled))

@@ -1,6 +1,8 @@
 -- Demand1, Demand2, Demand3: a value of each demand. Refusals: when each of 1 to 15 is given. Telling: a row tells what its element says.
 -- Joining: of the content. Kept: what the normal form keeps, row by row. SameLetter: when two files are the same letter. Mailroom: the
--- mailroom's normal form. Examples: the examples hold. Determined: two outcomes of one contract are equal. Wrong: the wrong programs of
+-- mailroom's normal form. Examples: the examples hold. DocumentDate, FirstDate: the date of the document, and by the first element alone. Determined: two outcomes of one contract are equal. Wrong: the wrong programs of
+-- Joining: of the content. Kept: what the normal form keeps, row by row. Family: parents and children. SameLetter: when two files are the same letter.
+-- Mailroom: the mailroom's normal form. Examples: the examples hold. Determined: two outcomes of one contract are equal. Wrong: the wrong programs of
 -- document 01 meet no contract.
 pub mod Demand1
 pub mod Refusals
@@ -9,8 +11,13 @@ pub mod Joining
 pub mod Demand2
 pub mod Demand3
 pub mod Kept
+pub mod Family
 pub mod SameLetter
 pub mod Mailroom
+pub mod DocumentDate
+pub mod FirstDate
+pub mod OneElement
+pub mod Editions
 pub mod Examples
 pub mod Determined
 pub mod Wrong

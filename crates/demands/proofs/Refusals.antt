@@ -297,7 +297,7 @@ module _ (edition : Edition) where
   refused-by : (t : Tree) (n j : ℕ) → judge edition t ≡ refused n j → RefusedBy edition t n j
   refused-by t n j e = subst (Tells t) e (judge-tells t)
 
-  by-refused : (t : Tree) (n j : ℕ) → RefusedBy edition t n j → (found : Judged) → judge edition t ≡ found → found ≡ refused n j
+  pub by-refused : (t : Tree) (n j : ℕ) → RefusedBy edition t n j → (found : Judged) → judge edition t ≡ found → found ≡ refused n j
   by-refused t n j r (accepted elements) e = absurd (not-both t elements (subst (Tells t) e (judge-tells t)) n j r)
   by-refused t n j r (refused m k) e =
       let (p, q) = only-one t m k n j (subst (Tells t) e (judge-tells t)) r in rw (p, q)

@@ -28,7 +28,7 @@ use Rattle.portions.specs.Portions.{allPortions, values, all}
 use Rattle.elements.specs.Rows.{noSpan, bytesIn, bodyIn, holderIn, contentOctet, boundsAt, rowOf, rowsOf}
 use Rattle.elements.specs.declared.Row.{Row}
 use Rattle.elements.specs.declared.Edition.{Edition}
-use Rattle.elements.specs.Shape.{ContentItem, whole, pieced, Contents, profile, described, unit, style, Shape, shapeOf}
+use Rattle.elements.specs.Shape.{ContentItem, whole, pieced, Contents, profile, described, unit, style, protected, Shape, shapeOf}
 use Rattle.elements.specs.Judge.{bodyOf, identifierOctet, identifierNeeded, logicalOctet, portionsOctet, barred, holdersOf, valueAt, runAt, amountAt, noneOf}
 use Rattle.elements.specs.Judge.{contentIn, contentOf, piecesAlone, Element, elementOf, ordered, asTabled, accepted, judge}
 use Rattle.elements.specs.WellMade.{Formed}
@@ -164,37 +164,42 @@ module _ (s : List ℕ) where
   unfolding bodyIn bodyOf
   body-at profile i = refl
   body-at (described needed types) i = run-at 0x31 refl i
-  body-at (unit holders) i = run-at 0x31 refl i
+  body-at (unit needed holders) i = run-at 0x31 refl i
   body-at style i = refl
+  body-at (protected enciphered) i = refl
 
   body-proper : (contents : Contents) {room : ℕ} {i : Items} → Proper s room i → (levels : ℕ) × Proper s levels (bodyIn contents i)
   unfolding bodyIn
   body-proper profile p = (0, no-more)
   body-proper (described needed types) {room} p = (room - 1, inside-proper 0x31 p)
-  body-proper (unit holders) {room} p = (room - 1, inside-proper 0x31 p)
+  body-proper (unit needed holders) {room} p = (room - 1, inside-proper 0x31 p)
   body-proper style {room} p = (room, p)
+  body-proper (protected enciphered) p = (0, no-more)
 
   -- identifiers are values
   identifier-at : (contents : Contents) {room : ℕ} {i : Items} → Proper s room i
       → TellsValue s (boundsAt (identifierOctet contents) i) (valueAt (identifierOctet contents) (plain s i))
   identifier-at profile p = refl
   identifier-at (described needed types) p = value-at 0x41 refl p
-  identifier-at (unit holders) p = value-at 0x40 refl p
+  identifier-at (unit needed holders) p = value-at 0x40 refl p
   identifier-at style p = value-at 0x45 refl p
+  identifier-at (protected enciphered) p = refl
 
   logical-at : (contents : Contents) {room : ℕ} {i : Items} → Proper s room i
       → TellsValue s (boundsAt (logicalOctet contents) i) (valueAt (logicalOctet contents) (plain s i))
   logical-at profile p = refl
   logical-at (described needed types) p = refl
-  logical-at (unit holders) p = value-at 0x84 refl p
+  logical-at (unit needed holders) p = value-at 0x84 refl p
   logical-at style p = refl
+  logical-at (protected enciphered) p = refl
 
   no-portions-at : (contents : Contents) {room : ℕ} {i : Items} → Proper s room i
       → (boundsAt (portionsOctet contents) i ≡ noSpan) ↔ (amountAt (portionsOctet contents) (plain s i) ≡ 0)
   no-portions-at profile p = (λ _. refl, λ _. refl)
   no-portions-at (described needed types) p = there-at 0xA1 p
-  no-portions-at (unit holders) p = (λ _. refl, λ _. refl)
+  no-portions-at (unit needed holders) p = (λ _. refl, λ _. refl)
   no-portions-at style p = (λ _. refl, λ _. refl)
+  no-portions-at (protected enciphered) p = (λ _. refl, λ _. refl)
 
 -- a type field with the code of one octet is that octet
 is-octet : (octet : ℕ) → octet < 256 → {type : List ℕ} {form : Bool} → TypeField type form → is octet type ≡ true → type ≡ octet ∷ []
@@ -202,7 +207,7 @@ is-octet octet low (oneOctet n a c) e = let same = eqb-true _ octet e in ap (λ 
 is-octet octet low (twoOctets n c l h) e = let same = eqb-true _ octet e in absurd (omega arith)
 is-octet octet low (threeOctets n c l h t) e = let same = eqb-true _ octet e in absurd (omega arith)
 
-both : (a b : Bool) → a && b ≡ true → (a ≡ true) × (b ≡ true)
+pub both : (a b : Bool) → a && b ≡ true → (a ≡ true) × (b ≡ true)
 both true b e = (refl, e)
 both false b e = absurd (false≢true e)
 
@@ -250,8 +255,9 @@ module _ (s : List ℕ) where
       → Codes 1 (portionItems (values (runAt (portionsOctet contents) (plain s i)))) (bytesIn s (boundsAt (portionsOctet contents) i))
   portions-at profile p only = no-list
   portions-at (described needed types) p only = listed-at 0xA1 refl p only
-  portions-at (unit holders) p only = no-list
+  portions-at (unit needed holders) p only = no-list
   portions-at style p only = no-list
+  portions-at (protected enciphered) p only = no-list
 
   -- the octets of the content
   content-at : (holders : List ContentItem) → Formed holders → {i : Items} → Proper s (deepest - 1) i

@@ -70,7 +70,7 @@ Joins f = (s : List ℕ) (asked : ℕ) (out : List ℕ) → JoinedOutcome Of1988
 
 -- a table of three rows
 abbrev table : List ℕ
-table = replicate 36 0
+table = replicate 39 0
 
 -- a profile, the same with a closing mark, and two of them
 abbrev profile : List ℕ

@@ -80,7 +80,7 @@ pub record IsLetterOf (edition : Edition) (s : List ℕ) (headers : ℕ) (elemen
   pub shaped : judge edition tree ≡ accepted elements
   pub counted : headers ≡ itemCount tree
 
--- the levels that are left for pieces: an element stands at level 1, the 24 at level 2, and "level 16 is the deepest"
+-- the levels that are left for pieces: an element stands at level 1, the 24 or 30 at level 2, and "level 16 is the deepest"
 abbrev pub pieceLevels : ℕ
 pieceLevels = deepest - 2
 

@@ -4,7 +4,7 @@
 use Prim.Native.Nat.{ℕ}
 use mathlib.Core.List.{List, [], _∷_}
 use lib.ListN.{take, replicate}
-use Rattle.index.specs.Rows.{rowWidth}
+use Rattle.answers.specs.Table.{tableWidth}
 use Rattle.elements.specs.declared.Edition.the-variants.{Of1988}
 use Rattle.answers.specs.Answers.{checked, written, writtenOutput, copied, copiedOutput}
 
@@ -18,7 +18,7 @@ pub record Example : Type 0 where
 
 -- a table of one row, and an output of four octets
 abbrev pub table : List ℕ
-table = replicate rowWidth 0
+table = replicate tableWidth 0
 
 abbrev pub out : List ℕ
 out = replicate 4 0

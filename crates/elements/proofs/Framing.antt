@@ -19,7 +19,7 @@ use Rattle.elements.specs.declared.Holder.{Holder}
 use Rattle.elements.specs.declared.Slots.{Slots}
 use Rattle.elements.specs.Slots.{slotBody, slotOrdered, slotItems}
 use Rattle.elements.specs.Rows.{noSpan}
-use Rattle.elements.specs.Frames.{Bounding, Inner, HoldingSlots, noHolder, Frames}
+use Rattle.elements.specs.Frames.{Bounding, Inner, NamedIn, HoldingSlots, noHolder, Frames}
 use Rattle.elements.specs.WellMade.{WellMade}
 use Rattle.elements.proofs.Bounding.{empty-fine, empty-items, lacked-bounding}
 use Rattle.elements.proofs.Zero.{zero-lacked}
@@ -33,6 +33,19 @@ either : (a b : Bool) → a || b ≡ true → (a ≡ true) ⊎ (b ≡ true)
 either true b e = inl e
 either false b e = inr e
 
+-- nothing names an element whose items are not looked at
+pub unnamed : (s : List ℕ) (shape : Slots) (r : Run) → shape .looked ≡ false → NamedIn s shape r (definiteRun 0 0 0)
+unfolding slotBody slotItems
+unnamed s shape r l = record { fine = empty-fine s 0; items = rw l (empty-items s 0); tree = rw l (ap (plain s) (empty-items s 0)) }
+
+-- or it is named in one of them
+pub named-within : (s : List ℕ) (shape : Slots) (r : Run) → WellMade shape → shape .free ≡ false → shape .looked ≡ true → {body : Run}
+    → Inner s r (shape .within) body → NamedIn s shape r body
+unfolding slotBody slotItems
+named-within s shape r made f l inner =
+    let there = ne-eqb (shape .within) 0 (not-zero (shape .within) (made .within f l)) in
+    record { fine = inner .fine; items = rw (l, there) (inner .items); tree = rw (l, there) (inner .tree) }
+
 module _ (s : List ℕ) (shape : Slots) (r : Run) (fine : Fine s r) (made : WellMade shape) where
   module _ (f : shape .free ≡ true) where
     free-ordered : slotOrdered shape (treeIn s r) ≡ true
@@ -43,7 +56,9 @@ module _ (s : List ℕ) (shape : Slots) (r : Run) (fine : Fine s r) (made : Well
     no-object = lacked-bounding (zero-lacked (shape .object) (made .no-object f) fine)
 
     no-content : HoldingSlots s shape r noHolder
-    no-content = lacked-holding made (zero-lacked (shape .pieces) (made .no-pieces f) fine) (lacked-bounding (zero-lacked (shape .content) (made .no-content f) fine))
+    no-content =
+        lacked-holding made (zero-lacked (shape .pieces) (made .no-pieces f) fine) (zero-lacked (shape .tiles .octet) (made .no-tiles f) fine)
+        (lacked-bounding (zero-lacked (shape .content) (made .no-content f) fine))
 
     pub free-frame : shape .looked ≡ true → Frames s shape r (record { fits = true; body = r; object = noSpan; content = noHolder })
     unfolding slotBody slotItems
@@ -79,35 +94,39 @@ module _ (s : List ℕ) (shape : Slots) (r : Run) (fine : Fine s r) (made : Well
         }
 
   module _ (f : shape .free ≡ false) (o : Opening) (opens : Opens s r o) where
-    few-by : (inOrder (shape .one) (shape .two) (treeIn s r) ≡ true) ⊎ (inOrder (shape .one) (shape .instead) (treeIn s r) ≡ true) → o .count ≤ 2
+    few-instead : (inOrder (shape .one) (shape .instead) (treeIn s r) ≡ true) ⊎ (inOrder (shape .one) (shape .tiles) (treeIn s r) ≡ true) → o .count ≤ 2
+    few-instead (inl e) = in-order-few s r o (shape .one) (shape .instead) opens e
+    few-instead (inr e) = in-order-few s r o (shape .one) (shape .tiles) opens e
+
+    abbrev or-instead : Bool
+    or-instead = inOrder (shape .one) (shape .instead) (treeIn s r) || inOrder (shape .one) (shape .tiles) (treeIn s r)
+
+    few-by : (inOrder (shape .one) (shape .two) (treeIn s r) ≡ true) ⊎ (or-instead ≡ true) → o .count ≤ 2
     few-by (inl e) = in-order-few s r o (shape .one) (shape .two) opens e
-    few-by (inr e) = in-order-few s r o (shape .one) (shape .instead) opens e
+    few-by (inr e) = few-instead (either (inOrder (shape .one) (shape .instead) (treeIn s r)) (inOrder (shape .one) (shape .tiles) (treeIn s r)) e)
 
     -- items in order are no more than two
     few-items : slotOrdered shape (treeIn s r) ≡ true → o .count ≤ 2
     unfolding slotOrdered
-    few-items t =
-        few-by (either (inOrder (shape .one) (shape .two) (treeIn s r)) (inOrder (shape .one) (shape .instead) (treeIn s r)) (rw f at t))
+    few-items t = few-by (either (inOrder (shape .one) (shape .two) (treeIn s r)) or-instead (rw f at t))
 
     module _ (fits : Bool) (stands : fits ≡ slotOrdered shape (treeIn s r))
-        (body : Run) (inner : o .count ≤ 2 → constructed (shape .within) ≡ true → Inner s r (shape .within) body)
+        (body : Run) (named : o .count ≤ 2 → NamedIn s shape r body)
         (object : Span) (object-is : o .count ≤ 2 → Bounding s r (shape .object) object)
         (content : Holder) (content-is : o .count ≤ 2 → HoldingSlots s shape r content) where
       pub ordered-frame : Frames s shape r (record { fits = fits; body = body; object = object; content = content })
-      unfolding slotBody slotItems
       ordered-frame =
           record {
             fits = stands;
             framed =
                 λ t.
                 let few = few-items (sym stands ∙ t) in
-                let in-body = inner few (made .within f) in
-                let there = ne-eqb (shape .within) 0 (not-zero (shape .within) (made .within f)) in
+                let in-body = named few in
                 record {
                   ordered-is = sym stands ∙ t;
                   fine = in-body .fine;
-                  items = rw (made .looked f, there) (in-body .items);
-                  tree = rw (made .looked f, there) (in-body .tree);
+                  items = in-body .items;
+                  tree = in-body .tree;
                   object = object-is few;
                   content = content-is few;
                 };

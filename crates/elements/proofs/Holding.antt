@@ -1,4 +1,4 @@
--- What holds the content of an element: an item with pieces, if there is one, or else the item with the content. Assumes nothing.
+-- What holds the content of an element: an item with pieces, if there is one, or else one with tiles, or else the item with the content. Assumes nothing.
 use mathlib.Core.Path.{_≡_, refl, sym, ap, _∙_}
 use mathlib.Core.Bool.{Bool, true, false, true≢false}
 use mathlib.Core.List.{List}
@@ -18,20 +18,28 @@ use Rattle.elements.specs.declared.Slots.{Slots}
 use Rattle.elements.specs.Judge.{Content, single, inPieces, piecesAlone}
 use Rattle.elements.specs.Slots.{slotContent, slotOctet}
 use Rattle.elements.specs.Says.{Placed, Contains}
-use Rattle.elements.specs.Frames.{Bounding, HoldsContent, HoldingSlots}
+use Rattle.elements.specs.Frames.{Bounding, HoldsContent, HoldingSlots, PiecesFirst, with-pieces, with-tiles}
 use Rattle.elements.specs.WellMade.{WellMade}
 use Rattle.elements.proofs.Bounding.{held-placed, held-there, empty-fine}
 
 module _ {s : List ℕ} {shape : Slots} {r : Run} (made : WellMade shape) where
-  constructed-by : {p : Part} → IsFirst s r (shape .pieces) p → (shape .pieces ≡ 0) ⊎ (constructed (shape .pieces) ≡ true) → constructed (shape .pieces) ≡ true
+  constructed-by : {octet : ℕ} {p : Part} → IsFirst s r octet p → (octet ≡ 0) ⊎ (constructed octet ≡ true) → constructed octet ≡ true
   constructed-by h (inl z) = absurd (h .octet-not-zero z)
   constructed-by h (inr c) = c
 
-  -- an item with pieces is there
-  pub pieced-holding : {p : Part} → IsFirst s r (shape .pieces) p
-      → HoldingSlots s shape r (record { value = spanOf p; pieced = true; pieces = p .inner })
+  -- an item with pieces is there, or one with tiles alone
+  pub pieced-holding : {p : Part} → PiecesFirst s shape r p → HoldingSlots s shape r (record { value = spanOf p; pieced = true; pieces = p .inner })
   unfolding slotOctet slotContent
-  pieced-holding {p} h =
+  pieced-holding {p} (with-tiles l h) =
+      let none = eq-eqb (amount (shape .pieces) (treeIn s r)) 0 (l .amount-is) in
+      let some = ne-eqb (amount (shape .tiles .octet) (treeIn s r)) 0 (h .there) in
+      record {
+        pair = rw (none, some) (sym (h .bounds));
+        placed = held-placed h;
+        fine = h .inner-fine;
+        held = rw (none, some) (record { pieced = refl; there = held-there h; tree = sym (h .tree (constructed-by h (made .tiles))) });
+      }
+  pieced-holding {p} (with-pieces h) =
       let some = ne-eqb (amount (shape .pieces) (treeIn s r)) 0 (h .there) in
       record {
         pair = rw some (sym (h .bounds));
@@ -41,16 +49,17 @@ module _ {s : List ℕ} {shape : Slots} {r : Run} (made : WellMade shape) where
       }
 
   -- none is there
-  pub lacked-holding : {v : Span} → Lacks s r (shape .pieces) → Bounding s r (shape .content) v
+  pub lacked-holding : {v : Span} → Lacks s r (shape .pieces) → Lacks s r (shape .tiles .octet) → Bounding s r (shape .content) v
       → HoldingSlots s shape r (record { value = v; pieced = false; pieces = definiteRun 0 0 0 })
   unfolding slotOctet slotContent
-  lacked-holding {v} l b =
+  lacked-holding {v} l m b =
       let none = eq-eqb (amount (shape .pieces) (treeIn s r)) 0 (l .amount-is) in
+      let no-tiles = eq-eqb (amount (shape .tiles .octet) (treeIn s r)) 0 (m .amount-is) in
       record {
-        pair = rw none (b .pair);
+        pair = rw (none, no-tiles) (b .pair);
         placed = b .placed;
         fine = empty-fine s 0;
-        held = rw none (record { pieced = refl; bounds = b .value (made .content) });
+        held = rw (none, no-tiles) (record { pieced = refl; bounds = b .value (made .content) });
       }
 
 module _ (s : List ℕ) (holder : Holder) where

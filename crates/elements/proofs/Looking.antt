@@ -1,13 +1,13 @@
 -- The look-up of a shape by its octet, where the code tries one octet after another as the list of an edition does. One law for an octet
 -- that is tried, whichever it is, and one for all others. Assumes nothing.
 use mathlib.Core.Path.{_≡_, refl, sym, ap, _∙_}
-use mathlib.Core.List.{[], _∷_}
+use mathlib.Core.List.{[], _∷_, _++_}
 use Prim.Native.Nat.{ℕ}
 use borrow.Author.Tests.{ne-eqb}
 use Rattle.headers.specs.Head.{typeField}
 use Rattle.contents.proofs.Firsts.{is-field}
 use Rattle.elements.specs.declared.Slots.{Slots}
-use Rattle.elements.specs.Shape.{Shapes, shapeIn, noShape}
+use Rattle.elements.specs.Shape.{Shapes, shapeIn}
 use Rattle.elements.specs.Slots.{slotsOf}
 
 -- an octet that is tried
@@ -24,8 +24,10 @@ told-before : (before : Type 0) (octet : ℕ) (shapes : Shapes) → Untried befo
 told-before before octet [] others = others
 told-before before octet (shape ∷ shapes) others = told-before (before × (octet ≡ shape .octet → ⊥)) octet shapes others .0
 
-pub unlisted : (before : Type 0) (octet : ℕ) (shapes : Shapes) → Untried before octet shapes → shapeIn shapes (typeField octet) ≡ noShape
-unlisted before octet [] others = refl
-unlisted before octet (shape ∷ shapes) others =
+-- the list after them is then looked through
+pub passed : (before : Type 0) (octet : ℕ) (shapes others : Shapes) → Untried before octet shapes
+    → shapeIn (shapes ++ others) (typeField octet) ≡ shapeIn others (typeField octet)
+passed before octet [] others untried = refl
+passed before octet (shape ∷ shapes) others untried =
     let this = before × (octet ≡ shape .octet → ⊥) in
-    rw (is-field (shape .octet) octet, ne-eqb octet (shape .octet) (told-before this octet shapes others .1)) (unlisted this octet shapes others)
+    rw (is-field (shape .octet) octet, ne-eqb octet (shape .octet) (told-before this octet shapes untried .1)) (passed this octet shapes others untried)

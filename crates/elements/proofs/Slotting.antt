@@ -1,7 +1,7 @@
 -- What an element says and is refused by is the same by its shape and by its slots, in a run of which no item has octet 0: what is sought by
 -- an empty slot is then not found. Assumes nothing.
 use mathlib.Core.Path.{_≡_, refl, sym, ap, _∙_, subst}
-use mathlib.Core.Bool.{Bool, true, false, cond, _&&_, _||_}
+use mathlib.Core.Bool.{Bool, true, false, cond, not, _&&_, _||_}
 use mathlib.Core.List.{List}
 use Prim.Native.Nat.{ℕ, _+_}
 use native.Mathlib.Omega.{arith}
@@ -13,19 +13,27 @@ use Rattle.tree.specs.Tree.{Tree, empty, leaf, branch, plain}
 use Rattle.runs.specs.declared.Run.{Run}
 use Rattle.runs.specs.Runs.{itemsOf, treeIn, Fine}
 use Rattle.contents.specs.declared.Span.{Span}
-use Rattle.contents.specs.Search.{is, absent, amount, firstValue, firstRun, boundsOf, itemsIn, inOrder}
+use Rattle.contents.specs.Search.{is, absent, amount, firstValue, firstRun, boundsOf, itemsIn, ends, slot, inOrder}
 use Rattle.portions.specs.Portions.{allPortions, values}
 use Rattle.elements.specs.declared.Holder.{Holder}
 use Rattle.elements.specs.declared.Row.{Row}
 use Rattle.elements.specs.declared.Seen.{Seen}
-use Rattle.elements.specs.Shape.{Contents, profile, described, unit, style, Shape, holders1988}
-use Rattle.elements.specs.Judge.{required, optional, noneOf, typeOctet, typesOf, valueAt, Content, single, inPieces, contentOf, Element, bodyOf, elementOf, ordered, asTabled, typeFits, namesFit, shapeRefusal}
+use Rattle.contents.specs.declared.Slot.{Slot}
+use Rattle.elements.specs.Shape.{Contents, profile, described, unit, style, protected, Shape}
+use Rattle.elements.specs.Judge.{required, optional, asked, protectedOctet, noneOf, typeOctet, typesOf, valueAt, Content, single, inPieces, contentOf, Element, bodyOf, elementOf, ordered, asTabled, typeFits, namesFit, shapeRefusal}
 use Rattle.elements.specs.Rows.{bodyIn, contentOctet, boundsAt, rowOf, noSpan}
 use Rattle.elements.specs.Frames.{Holding, HoldingShape, HoldingSlots}
 use Rattle.elements.specs.Sees.{Sees, SeesShape, SeesSlots}
-use Rattle.elements.specs.Slots.{slotsBy, slotsOf, Slotted, slotBody, slotItems, slotContent, slotOctet, slotElement, slotOrdered, slotTabled, slotRefusal, slotRow}
+use Rattle.elements.specs.Slots.{noItem, tilesOctet, slotsBy, slotsOf, Slotted, slotBody, slotItems, slotContent, slotOctet, slotElement, slotOrdered, slotTabled, slotRefusal, slotRow}
 use Rattle.elements.proofs.Bounding.{none-bounds}
 use Rattle.elements.proofs.Zero.{no-zero, no-zero-inside, no-zero-items}
+
+and-false : (b : Bool) → b && false ≡ false
+and-false true = refl
+and-false false = refl
+
+neither : (a b : Bool) → a && false || b && false ≡ false
+neither a b = rw (and-false a, and-false b)
 
 -- of what is not there the first value and the first run are none
 none-here : (b : Bool) (n : ℕ) → cond {A = ℕ} b 1 0 + n ≡ 0 → (b ≡ false) × (n ≡ 0)
@@ -44,21 +52,49 @@ no-run octet empty e = refl
 no-run octet (leaf type value after) e = no-run octet after (none-here (is octet type) (amount octet after) e .1)
 no-run octet (branch type inside after) e = let k = none-here (is octet type) (amount octet after) e in rw (k .0) (no-run octet after (k .1))
 
-or-same : (a : Bool) → a || a ≡ a
+-- an item that no element has stands nowhere
+no-item : (t : Tree) → amount 0 t ≡ 0 → slot noItem ends t ≡ false
+unfolding amount
+no-item empty e = refl
+no-item (leaf type value after) e = rw (none-here (is 0 type) (amount 0 after) e .0)
+no-item (branch type inside after) e = rw (none-here (is 0 type) (amount 0 after) e .0)
+
+no-order : (one : Slot) (t : Tree) → amount 0 t ≡ 0 → inOrder one noItem t ≡ false
+unfolding inOrder amount
+no-order one empty e = and-false (not (one .needed))
+no-order one (leaf type value after) e =
+    let here = no-item (leaf type value after) e in
+    let on = no-item after (none-here (is 0 type) (amount 0 after) e .1) in
+    rw (on, here) (neither (is (one .octet) type) (not (one .needed)))
+no-order one (branch type inside after) e =
+    let here = no-item (branch type inside after) e in
+    let on = no-item after (none-here (is 0 type) (amount 0 after) e .1) in
+    rw (on, here) (neither (is (one .octet) type) (not (one .needed)))
+
+or-same : (a : Bool) → a || (a || false) ≡ a
 or-same true = refl
 or-same false = refl
 
-or-turned : (a b : Bool) → a || b ≡ b || (a || false)
+or-turned : (a b : Bool) → a || (b || false) ≡ b || (a || false)
 or-turned true true = refl
 or-turned true false = refl
 or-turned false true = refl
 or-turned false false = refl
 
+or-last : (a b c : Bool) → a || (b || c) ≡ b || (c || (a || false))
+or-last true true c = refl
+or-last true false true = refl
+or-last true false false = refl
+or-last false true c = refl
+or-last false false true = refl
+or-last false false false = refl
+
 octet-by : (octet : ℕ) (contents : Contents) → slotsBy octet contents .octet ≡ octet
 octet-by octet profile = refl
 octet-by octet (described needed types) = refl
-octet-by octet (unit holders) = refl
+octet-by octet (unit needed holders) = refl
 octet-by octet style = refl
+octet-by octet (protected enciphered) = refl
 
 pub octet-same : (shape : Shape) → slotsOf shape .octet ≡ shape .octet
 octet-same shape = octet-by (shape .octet) (shape .contents)
@@ -68,22 +104,25 @@ body-same : (octet : ℕ) (contents : Contents) (run : Tree) → slotBody (slots
 unfolding slotBody bodyOf
 body-same octet profile run = refl
 body-same octet (described needed types) run = refl
-body-same octet (unit holders) run = refl
+body-same octet (unit needed holders) run = refl
 body-same octet style run = refl
+body-same octet (protected enciphered) run = refl
 
 items-same : (octet : ℕ) (contents : Contents) (items : Items) → slotItems (slotsBy octet contents) items ≡ bodyIn contents items
 unfolding slotItems bodyIn
 items-same octet profile items = refl
 items-same octet (described needed types) items = refl
-items-same octet (unit holders) items = refl
+items-same octet (unit needed holders) items = refl
 items-same octet style items = refl
+items-same octet (protected enciphered) items = refl
 
 -- a content that is one value, whether or not its item is there
 one-value : (octet : ℕ) (t : Tree) → single (firstValue octet t) ≡ cond (noneOf octet t) (single absent) (single (firstValue octet t))
 one-value octet t =
     cases (noneOf octet t) (λ e. rw e (ap single (no-value octet t (eqb-true (amount octet t) 0 e)))) (λ e. rw e)
 
-no-content : (t : Tree) → amount 0 t ≡ 0 → cond (noneOf 0 t) (single (firstValue 0 t)) (inPieces (firstRun 0 t)) ≡ single absent
+no-content : (t : Tree) → amount 0 t ≡ 0
+    → cond (noneOf 0 t) (cond (noneOf 0 t) (single (firstValue 0 t)) (inPieces (firstRun 0 t))) (inPieces (firstRun 0 t)) ≡ single absent
 no-content t z = rw z (ap single (no-value 0 t z))
 
 content-same : (octet : ℕ) (contents : Contents) → Slotted contents → (run : Tree) → amount 0 run ≡ 0
@@ -91,17 +130,28 @@ content-same : (octet : ℕ) (contents : Contents) → Slotted contents → (run
 unfolding slotContent contentOf
 content-same octet profile w run z = no-content run z
 content-same octet (described needed types) w run z = no-content run z
-content-same octet (unit holders) w run z =
-    rw w (ap (λ (c : Content). cond (noneOf 0x24 run) c (inPieces (firstRun 0x24 run))) (one-value 0x04 run))
+content-same octet (unit true holders) w run z =
+    rw (w, z) (ap (λ (c : Content). cond (noneOf 0x24 run) c (inPieces (firstRun 0x24 run))) (one-value 0x04 run))
+content-same octet (unit false holders) w run z =
+    rw w
+    (ap (λ (c : Content). cond (noneOf 0x24 run) (cond (noneOf 0x30 run) c (inPieces (firstRun 0x30 run))) (inPieces (firstRun 0x24 run)))
+    (one-value 0x04 run))
 content-same octet style w run z = no-content run z
+content-same octet (protected true) w run z = rw z (one-value 0x04 run)
+content-same octet (protected false) w run z = no-content run z
 
-ordered-same : (octet : ℕ) (contents : Contents) → Slotted contents → (run : Tree) → slotOrdered (slotsBy octet contents) run ≡ ordered contents run
+ordered-same : (octet : ℕ) (contents : Contents) → Slotted contents → (run : Tree) → amount 0 run ≡ 0
+    → slotOrdered (slotsBy octet contents) run ≡ ordered contents run
 unfolding slotOrdered ordered
-ordered-same octet profile w run = refl
-ordered-same octet (described needed types) w run = or-same _
-ordered-same octet (unit holders) w run =
-    rw w (or-turned (inOrder (optional 0x31) (required 0x04) run) (inOrder (optional 0x31) (required 0x24) run))
-ordered-same octet style w run = refl
+ordered-same octet profile w run z = refl
+ordered-same octet (described needed types) w run z = rw (no-order (asked needed 0x02) run z) (or-same _)
+ordered-same octet (unit true holders) w run z =
+    rw (w, no-order (optional 0x31) run z) (or-turned (inOrder (optional 0x31) (required 0x04) run) (inOrder (optional 0x31) (required 0x24) run))
+ordered-same octet (unit false holders) w run z =
+    rw w
+    (or-last (inOrder (optional 0x31) (optional 0x04) run) (inOrder (optional 0x31) (optional 0x24) run) (inOrder (optional 0x31) (optional 0x30) run))
+ordered-same octet style w run z = refl
+ordered-same octet (protected enciphered) w run z = rw (no-order (required 0x47) run z) (or-same _)
 
 -- the last of three tests before the others
 last-first : (a b c : Bool) → a && (b && (c && true)) ≡ c && (a && (b && true))
@@ -115,19 +165,21 @@ last-first false b false = refl
 tabled-same : (octet : ℕ) (contents : Contents) → Slotted contents → (run : Tree) → amount 0 run ≡ 0 → amount 0 (bodyOf contents run) ≡ 0
     → slotTabled (slotsBy octet contents) run ≡ asTabled contents run
 unfolding slotTabled asTabled bodyOf slotBody amount firstRun allPortions
-tabled-same octet profile w run z y = rw (ordered-same octet profile w run, content-same octet profile w run z)
+tabled-same octet profile w run z y = rw (ordered-same octet profile w run z, content-same octet profile w run z)
 tabled-same octet (described needed types) w run z y =
     let contents = described needed types in
     let body = firstRun 0x31 run in
     rw (
-      ordered-same octet contents w run,
+      ordered-same octet contents w run z,
       content-same octet contents w run z,
       y,
       last-first (noneOf 0x61 body) (noneOf 0x81 body) (allPortions (firstRun 0xA1 body)),
     )
-tabled-same octet (unit holders) w run z y =
-    rw (ordered-same octet (unit holders) w run, content-same octet (unit holders) w run z, y, no-run 0 (firstRun 0x31 run) y)
-tabled-same octet style w run z y = rw (ordered-same octet style w run, content-same octet style w run z, y, no-run 0 run y)
+tabled-same octet (unit needed holders) w run z y =
+    rw (ordered-same octet (unit needed holders) w run z, content-same octet (unit needed holders) w run z, y, no-run 0 (firstRun 0x31 run) y)
+tabled-same octet style w run z y = rw (ordered-same octet style w run z, content-same octet style w run z, y, no-run 0 run y)
+tabled-same octet (protected enciphered) w run z y =
+    rw (ordered-same octet (protected enciphered) w run z, content-same octet (protected enciphered) w run z)
 
 -- what the element says
 element-same : (octet : ℕ) (contents : Contents) → Slotted contents → (run : Tree) → amount 0 run ≡ 0 → amount 0 (bodyOf contents run) ≡ 0
@@ -136,9 +188,10 @@ unfolding slotElement elementOf bodyOf slotBody firstValue firstRun values
 element-same octet profile w run z y = rw (content-same octet profile w run z, no-value 0 run z)
 element-same octet (described needed types) w run z y =
     rw (content-same octet (described needed types) w run z, no-value 0 (firstRun 0x31 run) y)
-element-same octet (unit holders) w run z y =
-    rw (content-same octet (unit holders) w run z, no-value 0 run z, no-run 0 (firstRun 0x31 run) y)
+element-same octet (unit needed holders) w run z y =
+    rw (content-same octet (unit needed holders) w run z, no-value 0 run z, no-run 0 (firstRun 0x31 run) y)
 element-same octet style w run z y = rw (content-same octet style w run z, no-value 0 run y, no-run 0 run y)
+element-same octet (protected enciphered) w run z y = rw (content-same octet (protected enciphered) w run z, no-value 0 run z)
 
 -- 13
 object-same : (octet : ℕ) (contents : Contents) (run : Tree) → amount 0 run ≡ 0
@@ -146,8 +199,9 @@ object-same : (octet : ℕ) (contents : Contents) (run : Tree) → amount 0 run 
     ≡ typeFits (typesOf contents) (valueAt (typeOctet contents) run)
 object-same octet profile run z = rw (no-value 0 run z)
 object-same octet (described needed types) run z = refl
-object-same octet (unit holders) run z = rw (no-value 0 run z)
+object-same octet (unit needed holders) run z = rw (no-value 0 run z)
 object-same octet style run z = rw (no-value 0 run z)
+object-same octet (protected enciphered) run z = rw (no-value 0 run z)
 
 -- the fields of the content
 fields-same : (octet : ℕ) (contents : Contents) → Slotted contents → (s : List ℕ) (items : Items) → amount 0 (plain s items) ≡ 0
@@ -155,15 +209,30 @@ fields-same : (octet : ℕ) (contents : Contents) → Slotted contents → (s : 
 unfolding slotOctet contentOctet
 fields-same octet profile w s items z = rw z (none-bounds s 0 items z)
 fields-same octet (described needed types) w s items z = rw z (none-bounds s 0 items z)
-fields-same octet (unit holders) w s items z =
+fields-same octet (unit true holders) w s items z =
     let run = plain s items in
     rw w (
     cases (noneOf 0x24 run)
     (λ e.
-    cases (noneOf 0x04 run) (λ f. rw (e, f) (none-bounds s 0x04 items (eqb-true (amount 0x04 run) 0 f))) (λ f. rw (e, f)))
+    cases (noneOf 0x04 run) (λ f. rw (e, z, f) (none-bounds s 0x04 items (eqb-true (amount 0x04 run) 0 f))) (λ f. rw (e, z, f)))
+    (λ e. rw e)
+    )
+fields-same octet (unit false holders) w s items z =
+    let run = plain s items in
+    rw w (
+    cases (noneOf 0x24 run)
+    (λ e.
+    cases (noneOf 0x30 run)
+    (λ d.
+    cases (noneOf 0x04 run) (λ f. rw (e, d, f) (none-bounds s 0x04 items (eqb-true (amount 0x04 run) 0 f))) (λ f. rw (e, d, f)))
+    (λ d. rw (e, d)))
     (λ e. rw e)
     )
 fields-same octet style w s items z = rw z (none-bounds s 0 items z)
+fields-same octet (protected true) w s items z =
+    let run = plain s items in
+    cases (noneOf 0x04 run) (λ f. rw (z, f) (none-bounds s 0x04 items (eqb-true (amount 0x04 run) 0 f))) (λ f. rw (z, f))
+fields-same octet (protected false) w s items z = rw z (none-bounds s 0 items z)
 
 -- its row
 row-same : (octet : ℕ) (contents : Contents) → Slotted contents → (s : List ℕ) (first past : ℕ) (items : Items) → amount 0 (plain s items) ≡ 0
@@ -179,8 +248,8 @@ row-same octet (described needed types) w s first past items z y x =
       fields-same octet contents w s items z,
       none-bounds s 0 (itemsIn 0x31 items) x,
     )
-row-same octet (unit holders) w s first past items z y x =
-    let contents = unit holders in
+row-same octet (unit needed holders) w s first past items z y x =
+    let contents = unit needed holders in
     rw (
       element-same octet contents w (plain s items) z y,
       fields-same octet contents w s items z,
@@ -188,21 +257,25 @@ row-same octet (unit holders) w s first past items z y x =
     )
 row-same octet style w s first past items z y x =
     rw (element-same octet style w (plain s items) z y, fields-same octet style w s items z, none-bounds s 0 items x)
+row-same octet (protected enciphered) w s first past items z y x =
+    rw (element-same octet (protected enciphered) w (plain s items) z y, fields-same octet (protected enciphered) w s items z)
 
 module _ {s : List ℕ} {r : Run} (fine : Fine s r) where
   body-zero : (contents : Contents) → amount 0 (bodyOf contents (treeIn s r)) ≡ 0
   unfolding bodyOf amount
   body-zero profile = refl
   body-zero (described needed types) = no-zero-inside fine 0x31
-  body-zero (unit holders) = no-zero-inside fine 0x31
+  body-zero (unit needed holders) = no-zero-inside fine 0x31
   body-zero style = no-zero fine
+  body-zero (protected enciphered) = refl
 
   items-zero : (contents : Contents) → amount 0 (plain s (bodyIn contents (itemsOf s r))) ≡ 0
   unfolding bodyIn amount
   items-zero profile = refl
   items-zero (described needed types) = no-zero-items fine 0x31
-  items-zero (unit holders) = no-zero-items fine 0x31
+  items-zero (unit needed holders) = no-zero-items fine 0x31
   items-zero style = no-zero fine
+  items-zero (protected enciphered) = refl
 
   module _ (shape : Shape) (w : Slotted (shape .contents)) where
     abbrev its-octet : ℕ

@@ -8,7 +8,9 @@ use Rattle.headers.specs.Head.{constructed}
 use Rattle.runs.specs.declared.Run.{Run}
 use Rattle.tree.specs.Tree.{Tree}
 use Rattle.runs.specs.Runs.{itemsOf, treeIn, definiteRun, Fine}
+use Rattle.contents.specs.declared.Part.{Part}
 use Rattle.contents.specs.declared.Span.{Span}
+use Rattle.contents.specs.First.{IsFirst, Lacks}
 use Rattle.contents.specs.Search.{Value, firstValue, firstRun, boundsOf, itemsIn}
 use Rattle.elements.specs.declared.Frame.{Frame}
 use Rattle.elements.specs.declared.Holder.{Holder}
@@ -31,6 +33,12 @@ pub record Inner (s : List ℕ) (r : Run) (octet : ℕ) (inner : Run) : Type 0 w
   pub fine : Fine s inner
   pub items : itemsOf s inner ≡ itemsIn octet (itemsOf s r)
   pub tree : treeIn s inner ≡ firstRun octet (treeIn s r)
+
+-- body is the run of the items that name an element with the run r
+pub record NamedIn (s : List ℕ) (shape : Slots) (r body : Run) : Type 0 where
+  pub fine : Fine s body
+  pub items : itemsOf s body ≡ slotItems shape (itemsOf s r)
+  pub tree : treeIn s body ≡ slotBody shape (treeIn s r)
 
 -- a content that is the value of an item: the holder bounds it
 pub record HoldsWhole (s : List ℕ) (holder : Holder) (value : Value) : Type 0 where
@@ -62,6 +70,11 @@ HoldingShape s shape r holder =
 
 abbrev pub HoldingSlots : (s : List ℕ) → Slots → Run → Holder → Type 0
 HoldingSlots s shape r holder = Holding s (boundsOf (slotOctet shape (treeIn s r)) (itemsOf s r)) (slotContent shape (treeIn s r)) holder
+
+-- p is the first item of the run r with pieces; or, where there is none, the first with tiles
+pub data PiecesFirst (s : List ℕ) (shape : Slots) (r : Run) (p : Part) : Type 0 where
+  with-pieces : IsFirst s r (shape .pieces) p → PiecesFirst s shape r p
+  with-tiles : Lacks s r (shape .pieces) → IsFirst s r (shape .tiles .octet) p → PiecesFirst s shape r p
 
 -- nothing holds a content
 abbrev pub noHolder : Holder

@@ -15,69 +15,78 @@ use Rattle.contents.specs.declared.Slot.{Slot}
 use Rattle.pieces.specs.Pieces.{joined, onlyPieces}
 use Rattle.portions.specs.Portions.{all, any, allPortions, values, wellSpelt, repeats}
 use Rattle.elements.specs.declared.Edition.{Edition}
-use Rattle.elements.specs.Shape.{ContentItem, whole, pieced, Contents, profile, described, unit, style, Shape, shapeOf}
+use Rattle.elements.specs.Shape.{ContentItem, whole, pieced, Contents, profile, described, unit, style, protected, Shape, shapeOf}
 
 -- where the items stand that name an element: nowhere, "in the 31", or "in a style" among its own items
 unfoldable pub bodyOf : Contents → Tree → Tree
 bodyOf profile run = empty
 bodyOf (described needed types) run = firstRun 0x31 run
-bodyOf (unit holders) run = firstRun 0x31 run
+bodyOf (unit needed holders) run = firstRun 0x31 run
 bodyOf style run = run
+bodyOf (protected enciphered) run = empty
 
 -- "at most one 41 (its identifier)", "at most one 40 (layout identifier)", "exactly one 45"
 abbrev pub identifierOctet : Contents → Option ℕ
 identifierOctet profile = none
 identifierOctet (described needed types) = some 0x41
-identifierOctet (unit holders) = some 0x40
+identifierOctet (unit needed holders) = some 0x40
 identifierOctet style = some 0x45
+identifierOctet (protected enciphered) = none
 
 -- "41 required in the 31" of a class; "exactly one 45"
 abbrev pub identifierNeeded : Contents → Bool
 identifierNeeded profile = false
 identifierNeeded (described needed types) = needed
-identifierNeeded (unit holders) = false
+identifierNeeded (unit needed holders) = false
 identifierNeeded style = true
+identifierNeeded (protected enciphered) = false
 
 -- "at most one 84 (logical identifier)"
 abbrev pub logicalOctet : Contents → Option ℕ
 logicalOctet profile = none
 logicalOctet (described needed types) = none
-logicalOctet (unit holders) = some 0x84
+logicalOctet (unit needed holders) = some 0x84
 logicalOctet style = none
+logicalOctet (protected enciphered) = none
 
 -- "at most one A1 (portions, ..)"
 abbrev pub portionsOctet : Contents → Option ℕ
 portionsOctet profile = none
 portionsOctet (described needed types) = some 0xA1
-portionsOctet (unit holders) = none
+portionsOctet (unit needed holders) = none
 portionsOctet style = none
+portionsOctet (protected enciphered) = none
 
 -- "no 61 and no 81", "no 60 and no A4", "In a style: no 65"
 abbrev pub barred : Contents → List ℕ
 barred profile = []
 barred (described needed types) = 0x61 ∷ 0x81 ∷ []
-barred (unit holders) = 0x60 ∷ 0xA4 ∷ []
+barred (unit needed holders) = 0x60 ∷ 0xA4 ∷ []
 barred style = 0x65 ∷ []
+barred (protected enciphered) = []
 
 -- the item with the object type, and how many types there are
 abbrev pub typeOctet : Contents → Option ℕ
 typeOctet profile = none
 typeOctet (described needed types) = some 0x02
-typeOctet (unit holders) = none
+typeOctet (unit needed holders) = none
 typeOctet style = none
+typeOctet (protected enciphered) = none
 
 abbrev pub typesOf : Contents → ℕ
 typesOf profile = 0
 typesOf (described needed types) = types
-typesOf (unit holders) = 0
+typesOf (unit needed holders) = 0
 typesOf style = 0
+typesOf (protected enciphered) = 0
 
--- the items that may hold content
+-- the items that may hold content; "Enciphered information is an octet string whose bounds go in the content fields" (W-213)
 abbrev pub holdersOf : Contents → List ContentItem
 holdersOf profile = []
 holdersOf (described needed types) = []
-holdersOf (unit holders) = holders
+holdersOf (unit needed holders) = holders
 holdersOf style = []
+holdersOf (protected enciphered) = cond enciphered (whole 0x04 ∷ []) []
 
 abbrev pub octetOf : ContentItem → ℕ
 octetOf (whole octet) = octet
@@ -111,7 +120,7 @@ atMostOne octet run = leb (amount octet run) 1
 abbrev pub noneOf : (octet : ℕ) → Tree → Bool
 noneOf octet run = eqb (amount octet run) 0
 
--- A content: the value of one item, if there is one; or pieces, "the octet string is constructed, 24" (W-201).
+-- A content: the value of one item, if there is one; or pieces, "the octet string is constructed, 24" (W-201), or tiles, 30 (W-213).
 pub data Content : Type 0 where
   single : Value → Content
   inPieces : Tree → Content
@@ -175,12 +184,17 @@ optional octet = record { octet = octet; needed = false }
 abbrev pub asked : (needed : Bool) → ℕ → Slot
 asked needed octet = record { octet = octet; needed = needed }
 
--- "02, then 31", "02 or nothing, then 31 or nothing", "31 or nothing, then 04"; or the items are free
+-- the second item of a protected part: what is sealed is told by 03, what is enciphered is in 04
+abbrev pub protectedOctet : (enciphered : Bool) → ℕ
+protectedOctet enciphered = cond enciphered 0x04 0x03
+
+-- "02, then 31", "02 or nothing, then 31 or nothing", "31 or nothing, then 04"; 47, then one more; or the items are free
 unfoldable pub ordered : Contents → Tree → Bool
 ordered profile run = true
 ordered (described needed types) run = inOrder (asked needed 0x02) (asked needed 0x31) run
-ordered (unit holders) run = any (map (λ item. inOrder (optional 0x31) (required (octetOf item)) run) holders)
+ordered (unit needed holders) run = any (map (λ item. inOrder (optional 0x31) (asked needed (octetOf item)) run) holders)
 ordered style run = true
+ordered (protected enciphered) run = inOrder (required 0x47) (required (protectedOctet enciphered)) run
 
 -- 12 "contents not as tabled"
 unfoldable pub asTabled : Contents → Tree → Bool

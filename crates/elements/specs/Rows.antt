@@ -14,7 +14,7 @@ use Rattle.contents.specs.declared.Span.{Span}
 use Rattle.contents.specs.Search.{itemsIn, boundsOf}
 use Rattle.elements.specs.declared.Row.{Row}
 use Rattle.elements.specs.declared.Edition.{Edition}
-use Rattle.elements.specs.Shape.{ContentItem, Contents, profile, described, unit, style, Shape, shapeOf}
+use Rattle.elements.specs.Shape.{ContentItem, Contents, profile, described, unit, style, protected, Shape, shapeOf}
 use Rattle.elements.specs.Judge.{noneOf, octetOf, holdersOf, elementOf, identifierOctet, logicalOctet, portionsOctet}
 
 -- the pair of what is absent
@@ -29,10 +29,11 @@ bytesIn s v = slice (v .first) (v .past) s
 unfoldable pub bodyIn : Contents → Items → Items
 bodyIn profile items = none
 bodyIn (described needed types) items = itemsIn 0x31 items
-bodyIn (unit holders) items = itemsIn 0x31 items
+bodyIn (unit needed holders) items = itemsIn 0x31 items
 bodyIn style items = items
+bodyIn (protected enciphered) items = none
 
--- the octet of the item that holds the content: "The content fields of the row give the value of the 24." (W-201)
+-- the octet of the item that holds the content: "The content fields of the row give the value of the 24" (W-201), or of the 30
 abbrev pub holderIn : List ContentItem → Tree → Option ℕ
 holderIn [] run = nowhere
 holderIn (holder ∷ others) run = cond (noneOf (octetOf holder) run) (holderIn others run) (some (octetOf holder))

@@ -13,13 +13,16 @@ use Rattle.contents.specs.Search.{firstValue, firstRun, boundsOf, itemsIn, inOr
 use Rattle.portions.specs.Portions.{all, allPortions, values}
 use Rattle.elements.specs.declared.Row.{Row}
 use Rattle.elements.specs.declared.Slots.{Slots}
-use Rattle.elements.specs.Shape.{Contents, profile, described, unit, style, Shape, holders1988}
-use Rattle.elements.specs.Judge.{required, optional, asked, typeOf, atMostOne, noneOf, Content, single, inPieces, piecesAlone, Element, typeFits}
-use Rattle.elements.specs.Judge.{namesFit, firstOf, contentsRules}
+use Rattle.elements.specs.Shape.{ContentItem, Contents, profile, described, unit, style, protected, Shape, holders1988, holders1993}
+use Rattle.elements.specs.Judge.{required, optional, asked, protectedOctet, typeOf, atMostOne, noneOf, Content, single, inPieces, piecesAlone}
+use Rattle.elements.specs.Judge.{Element, typeFits, namesFit, firstOf, contentsRules}
 
--- no item
+-- no item, and one that is needed and that no element has
 abbrev pub nothing : Slot
 nothing = optional 0
+
+abbrev pub noItem : Slot
+noItem = required 0
 
 -- no item of a profile is looked at
 abbrev pub profileSlots : (octet : ℕ) → Slots
@@ -30,6 +33,7 @@ profileSlots octet = record {
   one = nothing;
   two = nothing;
   instead = nothing;
+  tiles = nothing;
   within = 0;
   identifier = nothing;
   logical = 0;
@@ -51,6 +55,7 @@ describedSlots octet needed types = record {
   one = asked needed 0x02;
   two = asked needed 0x31;
   instead = asked needed 0x31;
+  tiles = noItem;
   within = 0x31;
   identifier = asked needed 0x41;
   logical = 0;
@@ -64,14 +69,15 @@ describedSlots octet needed types = record {
 }
 
 -- a text unit
-abbrev pub unitSlots : (octet : ℕ) → Slots
-unitSlots octet = record {
+abbrev pub unitSlots : (octet : ℕ) (needed : Bool) (tiles : ℕ) → Slots
+unitSlots octet needed tiles = record {
   octet = octet;
   looked = true;
   free = false;
   one = optional 0x31;
-  two = required 0x04;
-  instead = required 0x24;
+  two = asked needed 0x04;
+  instead = asked needed 0x24;
+  tiles = asked needed tiles;
   within = 0x31;
   identifier = optional 0x40;
   logical = 0x84;
@@ -93,6 +99,7 @@ styleSlots octet = record {
   one = nothing;
   two = nothing;
   instead = nothing;
+  tiles = nothing;
   within = 0;
   identifier = required 0x45;
   logical = 0;
@@ -105,22 +112,57 @@ styleSlots octet = record {
   pieces = 0;
 }
 
+-- a protected part: nothing names it
+abbrev pub protectedSlots : (octet second content : ℕ) → Slots
+protectedSlots octet second content = record {
+  octet = octet;
+  looked = false;
+  free = false;
+  one = required 0x47;
+  two = required second;
+  instead = required second;
+  tiles = noItem;
+  within = 0;
+  identifier = nothing;
+  logical = 0;
+  portions = 0;
+  never = 0;
+  neither = 0;
+  object = 0;
+  types = 0;
+  content = content;
+  pieces = 0;
+}
+
+-- where content is needed, as in 1988, none is tiled
+abbrev pub tilesOctet : (needed : Bool) → ℕ
+tilesOctet needed = cond needed 0 0x30
+
+-- the item with enciphered information
+abbrev pub encipheredOctet : (enciphered : Bool) → ℕ
+encipheredOctet enciphered = cond enciphered 0x04 0
+
 -- the slots of a shape
 abbrev pub slotsBy : (octet : ℕ) → Contents → Slots
 slotsBy octet profile = profileSlots octet
 slotsBy octet (described needed types) = describedSlots octet needed types
-slotsBy octet (unit holders) = unitSlots octet
+slotsBy octet (unit needed holders) = unitSlots octet needed (tilesOctet needed)
 slotsBy octet style = styleSlots octet
+slotsBy octet (protected enciphered) = protectedSlots octet (protectedOctet enciphered) (encipheredOctet enciphered)
 
 abbrev pub slotsOf : Shape → Slots
 slotsOf shape = slotsBy (shape .octet) (shape .contents)
 
--- The slots of a text unit are those of the items that hold content in 1988.
+-- The slots of a text unit are those of the items that hold content: in 1988, where it is needed, and in 1993, where it is not.
+abbrev pub slotHolders : (needed : Bool) → List ContentItem
+slotHolders needed = cond needed holders1988 holders1993
+
 abbrev pub Slotted : Contents → Type 0
 Slotted profile = Unit {0}
 Slotted (described needed types) = Unit {0}
-Slotted (unit holders) = holders ≡ holders1988
+Slotted (unit needed holders) = holders ≡ slotHolders needed
 Slotted style = Unit {0}
+Slotted (protected enciphered) = Unit {0}
 
 -- where the items stand that name an element: nowhere, among its own items, or in one of them
 unfoldable pub slotBody : Slots → Tree → Tree
@@ -132,10 +174,13 @@ slotItems shape items = cond (shape .looked) (cond (eqb (shape .within) 0) items
 
 -- the content, and the octet of the item that holds it
 unfoldable pub slotContent : Slots → Tree → Content
-slotContent shape run = cond (noneOf (shape .pieces) run) (single (firstValue (shape .content) run)) (inPieces (firstRun (shape .pieces) run))
+slotContent shape run =
+    cond (noneOf (shape .pieces) run)
+    (cond (noneOf (shape .tiles .octet) run) (single (firstValue (shape .content) run)) (inPieces (firstRun (shape .tiles .octet) run)))
+    (inPieces (firstRun (shape .pieces) run))
 
 unfoldable pub slotOctet : Slots → Tree → ℕ
-slotOctet shape run = cond (noneOf (shape .pieces) run) (shape .content) (shape .pieces)
+slotOctet shape run = cond (noneOf (shape .pieces) run) (cond (noneOf (shape .tiles .octet) run) (shape .content) (shape .tiles .octet)) (shape .pieces)
 
 -- what the element says
 unfoldable pub slotElement : Slots → Tree → Element
@@ -150,9 +195,11 @@ slotElement shape run =
       content = slotContent shape run;
     }
 
--- its items are free, or stand in order, the second as tabled or what may stand instead of it
+-- its items are free, or stand in order, the second as tabled or one of those that may stand instead of it
 unfoldable pub slotOrdered : Slots → Tree → Bool
-slotOrdered shape run = shape .free || (inOrder (shape .one) (shape .two) run || inOrder (shape .one) (shape .instead) run)
+slotOrdered shape run =
+    shape .free
+    || (inOrder (shape .one) (shape .two) run || (inOrder (shape .one) (shape .instead) run || inOrder (shape .one) (shape .tiles) run))
 
 -- 12
 unfoldable pub slotTabled : Slots → Tree → Bool

@@ -13,12 +13,12 @@ ghost use mathlib.Core.List.{List};
 ghost use Prim.Native.Nat.{ℕ, _≤_};
 ghost use Rattle.headers.specs.Head.{constructed};
 ghost use Rattle.runs.specs.Runs.{treeIn, definiteRun, Fine};
-ghost use Rattle.contents.specs.First.{IsFirst, Lacks};
+ghost use Rattle.contents.specs.First.{Lacks};
 ghost use Rattle.contents.specs.Opening.{Opens, FoundIn};
 ghost use Rattle.elements.specs.Judge.{Content, piecesAlone};
 ghost use Rattle.elements.specs.Slots.{slotOrdered};
 ghost use Rattle.elements.specs.WellMade.{WellMade};
-ghost use Rattle.elements.specs.Frames.{Bounding, Inner, HoldsContent, HoldingSlots, noHolder, Frames};
+ghost use Rattle.elements.specs.Frames.{Bounding, Inner, NamedIn, HoldsContent, HoldingSlots, PiecesFirst, noHolder, Frames};
 
 fn no_run() -> Run
     ensures { λ r. ⌜ r ≡ definiteRun 0 0 0 ⌝ }
@@ -62,9 +62,9 @@ fn no_holder() -> Holder
     }
 }
 
-// A content in pieces is held by their item.
+// A content in pieces is held by their item, or by that of the tiles where there are no other pieces.
 fn held_in_pieces(p: Part) -> Holder
-    ensures { λ holder. ⌜ ((s : List ℕ) (shape : Slots) (r : Run) → WellMade shape → IsFirst s r (shape .pieces) p → HoldingSlots s shape r holder) ⌝ }
+    ensures { λ holder. ⌜ ((s : List ℕ) (shape : Slots) (r : Run) → WellMade shape → PiecesFirst s shape r p → HoldingSlots s shape r holder) ⌝ }
 {
     let run = p.inner;
     let value = contents::span_of(p);
@@ -75,15 +75,27 @@ fn held_in_pieces(p: Part) -> Holder
     }
 }
 
-// Where there are no pieces, it is held by the item with the content, if that is there.
+// Where there are neither pieces nor tiles, it is held by the item with the content, if that is there.
 fn held_whole(found: PartFound) -> Holder
-    ensures { λ holder. ⌜ ((s : List ℕ) (shape : Slots) (r : Run) → WellMade shape → Lacks s r (shape .pieces) → FoundIn s r (shape .content) found
-        → HoldingSlots s shape r holder) ⌝ }
+    ensures { λ holder. ⌜ ((s : List ℕ) (shape : Slots) (r : Run) → WellMade shape → Lacks s r (shape .pieces) → Lacks s r (shape .tiles .octet)
+        → FoundIn s r (shape .content) found → HoldingSlots s shape r holder) ⌝ }
 {
     Holder {
         value: bounds_of(found),
         pieced: false,
         pieces: no_run(),
+    }
+}
+
+// What of an opening's items holds the content of an element, if none of them has pieces.
+fn unpieced_with(o: Opening, shape: Slots) -> Holder
+    requires { ⌜ WellMade shape ⌝ }
+    ensures { λ holder. ⌜ ((s : List ℕ) (r : Run) → Opens s r o → o .count ≤ 2 → Lacks s r (shape .pieces) → HoldingSlots s shape r holder) ⌝ }
+{
+    let tiles = shape.tiles;
+    match contents::part_with(o, tiles.octet) {
+        PartFound::At(p) => held_in_pieces(p),
+        PartFound::Missing => held_whole(contents::part_with(o, shape.content)),
     }
 }
 
@@ -94,11 +106,11 @@ fn holder_with(o: Opening, shape: Slots) -> Holder
 {
     match contents::part_with(o, shape.pieces) {
         PartFound::At(p) => held_in_pieces(p),
-        PartFound::Missing => held_whole(contents::part_with(o, shape.content)),
+        PartFound::Missing => unpieced_with(o, shape),
     }
 }
 
-// Whether an opening's items stand in order, the second as tabled or what may stand instead of it.
+// Whether an opening's items stand in order, the second as tabled or one of those that may stand instead of it.
 fn stands(o: Opening, shape: Slots) -> bool
     requires { ⌜ shape .free ≡ false ⌝ }
     ensures { λ b. ⌜ ((s : List ℕ) (r : Run) → Opens s r o → b ≡ slotOrdered shape (treeIn s r)) ⌝ }
@@ -109,7 +121,22 @@ fn stands(o: Opening, shape: Slots) -> bool
         return true;
     }
     let instead = shape.instead;
-    contents::fills(o, one, instead)
+    if contents::fills(o, one, instead) {
+        return true;
+    }
+    let tiles = shape.tiles;
+    contents::fills(o, one, tiles)
+}
+
+// The run that names an element whose items stand in order: none, if nothing names it.
+fn body_with(o: Opening, shape: Slots) -> Run
+    requires { ⌜ WellMade shape × (shape .free ≡ false) ⌝ }
+    ensures { λ b. ⌜ ((s : List ℕ) (r : Run) → Opens s r o → o .count ≤ 2 → NamedIn s shape r b) ⌝ }
+{
+    if !shape.looked {
+        return no_run();
+    }
+    run_with(o, shape.within)
 }
 
 // The top of an element whose items stand in order.
@@ -119,7 +146,7 @@ fn frame_in_order(s: &[u8], shape: Slots, r: Run) -> Frame
 {
     let o = contents::opening_of(s, r);
     let fits = stands(o, shape);
-    let body = run_with(o, shape.within);
+    let body = body_with(o, shape);
     let object = bounds_of(contents::part_with(o, shape.object));
     let content = holder_with(o, shape);
     Frame {
@@ -154,6 +181,18 @@ pub fn frame_of(s: &[u8], shape: Slots, r: Run) -> Frame
     }
 }
 
+// What holds the content of an element of a stream that was judged, if no item of it has pieces.
+fn unpieced_in(s: &[u8], shape: Slots, r: Run) -> Holder
+    requires { ⌜ Fine (now s) r × WellMade shape × Lacks (now s) r (shape .pieces) ⌝ }
+    ensures { λ holder. ⌜ HoldingSlots (now (s .entry)) shape r holder ⌝ }
+{
+    let tiles = shape.tiles;
+    match contents::first_with(s, r, tiles.octet) {
+        PartFound::At(p) => held_in_pieces(p),
+        PartFound::Missing => held_whole(contents::first_with(s, r, shape.content)),
+    }
+}
+
 // What holds the content of an element of a stream that was judged. It looks for one item, where `frame_of` tells all of the top.
 pub fn holder_in(s: &[u8], shape: Slots, r: Run) -> Holder
     requires { ⌜ Fine (now s) r × WellMade shape ⌝ }
@@ -161,7 +200,7 @@ pub fn holder_in(s: &[u8], shape: Slots, r: Run) -> Holder
 {
     match contents::first_with(s, r, shape.pieces) {
         PartFound::At(p) => held_in_pieces(p),
-        PartFound::Missing => held_whole(contents::first_with(s, r, shape.content)),
+        PartFound::Missing => unpieced_in(s, shape, r),
     }
 }
 

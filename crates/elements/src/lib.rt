@@ -29,6 +29,7 @@ pub use shapes::shape_of;
 // nothing else.
 pub enum Edition {
     Of1988,
+    Of1993,
 }
 
 // The object type of an element that has none.
@@ -43,8 +44,9 @@ pub struct Slots {
     pub free: bool,
     pub one: Slot,
     pub two: Slot,
-    // what may stand in the place of the second
+    // what may stand in the place of the second: another item, or one with tiles
     pub instead: Slot,
+    pub tiles: Slot,
     // the item in which it is named; 0: the element itself
     pub within: usize,
     // there: its identifier, a logical one, portions, each at most once; and two that may not stand there

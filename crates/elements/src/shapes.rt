@@ -4,12 +4,18 @@ use super::Slots;
 use contents::Slot;
 ghost use mathlib.Core.Path.{_≡_};
 ghost use Rattle.headers.specs.Head.{typeField};
-ghost use Rattle.elements.specs.Shape.{shapes1988, shapeIn, shapeOf};
-ghost use Rattle.elements.specs.Slots.{profileSlots, describedSlots, unitSlots, styleSlots, slotsOf};
+ghost use Rattle.elements.specs.Shape.{shapes1988, shapes1993, shapeIn, shapeOf};
+ghost use Rattle.elements.specs.Slots.{profileSlots, describedSlots, unitSlots, styleSlots, protectedSlots, slotsOf};
 
 const NO_ITEM: Slot = Slot {
     octet: 0,
     needed: false,
+};
+
+// An item that is needed and that no element has.
+const NEVER: Slot = Slot {
+    octet: 0,
+    needed: true,
 };
 
 const LAYOUT_TYPES: usize = 5;
@@ -26,6 +32,7 @@ fn profile_slots(octet: usize) -> Slots
         one: NO_ITEM,
         two: NO_ITEM,
         instead: NO_ITEM,
+        tiles: NO_ITEM,
         within: 0,
         identifier: NO_ITEM,
         logical: 0,
@@ -59,6 +66,7 @@ fn described_slots(octet: usize, needed: bool, types: usize) -> Slots
             octet: 0x31,
             needed,
         },
+        tiles: NEVER,
         within: 0x31,
         identifier: Slot {
             octet: 0x41,
@@ -75,8 +83,9 @@ fn described_slots(octet: usize, needed: bool, types: usize) -> Slots
     }
 }
 
-fn unit_slots(octet: usize) -> Slots
-    ensures { λ r. ⌜ r ≡ unitSlots octet ⌝ }
+// A text unit, of which content is needed or not, and may be in tiles if their item has an octet.
+fn unit_slots(octet: usize, needed: bool, tiles: usize) -> Slots
+    ensures { λ r. ⌜ r ≡ unitSlots octet needed tiles ⌝ }
 {
     Slots {
         octet,
@@ -88,11 +97,15 @@ fn unit_slots(octet: usize) -> Slots
         },
         two: Slot {
             octet: 0x04,
-            needed: true,
+            needed,
         },
         instead: Slot {
             octet: 0x24,
-            needed: true,
+            needed,
+        },
+        tiles: Slot {
+            octet: tiles,
+            needed,
         },
         within: 0x31,
         identifier: Slot {
@@ -120,6 +133,7 @@ fn style_slots(octet: usize) -> Slots
         one: NO_ITEM,
         two: NO_ITEM,
         instead: NO_ITEM,
+        tiles: NO_ITEM,
         within: 0,
         identifier: Slot {
             octet: 0x45,
@@ -136,6 +150,40 @@ fn style_slots(octet: usize) -> Slots
     }
 }
 
+// A protected part: 47, then `second`. Nothing names it. `content` is the octet of enciphered information, or 0.
+fn protected_slots(octet: usize, second: usize, content: usize) -> Slots
+    ensures { λ r. ⌜ r ≡ protectedSlots octet second content ⌝ }
+{
+    Slots {
+        octet,
+        looked: false,
+        free: false,
+        one: Slot {
+            octet: 0x47,
+            needed: true,
+        },
+        two: Slot {
+            octet: second,
+            needed: true,
+        },
+        instead: Slot {
+            octet: second,
+            needed: true,
+        },
+        tiles: NEVER,
+        within: 0,
+        identifier: NO_ITEM,
+        logical: 0,
+        portions: 0,
+        never: 0,
+        neither: 0,
+        object: 0,
+        types: 0,
+        content,
+        pieces: 0,
+    }
+}
+
 fn shape_1988(octet: usize) -> Slots
     ensures { λ r. ⌜ r ≡ slotsOf (shapeIn shapes1988 (typeField octet)) ⌝ }
 {
@@ -143,12 +191,26 @@ fn shape_1988(octet: usize) -> Slots
         0xA0 => profile_slots(0xA0),
         0xA1 => described_slots(0xA1, true, LAYOUT_TYPES),
         0xA2 => described_slots(0xA2, false, LAYOUT_TYPES),
-        0xA3 => unit_slots(0xA3),
+        0xA3 => unit_slots(0xA3, true, 0),
         0xA5 => described_slots(0xA5, true, LOGICAL_TYPES),
         0xA6 => described_slots(0xA6, false, LOGICAL_TYPES),
         0xA7 => style_slots(0xA7),
         0xA8 => style_slots(0xA8),
         _ => profile_slots(0),
+    }
+}
+
+// What 1993 has of its own, and else what 1988 has.
+fn shape_1993(octet: usize) -> Slots
+    ensures { λ r. ⌜ r ≡ slotsOf (shapeIn shapes1993 (typeField octet)) ⌝ }
+{
+    match octet {
+        0xA3 => unit_slots(0xA3, false, 0x30),
+        0xA9 => protected_slots(0xA9, 0x03, 0),
+        0xAA => protected_slots(0xAA, 0x04, 0x04),
+        0xAB => protected_slots(0xAB, 0x04, 0x04),
+        0xAC => protected_slots(0xAC, 0x04, 0x04),
+        _ => shape_1988(octet),
     }
 }
 
@@ -158,5 +220,6 @@ pub fn shape_of(edition: Edition, octet: usize) -> Slots
 {
     match edition {
         Edition::Of1988 => shape_1988(octet),
+        Edition::Of1993 => shape_1993(octet),
     }
 }

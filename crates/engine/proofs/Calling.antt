@@ -31,3 +31,12 @@ from-start-to-close total first last blocks s c =
     let (f, g) = calls c (s .goes-on) in
     let h : stateOf last ≡ takes (start total .state) blocks = f ∙ ap (λ (x : State). takes x blocks) (s .state) in
     rw g (ap close h ∙ any-close total blocks)
+
+-- Two outcomes of a block that its contract allows have the same number, and states that stand for the same.
+pub takes-determined : (b : Blocks) (block : List ℕ) (r q : Taken) → Takes b block r → Takes b block q
+    → (r .number ≡ q .number) × (stateOf (r .state) ≡ stateOf (q .state))
+takes-determined b block r q t u = (t .number ∙ sym (u .number), t .state ∙ sym (u .state))
+
+-- and so have two outcomes of the start
+pub starts-determined : (total : ℕ) (r q : Taken) → Starts total r → Starts total q → (r .number ≡ q .number) × (stateOf (r .state) ≡ stateOf (q .state))
+starts-determined total r q t u = (t .number ∙ sym (u .number), t .state ∙ sym (u .state))

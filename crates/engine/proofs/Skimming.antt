@@ -2,25 +2,26 @@
 use mathlib.Core.Path.{_≡_, refl, ap, sym, _∙_, subst}
 use mathlib.Core.Bool.{Bool, true, false, cond}
 use mathlib.Core.List.{List, [], _∷_, _++_}
-use Prim.Native.Nat.{ℕ, zero, suc, _+_, _-_, _<_, _≤_}
+use Prim.Native.Nat.{ℕ, zero, suc, _+_, _-_, _*_, _/_, _%_, _<_, _≤_}
 use native.Mathlib.Omega.{arith}
 use native.Mathlib.Numerals.{add-one}
 use lib.Dec.{eqb}
 use lib.ListN.{length, take, drop, set, length-drop, length-set, take-append-drop}
 use lib.Seq.{drop-drop, drop-length, length-take-le}
-use borrow.Author.Tests.{eq-eqb, ne-eqb}
+use borrow.Author.Tests.{eq-eqb, ne-eqb, eqb-true, le-leb}
 use Rattle.headers.specs.declared.Header.{Header}
 use Rattle.headers.specs.declared.Head.{Head}
 use Rattle.headers.specs.declared.Head.the-variants.{Item, ClosingMark, Refusal}
 use Rattle.headers.specs.Head.{constructed, headAt}
-use Rattle.headers.proofs.Lies.{HeadOk, head-ok}
+use Rattle.headers.proofs.Lies.{Lies, HeadOk, head-ok}
+use Rattle.laws.proofs.Tests.{cond-holds}
 use Rattle.blocks.specs.Engine.{Open, Standing, reading, found, State, limitOf, markedOf, roomOf, settle, arrive, feed}
 use Rattle.blocks.proofs.Goes.{finding-stays}
 use Rattle.blocks.proofs.Cutting.{feed-append}
 use Rattle.engine.specs.declared.Blocks.{Blocks}
 use Rattle.engine.specs.declared.skim.Skim.{Skim}
-use Rattle.engine.specs.Stored.{openOf, opensOf, stateOf, Sound, atHeader, Seen, Skims, Turns}
-use Rattle.engine.proofs.Stores.{innermost, pushed, level-is}
+use Rattle.engine.specs.Stored.{openOf, opensOf, stateOf, Sound, atHeader, Seen, Skims, Turns, passedTo, Passes}
+use Rattle.engine.proofs.Stores.{innermost, settle-going, others, pushed, level-is}
 use Rattle.engine.proofs.Turning.{values}
 use Rattle.engine.proofs.Seeing.{seen}
 
@@ -249,3 +250,165 @@ ready b z h t = rw (eq-eqb (b .number) 0 z, h, ← t)
 -- nothing was taken
 pub none-turn : (b : Blocks) (block : List ℕ) (start : ℕ) → Sound b → start ≤ length block → b .taken + (length block - start) ≤ b .total → Turns b block start b start
 none-turn b block start s l f = record { further = omega arith; within = l; fits = f; total = refl; sound = s; state = refl }
+
+-- before the limit no item ends
+pub settle-open : (total n : ℕ) (ends : List ℕ) (at k : ℕ) → at < limitOf total (opensOf n ends) → settle k (opensOf n ends) at ≡ reading k (opensOf n ends) at []
+settle-open total zero ends at k l = refl
+settle-open total (suc n) ends at k l = settle-going (suc n) ends (omega arith) at k (let e : suc n - 1 ≡ n = omega arith in rw e l)
+
+-- An item that leaves nothing open, in a block.
+module _ (total k level : ℕ) (ends : List ℕ) (at : ℕ) (block : List ℕ) (i : ℕ) (depth : level ≤ 16) (sixteen : length ends ≡ 16) (small : total ≤ 1048576)
+    (counted : k ≤ at) (fits : at + (length block - i) ≤ total) (before : at < limitOf total (opensOf level ends)) (eight : i + 8 ≤ length block) where
+  abbrev stopping : ℕ
+  stopping = i + (limitOf total (opensOf level ends) - at)
+
+  abbrev standing : Blocks
+  standing = record { total = total; taken = at; at = at; level = level; headers = k; number = 0; place = 0; have = 0; ends = ends; begun = [] }
+
+  abbrev Moves : (past : ℕ) → Type 0
+  Moves past = feed (atHeader total k (opensOf level ends) at) (drop i block)
+      ≡ feed (atHeader total (k + 1) (opensOf level ends) (at + (past - i))) (drop past block)
+
+  moved-on : (r : Skim) (after : List ℕ) → Skims total k level ends at block i r after → r .number ≡ 0 → r .headers ≡ k + 1 → (past : ℕ) → i ≤ past
+      → r .at ≡ at + (past - i) → past ≤ length block → opensOf level after ≡ opensOf level ends
+      → settle (r .headers) (opensOf (r .level) after) (r .at) ≡ reading (r .headers) (opensOf level after) (r .at) [] → Moves past
+  moved-on r after s z h past f a w o q =
+      let near : r .at - at ≤ length block - i = omega arith in
+      let j : i + (r .at - at) ≡ past = omega arith in
+      goes-on standing block i total k level ends at i [] refl (omega arith) (omega arith) fits small depth counted refl r after eight s z near level q
+      ∙ rw (j, h, a, o)
+
+  pass-primitive : (g : Header) → Seen total k (opensOf level ends) at block i (Item g) → Lies i stopping (16 - level) g → constructed (g .octet) ≡ false
+      → g .bound < stopping → g .bound ≤ length block → Moves (g .bound)
+  pass-primitive g s l q p w =
+      let x = l .header in
+      let y = l .order in
+      let open-still : at + (g .bound - i) < limitOf total (opensOf level ends) = omega arith in
+      moved-on (record { level = level; at = at + (g .bound - i); headers = k + 1; number = 0 }) ends
+      (skims-past total k level ends at block i g s q depth (omega arith) (omega arith)) refl refl (g .bound) (omega arith) refl w refl
+      (settle-open total level ends (at + (g .bound - i)) (k + 1) open-still)
+
+  pass-empty : (g : Header) → Seen total k (opensOf level ends) at block i (Item g) → Lies i stopping (16 - level) g → constructed (g .octet) ≡ true
+      → g .start ≡ g .bound → g .marked ≡ false → g .bound < stopping → g .bound ≤ length block → Moves (g .bound)
+  pass-empty g s l q n m p w =
+      let x = l .header in
+      let d = l .deep in
+      let to = at + (g .start - i) in
+      let e = 2 * (at + (g .bound - i)) in
+      let o : Open = record { bound = at + (g .bound - i); marked = g .marked } in
+      let half : e / 2 ≡ at + (g .bound - i) = omega arith in
+      let even : e % 2 ≡ 0 = omega arith in
+      let stored : openOf e ≡ o = rw (half, even, m) in
+      let room : level < length ends = omega arith in
+      let open-still : to < limitOf total (opensOf level ends) = omega arith in
+      let same = others level level ends e (omega arith) in
+      let ended : at + (g .bound - i) ≤ to = omega arith in
+      let more = pushed level ends e o room stored in
+      moved-on (record { level = level + 1; at = to; headers = k + 1; number = 0 }) (set ends level e)
+      (skims-open total k level ends at block i g e s q (omega arith) sixteen stored (omega arith)) refl refl (g .bound) (omega arith) (omega arith) w same
+      (rw (more, same, le-leb (at + (g .bound - i)) to ended, m) (settle-open total level ends to (k + 1) open-still))
+
+  pass-item : (g : Header) → Seen total k (opensOf level ends) at block i (Item g) → Lies i stopping (16 - level) g → (c e m : Bool)
+      → constructed (g .octet) ≡ c → eqb (g .start) (g .bound) ≡ e → g .marked ≡ m → (past : ℕ)
+      → past ≡ cond c (cond e (cond m 0 (g .bound)) 0) (g .bound) → 0 < past → past < stopping → past ≤ length block → (i + 2 ≤ past) × Moves past
+  pass-item g s l false e m q n t past b z p w =
+      let x = l .header in
+      let y = l .order in
+      (omega arith, rw b (pass-primitive g s l q (omega arith) (omega arith)))
+  pass-item g s l true true false q n t past b z p w =
+      let x = l .header in
+      let y = l .order in
+      (omega arith, rw b (pass-empty g s l q (eqb-true (g .start) (g .bound) n) t (omega arith) (omega arith)))
+  pass-item g s l true true true q n t past b z p w = absurd (omega arith)
+  pass-item g s l true false m q n t past b z p w = absurd (omega arith)
+
+  -- what was read there, and passed
+  pub pass-one : (head : Head) → head ≡ headAt block i stopping (markedOf (opensOf level ends)) (16 - level) → (past : ℕ) → past ≡ passedTo head
+      → 0 < past → past < stopping → past ≤ length block → (i + 2 ≤ past) × Moves past
+  pass-one (Item g) e past b z p w =
+      let (s, l) = looked total k level ends at block i (limitOf total (opensOf level ends)) (markedOf (opensOf level ends)) refl refl (Item g) (Item g) e refl before eight in
+      pass-item g s l (constructed (g .octet)) (eqb (g .start) (g .bound)) (g .marked) refl refl refl past b z p w
+  pass-one ClosingMark e past b z p w = absurd (omega arith)
+  pass-one (Refusal number place) e past b z p w = absurd (omega arith)
+
+-- what holds of the items passed up to a place: `Passes`, its last part
+abbrev pub Passing : (block : List ℕ) → (from stop : ℕ) → (marked : Bool) → (room to count : ℕ) → Type 0
+Passing block from stop marked room to count =
+    (total headers level : ℕ) (ends : List ℕ) (at : ℕ) → level ≤ 16 → length ends ≡ 16 → total ≤ 1048576 → headers ≤ at
+    → at + (length block - from) ≤ total → at < limitOf total (opensOf level ends) → stop ≡ from + (limitOf total (opensOf level ends) - at)
+    → marked ≡ markedOf (opensOf level ends) → room ≡ 16 - level
+    → feed (atHeader total headers (opensOf level ends) at) (drop from block)
+    ≡ feed (atHeader total (headers + count) (opensOf level ends) (at + (to - from))) (drop to block)
+
+pub passing-none : (block : List ℕ) (from stop : ℕ) (marked : Bool) (room : ℕ) → Passing block from stop marked room from 0
+passing-none block from stop marked room total headers level ends at d n m k f b t r o =
+    let a : headers + 0 ≡ headers = omega arith in
+    let c : at + (from - from) ≡ at = omega arith in
+    rw (a, c)
+
+-- an item that is passed has a header of two octets at least
+pub passing-less : (block : List ℕ) (i stop : ℕ) (marked : Bool) (room : ℕ) (head : Head) → head ≡ headAt block i stop marked room → (past : ℕ)
+    → past ≡ passedTo head → 0 < past → i + 2 ≤ past
+passing-less block i stop marked room (Item g) e past b z =
+    let l : Lies i stop room g = subst (HeadOk i stop room) (sym e) (head-ok block i stop room marked) in
+    let x = l .header in
+    let y = l .order in
+    let P : ℕ → Type 0 = λ n. 0 < n → i + 2 ≤ n in
+    let go : P (passedTo (Item g)) =
+    cond-holds P (constructed (g .octet))
+    (λ _. cond-holds P (eqb (g .start) (g .bound)) (λ _. cond-holds P (g .marked) (λ _ w. absurd (omega arith)) (λ _ _. omega arith)) (λ _ w. absurd (omega arith)))
+    (λ _ _. omega arith) in
+    rw b (go (rw (← b) z))
+passing-less block i stop marked room ClosingMark e past b z = absurd (omega arith)
+passing-less block i stop marked room (Refusal number place) e past b z = absurd (omega arith)
+
+pub passing-one : (block : List ℕ) (from stop : ℕ) (marked : Bool) (room i count : ℕ) → from ≤ i → i < stop → i + 8 ≤ length block → count ≤ i - from
+    → Passing block from stop marked room i count → (head : Head) → head ≡ headAt block i stop marked room → (past : ℕ) → past ≡ passedTo head → 0 < past
+    → past < stop → past + 8 ≤ length block → Passing block from stop marked room past (count + 1)
+passing-one block from stop marked room i count f s l c v head e past b z p w total headers level ends at d n m k g u t r o =
+    let here = at + (i - from) in
+    let limit = limitOf total (opensOf level ends) in
+    let stops : stop ≡ i + (limit - here) = omega arith in
+    let e′ : head ≡ headAt block i (i + (limit - here)) (markedOf (opensOf level ends)) (16 - level) = rw (← stops, ← r, ← o) e in
+    let p′ : past < i + (limit - here) = omega arith in
+    let one = pass-one total (headers + count) level ends here block i d n m (omega arith) (omega arith) (omega arith) l head e′ past b z p′ (omega arith) in
+    let less = one .0 in
+    let a : headers + count + 1 ≡ headers + (count + 1) = omega arith in
+    let q : here + (past - i) ≡ at + (past - from) = omega arith in
+    v total headers level ends at d n m k g u t r o ∙ one .1 ∙ rw (a, q)
+
+-- the loop stands before the header at i of the block, which has eight octets there
+pub record Stood (x : State) (block : List ℕ) (start total headers level : ℕ) (ends : List ℕ) (at i : ℕ) : Type 0 where
+  pub inv : x ≡ feed (atHeader total headers (opensOf level ends) at) (drop i block)
+  pub from : start ≤ i
+  pub within : i ≤ length block
+  pub fits : at + (length block - i) ≤ total
+  pub counted : headers ≤ at
+  pub eight : i + 8 ≤ length block
+  pub before : at < limitOf total (opensOf level ends)
+
+-- so it does after the items passed, and the header there is read
+pub passed-on : (x : State) (block : List ℕ) (start total headers level : ℕ) (ends : List ℕ) (at i : ℕ) → level ≤ 16 → headers ≤ at → start ≤ i → i ≤ length block
+    → at + (length block - i) ≤ total → length ends ≡ 16 → x ≡ feed (atHeader total headers (opensOf level ends) at) (drop i block) → total ≤ 1048576
+    → (limit : ℕ) → limit ≡ limitOf total (opensOf level ends) → at < limit → (marked : Bool) → marked ≡ markedOf (opensOf level ends) → (to count : ℕ) (head : Head)
+    → Passes block i (i + (limit - at)) marked (16 - level) to count head
+    → Stood x block start total (headers + count) level ends (at + (to - i)) to
+    × (head ≡ headAt block to (to + (limit - (at + (to - i)))) marked (16 - level))
+passed-on x block start total headers level ends at i d k f w fits n e m limit l b marked mk to count head p =
+    let a = p .further in
+    let q = p .before in
+    let eight = p .eight in
+    let c = p .counted in
+    let stop : i + (limit - at) ≡ i + (limitOf total (opensOf level ends) - at) = omega arith in
+    let same : i + (limit - at) ≡ to + (limit - (at + (to - i))) = omega arith in (
+      record {
+        inv = e ∙ p .state total headers level ends at d n m k fits (omega arith) stop mk refl;
+        from = omega arith;
+        within = omega arith;
+        fits = omega arith;
+        counted = omega arith;
+        eight = eight;
+        before = omega arith;
+      },
+      p .read ∙ rw same,
+    )

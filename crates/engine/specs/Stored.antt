@@ -8,14 +8,16 @@ use lib.ListN.{getD, take, drop, length}
 use lib.Dec.{eqb, leb}
 use Rattle.headers.specs.declared.Head.{Head}
 use Rattle.headers.specs.declared.Head.the-variants.{Item, ClosingMark, Refusal}
+use Rattle.headers.specs.Head.{constructed, headAt}
 use Rattle.octets.specs.Walk.{streamLimit, deepest}
-use Rattle.blocks.specs.Engine.{Open, Standing, reading, found, State, arrive, feed, decide}
+use Rattle.blocks.specs.Engine.{Open, Standing, reading, found, State, limitOf, markedOf, arrive, feed, decide}
 use Rattle.octets.specs.Further.{Told}
 use Rattle.blocks.specs.Blocks.{Taken as Given, start, take as taking, close}
 use Rattle.engine.specs.declared.Blocks.{Blocks}
 use Rattle.engine.specs.declared.Taken.{Taken}
 use Rattle.engine.specs.declared.skim.Skim.{Skim}
 
+-- an open item, as its end is stored
 abbrev pub openOf : ℕ → Open
 openOf e = record { bound = e / 2; marked = eqb (e % 2) 1 }
 
@@ -24,9 +26,14 @@ abbrev pub opensOf : ℕ → List ℕ → List Open
 opensOf zero ends = []
 opensOf (suc n) ends = openOf (getD ends n 0) ∷ opensOf n ends
 
+-- where the engine stands: with a finding, or on the way to a header or in one
 abbrev pub standingOf : Blocks → Standing
-standingOf b = cond (eqb (b .number) 0) (reading (b .headers) (opensOf (b .level) (b .ends)) (b .at) (take (b .have) (b .begun))) (found (b .number) (b .place) (b .headers))
+standingOf b =
+    cond (eqb (b .number) 0)
+    (reading (b .headers) (opensOf (b .level) (b .ends)) (b .at) (take (b .have) (b .begun)))
+    (found (b .number) (b .place) (b .headers))
 
+-- what a stored state stands for
 abbrev pub stateOf : Blocks → State
 stateOf b = record { total = b .total; taken = b .taken; standing = standingOf b }
 
@@ -139,3 +146,23 @@ pub record Skims (total headers level : ℕ) (ends : List ℕ) (at : ℕ) (block
         taken = at + size;
         standing = cond (eqb (r .number) 0) (arrive (at + size) (r .headers) (opensOf (r .level) after) (r .at)) (found (r .number) at (r .headers));
       }
+
+-- the place past an item that leaves nothing open: it is primitive, or nothing stands in it; 0 of anything else
+abbrev pub passedTo : Head → ℕ
+passedTo (Item h) = cond (constructed (h .octet)) (cond (eqb (h .start) (h .bound)) (cond (h .marked) 0 (h .bound)) 0) (h .bound)
+passedTo ClosingMark = 0
+passedTo (Refusal number place) = 0
+
+-- Items that leave nothing open stand from one place of a block to another, so many of them, in a run that goes on to `stop`: taking them moves
+-- the engine, in whatever items it stands; and then a header stands there.
+pub record Passes (block : List ℕ) (from stop : ℕ) (marked : Bool) (room to count : ℕ) (head : Head) : Type 0 where
+  pub further : from ≤ to
+  pub before : to < stop
+  pub eight : to + 8 ≤ length block
+  pub counted : count ≤ to - from
+  pub read : head ≡ headAt block to stop marked room
+  pub state : (total headers level : ℕ) (ends : List ℕ) (at : ℕ) → level ≤ deepest → length ends ≡ deepest → total ≤ streamLimit
+      → headers ≤ at → at + (length block - from) ≤ total → at < limitOf total (opensOf level ends) → stop ≡ from + (limitOf total (opensOf level ends) - at)
+      → marked ≡ markedOf (opensOf level ends) → room ≡ deepest - level
+      → feed (atHeader total headers (opensOf level ends) at) (drop from block)
+      ≡ feed (atHeader total (headers + count) (opensOf level ends) (at + (to - from))) (drop to block)

@@ -9,7 +9,8 @@ ghost use mathlib.Core.Bool.{true};
 ghost use Prim.Native.Nat.{_+_, _-_, _<_, _≤_};
 ghost use lib.ListN.{length};
 ghost use Rattle.blocks.specs.Engine.{limitOf, markedOf};
-ghost use Rattle.engine.specs.Stored.{opensOf, Sound, Turns, Skims};
+ghost use Rattle.headers.specs.Head.{headAt};
+ghost use Rattle.engine.specs.Stored.{opensOf, Sound, Turns, Skims, passedTo, Passes};
 
 // What a header leaves that was read in a block.
 pub struct Skim {
@@ -19,7 +20,62 @@ pub struct Skim {
     pub number: u32,
 }
 
-// The header at i of a block, which is at `at` of the letter.
+// A header that was read in a block, at `to`, after so many items that leave nothing open.
+pub struct Stopped {
+    pub to: usize,
+    pub count: u32,
+    pub head: Head,
+}
+
+// The place past an item that leaves nothing open: it is primitive, or nothing stands in it. 0 if there is none.
+fn passed_to(head: Head) -> usize
+    ensures { λ r. ⌜ r ≡ passedTo head ⌝ }
+{
+    match head {
+        Head::Item(h) => {
+            if h.octet / 32 % 2 != 1 {
+                return h.bound;
+            }
+            if h.start != h.bound {
+                return 0;
+            }
+            if h.marked {
+                return 0;
+            }
+            h.bound
+        }
+        Head::ClosingMark => 0,
+        Head::Refusal { number, place } => 0,
+    }
+}
+
+// Passes the items from `from` on that leave nothing open, in a run that goes on to `stop`, as far as eight octets of the block are left
+// after each, and gives the header that stands there. This is what most items of a letter are, so nothing else is looked at.
+fn pass_items(block: &[u8], from: usize, stop: usize, marked: bool, room: usize) -> Stopped
+    requires { ⌜ (from < stop) × (from + 8 ≤ length (now block)) × (length (now block) ≤ 1048576) ⌝ }
+    ensures { λ r. ⌜ Passes (now (block .entry)) from stop marked room (r .to) (r .count) (r .head) ⌝ }
+{
+    let last = block.len() - 8;
+    let mut i = from;
+    let mut count: u32 = 0;
+    loop {
+        let head = headers::head_at(block, i, stop, marked, room);
+        let past = passed_to(head);
+        if past == 0 {
+            return Stopped { to: i, count, head };
+        }
+        if stop <= past {
+            return Stopped { to: i, count, head };
+        }
+        if last < past {
+            return Stopped { to: i, count, head };
+        }
+        i = past;
+        count = count + 1;
+    }
+}
+
+// What the header at i of a block does, which is at `at` of the letter.
 fn skim_one(
     ends: &mut [u32; 16],
     level: usize,
@@ -30,13 +86,14 @@ fn skim_one(
     at: usize,
     block: &[u8],
     i: usize,
+    head: Head,
 ) -> Skim
     requires { ⌜ (level ≤ 16) × (headers ≤ 1048576) × (limit ≡ limitOf total (opensOf level (now ends))) × (limit ≤ 2147483647)
         × (marked ≡ markedOf (opensOf level (now ends))) × (at < limit) × (i + 8 ≤ length (now block)) × (length (now block) ≤ 1048576)
-        × (length (now ends) ≡ 16) ⌝ }
+        × (length (now ends) ≡ 16) × (head ≡ headAt (now block) i (i + (limit - at)) marked (16 - level)) ⌝ }
     ensures { λ r. ⌜ Skims total headers level (now (ends .entry)) at (now (block .entry)) i r (now (ends .exit)) ⌝ }
 {
-    match headers::head_at(block, i, i + (limit - at), marked, DEEPEST - level) {
+    match head {
         Head::Item(h) => {
             let bound = at + (h.bound - i);
             if h.octet / 32 % 2 == 1 {
@@ -130,6 +187,11 @@ pub fn skim_block(b: Blocks, block: &[u8], from: usize) -> Moved
             };
         }
         let marked = ends::marked_at(&ends, level);
+        let p = pass_items(block, i, i + (limit - at), marked, DEEPEST - level);
+        headers = headers + p.count;
+        at = at + (p.to - i);
+        i = p.to;
+        let head = p.head;
         let k = skim_one(
             &mut ends,
             level,
@@ -140,6 +202,7 @@ pub fn skim_block(b: Blocks, block: &[u8], from: usize) -> Moved
             at,
             block,
             i,
+            head,
         );
         if k.number != 0 {
             return Moved {

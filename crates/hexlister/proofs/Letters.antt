@@ -7,20 +7,18 @@ use mathlib.Core.Option.{some}
 use Prim.Native.Nat.{ℕ, suc, _+_, _*_, _/_, _<_, _≤_}
 use native.Mathlib.Omega.{arith}
 use lib.Dec.{eqb, ltb}
-use lib.ListN.{length, take, getD, getElem?, length-replicate, length-append, length-drop, List·getD-append}
+use lib.ListN.{length, take, getD, getElem?, length-replicate, length-append, drop, length-drop}
 use lib.Seq.{take-append-seam}
 use borrow.Author.Tests.{ltb-false, eq-eqb, ne-eqb}
 use borrow.Table.Steps.{cases}
 use Rattle.text.specs.Lines.{element, refused}
-use Rattle.index.specs.Rows.{rowWidth}
-use Rattle.index.specs.Columns.{wholeColumn, kindAt, firstAt, pastAt}
+use Rattle.index.specs.Columns.{wholeColumn}
+use Rattle.answers.specs.Table.{tableWidth, tableNumbers}
+use Rattle.answers.proofs.Tabling.{cell-there, table-length}
 use Rattle.elements.specs.declared.Row.{Row}
 use Rattle.elements.specs.declared.Edition.the-variants.{Of1988}
 use Rattle.elements.specs.Judge.{Element}
-use Rattle.elements.specs.Rows.{cells, numbers}
 use Rattle.letters.specs.Letter.{Letter, letter, refusal}
-use Rattle.judging.proofs.Lists.{below-length}
-use Rattle.judging.proofs.Rows.{numbers-length, numbers-at}
 use Rattle.letters.proofs.Apart.{accepted-apart}
 use Rattle.reading.specs.declared.Match.{Match}
 use Rattle.reading.specs.declared.Side.{Side}
@@ -28,7 +26,7 @@ use Rattle.reading.specs.Match.{matches}
 use Rattle.reading.proofs.Single.{no-more-than-elements}
 use Rattle.answers.specs.declared.Checked.{Checked}
 use Rattle.answers.specs.declared.Listed.{Listed}
-use Rattle.answers.specs.Answers.{letterIn, rowsIn, tableOf, checked, checkedBy, matchesIn, CheckOutcome, ListOutcome}
+use Rattle.answers.specs.Answers.{letterIn, rowsIn, elementsBy, elementsIn, onto, tableOf, checked, checkedBy, matchesIn, CheckOutcome, ListOutcome}
 use Rattle.answers.proofs.Small.{refusal-small}
 use Rattle.answers.proofs.Letters.{letter-found}
 use Rattle.demands.proofs.Demand2.{demand2}
@@ -46,11 +44,11 @@ pub record Accepted (s : List ℕ) : Type 0 where
 module _ (s : List ℕ) where
   by-rows : (headers : ℕ) (elements : List Element) → letterIn Of1988 s ≡ letter headers elements → checkedBy (letter headers elements) lentTable .number ≡ 0 → Accepted s
   by-rows headers elements e =
-      cases (ltb (length lentTable / rowWidth) (length elements))
+      cases (ltb (length lentTable / tableWidth) (length elements))
       (λ t. rw t (λ n. absurd (omega arith)))
       (λ t n.
-      let rows : length lentTable / rowWidth ≡ rowsLent = ap (λ (k : ℕ). k / rowWidth) (length-replicate {A = ℕ} tableRoom 0) in
-      record { headers = headers; elements = elements; judged = e; few = omega (arith, ltb-false (length lentTable / rowWidth) (length elements) t) })
+      let rows : length lentTable / tableWidth ≡ rowsLent = ap (λ (k : ℕ). k / tableWidth) (length-replicate {A = ℕ} tableRoom 0) in
+      record { headers = headers; elements = elements; judged = e; few = omega (arith, ltb-false (length lentTable / tableWidth) (length elements) t) })
 
   by-letter : (l : Letter) → letterIn Of1988 s ≡ l → checkedBy l lentTable .number ≡ 0 → Accepted s
   by-letter (refusal number place headers) e n = absurd (omega (arith, refusal-small Of1988 s number place headers e .low))
@@ -71,24 +69,22 @@ module _ (table : List ℕ) (all : List Row) (lines : (j : ℕ) (row : Row) → 
       let onward : (i : ℕ) → getElem? rows i ≡ getElem? all (suc k + i) = λ i. let next : k + suc i ≡ suc k + i = omega arith in at (suc i) ∙ ap (getElem? all) next in
       ap₂ (λ (l m : List ℕ). l ++ m) (lines k row here) (lines-from (suc k) rows onward)
 
-module _ (rows : List Row) (rest : List ℕ) where
-  cell : (j : ℕ) (row : Row) → getElem? rows j ≡ some row → (c : ℕ) → c < rowWidth → getD (numbers rows ++ rest) (j * rowWidth + c) 0 ≡ getD (cells row) c 0
-  cell j row stands c l =
-      let below = below-length rows j row stands in
-      let inside : j * rowWidth + c < length (numbers rows) = omega (arith, numbers-length rows) in
-      List·getD-append (numbers rows) rest 0 (j * rowWidth + c) inside ∙ numbers-at rows j row stands c l
+module _ (elements : List Element) (rows : List Row) (rest : List ℕ) where
+  abbrev table : List ℕ
+  table = tableNumbers elements rows ++ rest
 
-  row-line : (j : ℕ) (row : Row) → getElem? rows j ≡ some row → rowLine (numbers rows ++ rest) j ≡ element j (row .whole .first) (row .whole .past) (row .kind)
+  row-line : (j : ℕ) (row : Row) → getElem? rows j ≡ some row → rowLine table j ≡ element j (row .whole .first) (row .whole .past) (row .kind)
   row-line j row stands =
-      let start : j * rowWidth ≡ j * rowWidth + 0 = omega arith in
-      let next : j * rowWidth + wholeColumn + 1 ≡ j * rowWidth + 3 = omega arith in
-      let kind : kindAt (numbers rows ++ rest) j ≡ row .kind = ap (λ (i : ℕ). getD (numbers rows ++ rest) i 0) start ∙ cell j row stands 0 (omega arith) in
-      let first : firstAt (numbers rows ++ rest) wholeColumn j ≡ row .whole .first = cell j row stands wholeColumn (omega arith) in
-      let past : pastAt (numbers rows ++ rest) wholeColumn j ≡ row .whole .past = ap (λ (i : ℕ). getD (numbers rows ++ rest) i 0) next ∙ cell j row stands 3 (omega arith) in
+      let start : j * tableWidth ≡ j * tableWidth + 0 = omega arith in
+      let next : j * tableWidth + wholeColumn + 1 ≡ j * tableWidth + 3 = omega arith in
+      let cell = cell-there elements 0 rows rest j row stands in
+      let kind : getD table (j * tableWidth) 0 ≡ row .kind = ap (λ (i : ℕ). getD table i 0) start ∙ cell 0 (omega arith) in
+      let first : getD table (j * tableWidth + wholeColumn) 0 ≡ row .whole .first = cell wholeColumn (omega arith) in
+      let past : getD table (j * tableWidth + wholeColumn + 1) 0 ≡ row .whole .past = ap (λ (i : ℕ). getD table i 0) next ∙ cell 3 (omega arith) in
       rw (first, past, kind)
 
-  pub table-lines : rowLines (numbers rows ++ rest) 0 (length rows) ≡ elementLines 0 rows
-  table-lines = lines-from (numbers rows ++ rest) rows row-line 0 rows (λ i. let e : i ≡ 0 + i = omega arith in ap (getElem? rows) e)
+  pub table-lines : rowLines table 0 (length rows) ≡ elementLines 0 rows
+  table-lines = lines-from table rows row-line 0 rows (λ i. let e : i ≡ 0 + i = omega arith in ap (getElem? rows) e)
 
 -- the list of a side, asked on a table and a list as they are lent
 pub record Listing (side : Side) (s : List ℕ) (answer : Listed) (records : List Match) : Type 0 where
@@ -105,7 +101,7 @@ pub lists-all :
 lists-all side s table {answer} {tableAfter} {records} n full o =
     let a = accepted-on s n in
     let e = a .judged in
-    let rows : length table / rowWidth ≡ rowsLent = ap (λ (k : ℕ). k / rowWidth) full in
+    let rows : length table / tableWidth ≡ rowsLent = ap (λ (k : ℕ). k / tableWidth) full in
     let found = letter-found Of1988 s (a .headers) (a .elements) e in
     let same : matchesIn Of1988 side s ≡ matches side (a .elements) = rw e in
     let below : length (matchesIn Of1988 side s) ≤ length (a .elements) = rw same (no-more-than-elements (a .elements) (accepted-apart Of1988 _ _ (found .judged)) side) in
@@ -127,16 +123,20 @@ checks-all s {answer} {table} zero-number o =
     let a = accepted-on s n in
     let d = demand2 Of1988 .of-letter s (a .headers) (a .elements) (a .judged) in
     let all : length lentTable ≡ tableRoom = length-replicate {A = ℕ} tableRoom 0 in
-    let rows : length lentTable / rowWidth ≡ rowsLent = ap (λ (k : ℕ). k / rowWidth) all in
+    let rows : length lentTable / tableWidth ≡ rowsLent = ap (λ (k : ℕ). k / tableWidth) all in
     let given = d .checks lentTable (omega (arith, a .few)) in
     let count : answer .elements ≡ length (rowsIn Of1988 s) = ap (λ (r : Checked). r .elements) (o .answered ∙ given .0) ∙ sym (d .rows-counted) in
     let kept : table ≡ tableOf Of1988 s lentTable = o .tabled ∙ given .1 in
-    let wide = numbers-length (rowsIn Of1988 s) in
+    let own : elementsIn Of1988 s ≡ a .elements = ap elementsBy (a .judged) in
+    let all-numbers = tableNumbers (a .elements) (rowsIn Of1988 s) in
+    let wide : length all-numbers ≡ length (rowsIn Of1988 s) * tableWidth = table-length (a .elements) 0 (rowsIn Of1988 s) in
+    let is : table ≡ onto all-numbers lentTable = kept ∙ ap (λ (es : List Element). onto (tableNumbers es (rowsIn Of1988 s)) lentTable) own in
     record {
       accepted = n;
       few = omega (arith, a .few, d .rows-counted);
-      full = rw kept (length-append (numbers (rowsIn Of1988 s)) _ ∙ omega (arith, length-drop (length (numbers (rowsIn Of1988 s))) lentTable, a .few, d .rows-counted));
-      lines = rw (kept, count) (table-lines (rowsIn Of1988 s) _);
+      full = ap length is ∙ length-append all-numbers (drop (length all-numbers) lentTable)
+          ∙ omega (arith, length-drop (length all-numbers) lentTable, a .few, d .rows-counted);
+      lines = rw (is, count) (table-lines (a .elements) (rowsIn Of1988 s) (drop (length all-numbers) lentTable));
     }
 
 -- the lines of a stream, by the check's number

@@ -9,7 +9,7 @@ use Rattle.text.specs.Lines.{accepted, element, layout, logical, refused, unrea
 use Rattle.hex.specs.Lines.{TextMeaning, reads}
 use Rattle.hex.specs.Lines as hex
 use Rattle.hex.specs.Blocks.{lastLine}
-use Rattle.index.specs.Rows.{rowWidth}
+use Rattle.answers.specs.Table.{tableWidth}
 use Rattle.elements.specs.declared.Row.{Row}
 use Rattle.elements.specs.declared.Edition.the-variants.{Of1988}
 use Rattle.reading.specs.declared.Match.{Match}
@@ -27,7 +27,7 @@ recordsLent = 1024
 
 -- the table and the list, as they are lent
 abbrev pub tableRoom : ℕ
-tableRoom = rowsLent * rowWidth
+tableRoom = rowsLent * tableWidth
 
 abbrev pub lentTable : List ℕ
 lentTable = replicate tableRoom 0

@@ -2,10 +2,11 @@
 use Prim.Native.Nat.{ℕ, zero, suc, _+_, _*_, _≤_}
 use mathlib.Core.Path.{_≡_}
 use mathlib.Core.List.{List, [], _++_}
-use lib.ListN.{length}
+use lib.ListN.{length, getD}
 use lib.Seq.{sets}
 use Rattle.text.specs.Lines.{element}
-use Rattle.index.specs.Columns.{wholeColumn, kindAt, firstAt, pastAt}
+use Rattle.index.specs.Columns.{wholeColumn}
+use Rattle.answers.specs.Table.{tableWidth}
 use Rattle.hexlister.specs.Output.{rowsLent, recordsLent}
 
 -- room for any line
@@ -32,7 +33,8 @@ pub record PutsOnPage (bytes page : List ℕ) (at told : ℕ) (pageAfter : List 
 
 -- the line of an element, by its row in the table
 abbrev pub rowLine : (table : List ℕ) (number : ℕ) → List ℕ
-rowLine table number = element number (firstAt table wholeColumn number) (pastAt table wholeColumn number) (kindAt table number)
+rowLine table number =
+    element number (getD table (number * tableWidth + wholeColumn) 0) (getD table (number * tableWidth + wholeColumn + 1) 0) (getD table (number * tableWidth) 0)
 
 -- the lines of so many, from a number on
 unfoldable pub rowLines : (table : List ℕ) (number count : ℕ) → List ℕ

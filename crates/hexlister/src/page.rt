@@ -1,8 +1,8 @@
 // The lister's whole output, put line by line on a page that has room for the longest.
+use answers::TABLE_WIDTH;
 use hex::INPUT_LIMIT;
 use hex::Read;
 use hex::State;
-use index::ROW_WIDTH;
 use index::WHOLE;
 use odif::Checked;
 use odif::Edition;
@@ -14,7 +14,7 @@ ghost use mathlib.Core.Path.{_≡_};
 ghost use Prim.Native.Nat.{_+_, _*_, _<_, _≤_};
 ghost use lib.ListN.{length, take};
 ghost use Rattle.text.specs.Lines.{accepted, refused, unreadable, WritesLine};
-ghost use Rattle.index.specs.Rows.{rowWidth};
+ghost use Rattle.answers.specs.Table.{tableWidth};
 ghost use Rattle.answers.specs.Answers.{checked, matchesIn, CheckOutcome, ListOutcome};
 ghost use Rattle.hexlister.specs.Output.{rowsLent, recordsLent, tableRoom, lentTable, lentList, matchLine, matchLines, sideLines, acceptedLines};
 ghost use Rattle.hexlister.specs.Output.{streamLines};
@@ -64,10 +64,10 @@ fn append(page: &mut [u8], at: usize, line: &[u8]) -> usize
 
 // The line of an element, from its row in the table.
 fn put_element(page: &mut [u8], at: usize, table: &[u32], number: usize) -> usize
-    requires { ⌜ (number < rowsLent) × (number * rowWidth + rowWidth ≤ length (now table)) × (at + lineRoom ≤ length (now page)) ⌝ }
+    requires { ⌜ (number < rowsLent) × (number * tableWidth + tableWidth ≤ length (now table)) × (at + lineRoom ≤ length (now page)) ⌝ }
     ensures { λ r. ⌜ PutsOnPage (rowLine (now (table .entry)) number) (now (page .entry)) at r (now (page .exit)) lineRoom ⌝ }
 {
-    let row = number * ROW_WIDTH;
+    let row = number * TABLE_WIDTH;
     let first = table[row + WHOLE];
     let past = table[row + WHOLE + 1];
     let kind = table[row];
@@ -78,7 +78,7 @@ fn put_element(page: &mut [u8], at: usize, table: &[u32], number: usize) -> usiz
 
 // The lines of the first rows.
 fn put_elements(page: &mut [u8], at: usize, table: &[u32], count: usize) -> usize
-    requires { ⌜ (count ≤ rowsLent) × (count * rowWidth ≤ length (now table)) × (at + elementsRoom ≤ length (now page)) ⌝ }
+    requires { ⌜ (count ≤ rowsLent) × (count * tableWidth ≤ length (now table)) × (at + elementsRoom ≤ length (now page)) ⌝ }
     ensures { λ r. ⌜ PutsOnPage (rowLines (now (table .entry)) 0 count) (now (page .entry)) at r (now (page .exit)) elementsRoom ⌝ }
 {
     let mut here = at;
@@ -197,7 +197,7 @@ fn put_stream(page: &mut [u8], stream: &[u8]) -> usize
     requires { ⌜ length (now page) ≡ pageRoom ⌝ }
     ensures { λ r. ⌜ PutsOnPage (streamLines (now (stream .entry))) (now (page .entry)) 0 r (now (page .exit)) pageRoom ⌝ }
 {
-    let mut table = [0u32; ROWS * ROW_WIDTH];
+    let mut table = [0u32; ROWS * TABLE_WIDTH];
     let answer = odif::check(Edition::Of1988, stream, &mut table);
     if answer.number != 0 {
         return put_refused(page, answer.number, answer.place);

@@ -21,8 +21,8 @@ use Rattle.portions.specs.Portions.{allPortions, values, wellSpelt, repeats}
 use Rattle.index.specs.Rows.{nameSpaceOf}
 use Rattle.elements.specs.declared.Edition.{Edition}
 use Rattle.elements.specs.declared.Row.{Row}
-use Rattle.elements.specs.Shape.{Contents, profile, described, unit, style, ContentItem, whole, pieced, Shape}
-use Rattle.elements.specs.Judge.{single, contentIn, contentOf, Element, noType, bodyOf, elementOf, namesFit, shares, clash, twice, refusalOf}
+use Rattle.elements.specs.Shape.{Contents, profile, described, unit, style, protected, ContentItem, whole, pieced, Shape}
+use Rattle.elements.specs.Judge.{single, holdersOf, contentIn, contentOf, Element, noType, bodyOf, elementOf, namesFit, shares, clash, twice, refusalOf}
 use Rattle.elements.specs.Rows.{holderIn, contentOctet, bodyIn, rowOf, noSpan}
 use Rattle.elements.specs.Says.{portionsRun, Says}
 use Rattle.judging.specs.declared.PlacedItem.{PlacedItem}
@@ -61,8 +61,9 @@ says-nothing-by : (octet : ℕ) (contents : Contents) → elementOf (record { oc
 unfolding elementOf bodyOf contentOf amount firstValue firstRun values
 says-nothing-by octet profile = refl
 says-nothing-by octet (described needed types) = refl
-says-nothing-by octet (unit holders) = rw (holds-nothing holders)
+says-nothing-by octet (unit needed holders) = rw (holds-nothing holders)
 says-nothing-by octet style = refl
+says-nothing-by octet (protected enciphered) = rw (holds-nothing (holdersOf (protected enciphered)))
 
 says-nothing : (shape : Shape) → elementOf shape empty ≡ bareElement (shape .octet)
 says-nothing shape = says-nothing-by (shape .octet) (shape .contents)
@@ -72,8 +73,10 @@ row-of-none-by : (octet : ℕ) (contents : Contents) (s : List ℕ) (first past 
 unfolding rowOf bodyIn contentOctet itemsIn boundsOf
 row-of-none-by octet profile s first past = rw (says-nothing-by octet profile)
 row-of-none-by octet (described needed types) s first past = rw (says-nothing-by octet (described needed types))
-row-of-none-by octet (unit holders) s first past = rw (says-nothing-by octet (unit holders), held-nowhere holders)
+row-of-none-by octet (unit needed holders) s first past = rw (says-nothing-by octet (unit needed holders), held-nowhere holders)
 row-of-none-by octet style s first past = rw (says-nothing-by octet style)
+row-of-none-by octet (protected enciphered) s first past =
+    rw (says-nothing-by octet (protected enciphered), held-nowhere (holdersOf (protected enciphered)))
 
 row-of-none : (shape : Shape) (s : List ℕ) (first past : ℕ) → rowOf shape s first past none ≡ bareRow (shape .octet) first past
 row-of-none shape s first past = row-of-none-by (shape .octet) (shape .contents) s first past

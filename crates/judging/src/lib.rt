@@ -48,7 +48,7 @@ const MOST_ELEMENTS: usize = 4096;
 const PROFILE: usize = 0xA0;
 
 // Rules 9 to 11 for element n: the number of the one that refuses, or 0. `known` is the octet of its shape.
-fn early(n: usize, octet: usize, known: usize) -> usize
+pub fn early(n: usize, octet: usize, known: usize) -> usize
     ensures { λ r. ⌜ r ≡ earlyRefusal n octet known ⌝ }
 {
     if MOST_ELEMENTS <= n {

@@ -14,7 +14,7 @@ use Rattle.octets.proofs.Turns.{header-ok}
 use Rattle.tree.specs.Accepts.{Whole}
 use Rattle.runs.proofs.Laws.{starts-at}
 use Rattle.contents.specs.Search.{boundsOf, itemsIn}
-use Rattle.elements.specs.Shape.{Contents, profile, described, unit, style}
+use Rattle.elements.specs.Shape.{Contents, profile, described, unit, style, protected}
 use Rattle.elements.specs.Rows.{boundsAt, bodyIn}
 use Rattle.letters.specs.Letter.{Within, absent, present}
 
@@ -118,5 +118,6 @@ module _ (from to : ℕ) where
   unfolding bodyIn
   body-within profile i w = tt
   body-within (described needed types) i w = items-within 0x31 i w
-  body-within (unit holders) i w = items-within 0x31 i w
+  body-within (unit needed holders) i w = items-within 0x31 i w
   body-within style i w = w
+  body-within (protected enciphered) i w = tt

@@ -5,13 +5,11 @@ use judging::PlacedItem;
 use runs::Met;
 use runs::Run;
 ghost use mathlib.Core.Path.{_≡_};
-ghost use mathlib.Core.List.{_++_};
-ghost use Prim.Native.Nat.{_*_, _≤_};
+ghost use Prim.Native.Nat.{_≤_};
 ghost use lib.Dec.{ltb};
-ghost use lib.ListN.{length, take, drop};
+ghost use lib.ListN.{length};
 ghost use Rattle.octets.specs.Walk.{streamLimit};
 ghost use Rattle.runs.specs.Runs.{itemsOf, wholeStream, tops, Fine};
-ghost use Rattle.index.specs.Rows.{rowWidth};
 ghost use Rattle.letters.specs.Scratch.{GivesVerdict};
 ghost use Rattle.letters.specs.Lent.{Lent, endVerdict};
 
@@ -20,6 +18,7 @@ mod writing; // writing.rt: rows, to the scratch and to a table
 
 pub use content::content_of;
 pub use content::element_at;
+pub use writing::copy_numbers;
 
 // What the judge of a stream gives: accepted with so many elements, or refused by a number at a place.
 pub enum Verdict {
@@ -132,12 +131,4 @@ pub fn judge_stream(
             }
         }
     }
-}
-
-// Copies the first n rows of the scratch to the table that is lent. Only an accepted stream's rows come this far.
-pub fn put_table(rows: &[u32], n: usize, table: &mut [u32])
-    requires { ⌜ (n * rowWidth ≤ length (now rows)) × (n * rowWidth ≤ length (now table)) ⌝ }
-    ensures { λ _. ⌜ now (table .exit) ≡ take (n * rowWidth) (now (rows .entry)) ++ drop (n * rowWidth) (now (table .entry)) ⌝ }
-{
-    writing::copy_numbers(rows, n * index::ROW_WIDTH, table, 0);
 }

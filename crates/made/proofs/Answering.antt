@@ -14,7 +14,7 @@ use Rattle.headers.specs.Head.{isIn}
 use Rattle.laws.proofs.Tests.{cond-holds}
 use Rattle.octets.specs.Walk.{streamLimit}
 use Rattle.normal.specs.Normal.{normalForm}
-use Rattle.elements.specs.declared.Edition.the-variants.{Of1988}
+use Rattle.elements.specs.declared.Edition.{Edition}
 use Rattle.letters.specs.Letter.{letter}
 use Rattle.reading.specs.declared.Side.the-variants.{Layout, Logical}
 use Rattle.answers.specs.declared.Written.{Written}
@@ -24,9 +24,10 @@ use Rattle.making.specs.Entries.{Said, saidBy, Judged, fit, refused, judge}
 use Rattle.making.specs.Stream.{streamOf}
 use Rattle.made.specs.Reads.{unitElement, elementsOf, unitAt, matchesFrom, itemsFor}
 use Rattle.making.specs.Answers.{madeBy, made, madeOutput, MakeOutcome}
+use Rattle.made.specs.Editions.{TakesAll}
 use Rattle.made.specs.Promises.{Reads, writtenBy, Readable, Answers}
 use Rattle.making.proofs.Fitting.{AllFit, fitting-from}
-use Rattle.made.proofs.Shapes.{takes-1988}
+use Rattle.made.proofs.Shapes.{takes}
 use Rattle.made.proofs.Letters.{reads}
 use Rattle.made.proofs.Refusals.{refuses}
 
@@ -95,36 +96,41 @@ module _ (buffer : List ℕ) (entries : List Entry) (out : List ℕ) where
     count-is : length (d .said) ≡ length entries
     count-is = ap length says-is ∙ length-map entries (saidBy buffer)
 
-    reads-so : Reads Of1988 (d .said)
-    reads-so =
+    reads-so : (edition : Edition) → TakesAll edition → Reads edition (d .said)
+    reads-so edition takes =
         let f = fitting-from buffer [] entries (d .said) (d .judged) in
-        reads Of1988 takes-1988 (d .said) (subst (AllFit []) (sym (f .says)) (f .all-fit)) (d .within)
+        reads edition takes (d .said) (subst (AllFit []) (sym (f .says)) (f .all-fit)) (d .within)
 
-    letter-so : letterIn (writtenBy buffer entries out) ≡ letter (itemsFor (length (d .said))) (elementsOf (d .said))
-    letter-so = ap letterIn written-is ∙ reads-so .accepted
+    letter-so : (edition : Edition) → TakesAll edition → letterIn edition (writtenBy buffer entries out) ≡ letter (itemsFor (length (d .said))) (elementsOf (d .said))
+    letter-so edition takes = ap (letterIn edition) written-is ∙ reads-so edition takes .accepted
 
     said-at : (k : ℕ) (entry : Entry) → getElem? entries k ≡ some entry → getElem? (d .said) k ≡ some (saidBy buffer entry)
     said-at k entry e = ap (λ (l : List Said). getElem? l k) says-is ∙ mapped (saidBy buffer) entries k entry e
 
-    unit-so : (k : ℕ) (entry : Entry) → getElem? entries k ≡ some entry → getElem? (elementsOf (d .said)) (unitAt k) ≡ some (unitElement (saidBy buffer entry))
-    unit-so k entry e = reads-so .unit k (saidBy buffer entry) (said-at k entry e)
+    unit-so : (edition : Edition) → TakesAll edition → (k : ℕ) (entry : Entry) → getElem? entries k ≡ some entry → getElem? (elementsOf (d .said)) (unitAt k) ≡ some (unitElement (saidBy buffer entry))
+    unit-so edition takes k entry e = reads-so edition takes .unit k (saidBy buffer entry) (said-at k entry e)
 
-  -- An answer 0 leaves a letter in the output that reads as the entries say.
-  pub readable : made buffer entries out .number ≡ 0 → Readable buffer entries out
+  -- An answer 0 leaves a letter in the output that reads as the entries say, in any edition that takes its elements.
+  pub readable : (edition : Edition) → TakesAll edition → made buffer entries out .number ≡ 0 → Readable edition buffer entries out
   unfolding fetched joinedIn
-  readable z =
+  readable edition takes z =
       let d = done z in
-      let r = reads-so d in
-      let l = letter-so d in
+      let r = reads-so d edition takes in
+      let l = letter-so d edition takes in
       record {
         accepted = l ∙ ap (λ (n : ℕ). letter (itemsFor n) (elementsOf (d .said))) (count-is d)
             ∙ ap (λ (s : List Said). letter (itemsFor (length entries)) (elementsOf s)) (says-is d);
         own-form = ap normalForm (written-is d) ∙ r .own-form ∙ sym (written-is d);
         layout = ap (matchesBy Layout) l ∙ r .layout ∙ ap (matchesFrom 0) (count-is d);
         logical = ap (matchesBy Logical) l ∙ r .logical;
-        text = λ k entry e. rw (l, unit-so d k entry e);
-        joined = λ k entry e. rw (l, unit-so d k entry e);
+        text = λ k entry e. rw (l, unit-so d edition takes k entry e);
+        joined = λ k entry e. rw (l, unit-so d edition takes k entry e);
       }
+
+-- so it does in both editions
+pub readable-in : (edition : Edition) (buffer : List ℕ) (entries : List Entry) (out : List ℕ) → made buffer entries out .number ≡ 0
+    → Readable edition buffer entries out
+readable-in edition buffer entries out z = readable buffer entries out edition (takes edition) z
 
 -- two outcomes that the contract allows are equal
 pub make-determined : {buffer : List ℕ} {entries : List Entry} {out : List ℕ} {a b : Written} {t u : List ℕ}

@@ -1,11 +1,12 @@
--- The edition of 1988 takes the profile, the block and the text unit that are made: computed from its shapes, but for the spelling. The one
+-- Both editions take the profile, the block and the text unit that are made: computed from their shapes, but for the spelling. The one
 -- file that looks at shapes. Assumes nothing.
 use mathlib.Core.Path.{refl}
 use Rattle.contents.specs.Search.{amount, firstValue, firstRun, inOrder}
 use Rattle.pieces.specs.Pieces.{onlyPieces}
 use Rattle.portions.specs.Portions.{allPortions, values, wellSpelt}
 use Rattle.elements.specs.Shape.{shapeOf}
-use Rattle.elements.specs.declared.Edition.the-variants.{Of1988}
+use Rattle.elements.specs.declared.Edition.{Edition}
+use Rattle.elements.specs.declared.Edition.the-variants.{Of1988, Of1993}
 use Rattle.elements.specs.Judge.{bodyOf, contentOf, elementOf, ordered, asTabled, namesFit, shapeRefusal}
 use Rattle.made.specs.Editions.{TakesAll}
 
@@ -16,3 +17,16 @@ takes-1988 = record {
   block = λ said spelt. record { known = refl; passes = rw (spelt .identifier, spelt .portion); says = refl };
   unit = λ said spelt. record { known = refl; passes = rw (spelt .unit); says = refl };
 }
+
+pub takes-1993 : TakesAll Of1993
+unfolding amount firstValue firstRun inOrder onlyPieces allPortions values wellSpelt shapeOf bodyOf contentOf elementOf ordered asTabled namesFit shapeRefusal
+takes-1993 = record {
+  profile = record { known = refl; passes = refl; says = refl };
+  block = λ said spelt. record { known = refl; passes = rw (spelt .identifier, spelt .portion); says = refl };
+  unit = λ said spelt. record { known = refl; passes = rw (spelt .unit); says = refl };
+}
+
+-- whichever the edition
+pub takes : (edition : Edition) → TakesAll edition
+takes Of1988 = takes-1988
+takes Of1993 = takes-1993

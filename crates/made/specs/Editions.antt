@@ -1,5 +1,5 @@
 -- What an edition has to say of the three elements of a letter that is made: all that the theorems know of an edition and its shapes. That
--- the edition of 1988 says so is `takes-1988` (proofs/Shapes). Definitions only: assumes nothing.
+-- both editions say so is `takes` (proofs/Shapes). Definitions only: assumes nothing.
 use Prim.Native.Nat.{ℕ}
 use mathlib.Core.Path.{_≡_}
 use mathlib.Core.Bool.{true}

@@ -40,16 +40,17 @@ pub record Reads (edition : Edition) (said : List Said) : Type 0 where
 abbrev pub writtenBy : (buffer : List ℕ) → List Entry → (out : List ℕ) → List ℕ
 writtenBy buffer entries out = take (made buffer entries out .length) (madeOutput buffer entries out)
 
--- The same of what stands in the output after an answer 0, by the questions that are there, in the edition of 1988.
-pub record Readable (buffer : List ℕ) (entries : List Entry) (out : List ℕ) : Type 0 where
-  pub accepted : letterIn (writtenBy buffer entries out) ≡ letter (itemsFor (length entries)) (elementsOf (map (saidBy buffer) entries))
+-- The same of what stands in the output after an answer 0, by the questions that are there.
+pub record Readable (edition : Edition) (buffer : List ℕ) (entries : List Entry) (out : List ℕ) : Type 0 where
+  pub accepted : letterIn edition (writtenBy buffer entries out)
+      ≡ letter (itemsFor (length entries)) (elementsOf (map (saidBy buffer) entries))
   pub own-form : normalForm (writtenBy buffer entries out) ≡ writtenBy buffer entries out
-  pub layout : matchesIn Layout (writtenBy buffer entries out) ≡ matchesFrom 0 (length entries)
-  pub logical : matchesIn Logical (writtenBy buffer entries out) ≡ []
+  pub layout : matchesIn edition Layout (writtenBy buffer entries out) ≡ matchesFrom 0 (length entries)
+  pub logical : matchesIn edition Logical (writtenBy buffer entries out) ≡ []
   pub text : (k : ℕ) (entry : Entry) → getElem? entries k ≡ some entry
-      → fetched (writtenBy buffer entries out) (unitAt k) ≡ handed (bytesIn buffer (entry .text))
+      → fetched edition (writtenBy buffer entries out) (unitAt k) ≡ handed (bytesIn buffer (entry .text))
   pub joined : (k : ℕ) (entry : Entry) → getElem? entries k ≡ some entry
-      → joinedIn (writtenBy buffer entries out) (unitAt k) ≡ handed (bytesIn buffer (entry .text))
+      → joinedIn edition (writtenBy buffer entries out) (unitAt k) ≡ handed (bytesIn buffer (entry .text))
 
 -- The refusal of one entry, after those that are done: "in this order: 27 .., 14 .., 15 .., 9 ..".
 pub record InOrder (buffer : List ℕ) (done : List Said) (entry : Entry) : Type 0 where
@@ -97,6 +98,7 @@ pub record Answers (buffer : List ℕ) (entries : List Entry) (out : List ℕ) :
       → made buffer entries out ≡ notMade 18 0
   -- else the stream is written, and "Output past it stays"
   pub writes : (said : List Said) → judge buffer entries ≡ fit said → length (streamOf said) ≤ streamLimit → length (streamOf said) ≤ length out
-      → (made buffer entries out ≡ record { number = 0; place = 0; length = length (streamOf said) }) × (madeOutput buffer entries out ≡ onto (streamOf said) out)
+      → (made buffer entries out ≡ record { number = 0; place = 0; length = length (streamOf said) })
+      × (madeOutput buffer entries out ≡ onto (streamOf said) out)
   -- "output untouched"
   pub untouched : (made buffer entries out .number ≡ 0 → ⊥) → (madeOutput buffer entries out ≡ out) × (made buffer entries out .length ≡ 0)

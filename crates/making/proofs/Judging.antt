@@ -2,13 +2,14 @@
 use mathlib.Core.Path.{_≡_, refl, ap, sym, _∙_, subst}
 use mathlib.Core.Logic.{_⊎_, inl, inr}
 use mathlib.Core.List.{List, [], _∷_, _++_, map}
-use Prim.Native.Nat.{ℕ, _+_, _*_, _/_, _<_, _≤_}
+use Prim.Native.Nat.{ℕ, _+_, _-_, _*_, _/_, _<_, _≤_}
 use native.Mathlib.Numerals.{add-one}
 use native.Mathlib.Omega.{arith}
 use lib.ListN.{length, replicate, length-replicate, getD-replicate}
 use Rattle.names.specs.Hash.{hashes}
 use Rattle.index.specs.Rows.{rowWidth}
 use Rattle.index.specs.Index.{Empty}
+use Rattle.ordered.specs.Ordered.{markOf}
 use Rattle.answers.specs.declared.Reason.{Reason}
 use Rattle.making.specs.declared.Entry.{Entry}
 use Rattle.making.specs.Entries.{Said, saidBy, entryRefusal, fit, refused, judgeFrom, judge}
@@ -25,18 +26,27 @@ zeros n = length-replicate n 0
 no-heads : (n : ℕ) → Empty (replicate n 0)
 no-heads n b l = getD-replicate n b 0 0 (omega (arith, zeros n))
 
--- as many links as entries, or as fit
-linked : (count links : ℕ) → (count ≤ links) ⊎ (2047 ≤ links) → (k : ℕ) → k < count → k < 2047 → k < links
+-- more links than entries, or than fit
+linked : (count links : ℕ) → (count < links) ⊎ (2047 < links) → (k : ℕ) → k < count → k < 2047 → k + 1 < links
 linked count links (inl e) k l m = omega arith
 linked count links (inr e) k l m = omega arith
 
+some-of : (count links : ℕ) → (count < links) ⊎ (2047 < links) → 0 < links
+some-of count links (inl e) = omega arith
+some-of count links (inr e) = omega arith
+
+no-mark : (n : ℕ) → 0 < n → markOf (replicate n 0) ≡ 0
+no-mark n some = getD-replicate n (length (replicate {A = ℕ} n 0) - 1) 0 0 (omega (arith, zeros n))
+
 -- arrays of zeros are what is lent
-pub zeros-roomy : (numbers : List ℕ) (rows heads links : ℕ) → (length numbers / entryWidth ≤ links) ⊎ (2047 ≤ links) → links * rowWidth ≤ rows
+pub zeros-roomy : (numbers : List ℕ) (rows heads links : ℕ) → (length numbers / entryWidth < links) ⊎ (2047 < links) → links * rowWidth ≤ rows + rowWidth
     → 0 < heads → heads ≤ hashes → Roomy numbers (replicate rows 0) (replicate heads 0) (replicate links 0)
 zeros-roomy numbers rows heads links enough room some few = record {
   some-heads = omega (arith, zeros heads);
   few-heads = omega (arith, zeros heads);
   empty-heads = no-heads heads;
+  some-links = omega (arith, zeros links, some-of (length numbers / entryWidth) links enough);
+  unmarked = no-mark links (some-of (length numbers / entryWidth) links enough);
   rows-fit = λ k l m. let n = linked (length numbers / entryWidth) links enough k l m in omega (arith, zeros rows);
   links-fit = λ k l m. omega (arith, zeros links, linked (length numbers / entryWidth) links enough k l m);
 }
@@ -49,7 +59,7 @@ pub record Judging (buffer numbers rows head next : List ℕ) (k : ℕ) : Type 0
 pub judging-none : (buffer numbers rows head next : List ℕ) → Roomy numbers rows head next → Judging buffer numbers rows head next 0
 unfolding entriesIn judgeFrom
 judging-none buffer numbers rows head next roomy =
-    record { done = []; so-far = refl; keeps = keeps-none buffer rows head next (roomy .some-heads) (roomy .few-heads) (roomy .empty-heads) }
+    record { done = []; so-far = refl; keeps = keeps-none buffer rows head next (roomy .some-heads) (roomy .few-heads) (roomy .empty-heads) (roomy .some-links) (roomy .unmarked) }
 
 module _ {buffer numbers rows head next : List ℕ} {k : ℕ} (j : Judging buffer numbers rows head next k) where
   -- no more than fit

@@ -11,19 +11,22 @@ use borrow.Table.Steps.{cases}
 use Rattle.names.specs.Hash.{hashes}
 use Rattle.index.specs.Rows.{rowWidth}
 use Rattle.index.specs.Columns.{identifierColumn, kindAt, firstAt, pastAt, valueAt, Bounded}
-use Rattle.index.specs.Index.{Indexed, Empty}
-use Rattle.index.proofs.Rows.{Kept, kind-kept, value-kept, bounded-kept, bounded-more, bounded-none, indexed-kept, indexed-none}
+use Rattle.index.specs.Index.{Empty}
+use Rattle.ordered.specs.Ordered.{markOf, Filed}
+use Rattle.index.proofs.Rows.{Kept, kind-kept, value-kept, bounded-kept, bounded-more, bounded-none}
+use Rattle.ordered.proofs.Rows.{filed-kept, filed-none}
 use Rattle.judging.proofs.Lists.{Last, before, last, below-length, at-last}
 use Rattle.making.specs.declared.Entry.{Entry}
 use Rattle.making.specs.Entries.{Said, saidBy}
 use Rattle.making.specs.Keeps.{blockKind, Keeps}
 
 -- nothing is done yet
-pub keeps-none : (buffer rows head next : List ℕ) → 0 < length head → length head ≤ hashes → Empty head → Keeps buffer rows head next 0 []
-keeps-none buffer rows head next some few empty = record {
+pub keeps-none : (buffer rows head next : List ℕ) → 0 < length head → length head ≤ hashes → Empty head → 0 < length next → markOf next ≡ 0
+    → Keeps buffer rows head next 0 []
+keeps-none buffer rows head next some few empty links unmarked = record {
   counted = refl;
   bounded = bounded-none buffer rows identifierColumn (omega arith);
-  indexed = indexed-none buffer rows identifierColumn head next some few empty;
+  filed = filed-none buffer rows identifierColumn head next some few empty links unmarked;
   kinds = λ j l. absurd (omega arith);
   values = λ j x e. let z : _≡_ {A = ℕ} 0 1 = cc in absurd (omega arith);
 }
@@ -69,8 +72,8 @@ module _ (rows : List ℕ) (n first past : ℕ) (long : n * rowWidth + rowWidth 
         bounded-more buffer rowPut identifierColumn n (bounded-kept buffer rows rowPut identifierColumn n (omega arith) put-kept (omega arith) b)
         (omega arith) (omega (arith, put-first, put-past)) (omega (arith, put-past))
 
-    pub put-indexed : (head next : List ℕ) → Indexed buffer rows identifierColumn head next n → Indexed buffer rowPut identifierColumn head next n
-    put-indexed head next = indexed-kept buffer rows rowPut identifierColumn n (omega arith) put-kept head next
+    pub put-filed : (head next : List ℕ) → Filed buffer rows identifierColumn head next n → Filed buffer rowPut identifierColumn head next n
+    put-filed head next = filed-kept buffer rows rowPut identifierColumn n (omega arith) put-kept head next
 
     module _ (head next : List ℕ) (done : List Said) (keeps : Keeps buffer rows head next n done) (entry : Entry)
         (same-first : entry .identifier .first ≡ first) (same-past : entry .identifier .past ≡ past) where
@@ -88,11 +91,11 @@ module _ (rows : List ℕ) (n first past : ℕ) (long : n * rowWidth + rowWidth 
           ap (valueAt buffer rowPut identifierColumn) (p ∙ keeps .counted) ∙ value-there ∙ ap (λ (y : Said). y .identifier) (sym q)
 
       pub keeps-more : (head' next' : List ℕ) → Bounded buffer rowPut identifierColumn (n + 1)
-          → Indexed buffer rowPut identifierColumn head' next' (n + 1) → Keeps buffer rowPut head' next' (n + 1) (done ++ (said ∷ []))
-      keeps-more head' next' bounded indexed = record {
+          → Filed buffer rowPut identifierColumn head' next' (n + 1) → Keeps buffer rowPut head' next' (n + 1) (done ++ (said ∷ []))
+      keeps-more head' next' bounded filed = record {
         counted = length-append done (said ∷ []) ∙ omega (arith, keeps .counted);
         bounded = bounded;
-        indexed = indexed;
+        filed = filed;
         kinds = λ j l.
             cases (eqb j n)
             (λ t. ap (kindAt rowPut) (eqb-true j n t) ∙ put-kind)

@@ -12,7 +12,8 @@ use Rattle.index.specs.declared.RowFound.{RowFound}
 use Rattle.index.specs.declared.RowFound.the-variants.{At, Nothing}
 use Rattle.index.specs.Rows.{rowWidth}
 use Rattle.index.specs.Columns.{identifierColumn, kindAt, valueAt, Bounded}
-use Rattle.index.specs.Index.{Indexed, Empty}
+use Rattle.index.specs.Index.{Empty}
+use Rattle.ordered.specs.Ordered.{markOf, Filed}
 use Rattle.elements.specs.Rows.{bytesIn}
 use Rattle.making.specs.declared.Entry.{Entry}
 use Rattle.making.specs.declared.rules.Ruled.{Ruled}
@@ -31,7 +32,7 @@ blockSpace = 1
 pub record Keeps (buffer rows head next : List ℕ) (n : ℕ) (done : List Said) : Type 0 where
   pub counted : length done ≡ n
   pub bounded : Bounded buffer rows identifierColumn n
-  pub indexed : Indexed buffer rows identifierColumn head next n
+  pub filed : Filed buffer rows identifierColumn head next n
   pub kinds : (j : ℕ) → j < n → kindAt rows j ≡ blockKind
   pub values : (j : ℕ) (x : Said) → getElem? done j ≡ some x → valueAt buffer rows identifierColumn j ≡ x .identifier
 
@@ -68,4 +69,6 @@ pub record Roomy (numbers rows head next : List ℕ) : Type 0 where
   pub few-heads : length head ≤ hashes
   pub empty-heads : Empty head
   pub rows-fit : (k : ℕ) → k < length numbers / entryWidth → k < 2047 → k * rowWidth + rowWidth ≤ length rows
-  pub links-fit : (k : ℕ) → k < length numbers / entryWidth → k < 2047 → k < length next
+  pub some-links : 0 < length next
+  pub unmarked : markOf next ≡ 0
+  pub links-fit : (k : ℕ) → k < length numbers / entryWidth → k < 2047 → k + 1 < length next

@@ -68,7 +68,7 @@ fn judge_few(buffer: &[u8], numbers: &[u32]) -> Reason
 {
     let mut rows = [0u32; 1536];
     let mut head = [0u16; 256];
-    let mut next = [0u16; 128];
+    let mut next = [0u16; 129];
     rules::judge_entries(buffer, numbers, &mut rows, &mut head, &mut next)
 }
 
@@ -78,7 +78,7 @@ fn judge_many(buffer: &[u8], numbers: &[u32]) -> Reason
 {
     let mut rows = [0u32; 24564];
     let mut head = [0u16; 4096];
-    let mut next = [0u16; 2047];
+    let mut next = [0u16; 2048];
     rules::judge_entries(buffer, numbers, &mut rows, &mut head, &mut next)
 }
 

@@ -15,7 +15,7 @@ ghost use lib.Seq.{slice};
 ghost use Rattle.names.specs.Hash.{hash};
 ghost use Rattle.index.specs.Rows.{rowWidth};
 ghost use Rattle.index.specs.Columns.{identifierColumn, Bounded};
-ghost use Rattle.index.specs.Index.{Indexed};
+ghost use Rattle.ordered.specs.Ordered.{Filed};
 ghost use Rattle.elements.specs.Rows.{bytesIn};
 ghost use Rattle.making.specs.Entries.{Said, saidBy, inside, partsInside, wellSpelt, judge};
 ghost use Rattle.making.specs.Answers.{reasonOf};
@@ -95,7 +95,7 @@ fn is_used(
     identifier: Span,
     hashed: usize,
 ) -> bool
-    requires { ⌜ Bounded (now buffer) (now rows) identifierColumn n × Indexed (now buffer) (now rows) identifierColumn (now head) (now next) n ⌝ }
+    requires { ⌜ Bounded (now buffer) (now rows) identifierColumn n × Filed (now buffer) (now rows) identifierColumn (now head) (now next) n ⌝ }
     requires { ⌜ PartLies (now buffer) identifier × (hashed ≡ hash (bytesIn (now buffer) identifier)) ⌝ }
     ensures { λ r. ⌜ TellsUsed (now (buffer .entry)) (now (rows .entry)) (now (head .entry)) (now (next .entry)) n identifier r ⌝ }
 {
@@ -106,7 +106,7 @@ fn is_used(
         from: 0,
         to: 0,
     };
-    match index::find(
+    match ordered::find(
         buffer,
         rows,
         head,
@@ -124,7 +124,7 @@ fn is_used(
 
 // The refusal of entry n, after those that are done.
 fn rule(buffer: &[u8], rows: &[u32], head: &[u16], next: &[u16], n: usize, entry: Entry) -> Ruled
-    requires { ⌜ Bounded (now buffer) (now rows) identifierColumn n × Indexed (now buffer) (now rows) identifierColumn (now head) (now next) n ⌝ }
+    requires { ⌜ Bounded (now buffer) (now rows) identifierColumn n × Filed (now buffer) (now rows) identifierColumn (now head) (now next) n ⌝ }
     ensures { λ r. ⌜ Rules (now (buffer .entry)) (now (rows .entry)) (now (head .entry)) (now (next .entry)) n entry r ⌝ }
 {
     if !parts_lie(buffer, entry) {
@@ -167,8 +167,8 @@ fn keep(
     past: u32,
     hashed: usize,
 )
-    requires { ⌜ Bounded (now buffer) (now rows) identifierColumn n × Indexed (now buffer) (now rows) identifierColumn (now head) (now next) n ⌝ }
-    requires { ⌜ (n * rowWidth + rowWidth ≤ length (now rows)) × (n < length (now next)) × (n < 2047) ⌝ }
+    requires { ⌜ Bounded (now buffer) (now rows) identifierColumn n × Filed (now buffer) (now rows) identifierColumn (now head) (now next) n ⌝ }
+    requires { ⌜ (n * rowWidth + rowWidth ≤ length (now rows)) × (n + 1 < length (now next)) × (n < 2047) ⌝ }
     requires { ⌜ (first ≤ past) × (past ≤ length (now buffer)) × (hashed ≡ hash (slice first past (now buffer))) ⌝ }
     ensures { λ _. ⌜ KeepsOn (now (buffer .entry)) (now (rows .entry)) (now (head .entry)) (now (next .entry)) n first past (now (rows .exit))
         (now (head .exit)) (now (next .exit)) ⌝ }
@@ -177,7 +177,7 @@ fn keep(
     rows[at] = BLOCK;
     rows[at + index::IDENTIFIER] = first;
     rows[at + index::IDENTIFIER + 1] = past;
-    index::insert(buffer, rows, head, next, n, index::IDENTIFIER, hashed);
+    ordered::insert(buffer, rows, head, next, n, index::IDENTIFIER, hashed);
 }
 
 // Judges the entries in order: the number and place of the first refusal, 0 and 0 if there is none.

@@ -16,7 +16,7 @@ const LONGEST_PORTION: usize = 16;
 
 const HASHES: usize = 4_294_967_296;
 
-fn is_digit(byte: u8) -> bool
+pub fn is_digit(byte: u8) -> bool
     ensures { λ r. ⌜ r ≡ isDigit byte ⌝ }
 {
     if byte < 48 {

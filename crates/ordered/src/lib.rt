@@ -97,14 +97,12 @@ pub fn find(
     ensures { λ r. ⌜ FindsRow (now (s .entry)) (now (rows .entry)) column n space (spelling (now (s .entry)) asked) r ⌝ }
 {
     if next[next.len() - 1] != 0 {
-        let name = asked;
-        return find_any(&*s, &*rows, &*head, &*next, n, column, space, hashed, name);
+        return find_any(s, rows, head, next, n, column, space, hashed, asked);
     }
     if head[names::bucket_of(head.len(), hashed)] == 0 {
         return RowFound::Nothing;
     }
-    let name = asked;
-    find_any(&*s, &*rows, &*head, &*next, n, column, space, hashed, name)
+    find_any(s, rows, head, next, n, column, space, hashed, asked)
 }
 
 // Adds row n, which has a value, or is to be put in order.
@@ -141,7 +139,8 @@ fn insert_any(
 }
 
 // Adds row n. `hashed` is the hash of its value, by which the caller has looked it up before. Mostly a row has no value, or
-// is the first of its bucket: that much is small enough to stand in the caller.
+// is the first of its bucket: that much is small enough to stand in the caller. What the rest is lent is lent anew, or the caller would
+// keep it in memory for all rows.
 pub fn insert(
     s: &[u8],
     rows: &[u32],

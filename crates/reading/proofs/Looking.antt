@@ -50,7 +50,7 @@ unfolding nameSpaceOf
 unit-space = refl
 
 -- a name that is there
-name-there : (s : List ℕ) (pair : Span) (bytes : List ℕ) → nameIn s pair ≡ octets bytes → (pair .first < pair .past) × (bytesIn s pair ≡ bytes)
+pub name-there : (s : List ℕ) (pair : Span) (bytes : List ℕ) → nameIn s pair ≡ octets bytes → (pair .first < pair .past) × (bytesIn s pair ≡ bytes)
 name-there s pair bytes e = by-test (ltb (pair .first) (pair .past)) refl
   where
     by-test : (t : Bool) → ltb (pair .first) (pair .past) ≡ t → (pair .first < pair .past) × (bytesIn s pair ≡ bytes)

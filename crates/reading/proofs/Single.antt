@@ -29,7 +29,7 @@ use Rattle.reading.proofs.OnePlace.{portion-spelt, one-place, one-eleme
 use Rattle.reading.proofs.Matches.{joins-told, matches-are, matches-once}
 
 -- the elements of a side are of one name space
-side-space : (side : Side) (kind : ℕ) → isIn kind (kindsOf side) ≡ true → nameSpaceOf kind ≡ 1
+pub side-space : (side : Side) (kind : ℕ) → isIn kind (kindsOf side) ≡ true → nameSpaceOf kind ≡ 1
 unfolding nameSpaceOf
 side-space Layout kind e =
     cases (eqb kind 1) (λ t. rw (eqb-true kind 1 t))
@@ -39,7 +39,7 @@ side-space Logical kind e =
     (λ t. cases (eqb kind 6) (λ u. rw (eqb-true kind 6 u)) (λ u. absurd (false≢true (rw (t, u) at e))))
 
 -- two of a name space that have the same name clash: by their identifiers, or by the name of a side
-clash-identifier : (d e : Element) (bytes : List ℕ) → nameSpaceOf (d .kind) ≡ nameSpaceOf (e .kind) → d .identifier ≡ octets bytes → e .identifier ≡ octets bytes
+pub clash-identifier : (d e : Element) (bytes : List ℕ) → nameSpaceOf (d .kind) ≡ nameSpaceOf (e .kind) → d .identifier ≡ octets bytes → e .identifier ≡ octets bytes
     → clash d e ≡ true
 unfolding clash
 clash-identifier d e bytes s p q = rw (eq-eqb _ _ s, p, q, same-refl bytes)

@@ -71,7 +71,7 @@ closing-kept s at limit past marked other =
     (λ _. tt)
 
 -- a type field that was read is read again, before another limit that is past it
-item-again : (s : List ℕ) (octet at limit past levels : ℕ) → 0 < levels → {code from : ℕ} → FieldRead s octet at limit code from → from < past
+pub item-again : (s : List ℕ) (octet at limit past levels : ℕ) → 0 < levels → {code from : ℕ} → FieldRead s octet at limit code from → from < past
     → itemAt s octet at past levels ≡ lengthAt s code at from past
 unfolding itemAt
 item-again s octet at limit past levels some (in-one low tabled) w =
@@ -119,7 +119,7 @@ head-kept s at limit past marked room levels deep =
     (λ w. rw z (item-again s octet at limit past levels (deep some) read w))))
 
 -- a primitive item is definite
-definite : (s : List ℕ) (at limit : ℕ) (marked : Bool) (room : ℕ) (h : Header) → headAt s at limit marked room ≡ Item h → constructed (h .octet) ≡ false
+pub definite : (s : List ℕ) (at limit : ℕ) (marked : Bool) (room : ℕ) (h : Header) → headAt s at limit marked room ≡ Item h → constructed (h .octet) ≡ false
     → (m : Bool) → h .marked ≡ m → h .marked ≡ false
 definite s at limit marked room h e c true m = absurd (false≢true (sym c ∙ header-ok s at limit room marked h e .mark m))
 definite s at limit marked room h e c false m = m

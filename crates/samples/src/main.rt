@@ -1,6 +1,6 @@
-// Runs the checked examples of document 01 and the worked examples of X.209, the streams of vectors/, and prints what comes out: octets,
-// then for each stream the check's number, place and header count, a normal form, or - where it is refused, and of a text unit its number
-// and its joined content.
+// Runs the checked examples of document 01, the worked examples of X.209 and those of the edition of 1993, the streams of vectors/, and prints
+// what comes out: octets, then for each stream the check's number, place and header count, a normal form, or - where it is refused, and of a
+// text unit its number and its joined content.
 use hex::INPUT_LIMIT;
 use hex::Read;
 use libc::STDOUT_FILENO;
@@ -8,7 +8,16 @@ use odif::Edition;
 ghost use Prim.Native.Nat.{_<_};
 
 // Room for the rows of ten elements: no example has more.
-const TABLE_ROOM: usize = 120;
+const TABLE_ROOM: usize = 130;
+
+// Where the second row has the kind, the object type, and the bounds of the content.
+const KIND: usize = 13;
+
+const OBJECT_TYPE: usize = 14;
+
+const CONTENT_FIRST: usize = 23;
+
+const CONTENT_PAST: usize = 24;
 
 fn digit(value: u8) -> u8
     requires { ⌜ value < 16 ⌝ }
@@ -33,10 +42,10 @@ fn print_pairs(octets: &[u8]) {
     }
 }
 
-// What the check answers.
-fn print_check(stream: &[u8]) {
+// What the check answers, by an edition.
+fn print_check(edition: Edition, stream: &[u8]) {
     let mut table = [0u32; TABLE_ROOM];
-    let answer = odif::check(Edition::Of1988, stream, &mut table);
+    let answer = odif::check(edition, stream, &mut table);
     io::print_decimal(STDOUT_FILENO, answer.number as u64);
     io::write_all(STDOUT_FILENO, b" ");
     io::print_decimal(STDOUT_FILENO, answer.place as u64);
@@ -54,13 +63,36 @@ fn print_normal(stream: &[u8]) {
     }
 }
 
-fn print_joined(stream: &[u8], element: usize) {
+fn print_joined(edition: Edition, stream: &[u8], element: usize) {
     let mut out = [0u8; INPUT_LIMIT];
-    let answer = odif::joined(Edition::Of1988, stream, element, &mut out);
+    let answer = odif::joined(edition, stream, element, &mut out);
     if answer.number == 0 {
         io::print_decimal(STDOUT_FILENO, element as u64);
-        io::write_all(STDOUT_FILENO, b" ");
+        if answer.length != 0 {
+            io::write_all(STDOUT_FILENO, b" ");
+        }
         print_pairs(hex::part(&out, answer.length as usize));
+    } else {
+        io::write_all(STDOUT_FILENO, b"-");
+    }
+}
+
+fn print_number(number: u32) {
+    io::print_decimal(STDOUT_FILENO, number as u64);
+}
+
+// Of the element after the profile, by the edition of 1993: its kind, its object type, and the bounds of its content.
+fn print_row(stream: &[u8]) {
+    let mut table = [0u32; TABLE_ROOM];
+    let answer = odif::check(Edition::Of1993, stream, &mut table);
+    if answer.number == 0 {
+        print_number(table[KIND]);
+        io::write_all(STDOUT_FILENO, b" ");
+        print_number(table[OBJECT_TYPE]);
+        io::write_all(STDOUT_FILENO, b" ");
+        print_number(table[CONTENT_FIRST]);
+        io::write_all(STDOUT_FILENO, b" ");
+        print_number(table[CONTENT_PAST]);
     } else {
         io::write_all(STDOUT_FILENO, b"-");
     }
@@ -84,7 +116,7 @@ fn read(before: &[u8], pairs: &[u8], after: &[u8], octets: &mut [u8; INPUT_LIMIT
 fn check_in(before: &[u8], pairs: &[u8], after: &[u8]) {
     let mut octets = [0u8; INPUT_LIMIT];
     let length = read(before, pairs, after, &mut octets);
-    print_check(hex::part(&octets, length));
+    print_check(Edition::Of1988, hex::part(&octets, length));
 }
 
 fn normal_in(before: &[u8], pairs: &[u8], after: &[u8]) {
@@ -96,7 +128,7 @@ fn normal_in(before: &[u8], pairs: &[u8], after: &[u8]) {
 fn joined_in(pairs: &[u8], element: usize) {
     let mut octets = [0u8; INPUT_LIMIT];
     let length = read(b"", pairs, b"", &mut octets);
-    print_joined(hex::part(&octets, length), element);
+    print_joined(Edition::Of1988, hex::part(&octets, length), element);
 }
 
 // A stream. Of its elements the one after the profile is asked for its content: no example has a text unit elsewhere.
@@ -109,6 +141,26 @@ fn stream(pairs: &[u8]) {
     print_between();
     joined_in(pairs, 1);
     io::write_all(STDOUT_FILENO, b"\n");
+}
+
+// A stream by both editions: what the check answers by either, then by that of 1993 the row of the element after the profile, and its content.
+fn print_both(pairs: &[u8], stream: &[u8]) {
+    io::write_all(STDOUT_FILENO, pairs);
+    print_between();
+    print_check(Edition::Of1988, stream);
+    print_between();
+    print_check(Edition::Of1993, stream);
+    print_between();
+    print_row(stream);
+    print_between();
+    print_joined(Edition::Of1993, stream, 1);
+    io::write_all(STDOUT_FILENO, b"\n");
+}
+
+fn both(pairs: &[u8]) {
+    let mut octets = [0u8; INPUT_LIMIT];
+    let length = read(b"", pairs, b"", &mut octets);
+    print_both(pairs, hex::part(&octets, length));
 }
 
 // An item, alone, in a definite profile that begins with the pairs before it, and in an indefinite one.
@@ -196,7 +248,56 @@ fn x209() {
     );
 }
 
+// The edition of 1993 (W-213).
+fn editions() {
+    // a sealed profile
+    both(b"A000A90747013103020780");
+    // an enciphered profile
+    both(b"A000AA074701310402DEAD");
+    // a body part, enciphered before the layout
+    both(b"A000AB06470132040100");
+    // one enciphered after it, with nothing in it
+    both(b"A000AC054701330400");
+    // one identifier twice
+    both(b"A000AA054701310400AB054701310400");
+    // an identifier misspelt
+    both(b"A000AA054701410400");
+    // the items swapped
+    both(b"A000AA050400470131");
+    // a constructed identifier
+    both(b"A000AA0767031301310400");
+    // a constructed octet string
+    both(b"A000AA0747013124020400");
+    // a third item
+    both(b"A000AA0747013104000400");
+    // a sealed profile with an octet string
+    both(b"A000A9054701310400");
+    // a text unit without content
+    both(b"A000A300");
+    // the same with attributes
+    both(b"A000A3053103400130");
+    // tiles with nothing in them
+    both(b"A000A306300404000400");
+    // tiles, one of them in pieces
+    both(b"A000A30A30080401482403040169");
+    // another item among the tiles
+    both(b"A000A30430020500");
+    // content in one octet string
+    both(b"A000A30404024869");
+    // content in pieces
+    both(b"A000A3082406040148040169");
+    // attribute 34
+    both(b"A000A2083106BF2203800100");
+    // octet A4
+    both(b"A000A400");
+    // octet AD
+    both(b"A000AD00");
+    // octet 8A
+    both(b"A0008A00");
+}
+
 fn main() {
     document_01();
     x209();
+    editions();
 }

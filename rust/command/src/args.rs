@@ -8,7 +8,7 @@ use clap::{Args, CommandFactory, Parser, Subcommand, ValueEnum};
 use odif::{Edition, Letter, Match, Side};
 
 use crate::status::{Failure, Outcome, Status, tell};
-use crate::{check, export, list, man, normal, same, survey, text, tree};
+use crate::{check, date, export, list, make, man, normal, outline, same, survey, text, tree};
 
 const EXAMPLES: &str = "\
 Examples:
@@ -46,10 +46,13 @@ pub struct Cli {
 #[derive(Subcommand)]
 enum Command {
     Check(check::Words),
+    Date(date::Words),
     Text(text::Words),
     Tree(tree::Words),
     List(list::Words),
+    Outline(outline::Words),
     Normal(normal::Words),
+    Make(make::Words),
     Survey(survey::Words),
     Same(same::Words),
     Export(export::Words),
@@ -173,10 +176,13 @@ pub fn run(words: impl Iterator<Item = OsString>) -> ExitCode {
 fn dispatch(command: Command) -> Outcome {
     match command {
         Command::Check(words) => check::run(&words),
+        Command::Date(words) => date::run(&words),
         Command::Text(words) => text::run(&words),
         Command::Tree(words) => tree::run(&words),
         Command::List(words) => list::run(&words),
+        Command::Outline(words) => outline::run(&words),
         Command::Normal(words) => normal::run(&words),
+        Command::Make(words) => make::run(&words),
         Command::Survey(words) => survey::run(&words),
         Command::Same(words) => same::run(&words),
         Command::Export(words) => export::run(&words),

@@ -6,10 +6,11 @@ use std::num::NonZeroUsize;
 use odif::{Blocks, Refusal, Walked};
 use serde::Serialize;
 
-use crate::args::Asked;
+use crate::args::Files;
+use crate::explain;
 use crate::input::{self, Source};
+use crate::show;
 use crate::status::{Outcome, Status};
-use crate::{explain, show};
 
 /// What JSON has besides the verdict.
 #[derive(Serialize)]
@@ -20,13 +21,13 @@ struct Counts {
 }
 
 /// Checks each file by rules 1 to 8 alone, in blocks of so many octets.
-pub fn run(asked: &Asked, size: NonZeroUsize) -> Outcome {
-    input::each(&asked.files, asked.json, |source| {
-        let blocks = source.stream.len().div_ceil(size.get());
+pub fn run(files: &Files, json: bool, size: NonZeroUsize) -> Outcome {
+    input::each(files, json, |source| {
+        let count = source.stream.len().div_ceil(size.get());
         let Walked { verdict, headers, .. } = walk(&source.stream, size)?;
         let report = match &verdict {
-            _ if asked.json => explain::answer(source, &verdict, Counts { octets: source.size, headers, blocks }),
-            Ok(()) => passed(source, headers, blocks),
+            _ if json => explain::answer(source, &verdict, Counts { octets: source.size, headers, blocks: count }),
+            Ok(()) => passed(source, headers, count),
             Err(refusal) => explain::refusal(source, refusal),
         };
         let mut out = io::stdout().lock();

@@ -8,9 +8,10 @@ use odif::{Letter, Refusal};
 use serde::Serialize;
 
 use crate::args::Asked;
+use crate::blocks;
 use crate::input::{self, Source};
 use crate::status::{Outcome, Status};
-use crate::{blocks, explain, protected, show};
+use crate::{date, explain, protected, show};
 
 const EXAMPLES: &str = "\
 Examples:
@@ -45,6 +46,8 @@ struct Counts {
     /// How many of the elements are protected parts, which 1988 does not have.
     #[serde(skip_serializing_if = "is_none")]
     protected_parts: usize,
+    /// The date of the document, if it has one.
+    date: Option<String>,
 }
 
 fn is_none(count: &usize) -> bool {
@@ -53,7 +56,7 @@ fn is_none(count: &usize) -> bool {
 
 pub fn run(words: &Words) -> Outcome {
     if let Some(size) = words.blocks {
-        return blocks::run(&words.asked, size);
+        return blocks::run(&words.asked.files, words.asked.json, size);
     }
     input::each(&words.asked.files, words.asked.json, |source| {
         let read = Letter::read_in(source.edition, &source.stream);
@@ -74,11 +77,12 @@ fn counts(source: &Source<'_>, read: &Result<Letter<'_>, Refusal>) -> Counts {
     match read {
         Ok(letter) => {
             let (headers, elements) = (letter.headers(), letter.elements().len());
-            Counts { octets, headers, elements, protected_parts: protected::count(letter) }
+            let date = letter.date().ok().map(|date| date.to_string());
+            Counts { octets, headers, elements, protected_parts: protected::count(letter), date }
         }
         Err(_) => {
             let headers = odif::check_in(source.edition, &source.stream).headers;
-            Counts { octets, headers, elements: 0, protected_parts: 0 }
+            Counts { octets, headers, elements: 0, protected_parts: 0, date: None }
         }
     }
 }
@@ -88,5 +92,5 @@ fn accepted(source: &Source<'_>, letter: &Letter<'_>) -> String {
     let counts = counts.map(|(count, noun)| show::counted(count, noun)).join(", ");
     let parts = protected::words(letter);
     let parts = if parts.is_empty() { parts } else { format!("; {parts}") };
-    format!("{}: accepted, {counts}{parts}\n", source.shown)
+    format!("{}: accepted, {counts}{}{parts}\n", source.shown, date::behind(letter))
 }

@@ -58,6 +58,30 @@ pub fn each(files: &Files, json: bool, mut answer: impl FnMut(&Source<'_>) -> Ou
     Ok(worst)
 }
 
+/// The same, where the front of a file may be enough: `front` tells what it has read, if that is so.
+pub fn each_front(
+    files: &Files,
+    json: bool,
+    front: impl Fn(&OsStr) -> io::Result<Option<Vec<u8>>>,
+    mut answer: impl FnMut(&Source<'_>) -> Outcome,
+) -> Outcome {
+    let mut worst = Status::Accepted;
+    for file in &files.files {
+        let status = match if file == "-" { Ok(None) } else { front(file) } {
+            Ok(Some(stream)) => {
+                answer(&Source { file, shown: show::name(file), stream, size: None, edition: files.by.edition() })?
+            }
+            // What can't be read is told as it is of any file.
+            Ok(None) | Err(_) => {
+                let alone = Files { files: vec![file.clone()], hex: files.hex, by: files.by };
+                each(&alone, json, &mut answer)?
+            }
+        };
+        worst = worst.max(status);
+    }
+    Ok(worst)
+}
+
 /// A line with the file's name, where there are several.
 pub fn heading(out: &mut impl Write, files: &Files, source: &Source<'_>) -> io::Result<()> {
     if files.files.len() > 1 { writeln!(out, "==> {} <==", source.shown) } else { Ok(()) }

@@ -10,8 +10,10 @@ use crate::tally::{Origin, Tally, hex};
 /// Streams up to this length are cut at every place, longer ones at some.
 const CUT_EVERYWHERE: usize = 2_048;
 /// So many places of a longer stream.
-const SOME_PLACES: usize = 64;
-/// A number that is neither 28 nor 29.
+const SOME_PLACES: usize = 8;
+/// Octets past any total.
+static PAST: [u8; STREAM_LIMIT + 16] = [0xA0; STREAM_LIMIT + 16];
+/// What an early close is answered.
 const EARLY: Walked = Walked { number: 29, place: 0, headers: 0 };
 
 /// Holds the engine on one stream: cut in two at every place, octet by octet, and in random blocks with empty ones, blocks
@@ -81,13 +83,14 @@ fn meaning(state: &Blocks) -> impl PartialEq + use<> {
 
 /// One cutting, with empty blocks, blocks past the total and early closes. What went wrong, if anything.
 fn in_random_blocks(stream: &[u8], wanted: Walked, rng: &mut Rng) -> Option<String> {
-    let longest = *rng.pick(&[1, 2, 3, 7, 8, 9, 17, 64, 512, 4_096]);
+    let sizes = [1, 2, 3, 7, 8, 9, 17, 64, 512, 4_096];
+    let longest = *rng.pick(if stream.len() > CUT_EVERYWHERE { &sizes[6..] } else { &sizes });
     let mut state = raw::start(stream.len()).state;
     let mut rest = stream;
     loop {
-        if rng.one_in(4) {
-            let past = vec![rng.octet(); rest.len() + 1 + rng.below(9)];
-            if raw::take(state, &past) != (Taken { number: 28, state }) {
+        if rest.len() < STREAM_LIMIT && rng.one_in(4) {
+            let past = &PAST[..rest.len() + 1 + rng.below(9)];
+            if raw::take(state, past) != (Taken { number: 28, state }) {
                 return Some(format!("a block past the total, with {} octets left", rest.len()));
             }
         }
@@ -116,11 +119,10 @@ pub fn hold_fixed(tally: &mut Tally) {
         let counted = taken.number == 0 && taken.state.taken == 9 && raw::close(taken.state) == EARLY;
         tally.expect(counted, || format!("nine octets of {total}: {taken:?}"));
     }
-    let long = vec![0xA0; STREAM_LIMIT + 2];
     let started = raw::start(STREAM_LIMIT + 1).state;
-    let past = raw::take(started, &long);
+    let past = raw::take(started, &PAST[..STREAM_LIMIT + 2]);
     tally.expect(past == Taken { number: 28, state: started }, || format!("past a total that is too large: {past:?}"));
-    let all = raw::take(started, &long[1..]);
+    let all = raw::take(started, &PAST[..STREAM_LIMIT + 1]);
     let closed = raw::close(all.state);
     tally.expect(closed == Walked { number: 1, place: 0, headers: 0 }, || {
         format!("a total that is too large: {closed:?}")

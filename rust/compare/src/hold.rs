@@ -5,6 +5,7 @@ use odif::{Edition, ROW_WIDTH, SHORT_LIMIT, STREAM_LIMIT, raw};
 use reader::{Reading, Side};
 
 use crate::blocks;
+use crate::dates;
 use crate::editions::{self, to_reader};
 use crate::lent::{self, Lent};
 use crate::openssl::Batch;
@@ -47,7 +48,9 @@ impl Holder {
         one.ask_normal_short(rng);
         one.ask_content(rng);
         one.ask_joined(rng);
+        one.ask_children(rng);
         one.expect(before == stream, "the stream itself", || "it was written to".into());
+        dates::hold(edition, stream, reading, origin, one.tally, rng);
         if reading.refusal().is_none() {
             one.ask_round_trip(rng);
             one.ask_binding(rng);
@@ -115,6 +118,7 @@ impl One<'_> {
             if answer.number == 0 {
                 let rows = &ours.cells()[..used];
                 self.expect(meet_end_to_end(rows, self.stream.len()), &question, || "the elements do not meet".into());
+                self.climbs_end(rows, &question);
             }
         }
     }
@@ -261,6 +265,50 @@ impl One<'_> {
         }
     }
 
+    /// The children of rows and of numbers that are none; the list exact, one short, longer and empty.
+    fn ask_children(&mut self, rng: &mut Rng) {
+        let tables = self.table_lengths(rng);
+        for row in self.elements(rng) {
+            let exact = self.reading.child_count(row);
+            for length in [exact, exact.saturating_sub(1), exact + rng.between(1, 4), rng.below(exact + 1)] {
+                self.ask_children_with(row, tables[0], length);
+            }
+            self.ask_children_with(row, *rng.pick(&tables), exact);
+        }
+    }
+
+    fn ask_children_with(&mut self, row: u32, table_length: usize, list_length: usize) {
+        let table_before = Lent::new(table_length, lent::numbers);
+        let list_before = Lent::new(list_length, lent::numbers);
+        let (mut our_table, mut their_table) = (table_before.clone(), table_before.clone());
+        let (mut our_list, mut their_list) = (list_before.clone(), list_before.clone());
+        let answer = raw::children_in(self.edition, self.stream, row, our_table.lend(), our_list.lend());
+        let wanted = self.reading.children(row, their_table.lend(), their_list.lend());
+        self.tally.meet(answer.number);
+        let question = format!("children of {row} with a table of {table_length} numbers and a list of {list_length}");
+        let same = [answer.number, answer.place, answer.elements, answer.children]
+            == [wanted.number, wanted.place, wanted.elements, wanted.children];
+        self.expect(same, &question, || format!("{answer:?}, not {wanted:?}"));
+        self.expect(our_table == their_table, &question, || "the tables differ".into());
+        self.expect(our_list == their_list, &question, || {
+            format!("{:?}, not {:?}", our_list.cells(), their_list.cells())
+        });
+        let used = answer.children as usize;
+        self.expect(our_list.is_untouched_past(used, &list_before), &question, || "written past the children".into());
+    }
+
+    /// Climbing from each row of a finished table ends in at most 32 moves.
+    fn climbs_end(&mut self, rows: &[u32], question: &str) {
+        let parent = |row: usize| rows[row * ROW_WIDTH + ROW_WIDTH - 1] as usize;
+        for row in 0..rows.len() / ROW_WIDTH {
+            let mut at = Some(row);
+            for _ in 0..32 {
+                at = at.map(parent).filter(|&above| above != reader::NO_PARENT as usize);
+            }
+            self.expect(at.is_none(), question, || format!("climbing from row {row} does not end"));
+        }
+    }
+
     /// The library's normal form is accepted, is its own normal form, and has the same elements, matches and contents.
     fn ask_round_trip(&mut self, rng: &mut Rng) {
         let mut out = vec![0; self.reading.normal_size().min(STREAM_LIMIT)];
@@ -270,6 +318,8 @@ impl One<'_> {
         let mut again = vec![0; out.len()];
         let written = raw::normal_in(self.edition, &out, &mut again);
         self.expect(written.number == 0 && again == out, "the normal form's own", || hex(&again));
+        let (mine, normal) = (dates::told(self.edition, self.stream), dates::told(self.edition, &out));
+        self.expect(mine == normal, "the normal form's date", || format!("{normal:?}, not {mine:?}"));
         let (mine, normal) = (answers_of(self.edition, self.stream), answers_of(self.edition, &out));
         self.expect(mine == normal, "the normal form's answers", || format!("{normal:?}, not {mine:?}"));
         for element in self.elements(rng) {
@@ -291,11 +341,17 @@ impl One<'_> {
             let content = letter.content(element as usize);
             let same = content.as_deref() == wanted.as_deref();
             self.expect(same, "the crate's content", || format!("of {element}: {content:?}, not {wanted:?}"));
+            let elements = letter.elements().iter().enumerate();
+            let wanted: Vec<usize> =
+                elements.filter(|(_, other)| other.parent == Some(element as usize)).map(|(child, _)| child).collect();
+            let children = letter.children(element as usize);
+            let same = children == letter.elements().get(element as usize).map(|_| wanted);
+            self.expect(same, "the crate's children", || format!("of {element}: {children:?}"));
         }
     }
 }
 
-/// What the library says of a stream apart from places: counts, kinds, object types and matches.
+/// What the library says of a stream apart from places: counts, kinds, object types, parents and matches.
 fn answers_of(edition: Edition, stream: &[u8]) -> (u32, u32, Vec<u32>, Vec<raw::Match>) {
     let mut table = vec![0; (stream.len() / 2).min(odif::MOST_ELEMENTS) * ROW_WIDTH];
     let mut list = vec![raw::Match::default(); 2 * odif::MOST_ELEMENTS];
@@ -304,7 +360,7 @@ fn answers_of(edition: Edition, stream: &[u8]) -> (u32, u32, Vec<u32>, Vec<raw::
     let logical = raw::logical_in(edition, stream, &mut table, &mut list[layout..]).matches as usize;
     list.truncate(layout + logical);
     let rows = table.chunks_exact(ROW_WIDTH).take(checked.elements as usize);
-    (checked.number, checked.headers, rows.flat_map(|row| [row[0], row[1]]).collect(), list)
+    (checked.number, checked.headers, rows.flat_map(|row| [row[0], row[1], row[ROW_WIDTH - 1]]).collect(), list)
 }
 
 /// The number that the library gives for the joined content of an element, and the content.

@@ -5,6 +5,7 @@ use std::collections::HashSet;
 use odif::Edition;
 
 use crate::coding::{Item, any_form};
+use crate::dates;
 use crate::rng::Rng;
 
 /// The universal octets whose form is in the table.
@@ -59,7 +60,8 @@ fn elements(edition: Edition, rng: &mut Rng) -> Vec<Item> {
         elements.push(style(&mut names, rng));
     }
     rng.shuffle(&mut elements);
-    elements.insert(0, Item::run(0xA0, free_items(rng, 2, &[])));
+    let profile = dates::profile(free_items(rng, 2, &[]), rng);
+    elements.insert(0, profile);
     elements
 }
 

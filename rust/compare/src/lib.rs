@@ -7,6 +7,7 @@
 pub mod blocks;
 pub mod coding;
 pub mod damage;
+pub mod dates;
 pub mod editions;
 pub mod examples;
 pub mod hold;
@@ -14,6 +15,7 @@ pub mod inputs;
 pub mod lent;
 pub mod letters;
 pub mod limits;
+pub mod making;
 pub mod openssl;
 pub mod rng;
 pub mod seeded;

@@ -1,5 +1,7 @@
 //! Every limit of document 01 from both sides, and every small choice that it and the edition of 1993 leave.
 
+mod dates;
+mod parents;
 mod pieces;
 mod protected;
 mod types;
@@ -17,7 +19,7 @@ const STYLES: [u8; 2] = [0xA7, 0xA8];
 const PROFILE: [u8; 2] = [0xA0, 0x00];
 
 /// The groups of cases. Each group is made when it is wanted, for some are large.
-pub const GROUPS: [fn() -> Vec<Case>; 32] = [
+pub const GROUPS: [fn() -> Vec<Case>; 39] = [
     stream_length,
     element_count,
     full_tables,
@@ -35,6 +37,11 @@ pub const GROUPS: [fn() -> Vec<Case>; 32] = [
     types::numbers,
     types::cut,
     types::places,
+    dates::days,
+    dates::years,
+    dates::spellings,
+    dates::paths,
+    dates::fronts,
     contents,
     pieces::short_runs,
     pieces::deep,
@@ -49,6 +56,8 @@ pub const GROUPS: [fn() -> Vec<Case>; 32] = [
     normal_length,
     short_length,
     name_spaces,
+    parents::places,
+    parents::many,
     two_faults,
 ];
 

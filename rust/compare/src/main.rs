@@ -8,14 +8,15 @@ use std::time::Instant;
 use compare::hold::Holder;
 use compare::rng::Rng;
 use compare::tally::{LAST_NUMBER, Origin, Tally};
-use compare::{blocks, examples, limits, openssl, seeded, short};
+use compare::{blocks, examples, limits, making, openssl, seeded, short};
 
 const HELP: &str = "\
 compare [--seed N] [--streams N] [--from N] [--jobs N]
 
 Holds the proved library against the independent reader, by the editions of 1988 and of
-1993: document 01's examples, X.209's and Annex D, every limit from both sides, all short streams, and generated letters, good,
-damaged and noise. Its last line is `N passed, M failed`.
+1993: document 01's examples, X.209's and Annex D, every limit from both sides, all short
+streams, and generated letters, good, damaged and noise; and made letters, which are read
+again. Its last line is `N passed, M failed`.
 
   --seed N     the generated streams of this seed (1)
   --streams N  so many of them (100000); with more it runs longer
@@ -57,7 +58,9 @@ fn main() -> ExitCode {
         part("examples", &mut total, hold_examples);
         part("limits", &mut total, || in_threads(options.jobs, hold_limits()));
         part("short streams", &mut total, || in_threads(options.jobs, hold_short_streams()));
+        part("made letters", &mut total, hold_made);
     }
+    part("made at random", &mut total, || in_threads(options.jobs, hold_made_at_random(&options)));
     part("generated", &mut total, || in_threads(options.jobs, hold_generated(&options)));
     report(&mut total, options.from.is_none());
     if total.failed == 0 { ExitCode::SUCCESS } else { ExitCode::FAILURE }
@@ -163,6 +166,31 @@ fn hold_generated(options: &Options) -> impl Fn(&mut Holder) + Sync {
             }
             let (stream, mut rng) = seeded::stream(seed, number);
             holder.hold(&stream, Origin::Seeded { seed, stream: number }, &mut rng);
+        }
+    }
+}
+
+fn hold_made() -> Tally {
+    let mut tally = Tally::default();
+    let met = making::hold_fixed(&mut tally);
+    let told = making::NUMBERS.iter().zip(met).map(|(number, count)| format!("{number}: {count}"));
+    println!("made letters: {}", told.collect::<Vec<_>>().join(", "));
+    tally
+}
+
+/// One letter is made for each ten streams that are generated.
+fn hold_made_at_random(options: &Options) -> impl Fn(&mut Holder) + Sync {
+    let from = options.from.unwrap_or(0);
+    let (seed, past) = (options.seed, from.saturating_add(options.streams.div_ceil(10)));
+    let next = AtomicU64::new(from);
+    move |holder| {
+        let mut met = [0; 7];
+        loop {
+            let number = next.fetch_add(1, Ordering::Relaxed);
+            if number >= past {
+                return;
+            }
+            making::hold_seeded(seed, number, &mut met, &mut holder.tally);
         }
     }
 }

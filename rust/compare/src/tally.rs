@@ -5,7 +5,7 @@ use std::fmt;
 use odif::Edition;
 
 /// The greatest refusal number.
-pub const LAST_NUMBER: usize = 22;
+pub const LAST_NUMBER: usize = 25;
 /// How many failures each thread prints in full.
 const SHOWN: u64 = 10;
 

@@ -7,7 +7,7 @@ use std::ops::Range;
 use crate::edition::Edition;
 use crate::raw;
 use crate::refusal::{Refusal, Rule};
-use crate::{MOST_ELEMENTS, ROW_WIDTH, SHORT_LIMIT, STREAM_LIMIT};
+use crate::{MOST_ELEMENTS, NO_PARENT, ROW_WIDTH, SHORT_LIMIT, STREAM_LIMIT};
 
 /// One side of a letter.
 #[derive(Clone, Copy, Debug, PartialEq, Eq)]
@@ -125,6 +125,9 @@ pub struct Element {
     /// A text unit's content. If that is in pieces or tiled, it is the value that holds them, with their headers; the
     /// joined octets are [`Letter::content`]. Of an enciphered part, the enciphered information.
     pub content: Option<Range<usize>>,
+    /// The number of the class or object of its side that it is a child of: the one whose identifier is its own without the
+    /// last group. A parent may stand after its child.
+    pub parent: Option<usize>,
 }
 
 impl Element {
@@ -139,6 +142,7 @@ impl Element {
             logical_identifier: value(6),
             portions: value(8),
             content: value(10),
+            parent: (row[12] != NO_PARENT).then_some(row[12] as usize),
         }
     }
 }
@@ -334,6 +338,17 @@ impl<'a> Letter<'a> {
             unit: found.unit as usize,
         });
         Ok(widened.collect())
+    }
+
+    /// The children of an element in stream order, by number: the elements whose parent it is. `None` where the element does
+    /// not exist.
+    pub fn children(&self, element: usize) -> Option<Vec<usize>> {
+        let row = u32::try_from(element).ok().filter(|_| element < self.elements.len())?;
+        let mut table = vec![0; self.elements.len() * ROW_WIDTH];
+        let mut list = vec![0; self.elements.len()];
+        let answer = raw::children_in(self.edition, self.stream, row, &mut table, &mut list);
+        list.truncate(answer.children as usize);
+        (answer.number == 0).then(|| list.into_iter().map(|child| child as usize).collect())
     }
 
     /// The text of a side: the content of each unit of its reading list, in that order.

@@ -1,7 +1,7 @@
 //! A safe binding of the proved reader of ODIF letters.
 //!
 //! [`Letter::read`] checks a stream and keeps its table; the letter then gives its elements, the reading list and the text
-//! of either side, the content of its text units, and its normal form. Content is a part of the caller's own stream, or, where it
+//! of either side, the content of its text units, the tree of its objects, and its normal form. Content is a part of the caller's own stream, or, where it
 //! was saved in pieces, those joined. What is refused comes back as a [`Refusal`], with the rule, its number, a sentence
 //! and the place.
 //!
@@ -19,6 +19,8 @@
 //! # }
 //! ```
 //!
+//! [`Builder`] makes a letter, of texts with an identifier and a portion each.
+//!
 //! Letters are read by the edition of 1988. [`Letter::read_in`], and the other functions with `_in` at the end of their
 //! names, take the [`Edition`] too: letters of 1993 have protected parts, and text units without content or with tiles.
 //!
@@ -28,22 +30,30 @@
 //! [`raw`] has the functions of the C header as they stand, for callers who lend their own memory.
 
 mod blocks;
+mod date;
 mod edition;
 mod letter;
+mod making;
 pub mod raw;
 mod refusal;
 
 pub use blocks::{Blocks, ClosedEarly, PastTotal, Walked};
+pub use date::{Date, FirstDate, first_date, first_date_in};
 pub use edition::Edition;
 pub use letter::{Checked, Element, Kind, Letter, Match, Side, check, check_in, content, content_in};
 pub use letter::{normal_form, normal_form_in, short_normal_form, short_normal_form_in};
+pub use making::Builder;
 pub use refusal::{Refusal, Rule};
 
 /// The most octets of a stream, and of a normal form.
 pub const STREAM_LIMIT: usize = 1_048_576;
 /// The most octets of a stream that [`short_normal_form`] takes.
 pub const SHORT_LIMIT: usize = 65_535;
+/// The most entries that [`Builder`] makes a letter of.
+pub const MOST_ENTRIES: usize = 2_047;
 /// The most elements of a letter.
 pub const MOST_ELEMENTS: usize = 4_096;
 /// The numbers of one table row.
-pub const ROW_WIDTH: usize = 12;
+pub const ROW_WIDTH: usize = 13;
+/// What a row of [`raw`] has as its parent's row where there is none.
+pub const NO_PARENT: u32 = 65_535;

@@ -6,9 +6,9 @@
 //! This file and `raw/blocks.rs` are the only ones with `unsafe` in them.
 #![allow(unsafe_code)]
 
-pub mod blocks;
-
 use crate::edition::Edition;
+
+pub mod blocks;
 
 /// The answer of [`check`].
 #[repr(C)]
@@ -24,7 +24,7 @@ pub struct Checked {
     pub elements: u32,
 }
 
-/// The answer of [`normal`].
+/// The answer of [`normal`] and [`make`].
 #[repr(C)]
 #[derive(Clone, Copy, Debug, PartialEq, Eq)]
 pub struct Written {
@@ -76,6 +76,50 @@ pub struct Copied {
     pub length: u32,
 }
 
+/// The answer of [`children`].
+#[repr(C)]
+#[derive(Clone, Copy, Debug, PartialEq, Eq)]
+pub struct Related {
+    /// 0, or the number of the refusal.
+    pub number: u32,
+    /// The place of the refusal.
+    pub place: u32,
+    /// The rows filled, also with 25.
+    pub elements: u32,
+    /// The numbers filled.
+    pub children: u32,
+}
+
+/// The answer of [`date`].
+#[repr(C)]
+#[derive(Clone, Copy, Debug, Default, PartialEq, Eq)]
+pub struct Dated {
+    /// 0, or the number of the refusal.
+    pub number: u32,
+    /// The place of the refusal.
+    pub place: u32,
+    /// Where the date begins.
+    pub first: u32,
+    /// Past the date.
+    pub past: u32,
+    /// The year, from 1 on.
+    pub year: u32,
+    /// The month, from 1 on.
+    pub month: u32,
+    /// The day of the month, from 1 on.
+    pub day: u32,
+}
+
+/// The answer of [`first_date`].
+#[repr(C)]
+#[derive(Clone, Copy, Debug, Default, PartialEq, Eq)]
+pub struct FirstDated {
+    /// The date, by the first element alone.
+    pub date: Dated,
+    /// Always 1: what follows the first element is unread.
+    pub unread: u32,
+}
+
 /// One record of a reading list.
 #[repr(C)]
 #[derive(Clone, Copy, Debug, Default, PartialEq, Eq)]
@@ -115,6 +159,22 @@ twins! {
     odif_joined odif_joined_1993(
         stream: *const u8, stream_len: usize, element: u32, out: *mut u8, out_len: usize
     ) -> Copied;
+    odif_children odif_children_1993(
+        stream: *const u8, stream_len: usize, row: u32, table: *mut u32, table_len: usize, list: *mut u32, list_len: usize
+    ) -> Related;
+    odif_date odif_date_1993(stream: *const u8, stream_len: usize) -> Dated;
+    odif_first_date odif_first_date_1993(stream: *const u8, stream_len: usize) -> FirstDated;
+}
+
+unsafe extern "C" {
+    fn odif_make_numbers(
+        buffer: *const u8,
+        buffer_len: usize,
+        entries: *const u32,
+        entries_len: usize,
+        out: *mut u8,
+        out_len: usize,
+    ) -> Written;
 }
 
 // SAFETY, for each call below: a pointer and a length come from one slice, which is lent for the call alone; the
@@ -216,4 +276,54 @@ pub fn joined_in(edition: Edition, stream: &[u8], element: u32, out: &mut [u8]) 
         Edition::Of1993 => odif_joined_1993,
     };
     unsafe { ask(stream.as_ptr(), stream.len(), element, out.as_mut_ptr(), out.len()) }
+}
+
+/// Finds the date of the document.
+pub fn date(stream: &[u8]) -> Dated {
+    date_in(Edition::Of1988, stream)
+}
+
+/// Finds the date of the document by the first element alone. The front of a stream is enough, if that is whole in it.
+pub fn first_date(stream: &[u8]) -> FirstDated {
+    first_date_in(Edition::Of1988, stream)
+}
+
+/// The same as [`date`], by an edition.
+pub fn date_in(edition: Edition, stream: &[u8]) -> Dated {
+    let ask = match edition {
+        Edition::Of1988 => odif_date,
+        Edition::Of1993 => odif_date_1993,
+    };
+    unsafe { ask(stream.as_ptr(), stream.len()) }
+}
+
+/// The same as [`first_date`], by an edition.
+pub fn first_date_in(edition: Edition, stream: &[u8]) -> FirstDated {
+    let ask = match edition {
+        Edition::Of1988 => odif_first_date,
+        Edition::Of1993 => odif_first_date_1993,
+    };
+    unsafe { ask(stream.as_ptr(), stream.len()) }
+}
+
+/// Makes a letter of entries, six numbers each: first and past in the buffer of its identifier, its portion and its text.
+pub fn make(buffer: &[u8], entries: &[u32], out: &mut [u8]) -> Written {
+    unsafe {
+        odif_make_numbers(buffer.as_ptr(), buffer.len(), entries.as_ptr(), entries.len(), out.as_mut_ptr(), out.len())
+    }
+}
+
+/// Fills the table and the list of the children of a row.
+pub fn children(stream: &[u8], row: u32, table: &mut [u32], list: &mut [u32]) -> Related {
+    children_in(Edition::Of1988, stream, row, table, list)
+}
+
+/// The same as [`children`], by an edition.
+pub fn children_in(edition: Edition, stream: &[u8], row: u32, table: &mut [u32], list: &mut [u32]) -> Related {
+    let ask = match edition {
+        Edition::Of1988 => odif_children,
+        Edition::Of1993 => odif_children_1993,
+    };
+    let (numbers, most) = (table.as_mut_ptr(), table.len());
+    unsafe { ask(stream.as_ptr(), stream.len(), row, numbers, most, list.as_mut_ptr(), list.len()) }
 }

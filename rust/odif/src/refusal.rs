@@ -87,14 +87,22 @@ pub enum Rule {
     InPieces,
     /// 22
     CopyTooShort,
+    /// 23
+    NoSoleDate,
+    /// 24
+    NoSuchDay,
+    /// 25; only [`crate::raw::children`] gives it
+    ChildrenTooShort,
+    /// 27; only making a letter gives it, and its place is the entry's number
+    PartOutside,
     /// Another number: the library is newer than this crate.
     #[non_exhaustive]
     Unknown(u32),
 }
 
 impl Rule {
-    /// Every rule that this crate knows, in the order of the numbers, which begin with 1.
-    pub const ALL: [Rule; 22] = [
+    /// Every rule that this crate knows, in the order of the numbers.
+    pub const ALL: [Rule; 26] = [
         Rule::StreamTooLong,
         Rule::MisplacedZero,
         Rule::TooDeep,
@@ -117,20 +125,31 @@ impl Rule {
         Rule::NoTextUnit,
         Rule::InPieces,
         Rule::CopyTooShort,
+        Rule::NoSoleDate,
+        Rule::NoSuchDay,
+        Rule::ChildrenTooShort,
+        Rule::PartOutside,
     ];
+
+    /// Their numbers.
+    const NUMBERS: [u32; Rule::ALL.len()] =
+        [1, 2, 3, 4, 5, 6, 7, 8, 9, 10, 11, 12, 13, 14, 15, 16, 17, 18, 19, 20, 21, 22, 23, 24, 25, 27];
 
     /// The number of the rule.
     pub fn number(self) -> u32 {
         match self {
             Rule::Unknown(number) => number,
-            known => (1..).zip(Rule::ALL).find(|&(_, rule)| rule == known).expect("one of all").0,
+            known => {
+                let found = Rule::ALL.into_iter().zip(Rule::NUMBERS).find(|&(rule, _)| rule == known);
+                found.expect("one of all").1
+            }
         }
     }
 
     /// The rule of a number, if this crate knows it.
     pub fn from_number(number: u32) -> Option<Rule> {
-        let before = number.checked_sub(1)?;
-        Rule::ALL.get(before as usize).copied()
+        let found = Rule::NUMBERS.into_iter().zip(Rule::ALL).find(|&(known, _)| known == number);
+        found.map(|(_, rule)| rule)
     }
 
     /// The rule as a sentence.
@@ -164,6 +183,10 @@ impl Rule {
             Rule::NoTextUnit => "the asked element is no text unit or does not exist",
             Rule::InPieces => "the content is in pieces or tiles, and no one part of the stream",
             Rule::CopyTooShort => "the output is shorter than the joined content",
+            Rule::NoSoleDate => "the profile does not have exactly one date of the document, or that is constructed",
+            Rule::NoSuchDay => "the date of the document does not begin with a day as in 1988-06-05",
+            Rule::ChildrenTooShort => "the list is shorter than the children",
+            Rule::PartOutside => "a part of an entry is outside the buffer, or ends before it begins",
             Rule::Unknown(_) => "a rule that is newer than this program",
         }
     }
@@ -181,18 +204,18 @@ mod tests {
 
     #[test]
     fn numbers_and_rules_agree() {
-        for (number, rule) in (1..).zip(Rule::ALL) {
+        for (number, rule) in (1..26).chain([27]).zip(Rule::ALL) {
             assert_eq!((rule.number(), Rule::from_number(number)), (number, Some(rule)));
             assert_eq!(Refusal::unless_accepted(number, 7), Err(Refusal { rule, place: 7 }));
         }
-        assert_eq!(Rule::ALL.last().map(|rule| rule.number()), Some(22));
+        assert_eq!(Rule::ALL.last().map(|rule| rule.number()), Some(27));
         assert_eq!(Refusal::unless_accepted(0, 0), Ok(()));
     }
 
     /// The library of today gives no such number, so this is asked of what reads its answers.
     #[test]
     fn a_number_of_a_newer_library_is_a_refusal_too() {
-        for number in [23, 255, u32::MAX] {
+        for number in [26, 255, u32::MAX] {
             let refusal = Refusal::unless_accepted(number, 5).unwrap_err();
             assert_eq!((refusal.number(), refusal.place), (number, 5));
             assert_eq!(refusal.to_string(), format!("number {number} at 5: a rule that is newer than this program"));

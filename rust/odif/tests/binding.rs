@@ -187,3 +187,26 @@ fn letters_of_all_lengths_need_no_thought_about_memory() {
     let stream = [&[0xA0, 0x00][..], &[0xA2, 0x00].repeat(4_096)].concat();
     assert_eq!(told(Letter::read(&stream)), Some((Rule::TooManyElements, 8_192)));
 }
+
+/// A frame before its page, two blocks in it, and an object of the other side with a name that would fit.
+#[test]
+fn parents_and_children() {
+    let object = |octet: u8, name: &str| {
+        let name = [&[0x41, name.len() as u8], name.as_bytes()].concat();
+        [&[octet, 2 + name.len() as u8, 0x31, name.len() as u8], &name[..]].concat()
+    };
+    let elements =
+        [object(0xA2, "1 0"), object(0xA2, "1"), object(0xA2, "1 0 0"), object(0xA6, "1 1"), object(0xA2, "1 0 00")];
+    let stream = [b"\xA0\x00", &elements.concat()[..]].concat();
+    let letter = Letter::read(&stream).unwrap();
+    let parents: Vec<_> = letter.elements().iter().map(|element| element.parent).collect();
+    assert_eq!(parents, [None, Some(2), None, Some(1), None, Some(1)]);
+    assert_eq!(letter.children(1), Some(vec![3, 5]));
+    assert_eq!(letter.children(2), Some(vec![1]));
+    assert_eq!(letter.children(0), Some(vec![]));
+    assert_eq!(letter.children(6), None);
+    let (mut table, mut list) = ([0; 6 * odif::ROW_WIDTH], [9; 1]);
+    let short = raw::children(&stream, 1, &mut table, &mut list);
+    assert_eq!((short.number, short.elements, short.children), (Rule::ChildrenTooShort.number(), 6, 0));
+    assert_eq!((table[0], list), (0, [9]));
+}

@@ -9,6 +9,7 @@ static const uint8_t letter[] =
     "\xA2\x11\x02\x01\x04\x31\x0C\x41\x05" "1 0 2" "\xA1\x03\x12\x01" "0"
     "\xA3\x0F\x31\x09\x40\x07" "1 0 2 0" "\x04\x02" "Hi";
 
+static const uint8_t profile[] = "\xA0\x10\xA3\x0E\xA0\x0C\x80\x0A" "1988-06-05" "\xFF";
 /* A letter of 1993: a tiled text unit, one without content, and an enciphered profile. */
 static const uint8_t letter_1993[] =
     "\xA0\x00" "\xA3\x08\x30\x06\x04\x01" "H" "\x04\x01" "i" "\xA3\x00" "\xAA\x07\x47\x01" "1" "\x04\x02\xDE\xAD";
@@ -43,9 +44,14 @@ static void print_1993(void) {
            brief.length);
 }
 
+/* A page after the first of its frames. */
+static const uint8_t page[] =
+    "\xA0\x00" "\xA2\x07\x31\x05\x41\x03" "1 0" "\xA2\x05\x31\x03\x41\x01" "1" "\xA2\x07\x31\x05\x41\x03" "1 1";
+
 typedef char sizes_are_as_they_should_be[
     sizeof(odif_checked) == 16 && sizeof(odif_written) == 12 && sizeof(odif_listed) == 16 && sizeof(odif_found) == 16
-    && sizeof(odif_copied) == 12 && sizeof(odif_match) == 12 ? 1 : -1];
+    && sizeof(odif_copied) == 12 && sizeof(odif_match) == 12 && sizeof(odif_dated) == 28
+    && sizeof(odif_first_dated) == 32 && sizeof(odif_entry) == 24 && sizeof(odif_related) == 16 ? 1 : -1];
 
 int main(void) {
     size_t length = sizeof letter - 1;
@@ -79,11 +85,36 @@ int main(void) {
     written = odif_normal_short(letter, length, out, length);
     printf("short normal %" PRIu32 " %" PRIu32 " %" PRIu32 " %s\n", written.number, written.place, written.length,
            memcmp(out, letter, length) ? "differs" : "same");
+    odif_dated dated = odif_date(profile, sizeof profile - 2);
+    printf("date %" PRIu32 " %" PRIu32 " %" PRIu32 " %" PRIu32 " %" PRIu32 " %" PRIu32 " %" PRIu32 "\n", dated.number,
+           dated.place, dated.first, dated.past, dated.year, dated.month, dated.day);
+    dated = odif_date(letter, length);
+    printf("no date %" PRIu32 " %" PRIu32 "\n", dated.number, dated.place);
+    odif_first_dated front = odif_first_date(profile, sizeof profile - 1);
+    printf("first date %" PRIu32 " %" PRIu32 " %" PRIu32 " %" PRIu32 " %" PRIu32 " %" PRIu32 " %" PRIu32 " %" PRIu32 "\n",
+           front.number, front.place, front.first, front.past, front.year, front.month, front.day, front.unread);
+    const odif_entry entries[] = {{0, 5, 5, 6, 6, 8}, {0, 5, 5, 6, 6, 8}};
+    memset(out, '.', sizeof out);
+    written = odif_make((const uint8_t *)"1 0 20Hi", 8, entries, 1, out, sizeof out);
+    printf("make %" PRIu32 " %" PRIu32 " %" PRIu32 " %s %c\n", written.number, written.place, written.length,
+           memcmp(out, letter, length) ? "differs" : "same", out[length]);
+    written = odif_make((const uint8_t *)"1 0 20Hi", 8, entries, 2, out, sizeof out);
+    printf("made twice %" PRIu32 " %" PRIu32 " %" PRIu32 "\n", written.number, written.place, written.length);
     checked = odif_check(NULL, 0, NULL, 0);
     printf("empty %" PRIu32 " %" PRIu32 "\n", checked.number, checked.place);
     checked = odif_check(letter, length, table, 3 * ODIF_ROW_WIDTH - 1);
     printf("short %" PRIu32 " %" PRIu32 " %" PRIu32 " %" PRIu32 "\n", checked.number, checked.place, checked.headers,
            checked.elements);
     print_1993();
+    uint32_t rows[4 * ODIF_ROW_WIDTH], children[2];
+    odif_related related = odif_children(page, sizeof page - 1, 2, rows, 4 * ODIF_ROW_WIDTH, children, 2);
+    printf("children %" PRIu32 " %" PRIu32 " %" PRIu32 " %" PRIu32 ": %" PRIu32 " %" PRIu32 "\n", related.number,
+           related.place, related.elements, related.children, children[0], children[1]);
+    related = odif_children(page, sizeof page - 1, 4, rows, 4 * ODIF_ROW_WIDTH, children, 2);
+    printf("none %" PRIu32 " %" PRIu32 " %" PRIu32 " %" PRIu32 "\n", related.number, related.place, related.elements,
+           related.children);
+    related = odif_children(page, sizeof page - 1, 2, rows, 4 * ODIF_ROW_WIDTH, children, 1);
+    printf("too few %" PRIu32 " %" PRIu32 " %" PRIu32 " %" PRIu32 "\n", related.number, related.place, related.elements,
+           related.children);
     return 0;
 }

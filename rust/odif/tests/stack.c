@@ -11,7 +11,11 @@
 static uint8_t stream[ODIF_STREAM_LIMIT], out[ODIF_STREAM_LIMIT], stack[1 << 20];
 static uint32_t table[ODIF_ROW_WIDTH * ODIF_MOST_ELEMENTS];
 static odif_match list[ODIF_MOST_ELEMENTS];
+static uint32_t children[ODIF_MOST_ELEMENTS];
 static size_t length;
+static uint8_t names[4 * ODIF_MOST_ENTRIES];
+static odif_entry entries[ODIF_MOST_ENTRIES];
+static size_t entry_count;
 static ucontext_t here, there;
 
 static void ask_check(void) { odif_check(stream, length, table, sizeof table / sizeof *table); }
@@ -26,6 +30,7 @@ static void ask_logical(void) {
 static void ask_content(void) { odif_content(stream, length, 1); }
 static void ask_joined(void) { odif_joined(stream, length, 1, out, sizeof out); }
 
+static void ask_make(void) { odif_make(names, sizeof names, entries, entry_count, out, sizeof out); }
 static void ask_check_1993(void) { odif_check_1993(stream, length, table, sizeof table / sizeof *table); }
 static void ask_normal_1993(void) { odif_normal_1993(stream, length, out, sizeof out); }
 static void ask_normal_short_1993(void) { odif_normal_short_1993(stream, length, out, sizeof out); }
@@ -37,6 +42,9 @@ static void ask_logical_1993(void) {
 }
 static void ask_content_1993(void) { odif_content_1993(stream, length, 1); }
 static void ask_joined_1993(void) { odif_joined_1993(stream, length, 1, out, sizeof out); }
+static void ask_children(void) {
+    odif_children(stream, length, 0, table, sizeof table / sizeof *table, children, ODIF_MOST_ELEMENTS);
+}
 
 static const struct {
     const char *name;
@@ -50,6 +58,7 @@ static const struct {
     {"short normal form", ask_normal_short, ODIF_STACK_SMALL, ODIF_STACK},
     {"content", ask_content, ODIF_STACK_SMALL, ODIF_STACK},
     {"joined content", ask_joined, ODIF_STACK_SMALL, ODIF_STACK},
+    {"making a letter", ask_make, ODIF_STACK_MAKE, ODIF_STACK_MAKE},
     {"check, 1993", ask_check_1993, ODIF_STACK_SMALL, ODIF_STACK},
     {"normal form, 1993", ask_normal_1993, ODIF_STACK_SMALL, ODIF_STACK},
     {"layout list, 1993", ask_layout_1993, ODIF_STACK_SMALL_LISTS, ODIF_STACK_LISTS},
@@ -57,6 +66,7 @@ static const struct {
     {"short normal form, 1993", ask_normal_short_1993, ODIF_STACK_SMALL, ODIF_STACK},
     {"content, 1993", ask_content_1993, ODIF_STACK_SMALL, ODIF_STACK},
     {"joined content, 1993", ask_joined_1993, ODIF_STACK_SMALL, ODIF_STACK},
+    {"children", ask_children, ODIF_STACK_SMALL, ODIF_STACK},
 };
 
 static size_t stack_of(void (*ask)(void)) {
@@ -100,8 +110,18 @@ static void make_items(size_t count) {
     for (size_t at = 4; at < length; at += 2) memcpy(stream + at, "\x80\x00", 2);
 }
 
+/* As many entries as there may be, with four digits each. */
+static void make_entries(void) {
+    for (uint32_t i = 0; i < ODIF_MOST_ENTRIES; i++) {
+        odif_entry entry = {4 * i, 4 * i + 4, 0, 1, 0, 4};
+        entries[i] = entry;
+        for (uint32_t digit = 0, rest = i; digit < 4; digit++, rest /= 10) names[4 * i + digit] = (uint8_t)('0' + rest % 10);
+    }
+}
+
 /* The small streams, by number: no more than ODIF_SMALL_ELEMENTS elements and ODIF_SMALL_ITEMS items. */
 static int make_small(int input) {
+    entry_count = 128;
     if (input == 0) make_elements(0);
     else if (input == 1) make_elements(1);
     else if (input == 2) make_elements(ODIF_SMALL_ELEMENTS);
@@ -113,6 +133,7 @@ static int make_small(int input) {
 
 /* And some that are not. */
 static int make_large(int input) {
+    entry_count = ODIF_MOST_ENTRIES;
     if (input == 0) make_elements(ODIF_SMALL_ELEMENTS + 1);
     else if (input == 1) make_elements(ODIF_MOST_ELEMENTS);
     else if (input == 2) make_items(ODIF_SMALL_ITEMS + 1);
@@ -131,6 +152,7 @@ static size_t most_of(void (*ask)(void), int (*make)(int)) {
 
 int main(void) {
     int over = 0;
+    make_entries();
     for (size_t i = 0; i < sizeof questions / sizeof *questions; i++) {
         size_t small = most_of(questions[i].ask, make_small), large = most_of(questions[i].ask, make_large);
         printf("%s: %zu octets of stack, at most %zu, of small streams, and %zu, at most %zu, of large ones\n",

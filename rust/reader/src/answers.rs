@@ -3,12 +3,14 @@
 use crate::ROW_WIDTH;
 use crate::SHORT_LIMIT;
 use crate::STREAM_LIMIT;
+use crate::date::{self, Dated};
 use crate::edition::Edition;
 use crate::elements::{self, Row, kind};
 use crate::items::Tree;
 use crate::letter::{self, Letter};
 use crate::matches;
 use crate::normal;
+use crate::parents;
 use crate::refusal::Refusal;
 
 /// One side of a letter.
@@ -81,6 +83,19 @@ pub struct Copied {
     pub length: u32,
 }
 
+/// The answer about a row's children.
+#[derive(Clone, Copy, Debug, Default, PartialEq, Eq)]
+pub struct Related {
+    /// 0, or the number of the refusal.
+    pub number: u32,
+    /// The place of the refusal.
+    pub place: u32,
+    /// The element count.
+    pub elements: u32,
+    /// The child count.
+    pub children: u32,
+}
+
 /// One record of a reading list.
 #[derive(Clone, Copy, Debug, Default, PartialEq, Eq)]
 pub struct Match {
@@ -126,9 +141,9 @@ impl<'a> Reading<'a> {
     pub fn check(&self, table: &mut [u32]) -> Checked {
         let headers = self.tree.items().len() as u32;
         match self.rows_for(table.len()) {
-            Ok(rows) => {
-                fill(table, rows);
-                Checked { headers, elements: rows.len() as u32, ..Checked::default() }
+            Ok(letter) => {
+                fill(table, self.stream, letter);
+                Checked { headers, elements: letter.rows.len() as u32, ..Checked::default() }
             }
             Err((number, place)) => Checked { number, place, headers, elements: 0 },
         }
@@ -136,12 +151,12 @@ impl<'a> Reading<'a> {
 
     /// Fills the table and makes the reading list of a side.
     pub fn list(&self, side: Side, table: &mut [u32], list: &mut [Match]) -> Listed {
-        let rows = match self.rows_for(table.len()) {
-            Ok(rows) => rows,
+        let letter = match self.rows_for(table.len()) {
+            Ok(letter) => letter,
             Err((number, place)) => return Listed { number, place, ..Listed::default() },
         };
-        fill(table, rows);
-        let elements = rows.len() as u32;
+        fill(table, self.stream, letter);
+        let elements = letter.rows.len() as u32;
         let matches = self.matches(side);
         match list.get_mut(..matches.len()) {
             Some(room) => {
@@ -204,6 +219,38 @@ impl<'a> Reading<'a> {
         }
     }
 
+    /// The date of the document.
+    pub fn date(&self) -> Dated {
+        match &self.letter {
+            Ok(_) => date::of_letter(self.stream, &self.tree),
+            Err(refusal) => (*refusal).into(),
+        }
+    }
+
+    /// Fills the table and lists the children of a row.
+    pub fn children(&self, row: u32, table: &mut [u32], list: &mut [u32]) -> Related {
+        let letter = match self.rows_for(table.len()) {
+            Ok(letter) if (row as usize) < letter.rows.len() => letter,
+            Ok(_) => return Related { number: 20, ..Related::default() },
+            Err((number, place)) => return Related { number, place, ..Related::default() },
+        };
+        fill(table, self.stream, letter);
+        let elements = letter.rows.len() as u32;
+        let children = parents::children(self.stream, letter, row);
+        match list.get_mut(..children.len()) {
+            Some(room) => {
+                room.copy_from_slice(&children);
+                Related { elements, children: children.len() as u32, ..Related::default() }
+            }
+            None => Related { number: 25, elements, ..Related::default() },
+        }
+    }
+
+    /// How many children a row has; none where the stream is refused or has no such row.
+    pub fn child_count(&self, row: u32) -> usize {
+        self.letter.as_ref().map_or(0, |letter| parents::children(self.stream, letter, row).len())
+    }
+
     /// The element count; 0 where the stream is refused.
     pub fn element_count(&self) -> usize {
         self.letter.as_ref().map_or(0, |letter| letter.rows.len())
@@ -238,16 +285,17 @@ impl<'a> Reading<'a> {
         items.map(|item| &self.stream[item.value()])
     }
 
-    /// The rows, if the stream is accepted and a table of `numbers` numbers holds them.
-    fn rows_for(&self, numbers: usize) -> Result<&[Row], (u32, u32)> {
+    /// The letter, if the stream is accepted and a table of `numbers` numbers holds its rows.
+    fn rows_for(&self, numbers: usize) -> Result<&Letter<'a>, (u32, u32)> {
         let letter = self.letter.as_ref().map_err(|refusal| (refusal.number(), refusal.place))?;
-        if numbers / ROW_WIDTH < letter.rows.len() { Err((16, 0)) } else { Ok(&letter.rows) }
+        if numbers / ROW_WIDTH < letter.rows.len() { Err((16, 0)) } else { Ok(letter) }
     }
 }
 
-fn fill(table: &mut [u32], rows: &[Row]) {
-    for (numbers, row) in table.chunks_exact_mut(ROW_WIDTH).zip(rows) {
-        numbers.copy_from_slice(&row.numbers());
+fn fill(table: &mut [u32], stream: &[u8], letter: &Letter<'_>) {
+    for (numbers, row) in table.chunks_exact_mut(ROW_WIDTH).zip(&letter.rows) {
+        let parent = parents::parent(stream, letter, row).unwrap_or(parents::NO_PARENT);
+        numbers.copy_from_slice(&row.numbers(parent));
     }
 }
 
@@ -277,7 +325,7 @@ mod tests {
         let reading = Reading::of(&stream);
         let mut table = [0; 2 * ROW_WIDTH];
         assert_eq!(reading.check(&mut table), Checked { number: 0, place: 0, headers: 5, elements: 2 });
-        assert_eq!(table[ROW_WIDTH..], [3, 255, 2, 12, 0, 0, 0, 0, 0, 0, 6, 12]);
+        assert_eq!(table[ROW_WIDTH..], [3, 255, 2, 12, 0, 0, 0, 0, 0, 0, 6, 12, parents::NO_PARENT]);
         assert_eq!(reading.content(1), Found { number: 21, ..Found::default() });
         assert_eq!(reading.content(0), Found { number: 20, ..Found::default() });
         assert_eq!(joined(&stream), b"Hi");
@@ -294,7 +342,7 @@ mod tests {
         assert_eq!(joined(&unit(&marked)), b"\0bc");
         let mut table = [0; 2 * ROW_WIDTH];
         Reading::of(&unit(&marked)).check(&mut table);
-        assert_eq!(table[ROW_WIDTH + 10..], [6, 6 + 14]);
+        assert_eq!(table[ROW_WIDTH + 10..ROW_WIDTH + 12], [6, 6 + 14]);
     }
 
     #[test]

@@ -93,8 +93,8 @@ pub(crate) struct Row {
 }
 
 impl Row {
-    /// The twelve numbers in the table's order.
-    pub fn numbers(&self) -> [u32; ROW_WIDTH] {
+    /// The thirteen numbers in the table's order, with its parent's row.
+    pub fn numbers(&self, parent: u32) -> [u32; ROW_WIDTH] {
         let spans = [self.element, self.identifier, self.logical_identifier, self.portions, self.content];
         let mut numbers = [0; ROW_WIDTH];
         numbers[0] = u32::from(self.kind);
@@ -102,6 +102,7 @@ impl Row {
         for (pair, span) in numbers[2..].chunks_exact_mut(2).zip(spans) {
             pair.copy_from_slice(&[span.first, span.past]);
         }
+        numbers[ROW_WIDTH - 1] = parent;
         numbers
     }
 }

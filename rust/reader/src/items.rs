@@ -142,12 +142,22 @@ struct Open {
 
 /// Reads every item of the stream, as far as the first fault of 2 to 8.
 pub(crate) fn read(stream: &[u8]) -> (Tree, Option<Refusal>) {
+    read_elements(stream, false)
+}
+
+/// Reads the first element alone, with the end of the stream as its limit.
+pub(crate) fn read_first(stream: &[u8]) -> (Tree, Option<Refusal>) {
+    read_elements(stream, true)
+}
+
+fn read_elements(stream: &[u8], first_alone: bool) -> (Tree, Option<Refusal>) {
     let mut pass = Pass {
         stream,
+        first_alone,
         at: 0,
         run: Open { limit: stream.len(), marked: false, holder: 0 },
         around: Vec::with_capacity(usize::from(octets::DEEPEST)),
-        items: Vec::with_capacity(stream.len() / 8 + 4),
+        items: Vec::with_capacity(if first_alone { 16 } else { stream.len() / 8 + 4 }),
     };
     let fault = pass.walk().err();
     while !pass.around.is_empty() {
@@ -159,6 +169,7 @@ pub(crate) fn read(stream: &[u8]) -> (Tree, Option<Refusal>) {
 /// The reading under way: where it stands, the innermost run, the runs around it, and the items so far.
 struct Pass<'a> {
     stream: &'a [u8],
+    first_alone: bool,
     at: usize,
     run: Open,
     around: Vec<Open>,
@@ -170,6 +181,9 @@ impl Pass<'_> {
         loop {
             let room = &self.stream[self.at..self.run.limit];
             let level = self.around.len() as u8 + 1;
+            if self.first_alone && level == 1 && !self.items.is_empty() {
+                return Ok(());
+            }
             if !room.is_empty() {
                 match octets::meet(room, self.run.marked, level) {
                     Ok(Some(header)) => self.enter_item(header, level),

@@ -17,20 +17,26 @@
 //! ```
 
 mod answers;
+mod date;
 mod edition;
 mod elements;
 mod items;
 mod letter;
+mod making;
 mod matches;
 mod names;
 mod normal;
 mod octets;
+mod parents;
 mod refusal;
 
-pub use answers::{Checked, Copied, Found, Listed, Match, Reading, Side, Written};
+pub use answers::{Checked, Copied, Found, Listed, Match, Reading, Related, Side, Written};
+pub use date::{Dated, first_date};
 pub use edition::Edition;
 pub use items::{Item, Tree};
+pub use making::{ENTRY_WIDTH, make};
 pub use octets::{Class, DEEPEST, Length};
+pub use parents::NO_PARENT;
 pub use refusal::{Refusal, Why};
 
 /// "stream over 1,048,576 bytes" is refused, and so is such a normal form.
@@ -40,4 +46,4 @@ pub const SHORT_LIMIT: usize = 65_535;
 /// The most elements that a stream may have.
 pub const MOST_ELEMENTS: usize = 4_096;
 /// The numbers of one table row.
-pub const ROW_WIDTH: usize = 12;
+pub const ROW_WIDTH: usize = 13;

@@ -3,8 +3,10 @@ use mathlib.Core.Path.{_∙_}
 use borrow.Author.Needs.{needs}
 use native.Mathlib.Omega.{arith}
 use denote.Ref.{now}
-use Rattle.answers.proofs.Judging.{accepted-judged}
-use Rattle.answers.proofs.Checks.{table-filled, checks-16, checks-letter}
+use Rattle.reading.proofs.Scratch.{layout-set}
+use Rattle.answers.proofs.Judging.{judged-in, accepted-judged}
+use Rattle.answers.proofs.Checks.{checks-16, checks-letter}
+use Rattle.answers.proofs.Tabling.{table-filled}
 use Rattle.answers.proofs.check_judged.Statement.{statement}
 use Rattle.answers.proofs.check_judged.Tie as tie
 
@@ -13,34 +15,36 @@ refused-check-requires c κs = search needs
 
 returns : tie.Need-returns
 returns c =
-    let a = c .before .before .before .before .before in
-    let l = accepted-judged (a .pre .0) (a .pre .1) in
-    let r = checks-16 (a .args .edition) (now (a .args .stream)) (now (a .args .table)) (a .args .headers) (l .elements) (l .judged) (omega arith) in
+    let a = c .before .before .before .before .before .before .before .before .before in
+    let l = accepted-judged (a .pre .0) (judged-in (a .pre .1)) in
+    let r = checks-16 (a .args .edition) (now (a .args .stream)) (now (a .args .table)) (a .args .headers) (l .elements) (l .judged) (omega (arith, l .counted)) in
     record { answered = c .refused-check .ensures ∙ r .answered; tabled = r .tabled }
 
 fill-requires : tie.Need-fill-requires
 fill-requires c κs =
-    let a = c .before .before .before .before .before in
-    let l = accepted-judged (a .pre .0) (a .pre .1) in
-    (omega (arith, l .within), omega arith)
+    let a = c .before .before .before .before .before .before .before .before .before in
+    let l = accepted-judged (a .pre .0) (judged-in (a .pre .1)) in
+    (layout-set (a .pre .1), (l .few, omega arith))
 
-cast-t13 : tie.Need-cast-t13
-cast-t13 c =
-    let a = c .before .before .before .before .before .before .before .before in
-    let l = accepted-judged (a .pre .0) (a .pre .1) in
-    omega arith
+cast-t17 : tie.Need-cast-t17
+cast-t17 c =
+    let a = c .before .before .before .before .before .before .before .before .before .before .before .before in
+    let l = accepted-judged (a .pre .0) (judged-in (a .pre .1)) in
+    omega (arith, l .few)
 
 same-length : tie.Need-same-length
 same-length c = search needs
 
 returns-2 : tie.Need-returns-2
 returns-2 c =
-    let a = c .before .before .before .before .before .before .before .before in
-    let l = accepted-judged (a .pre .0) (a .pre .1) in
-    let s = now (a .args .stream) in
+    let a = c .before .before .before .before .before .before .before .before .before .before .before .before in
+    let l = accepted-judged (a .pre .0) (judged-in (a .pre .1)) in
     let table = now (a .args .table) in
-    let r = checks-letter (a .args .edition) s table (a .args .headers) _ (l .elements) (l .judged) (l .counted) (omega arith) in
-    record { answered = r .answered; tabled = c .before .before .fill .ensures ∙ table-filled (a .args .edition) s table (now (a .args .rows)) _ (l .written) (l .within) ∙ r .tabled }
+    let r = checks-letter (a .args .edition) (now (a .args .stream)) table (a .args .headers) _ (l .elements) (l .judged) (l .counted) (omega arith) in
+    record {
+      answered = r .answered;
+      tabled = table-filled (a .pre .1) (l .judge-accepted) (l .judged) table _ (c .before .before .fill .ensures) ∙ r .tabled;
+    }
 
 pub check-judged-spec : {M : Type 1} → statement M
 check-judged-spec =
@@ -49,6 +53,6 @@ check-judged-spec =
     refused-check-requires
     returns
     fill-requires
-    cast-t13
+    cast-t17
     same-length
     returns-2)

@@ -5,7 +5,8 @@ use native.Mathlib.Omega.{arith}
 use denote.Ref.{now}
 use Rattle.reading.proofs.Single.{no-more-than-elements}
 use Rattle.answers.proofs.Judging.{judged-in, accepted-judged}
-use Rattle.answers.proofs.Checks.{table-filled}
+use Rattle.reading.proofs.Scratch.{layout-set}
+use Rattle.answers.proofs.Tabling.{table-filled}
 use Rattle.answers.proofs.Listing.{lists-16, lists-19, lists-letter, retabled}
 use Rattle.answers.proofs.list_judged.Statement.{statement}
 use Rattle.answers.proofs.list_judged.Tie as tie
@@ -20,7 +21,7 @@ fill-requires : tie.Need-fill-requires
 fill-requires c κs =
     let a = c .before .before .before .before .before .before .before .before .before .before in
     let l = accepted-judged (a .pre .0 .ended) (judged-in (a .pre .1 .0)) in
-    (omega (arith, l .within), omega arith)
+    (layout-set (a .pre .1 .0), (l .few, omega arith))
 
 list-matches-requires : tie.Need-list-matches-requires
 list-matches-requires c κs =
@@ -47,7 +48,7 @@ returns-2 c =
     let lists = c .before .before .before .list-matches .ensures (a .args .edition) (a .pre .1 .0) (l .elements) (l .judge-accepted) in
     let s = now (a .args .stream) in
     let table = now (a .args .table) in
-    let tabled = c .before .before .before .before .before .before .before .fill .ensures ∙ table-filled (a .args .edition) s table (now (a .args .rows)) _ (l .written) (l .within) in
+    let tabled = table-filled (a .pre .1 .0) (l .judge-accepted) (l .judged) table _ (c .before .before .before .before .before .before .before .fill .ensures) in
     retabled tabled (lists-19 (a .args .edition) (a .args .side) s table _ (a .args .room) _ (l .elements) (l .judged) _ (l .counted) (omega arith) _ _ lists (omega arith))
 
 cast-t23 : tie.Need-cast-t23
@@ -77,7 +78,7 @@ returns-3 c =
     let lists = c .before .before .before .list-matches .ensures (a .args .edition) (a .pre .1 .0) (l .elements) (l .judge-accepted) in
     let s = now (a .args .stream) in
     let table = now (a .args .table) in
-    let tabled = c .before .before .before .before .before .before .before .fill .ensures ∙ table-filled (a .args .edition) s table (now (a .args .rows)) _ (l .written) (l .within) in
+    let tabled = table-filled (a .pre .1 .0) (l .judge-accepted) (l .judged) table _ (c .before .before .before .before .before .before .before .fill .ensures) in
     retabled tabled (lists-letter (a .args .edition) (a .args .side) s table _ (a .args .room) _ (l .elements) (l .judged) _ (l .counted) (omega arith) _ _ lists (omega arith))
 
 pub list-judged-spec : {M : Type 1} → statement M

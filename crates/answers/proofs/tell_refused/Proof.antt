@@ -39,6 +39,12 @@ enum-told-5 c = search needs
 tell-reason-requires-4 : tie.Need-tell-reason-requires-4
 tell-reason-requires-4 c κs = search needs
 
+enum-told-6 : tie.Need-enum-told-6
+enum-told-6 c = search needs
+
+tell-reason-requires-5 : tie.Need-tell-reason-requires-5
+tell-reason-requires-5 c κs = search needs
+
 returns : tie.Need-returns
 returns c = refused-as _ _ _ (c .before .before .enum-told .given .1) (c .tell-checked .ensures ∙ ap checkTold (c .before .refused-check .ensures))
 
@@ -53,6 +59,9 @@ returns-4 c = refused-as _ _ _ (c .before .enum-told4 .given .1) (c .tell-reason
 
 returns-5 : tie.Need-returns-5
 returns-5 c = refused-as _ _ _ (c .before .enum-told5 .given .1) (c .tell-reason4 .ensures)
+
+returns-6 : tie.Need-returns-6
+returns-6 c = refused-as _ _ _ (c .before .enum-told6 .given .1) (c .tell-reason5 .ensures)
 
 pub tell-refused-spec : {M : Type 1} → statement M
 tell-refused-spec =
@@ -69,8 +78,11 @@ tell-refused-spec =
     tell-reason-requires-3
     enum-told-5
     tell-reason-requires-4
+    enum-told-6
+    tell-reason-requires-5
     returns
     returns-2
     returns-3
     returns-4
-    returns-5)
+    returns-5
+    returns-6)

@@ -6,7 +6,7 @@ use denote.Ref.{now}
 use Rattle.answers.specs.declared.Question.{Question}
 use Rattle.answers.specs.Questions.{Roomy}
 use Rattle.answers.proofs.Judging.{accepts-walked, judged-in, accepted-judged}
-use Rattle.answers.proofs.Working.{as-asked, ruled-letter, leaves-rules, leaves-check, leaves-content, leaves-joined, leaves-list}
+use Rattle.answers.proofs.Working.{as-asked, ruled-letter, leaves-rules, leaves-check, leaves-content, leaves-joined, leaves-list, leaves-children}
 use Rattle.answers.proofs.work.Statement.{statement}
 use Rattle.answers.proofs.work.Tie as tie
 
@@ -20,7 +20,7 @@ enum-told-2 : tie.Need-enum-told-2
 enum-told-2 c = search needs
 
 check-judged-requires : tie.Need-check-judged-requires
-check-judged-requires c κs = search needs
+check-judged-requires c κs = let a = c .before .before .before .before .before .before .before .before .before .before .before .before in (a .pre .0, a .pre .1 .0)
 
 tell-checked-requires : tie.Need-tell-checked-requires
 tell-checked-requires c κs = search needs
@@ -54,6 +54,18 @@ list-judged-requires c κs =
 
 tell-listed-requires : tie.Need-tell-listed-requires
 tell-listed-requires c κs = search needs
+
+enum-known-question-4 : tie.Need-enum-known-question-4
+enum-known-question-4 c = search needs
+
+children-judged-requires : tie.Need-children-judged-requires
+children-judged-requires c κs =
+    let a = c .before .before .before .before .before .before .before .before .before .before .before .before .before .before in
+    let room = subst (λ (q : Question). Roomy q (now (a .args .stream)) (length (now (a .args .flat)))) (c .before .before .before .question4 .given .1) (a .pre .1 .1) in
+    (accepts-walked (a .pre .0), (a .pre .1 .0, room))
+
+tell-related-requires : tie.Need-tell-related-requires
+tell-related-requires c κs = search needs
 
 returns : tie.Need-returns
 returns c =
@@ -93,7 +105,18 @@ same-length-4 c = search needs
 returns-5 : tie.Need-returns-5
 returns-5 c =
     let a = c .before .before .before .before .before .before .before .before .before .before .before .before .before .before .before .before .before .before .before .before in
-    as-asked (c .before .before .before .before .before .before .before .before .before .question3 .given .1) (c .tell-listed .ensures) (leaves-list (a .args .edition) (now (a .args .stream)) (now (a .args .table)) _ (now (a .args .out)) (c .before .before .before .before .before .list-judged .ensures))
+    as-asked (c .before .before .before .before .before .before .before .before .before .question3 .given .1) (c .tell-listed .ensures) (leaves-list (a .args .edition) (now (a .args .stream)) (now (a .args .table)) (now (a .args .flat)) (now (a .args .out)) (c .before .before .before .before .before .list-judged .ensures))
+
+same-length-5 : tie.Need-same-length-5
+same-length-5 c = search needs
+
+same-length-6 : tie.Need-same-length-6
+same-length-6 c = search needs
+
+returns-6 : tie.Need-returns-6
+returns-6 c =
+    let a = c .before .before .before .before .before .before .before .before .before .before .before .before .before .before .before .before .before .before .before .before in
+    as-asked (c .before .before .before .before .before .before .before .before .before .question4 .given .1) (c .tell-related .ensures) (leaves-children (a .args .edition) (now (a .args .stream)) (now (a .args .table)) (now (a .args .flat)) (now (a .args .out)) (c .before .before .before .before .before .children-judged .ensures))
 
 pub work-spec : {M : Type 1} → statement M
 work-spec =
@@ -113,6 +136,9 @@ work-spec =
     enum-known-question-3
     list-judged-requires
     tell-listed-requires
+    enum-known-question-4
+    children-judged-requires
+    tell-related-requires
     returns
     same-length
     returns-2
@@ -121,4 +147,7 @@ work-spec =
     returns-4
     same-length-3
     same-length-4
-    returns-5)
+    returns-5
+    same-length-5
+    same-length-6
+    returns-6)

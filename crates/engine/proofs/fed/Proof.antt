@@ -1,3 +1,4 @@
+-- `fed`: what is left to take of the block stays the same, turn by turn, and at its end is nothing. Assumes nothing.
 use mathlib.Core.Path.{_≡_, refl, ap, sym, _∙_}
 use mathlib.Core.List.{[]}
 use Prim.Native.Nat.{ℕ, _+_, _-_, _<_, _≤_}

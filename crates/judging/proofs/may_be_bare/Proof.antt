@@ -6,7 +6,7 @@ use Prim.Native.Nat.{ℕ}
 use Rattle.contents.specs.Search.{amount, firstValue, firstRun, inOrder}
 use Rattle.portions.specs.Portions.{allPortions, values, wellSpelt}
 use Rattle.elements.specs.declared.Edition.{Edition}
-use Rattle.elements.specs.declared.Edition.the-variants.{Of1988}
+use Rattle.elements.specs.declared.Edition.the-variants.{Of1988, Of1993}
 use Rattle.elements.specs.Shape.{shapeOf}
 use Rattle.elements.specs.Judge.{bodyOf, contentOf, elementOf, ordered, asTabled, namesFit, shapeRefusal}
 use Rattle.judging.specs.Judges.{MayBeBare}
@@ -20,15 +20,15 @@ among edition (inl e) one two three = subst (MayBeBare edition) (sym e) one
 among edition (inr (inl e)) one two three = subst (MayBeBare edition) (sym e) two
 among edition (inr (inr e)) one two three = subst (MayBeBare edition) (sym e) three
 
-in-each : {octet : ℕ} (edition : Edition) → MayBeBare Of1988 octet → MayBeBare edition octet
-in-each Of1988 may = may
+in-each : {octet : ℕ} (edition : Edition) → (octet ≡ 0xA0) ⊎ ((octet ≡ 0xA2) ⊎ (octet ≡ 0xA6)) → MayBeBare edition octet
+unfolding shapeOf shapeRefusal asTabled ordered elementOf contentOf bodyOf namesFit amount firstValue firstRun inOrder allPortions values wellSpelt
+in-each Of1988 key =
+    among Of1988 key (record { known = refl; fits = refl }) (record { known = refl; fits = refl }) (record { known = refl; fits = refl })
+in-each Of1993 key =
+    among Of1993 key (record { known = refl; fits = refl }) (record { known = refl; fits = refl }) (record { known = refl; fits = refl })
 
 returns : tie.Need-returns
-unfolding shapeOf shapeRefusal asTabled ordered elementOf contentOf bodyOf namesFit amount firstValue firstRun inOrder allPortions values wellSpelt
-returns c =
-    λ e edition.
-    in-each edition
-    (among Of1988 (c .match .keys1) (record { known = refl; fits = refl }) (record { known = refl; fits = refl }) (record { known = refl; fits = refl }))
+returns c = λ e edition. in-each edition (c .match .keys1)
 
 returns-2 : tie.Need-returns-2
 returns-2 c = λ e. absurd (false≢true e)

@@ -17,7 +17,7 @@ slice-aggregate-judge-entries-3 : tie.Need-slice-aggregate-judge-entries-3
 slice-aggregate-judge-entries-3 c = search needs
 
 judge-entries-requires : tie.Need-judge-entries-requires
-judge-entries-requires c κs = zeros-roomy (now (c .before .before .before .before .before .args .numbers)) 1536 256 128 (inl (c .before .before .before .before .before .pre)) (omega arith) (omega arith) (omega arith)
+judge-entries-requires c κs = zeros-roomy (now (c .before .before .before .before .before .args .numbers)) 1536 256 129 (inl (omega (arith, c .before .before .before .before .before .pre))) (omega arith) (omega arith) (omega arith)
 
 returns : tie.Need-returns
 returns c = search needs

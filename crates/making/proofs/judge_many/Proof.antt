@@ -17,7 +17,7 @@ slice-aggregate-judge-entries-3 : tie.Need-slice-aggregate-judge-entries-3
 slice-aggregate-judge-entries-3 c = search needs
 
 judge-entries-requires : tie.Need-judge-entries-requires
-judge-entries-requires c κs = zeros-roomy (now (c .before .before .before .before .before .args .numbers)) 24564 4096 2047 (inr (omega arith)) (omega arith) (omega arith) (omega arith)
+judge-entries-requires c κs = zeros-roomy (now (c .before .before .before .before .before .args .numbers)) 24564 4096 2048 (inr (omega arith)) (omega arith) (omega arith) (omega arith)
 
 returns : tie.Need-returns
 returns c = search needs

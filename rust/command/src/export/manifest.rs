@@ -15,9 +15,9 @@ use crate::status::Failure;
 
 /// The names of the columns.
 #[rustfmt::skip]
-pub const COLUMNS: [&str; 14] = [
+pub const COLUMNS: [&str; 15] = [
     "file", "outcome", "number", "place", "octets", "modified", "how", "side", "units", "left_out", "text_octets",
-    "text_sha256", "reason", "file_octets",
+    "text_sha256", "reason", "date", "file_octets",
 ];
 
 /// A file of the archive. The fields are the columns, in their order.
@@ -39,6 +39,9 @@ pub struct Line {
     pub text_octets: Option<u64>,
     pub text_sha256: String,
     pub reason: String,
+    /// The date of the document, of a letter that was written.
+    #[serde(default)]
+    pub date: String,
     pub file_octets: String,
 }
 

@@ -20,7 +20,7 @@ use crate::progress::Progress;
 use crate::status::{Failure, Outcome, Status};
 use crate::survey::csv::Csv;
 use crate::text::{How, Text};
-use crate::{input, show};
+use crate::{date, input, show};
 
 const EXAMPLES: &str = "\
 Examples:
@@ -180,6 +180,7 @@ fn export(words: &Words, entry: &Entry, file: &Path, line: Line) -> Result<Line,
         left_out: Some(units - shown),
         text_octets: Some(octets.len() as u64),
         text_sha256: show::hex(&Sha256::digest(&octets)).to_lowercase(),
+        date: date::column(letter.edition(), letter.stream()),
         ..line
     })
 }

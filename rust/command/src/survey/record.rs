@@ -5,6 +5,7 @@ use std::path::Path;
 use odif::Edition;
 use serde::{Deserialize, Serialize};
 
+use crate::date;
 use crate::faults::Fault;
 use crate::files::Entry;
 use crate::input;
@@ -20,7 +21,7 @@ pub enum Verdict {
 }
 
 /// The names of the columns.
-pub const COLUMNS: [&str; 13] = [
+pub const COLUMNS: [&str; 14] = [
     "file",
     "outcome",
     "number",
@@ -33,6 +34,7 @@ pub const COLUMNS: [&str; 13] = [
     "kind",
     "item",
     "foreign",
+    "date",
     "file_octets",
 ];
 
@@ -56,6 +58,9 @@ pub struct Record {
     pub item: String,
     /// What the file seems to be instead of a letter.
     pub foreign: String,
+    /// The date of the document by its first element, whether or not the rest is accepted.
+    #[serde(default)]
+    pub date: String,
     /// The file's name in hexadecimal, where it is no UTF-8.
     pub file_octets: String,
 }
@@ -84,7 +89,12 @@ impl Record {
                 Record::new(&entry.path, Verdict::Refused).refused(fault)
             }
         };
-        Record { octets: stream.size, headers: Some(checked.headers), ..verdict }
+        Record {
+            octets: stream.size,
+            headers: Some(checked.headers),
+            date: date::column(edition, &stream.octets),
+            ..verdict
+        }
     }
 
     fn new(path: &Path, outcome: Verdict) -> Record {

@@ -10,7 +10,8 @@ fn the_overview_names_every_subcommand() {
     for words in [&["--help"][..], &["-h"], &["help"]] {
         let run = odif(words);
         assert_eq!(run.status, 0);
-        for name in ["check", "text", "tree", "normal", "list", "survey", "same", "export", "Examples:", "Exit status:"]
+        for name in
+            ["check", "text", "tree", "normal", "make", "list", "survey", "same", "export", "Examples:", "Exit status:"]
         {
             assert!(run.text().contains(name), "{name}");
         }
@@ -19,7 +20,7 @@ fn the_overview_names_every_subcommand() {
 
 #[test]
 fn every_subcommand_has_help_with_examples() {
-    for name in ["check", "text", "tree", "normal", "list", "survey", "same", "export"] {
+    for name in ["check", "text", "tree", "normal", "make", "list", "survey", "same", "export"] {
         for words in [[name, "--help"], ["help", name]] {
             let run = odif(&words);
             assert_eq!(run.status, 0);

@@ -2,13 +2,16 @@
 
 mod blocks;
 mod check;
+mod date;
 mod editions;
 mod export;
 mod faults;
 mod help;
 mod list;
+mod make;
 mod names;
 mod normal;
+mod outline;
 mod output;
 mod same;
 mod support;

@@ -66,7 +66,7 @@ fn one_line_of_csv_a_file_in_order_with_any_number_of_jobs() {
     assert_eq!(lines.len(), 306);
     assert_eq!(
         lines[0],
-        "file,outcome,number,place,octets,headers,elements,reason,detail,kind,item,foreign,file_octets"
+        "file,outcome,number,place,octets,headers,elements,reason,detail,kind,item,foreign,date,file_octets"
     );
     assert_eq!(lines[1], "a/b/good-2.odif,accepted,0,0,39,11,3,,,,,,");
     let cut = "a/cut.odif,refused,7,21,30,7,0,the value of an item passes its limit,the item A3 says that its value has \

@@ -11,8 +11,8 @@ opening-of-requires c κs = search needs
 stands-requires : tie.Need-stands-requires
 stands-requires c κs = search needs
 
-run-with-requires : tie.Need-run-with-requires
-run-with-requires c κs = search needs
+body-with-requires : tie.Need-body-with-requires
+body-with-requires c κs = search needs
 
 part-with-requires : tie.Need-part-with-requires
 part-with-requires c κs = search needs
@@ -37,7 +37,7 @@ returns c =
     let opens = at-opening .opening-of .ensures in
     ordered-frame s shape r (start .pre .0) (start .pre .1) (start .pre .2) (at-opening .opening-of .result) opens
     (at-stands .stands .result) (at-stands .stands .ensures s r opens)
-    (at-body .run-with .result) (at-body .run-with .ensures s r opens)
+    (at-body .body-with .result) (at-body .body-with .ensures s r opens)
     (at-object .bounds-of .result) (λ few. at-object .bounds-of .ensures s r (shape .object) (at-found .part-with .ensures s r opens few))
     (c .holder-with .result) (c .holder-with .ensures s r opens)
 
@@ -47,7 +47,7 @@ frame-in-order-spec =
     (tie.spec
     opening-of-requires
     stands-requires
-    run-with-requires
+    body-with-requires
     part-with-requires
     bounds-of-requires
     holder-with-requires

@@ -1,4 +1,4 @@
--- `elements::frames::held_whole` meets its contract: no item with pieces is there. Assumes nothing.
+-- `elements::frames::held_whole` meets its contract: no item with pieces or tiles is there. Assumes nothing.
 use borrow.Author.Needs.{needs}
 use Rattle.elements.proofs.Holding.{lacked-holding}
 use Rattle.elements.proofs.frames.held_whole.Statement.{statement}
@@ -12,7 +12,7 @@ no-run-requires c κs = search needs
 
 returns : tie.Need-returns
 returns c =
-    λ s shape r made lacked found. rw (c .no-run .ensures) (lacked-holding made lacked (c .before .bounds-of .ensures s r (shape .content) found))
+    λ s shape r made lacked no-tiles found. rw (c .no-run .ensures) (lacked-holding made lacked no-tiles (c .before .bounds-of .ensures s r (shape .content) found))
 
 pub held-whole-spec : {M : Type 1} → statement M
 held-whole-spec = tie.close (tie.spec bounds-of-requires no-run-requires returns)

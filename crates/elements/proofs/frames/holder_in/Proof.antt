@@ -2,6 +2,7 @@
 use mathlib.Core.Path.{subst}
 use borrow.Author.Needs.{needs}
 use Rattle.contents.specs.Opening.{FoundIn}
+use Rattle.elements.specs.Frames.{with-pieces}
 use Rattle.elements.proofs.frames.holder_in.Statement.{statement}
 use Rattle.elements.proofs.frames.holder_in.Tie as tie
 
@@ -17,11 +18,12 @@ held-in-pieces-requires c κs = search needs
 enum-told : tie.Need-enum-told
 enum-told c = search needs
 
-first-with-requires-2 : tie.Need-first-with-requires-2
-first-with-requires-2 c κs = search needs
-
-held-whole-requires : tie.Need-held-whole-requires
-held-whole-requires c κs = search needs
+unpieced-in-requires : tie.Need-unpieced-in-requires
+unpieced-in-requires c κs =
+    let at-found = c .before .before in
+    let start = at-found .before .before in
+    let a = start .args in
+    (start .pre .0, start .pre .1, subst (FoundIn (a .s .now) (a .r) (a .shape .pieces)) (c .enum-told .given .1) (at-found .first-with .ensures))
 
 returns : tie.Need-returns
 returns c =
@@ -29,16 +31,10 @@ returns c =
     let start = at-found .before .before in
     let a = start .args in
     c .held-in-pieces .ensures (a .s .now) (a .shape) (a .r) (start .pre .1)
-    (subst (FoundIn (a .s .now) (a .r) (a .shape .pieces)) (c .before .before .p .given .1) (at-found .first-with .ensures))
+    (with-pieces (subst (FoundIn (a .s .now) (a .r) (a .shape .pieces)) (c .before .before .p .given .1) (at-found .first-with .ensures)))
 
 returns-2 : tie.Need-returns-2
-returns-2 c =
-    let at-found = c .before .before .before .before in
-    let start = at-found .before .before in
-    let a = start .args in
-    c .held-whole .ensures (a .s .now) (a .shape) (a .r) (start .pre .1)
-    (subst (FoundIn (a .s .now) (a .r) (a .shape .pieces)) (c .before .before .enum-told .given .1) (at-found .first-with .ensures))
-    (c .before .first-with2 .ensures)
+returns-2 c = search needs
 
 pub holder-in-spec : {M : Type 1} → statement M
 holder-in-spec =
@@ -48,7 +44,6 @@ holder-in-spec =
     enum-known-p
     held-in-pieces-requires
     enum-told
-    first-with-requires-2
-    held-whole-requires
+    unpieced-in-requires
     returns
     returns-2)

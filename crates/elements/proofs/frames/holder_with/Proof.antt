@@ -2,6 +2,7 @@
 use mathlib.Core.Path.{subst}
 use borrow.Author.Needs.{needs}
 use Rattle.contents.specs.Opening.{FoundIn}
+use Rattle.elements.specs.Frames.{with-pieces}
 use Rattle.elements.proofs.frames.holder_with.Statement.{statement}
 use Rattle.elements.proofs.frames.holder_with.Tie as tie
 
@@ -17,11 +18,8 @@ held-in-pieces-requires c κs = search needs
 enum-told : tie.Need-enum-told
 enum-told c = search needs
 
-part-with-requires-2 : tie.Need-part-with-requires-2
-part-with-requires-2 c κs = search needs
-
-held-whole-requires : tie.Need-held-whole-requires
-held-whole-requires c κs = search needs
+unpieced-with-requires : tie.Need-unpieced-with-requires
+unpieced-with-requires c κs = search needs
 
 returns : tie.Need-returns
 returns c =
@@ -30,17 +28,16 @@ returns c =
     let shape = start .args .shape in
     λ s r opens few.
     c .held-in-pieces .ensures s shape r (start .pre)
-    (subst (FoundIn s r (shape .pieces)) (c .before .before .p .given .1) (at-found .part-with .ensures s r opens few))
+    (with-pieces (subst (FoundIn s r (shape .pieces)) (c .before .before .p .given .1) (at-found .part-with .ensures s r opens few)))
 
 returns-2 : tie.Need-returns-2
 returns-2 c =
-    let at-found = c .before .before .before .before in
+    let at-found = c .before .before .before in
     let start = at-found .before in
     let shape = start .args .shape in
     λ s r opens few.
-    c .held-whole .ensures s shape r (start .pre)
-    (subst (FoundIn s r (shape .pieces)) (c .before .before .enum-told .given .1) (at-found .part-with .ensures s r opens few))
-    (c .before .part-with2 .ensures s r opens few)
+    c .unpieced-with .ensures s r opens few
+    (subst (FoundIn s r (shape .pieces)) (c .before .enum-told .given .1) (at-found .part-with .ensures s r opens few))
 
 pub holder-with-spec : {M : Type 1} → statement M
 holder-with-spec =
@@ -50,7 +47,6 @@ holder-with-spec =
     enum-known-p
     held-in-pieces-requires
     enum-told
-    part-with-requires-2
-    held-whole-requires
+    unpieced-with-requires
     returns
     returns-2)

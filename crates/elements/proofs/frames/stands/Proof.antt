@@ -26,12 +26,28 @@ fills-requires-2 c κs = search needs
 returns-2 : tie.Need-returns-2
 unfolding slotOrdered
 returns-2 c =
-    let at-if = c .before .before in
+    let at-if = c .before .before .before in
     let start = at-if .before .before .before .before in
     let shape = start .args .shape in
     λ s r opens.
     let first : inOrder (shape .one) (shape .two) (treeIn s r) ≡ false = sym (at-if .before .fills .ensures s r opens) ∙ at-if .if1 .left in
-    rw (start .pre, first) (c .fills2 .ensures s r opens)
+    let second : inOrder (shape .one) (shape .instead) (treeIn s r) ≡ true = sym (c .before .fills2 .ensures s r opens) ∙ c .if2 .taken in
+    rw (start .pre, first, second)
+
+fills-requires-3 : tie.Need-fills-requires-3
+fills-requires-3 c κs = search needs
+
+returns-3 : tie.Need-returns-3
+unfolding slotOrdered
+returns-3 c =
+    let at-second = c .before .before in
+    let at-if = at-second .before .before .before in
+    let start = at-if .before .before .before .before in
+    let shape = start .args .shape in
+    λ s r opens.
+    let first : inOrder (shape .one) (shape .two) (treeIn s r) ≡ false = sym (at-if .before .fills .ensures s r opens) ∙ at-if .if1 .left in
+    let second : inOrder (shape .one) (shape .instead) (treeIn s r) ≡ false = sym (at-second .before .fills2 .ensures s r opens) ∙ at-second .if2 .left in
+    rw (start .pre, first, second) (c .fills3 .ensures s r opens)
 
 pub stands-spec : {M : Type 1} → statement M
-stands-spec = tie.close (tie.spec fills-requires returns fills-requires-2 returns-2)
+stands-spec = tie.close (tie.spec fills-requires returns fills-requires-2 returns-2 fills-requires-3 returns-3)

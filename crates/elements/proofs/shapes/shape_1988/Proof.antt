@@ -1,10 +1,11 @@
 -- `elements::shapes::shape_1988` meets its contract: each arm makes the shape that the list of 1988 has for its octet, and the last one
 -- that of no element, since the list has none for any other. Assumes nothing.
 use mathlib.Core.Path.{sym, ap, _∙_}
+use mathlib.Core.List.{[]}
 use borrow.Author.Needs.{needs}
 use Rattle.elements.specs.Shape.{shapes1988}
 use Rattle.elements.specs.Slots.{slotsOf}
-use Rattle.elements.proofs.Looking.{found, unlisted}
+use Rattle.elements.proofs.Looking.{found, passed}
 use Rattle.elements.proofs.shapes.shape_1988.Statement.{statement}
 use Rattle.elements.proofs.shapes.shape_1988.Tie as tie
 
@@ -60,7 +61,7 @@ returns-8 : tie.Need-returns-8
 returns-8 c = found shapes1988 (c .style-slots2 .ensures) (c .before .match .keys8)
 
 returns-9 : tie.Need-returns-9
-returns-9 c = c .profile-slots2 .ensures ∙ sym (ap slotsOf (unlisted (Unit {0}) (c .before .before .args .octet) shapes1988 (c .before .match .rest)))
+returns-9 c = c .profile-slots2 .ensures ∙ sym (ap slotsOf (passed (Unit {0}) (c .before .before .args .octet) shapes1988 [] (c .before .match .rest)))
 
 pub shape-1988-spec : {M : Type 1} → statement M
 shape-1988-spec =

@@ -1,25 +1,37 @@
 -- `elements::shapes::shape_of` meets its contract: a case for each edition. Assumes nothing.
-use mathlib.Core.Path.{_≡_, refl, sym, ap, _∙_}
-use mathlib.Core.List.{List}
+use mathlib.Core.Path.{sym, ap, _∙_}
 use Prim.Native.Nat.{ℕ}
 use borrow.Author.Needs.{needs}
+use Rattle.headers.specs.Head.{typeField}
 use Rattle.elements.specs.declared.Edition.{Edition}
-use Rattle.elements.specs.declared.Edition.the-variants.{Of1988}
-use Rattle.elements.specs.Shape.{shapes1988, shapeIn, shapeOf}
+use Rattle.elements.specs.Shape.{shapeOf}
 use Rattle.elements.specs.Slots.{slotsOf}
 use Rattle.elements.proofs.shapes.shape_of.Statement.{statement}
 use Rattle.elements.proofs.shapes.shape_of.Tie as tie
 
--- an enum of one case tells nothing when it is matched
-the-only : (edition : Edition) (type : List ℕ) → shapeOf edition type ≡ shapeIn shapes1988 type
-unfolding shapeOf
-the-only Of1988 type = refl
+enum-told : tie.Need-enum-told
+enum-told c = search needs
 
 shape-1988-requires : tie.Need-shape-1988-requires
 shape-1988-requires c κs = search needs
 
+enum-told-2 : tie.Need-enum-told-2
+enum-told-2 c = search needs
+
+shape-1993-requires : tie.Need-shape-1993-requires
+shape-1993-requires c κs = search needs
+
 returns : tie.Need-returns
-returns c = c .shape-1988 .ensures ∙ sym (ap slotsOf (the-only _ _))
+unfolding shapeOf
+returns c =
+    let octet = c .before .before .before .args .octet in
+    c .shape-1988 .ensures ∙ sym (ap (λ (edition : Edition). slotsOf (shapeOf edition (typeField octet))) (c .before .enum-told .given .1))
+
+returns-2 : tie.Need-returns-2
+unfolding shapeOf
+returns-2 c =
+    let octet = c .before .before .before .args .octet in
+    c .shape-1993 .ensures ∙ sym (ap (λ (edition : Edition). slotsOf (shapeOf edition (typeField octet))) (c .before .enum-told2 .given .1))
 
 pub shape-of-spec : {M : Type 1} → statement M
-shape-of-spec = tie.close (tie.spec shape-1988-requires returns)
+shape-of-spec = tie.close (tie.spec enum-told shape-1988-requires enum-told-2 shape-1993-requires returns returns-2)

@@ -1,3 +1,4 @@
+-- `arrived`: its tests are those of `arrive`, and `close_ended` is `settle`. Assumes nothing.
 use mathlib.Core.List.{[]}
 use Rattle.blocks.specs.Engine.{settle, found, reading}
 use mathlib.Core.Path.{_≡_, refl, ap, sym, _∙_}

@@ -1,3 +1,4 @@
+-- `open_item`: the end is stored last, so it is the innermost. Assumes nothing.
 use mathlib.Core.Path.{_≡_, refl, ap, sym, _∙_}
 use Prim.Native.Nat.{ℕ, _<_, _≤_}
 use native.Mathlib.Omega.{arith}

@@ -1,3 +1,4 @@
+-- `is_ready`: what its tests tell. Assumes nothing.
 use mathlib.Core.Path.{_≡_, refl, ap, sym, _∙_}
 use mathlib.Core.Bool.{true, false, false≢true}
 use mathlib.Core.List.{List, []}

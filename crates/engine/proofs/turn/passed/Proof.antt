@@ -1,3 +1,4 @@
+-- `passed`: the value's octets that the block has are counted, and `arrived` tells the rest. Assumes nothing.
 use mathlib.Core.Path.{_≡_, refl, ap, sym, _∙_}
 use Prim.Native.Nat.{ℕ, _+_, _-_, _<_, _≤_}
 use native.Mathlib.Omega.{arith}

@@ -1,3 +1,4 @@
+-- `turn`: each of the three cases is one of `Turning`. Assumes nothing.
 use mathlib.Core.Path.{_≡_, refl, ap, sym, _∙_}
 use Prim.Native.Nat.{ℕ, _+_, _-_, _<_, _≤_}
 use native.Mathlib.Omega.{arith}
@@ -23,7 +24,7 @@ returns c =
     let s = c .before .before .before .before in
     let a = s .args in
     let e = c .counted .ensures in
-    (s .pre .1, counted-turn (a .b) (a .block .now) (a .i) (s .pre .1) (s .pre .2) (c .counted .result) (c .before .if1 .taken) (e .1) (e .0))
+    (s .pre .1, counted-turn (a .b) (a .block .now) (a .i) (s .pre .1) (s .pre .2) (c .counted .result) (λ z. omega (arith, c .before .if1 .taken)) (e .1) (e .0))
 
 passed-requires : tie.Need-passed-requires
 passed-requires c κs =

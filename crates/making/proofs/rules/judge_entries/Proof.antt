@@ -36,7 +36,7 @@ entry-at-requires c κs = entry-there (length (now (c .before .before .before .b
 rule-requires : tie.Need-rule-requires Inv-loop μ-loop
 rule-requires c κs =
     let k = c .before .before .before .before .before .loop .inv .1 .keeps in
-    (k .bounded, k .indexed)
+    (k .bounded, k .filed)
 
 cast-t19 : tie.Need-cast-t19 Inv-loop μ-loop
 cast-t19 c = omega (arith, few-done (c .before .before .before .before .before .before .before .before .loop .inv .1))
@@ -102,7 +102,7 @@ keep-requires c κs =
     let lies = subst (EntryLies buffer) (c .before .before .before .before .before .before .before .before .entry-at .ensures) (p .lies) in
     let hashed = p .hash-is ∙ ap (λ (x : Entry). hash (bytesIn buffer (x .identifier))) (c .before .before .before .before .before .before .before .before .entry-at .ensures) in
     let below : l .k < length numbers / entryWidth = omega arith in (
-      (j .keeps .bounded, j .keeps .indexed),
+      (j .keeps .bounded, j .keeps .filed),
       (
         (
           omega (arith, a .pre .rows-fit (l .k) below (p .few), l .inv .2),

@@ -4,7 +4,7 @@ use native.Mathlib.Omega.{arith}
 use lib.ListN.{length-set}
 use denote.Ref.{now}
 use Rattle.names.specs.Hash.{hash}
-use Rattle.making.proofs.Keeping.{put-value, put-bounded, put-indexed, keeps-more}
+use Rattle.making.proofs.Keeping.{put-value, put-bounded, put-filed, keeps-more}
 use borrow.Author.Needs.{needs}
 use Rattle.making.proofs.rules.keep.Statement.{statement}
 use Rattle.making.proofs.rules.keep.Tie as tie
@@ -51,7 +51,7 @@ insert-requires c κs =
     let bounded = put-bounded rows n first past long buffer (a .pre .1 .1 .0) (a .pre .1 .1 .1) (a .pre .0 .0) in (
       bounded,
       (
-        put-indexed rows n first past long buffer (now (a .args .head)) (now (a .args .next)) (a .pre .0 .1),
+        put-filed rows n first past long buffer (now (a .args .head)) (now (a .args .next)) (a .pre .0 .1),
         (a .pre .1 .0 .1, (omega arith, a .pre .1 .1 .2 ∙ ap hash (sym (put-value rows n first past long buffer)))),
       ),
     )

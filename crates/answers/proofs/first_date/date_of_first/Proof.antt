@@ -1,0 +1,16 @@
+-- `answers::first_date::date_of_first` meets its contract: the note is added to the answer. Assumes nothing.
+use mathlib.Core.Path.{ap}
+use borrow.Author.Needs.{needs}
+use Rattle.answers.specs.FirstDates.{withUnread, firstDated}
+use Rattle.answers.proofs.first_date.date_of_first.Statement.{statement}
+use Rattle.answers.proofs.first_date.date_of_first.Tie as tie
+
+first-numbers-requires : tie.Need-first-numbers-requires
+first-numbers-requires c κs = search needs
+
+returns : tie.Need-returns
+unfolding firstDated
+returns c = let f = c .first-numbers .ensures in record { answered = ap withUnread (f .answered); stands = f .stands }
+
+pub date-of-first-spec : {M : Type 1} → statement M
+date-of-first-spec = tie.close (tie.spec first-numbers-requires returns)

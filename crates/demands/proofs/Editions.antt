@@ -1,0 +1,383 @@
+-- The two editions beside each other: one element read alike by both, then all of a tree; and the protected parts, which 1988 does not know.
+-- Assumes nothing.
+use mathlib.Core.Path.{_≡_, refl, sym, ap, ap₂, _∙_, subst}
+use mathlib.Core.Bool.{Bool, true, false, cond, not, xor, _&&_, _||_, true≢false, false≢true}
+use mathlib.Core.List.{List, [], _∷_, _++_, map}
+use mathlib.Core.Option.{some}
+use Prim.Native.Nat.{ℕ, zero, suc, _%_, _<_}
+use native.Mathlib.Omega.{arith}
+use lib.Dec.{eqb, leb}
+use lib.ListN.{length, take, getElem?}
+use lib.Seq.{length-take-le}
+use borrow.Author.Tests.{eqb-true, leb-true, not-true, not-false}
+use borrow.Table.Steps.{cases}
+use Rattle.laws.proofs.Tests.{cond-holds}
+use Rattle.headers.specs.Head.{constructed, codeOf, typeField}
+use Rattle.octets.specs.declared.Outcome.{Outcome}
+use Rattle.octets.specs.declared.Outcome.the-variants.{Ended, Refused}
+use Rattle.octets.specs.Walk.{Items, none, item, walkOf}
+use Rattle.tree.specs.Tree.{Tree, empty, leaf, branch, formed, plain, treeOf}
+use Rattle.contents.specs.Search.{is, amount}
+use Rattle.contents.proofs.Firsts.{is-field}
+use Rattle.portions.specs.Portions.{values, all}
+use Rattle.elements.specs.declared.Edition.{Edition}
+use Rattle.elements.specs.declared.Edition.the-variants.{Of1988, Of1993}
+use Rattle.elements.specs.declared.Row.{Row}
+use Rattle.elements.specs.Shape.{Contents, profile, protected, entry, Shape, noShape, Shapes, shapes1993, shapeIn, shapeOf}
+use Rattle.elements.specs.Judge.{noneOf, bodyOf, contentOf, Element, elementOf, mostElements, profileOctet, refusalOf, Judged, accepted, refused, judgeOne, judgeFrom, judge}
+use Rattle.elements.specs.Rows.{bodyIn, contentOctet, rowOf, rowsOf, placeOf}
+use Rattle.letters.specs.Letter.{Letter, letter, refusal, itemsOfStream, afterWalk, byWalk, letterOf}
+use Rattle.reading.specs.declared.Side.{Side}
+use Rattle.judging.proofs.Lists.{below-length}
+use Rattle.answers.specs.Answers.{letterIn, rowsIn, checked, checkedTable, written, writtenOutput, listed, listedTable, listedList, fetched, located, joinedIn, copied, copiedOutput}
+use Rattle.answers.specs.Short.{writtenShort, writtenShortOutput}
+use Rattle.answers.proofs.Letters.{refused-element, letter-found}
+use Rattle.answers.proofs.Checks.{checks-refused}
+use Rattle.answers.proofs.Listing.{lists-refused}
+use Rattle.answers.proofs.Fetching.{fetches-refused}
+use Rattle.demands.specs.Refusals.{TopItem, topItems, saysIn, Refuses, too-many, unknown, no-profile, later-profile, misshapen, mistyped, misspelt, repeated, at-element}
+use Rattle.demands.specs.Editions.{isProtected, readAlike, agree, SameAnswers, SameLetterIn, Unnamed, PassedBefore, Editions}
+use Rattle.demands.proofs.Refusals.{accepted-elements, accepted-pass, by-refused}
+use Rattle.demands.proofs.Telling.{both}
+use Rattle.demands.proofs.OneElement.{ordered-holds, ordered-untiled, tabled-ordered, unit-tabled, Alike, shapes-agree, refusals-agree, elements-agree}
+
+-- all elements of a tree are read alike
+abbrev AllAlike : Tree → Type 0
+AllAlike empty = Unit {0}
+AllAlike (leaf type value after) = Alike type empty × AllAlike after
+AllAlike (branch type inside after) = Alike type inside × AllAlike after
+
+alike-by : (type : List ℕ) (run : Tree) → readAlike (record { type = type; run = run }) ≡ true → Alike type run
+alike-by type run e =
+    let (free, content) = both (not (isProtected type)) _ e in
+    record {
+      unprotected = not-true (isProtected type) free;
+      held = λ t. record {
+        some-item = λ z.
+            let a : amount 0x04 run ≡ 0 = omega arith in
+            let b : amount 0x24 run ≡ 0 = omega arith in
+            let w : not (is 0xA3 type) || not (noneOf 0x04 run && noneOf 0x24 run) ≡ false = rw (t, a, b) in
+            false≢true (sym w ∙ content);
+      };
+    }
+
+agree-alike : (t : Tree) → agree t ≡ true → AllAlike t
+agree-alike empty e = tt
+agree-alike (leaf type value after) e =
+    let (here, rest) = both (readAlike (record { type = type; run = empty })) _ e in (alike-by type empty here, agree-alike after rest)
+agree-alike (branch type inside after) e =
+    let (here, rest) = both (readAlike (record { type = type; run = inside })) _ e in (alike-by type inside here, agree-alike after rest)
+
+-- then the judge says the same
+one-agrees : (done : List Element) (type : List ℕ) (run : Tree) (after : Tree) → Alike type run
+    → ((more : List Element) → judgeFrom Of1993 more after ≡ judgeFrom Of1988 more after)
+    → judgeOne Of1993 done type run (λ more. judgeFrom Of1993 more after) ≡ judgeOne Of1988 done type run (λ more. judgeFrom Of1988 more after)
+unfolding judgeOne
+one-agrees done type run after h later =
+    let same = refusals-agree done type run h in
+    cases (eqb (refusalOf Of1988 done type run) 0)
+    (λ t.
+    let e = elements-agree done type run h (eqb-true (refusalOf Of1988 done type run) 0 t) in
+    rw (same, t, e) (later (done ++ (elementOf (shapeOf Of1988 type) run ∷ []))))
+    (λ t. rw (same, t))
+
+from-agrees : (t : Tree) → AllAlike t → (done : List Element) → judgeFrom Of1993 done t ≡ judgeFrom Of1988 done t
+unfolding judgeFrom
+from-agrees empty h done = refl
+from-agrees (leaf type value after) h done = one-agrees done type empty after (h .0) (from-agrees after (h .1))
+from-agrees (branch type inside after) h done = one-agrees done type inside after (h .0) (from-agrees after (h .1))
+
+judge-agrees : (t : Tree) → AllAlike t → judge Of1993 t ≡ judge Of1988 t
+unfolding judge
+judge-agrees empty h = refl
+judge-agrees (leaf type value after) h = from-agrees (leaf type value after) h []
+judge-agrees (branch type inside after) h = from-agrees (branch type inside after) h []
+
+walk-agrees : (s : List ℕ) → AllAlike (treeOf s) → (o : Outcome) → byWalk Of1993 s o ≡ byWalk Of1988 s o
+walk-agrees s h (Ended at headers) = ap (afterWalk (itemsOfStream s) headers) (judge-agrees (treeOf s) h)
+walk-agrees s h (Refused number place headers) = refl
+
+letters-agree : (s : List ℕ) → AllAlike (treeOf s) → letterIn Of1993 s ≡ letterIn Of1988 s
+unfolding letterOf
+letters-agree s h = walk-agrees s h (walkOf s)
+
+-- 1988 does not know a protected part
+protected-unknown : (type : List ℕ) → isProtected type ≡ true → is (shapeOf Of1988 type .octet) type ≡ false
+unfolding shapeOf
+protected-unknown type p =
+    cases (is 0xA9 type)
+    (λ t. let e : codeOf type ≡ 0xA9 = eqb-true (codeOf type) 0xA9 t in rw e)
+    (λ a.
+    cases (is 0xAA type)
+    (λ t. let e : codeOf type ≡ 0xAA = eqb-true (codeOf type) 0xAA t in rw e)
+    (λ b.
+    cases (is 0xAB type)
+    (λ t. let e : codeOf type ≡ 0xAB = eqb-true (codeOf type) 0xAB t in rw e)
+    (λ c.
+    cases (is 0xAC type)
+    (λ t. let e : codeOf type ≡ 0xAC = eqb-true (codeOf type) 0xAC t in rw e)
+    (λ d. let w : isProtected type ≡ false = rw (a, b, c, d) in absurd (false≢true (sym w ∙ p))))))
+
+known : (edition : Edition) (done : List Element) (type : List ℕ) (run : Tree) → refusalOf edition done type run ≡ 0
+    → is (shapeOf edition type .octet) type ≡ true
+unfolding refusalOf
+known edition done type run =
+    let shape = shapeOf edition type in
+    let P : ℕ → Type 0 = λ n. n ≡ 0 → is (shape .octet) type ≡ true in
+    cond-holds P (leb mostElements (length done)) (λ _ z. absurd (omega arith)) (λ _.
+    cond-holds P (not (is (shape .octet) type)) (λ _ z. absurd (omega arith)) (λ t _. not-false (is (shape .octet) type) t))
+
+-- no tiles in an element's run, if it is a text unit, and it is no protected part: so its row is the same
+record Untiled (type : List ℕ) (run : Tree) : Type 0 where
+  unprotected : isProtected type ≡ false
+  untiled : is 0xA3 type ≡ true → noneOf 0x30 run ≡ true
+
+abbrev AllUntiled : Tree → Type 0
+AllUntiled empty = Unit {0}
+AllUntiled (leaf type value after) = Untiled type empty × AllUntiled after
+AllUntiled (branch type inside after) = Untiled type inside × AllUntiled after
+
+-- an element that 1988 passes is read alike
+module _ (done : List Element) (type : List ℕ) (run : Tree) (passed : refusalOf Of1988 done type run ≡ 0) where
+  passed-free : isProtected type ≡ false
+  passed-free =
+      cases (isProtected type)
+      (λ t. absurd (false≢true (sym (protected-unknown type t) ∙ known Of1988 done type run passed)))
+      (λ t. t)
+
+  passed-alike : Alike type run
+  passed-alike = record { unprotected = passed-free; held = λ t. ordered-holds run (tabled-ordered run (unit-tabled done type run t passed)) }
+
+  passed-untiled : Untiled type run
+  passed-untiled = record { unprotected = passed-free; untiled = λ t. ordered-untiled run (tabled-ordered run (unit-tabled done type run t passed)) }
+
+-- what both editions need of all elements of a letter of 1988
+abbrev Contained : Tree → Type 0
+Contained t = AllAlike t × AllUntiled t
+
+one-contained : (done : List Element) (type : List ℕ) (run after : Tree) (elements : List Element)
+    → ((more : List Element) → judgeFrom Of1988 more after ≡ accepted elements → Contained after)
+    → judgeOne Of1988 done type run (λ more. judgeFrom Of1988 more after) ≡ accepted elements → (Alike type run × Untiled type run) × Contained after
+unfolding judgeOne
+one-contained done type run after elements later e =
+    cases (eqb (refusalOf Of1988 done type run) 0)
+    (λ t.
+    let z = eqb-true (refusalOf Of1988 done type run) 0 t in
+    ((passed-alike done type run z, passed-untiled done type run z), later (done ++ (elementOf (shapeOf Of1988 type) run ∷ [])) (rw t at e)))
+    (λ t.
+    let f : refused (refusalOf Of1988 done type run) (length done) ≡ accepted elements = rw t at e in
+    let z : _≡_ {A = ℕ} 0 1 = cc in
+    absurd (omega arith))
+
+from-contained : (t : Tree) (done elements : List Element) → judgeFrom Of1988 done t ≡ accepted elements → Contained t
+unfolding judgeFrom
+from-contained empty done elements e = (tt, tt)
+from-contained (leaf type value after) done elements e =
+    let (here, rest) = one-contained done type empty after elements (λ more. from-contained after more elements) e in
+    ((here .0, rest .0), (here .1, rest .1))
+from-contained (branch type inside after) done elements e =
+    let (here, rest) = one-contained done type inside after elements (λ more. from-contained after more elements) e in
+    ((here .0, rest .0), (here .1, rest .1))
+
+judge-contained : (t : Tree) (elements : List Element) → judge Of1988 t ≡ accepted elements → Contained t
+unfolding judge
+judge-contained empty elements e = (tt, tt)
+judge-contained (leaf type value after) elements e = from-contained (leaf type value after) [] elements e
+judge-contained (branch type inside after) elements e = from-contained (branch type inside after) [] elements e
+
+-- the rows
+module _ (s : List ℕ) where
+  row-agrees : (octet first past : ℕ) (inside : Items) → Untiled (typeField octet) (plain s inside)
+      → rowOf (shapeOf Of1993 (typeField octet)) s first past inside ≡ rowOf (shapeOf Of1988 (typeField octet)) s first past inside
+  unfolding shapeOf rowOf bodyIn contentOctet elementOf
+  row-agrees octet first past inside h =
+      cases (is 0xA3 (typeField octet))
+      (λ t. let e : codeOf (typeField octet) ≡ 0xA3 = eqb-true (codeOf (typeField octet)) 0xA3 t in rw (e, h .untiled t))
+      (λ t. let same = shapes-agree (typeField octet) t (h .unprotected) in rw same)
+
+  -- an item that is primitive is no text unit
+  whole-run : (octet : ℕ) (value : List ℕ) (inside after : Tree) (b : Bool) → constructed octet ≡ b
+      → AllUntiled (formed b (typeField octet) value inside after) → Untiled (typeField octet) inside × AllUntiled after
+  whole-run octet value inside after true c h = h
+  whole-run octet value inside after false c h = (
+    record {
+      unprotected = h .0 .unprotected;
+      untiled = λ t.
+          let e : octet ≡ 0xA3 = eqb-true octet 0xA3 (sym (is-field 0xA3 octet) ∙ t) in
+          absurd (true≢false (sym (ap constructed e) ∙ c));
+    },
+    h .1,
+  )
+
+  rows-agree : (items : Items) → AllUntiled (plain s items) → rowsOf Of1993 s items ≡ rowsOf Of1988 s items
+  unfolding rowsOf
+  rows-agree none h = refl
+  rows-agree (item at octet first past inside after) h =
+      let (here, rest) = whole-run octet _ (plain s inside) (plain s after) (constructed octet) refl h in
+      ap₂ (λ (row : Row) (rows : List Row). row ∷ rows) (row-agrees octet at _ inside here) (rows-agree after rest)
+
+contained : (s : List ℕ) (headers : ℕ) (elements : List Element) → letterIn Of1988 s ≡ letter headers elements → SameLetterIn s headers elements
+contained s headers elements e =
+    let (all-alike, untiled) = judge-contained (treeOf s) elements (letter-found Of1988 s headers elements e .judged) in
+    let same = letters-agree s all-alike in
+    record { accepted = same ∙ e; rows = rows-agree s (itemsOfStream s) untiled; matches = λ side. rw same }
+
+-- the answers
+module _ (s : List ℕ) (same : letterIn Of1993 s ≡ letterIn Of1988 s) where
+  -- where the table and the bounds come from: the same rows, or none
+  record Tabled : Type 0 where
+    check-table : (table : List ℕ) → checkedTable Of1993 s table ≡ checkedTable Of1988 s table
+    list-table : (side : Side) (table : List ℕ) (room : ℕ) → listedTable Of1993 side s table room ≡ listedTable Of1988 side s table room
+    content-bounds : (asked : ℕ) → located Of1993 s asked ≡ located Of1988 s asked
+
+  by-rows : rowsIn Of1993 s ≡ rowsIn Of1988 s → Tabled
+  unfolding checked checkedTable listed listedTable fetched located
+  by-rows rows = record { check-table = λ table. rw (same, rows); list-table = λ side table room. rw (same, rows); content-bounds = λ asked. rw (same, rows) }
+
+  by-letter : (l : Letter) → letterIn Of1988 s ≡ l → Tabled
+  by-letter (letter headers elements) e = by-rows (contained s headers elements e .rows)
+  by-letter (refusal number place headers) e =
+      let f = same ∙ e in
+      record {
+        check-table = λ table. sym (checks-refused Of1993 s table number place headers f .tabled) ∙ checks-refused Of1988 s table number place headers e .tabled;
+        list-table = λ side table room. sym (lists-refused Of1993 side s table [] room number place headers f .tabled) ∙ lists-refused Of1988 side s table [] room number place headers e .tabled;
+        content-bounds = λ asked. sym (fetches-refused Of1993 s asked number place headers f .answered) ∙ fetches-refused Of1988 s asked number place headers e .answered;
+      }
+
+  same-answers : SameAnswers s
+  unfolding checked written writtenOutput writtenShort writtenShortOutput listed listedList fetched joinedIn copied copiedOutput
+  same-answers =
+      let tables = by-letter (letterIn Of1988 s) refl in
+      record {
+        check = λ table. rw same;
+        check-table = tables .check-table;
+        normal = λ out. rw same;
+        normal-output = λ out. rw same;
+        short = λ out. rw same;
+        short-output = λ out. rw same;
+        list = λ side table room. rw same;
+        list-table = tables .list-table;
+        list-records = λ side table list. rw same;
+        content = λ asked. rw same;
+        content-bounds = tables .content-bounds;
+        joined = λ asked out. rw same;
+        joined-output = λ asked out. rw same;
+      }
+
+-- protected parts have no names: a shape of 1993 with a kind above 8 is one of theirs
+abbrev NoName : Shape → Type 0
+NoName shape = (run : Tree) → 8 < elementOf shape run .kind → Unnamed (elementOf shape run)
+
+abbrev AllOf : (Shape → Type 0) → Shapes → Type 0
+AllOf P [] = Unit {0}
+AllOf P (shape ∷ shapes) = P shape × AllOf P shapes
+
+one-of : (b : Bool) (x y : Shape) → NoName x → NoName y → NoName (cond b x y)
+one-of true x y p q = p
+one-of false x y p q = q
+
+among : (shapes : Shapes) → AllOf NoName shapes → NoName noShape → (type : List ℕ) → NoName (shapeIn shapes type)
+among [] m n type = n
+among (shape ∷ shapes) m n type = one-of (is (shape .octet) type) shape (shapeIn shapes type) (m .0) (among shapes (m .1) n type)
+
+low-kind : (octet : ℕ) (contents : Contents) → leb (octet % 32) 8 ≡ true → NoName (entry octet contents)
+unfolding elementOf
+low-kind octet contents low run above = absurd (omega (arith, leb-true (octet % 32) 8 low))
+
+no-name : (octet : ℕ) (enciphered : Bool) → NoName (entry octet (protected enciphered))
+unfolding elementOf bodyOf values
+no-name octet enciphered run above = record { object = refl; identifier = refl; logical = refl; portions = refl }
+
+no-names : (type : List ℕ) → NoName (shapeOf Of1993 type)
+unfolding shapeOf
+no-names type =
+    among shapes1993 (
+      low-kind _ _ refl,
+      (
+        no-name 0xA9 false,
+        (
+          no-name 0xAA true,
+          (
+            no-name 0xAB true,
+            (
+              no-name 0xAC true,
+              (
+                low-kind _ _ refl,
+                (
+                  low-kind _ _ refl,
+                  (
+                    low-kind _ _ refl,
+                    (
+                      low-kind _ _ refl,
+                      (low-kind _ _ refl, (low-kind _ _ refl, (low-kind _ _ refl, (low-kind _ _ refl, tt)))),
+                    ),
+                  ),
+                ),
+              ),
+            ),
+          ),
+        ),
+      ),
+    )
+    (low-kind 0 profile refl) type
+
+-- what is in a list that was made of another comes from there
+made-from : (items : List TopItem) (j : ℕ) (element : Element) → getElem? (map (saysIn Of1993) items) j ≡ some element
+    → (top : TopItem) × (saysIn Of1993 top ≡ element)
+made-from [] j element e = let z : _≡_ {A = ℕ} 0 1 = cc in absurd (omega arith)
+made-from (top ∷ items) zero element e = let f : saysIn Of1993 top ≡ element = cc in (top, f)
+made-from (top ∷ items) (suc j) element e = made-from items j element e
+
+unnamed : (s : List ℕ) (headers : ℕ) (elements : List Element) → letterIn Of1993 s ≡ letter headers elements
+    → (j : ℕ) (element : Element) → getElem? elements j ≡ some element → 8 < element .kind → Unnamed element
+unnamed s headers elements e j element there above =
+    let found = letter-found Of1993 s headers elements e in
+    let all-said = accepted-elements Of1993 (treeOf s) elements (found .judged) in
+    let (top, says) = made-from (topItems (treeOf s)) j element (sym (ap (λ (es : List Element). getElem? es j) all-said) ∙ there) in
+    subst Unnamed says (no-names (top .type) (top .run) (subst (λ (x : Element). 8 < x .kind) (sym says) above))
+
+-- 10 at the first protected part
+module _ (s : List ℕ) (j : ℕ) (top : TopItem) (there : getElem? (topItems (treeOf s)) j ≡ some top) (is-protected : isProtected (top .type) ≡ true) where
+  abbrev tops : List TopItem
+  tops = topItems (treeOf s)
+
+  not-earlier : j < mostElements → (n : ℕ) → n < 10 → Refuses Of1988 (take j tops) top n → ⊥
+  not-earlier few n l (too-many m) = omega (arith, length-take-le j tops (omega (arith, below-length tops j top there)))
+  not-earlier few n l (unknown e) = omega arith
+  not-earlier few n l (no-profile z e) = omega arith
+  not-earlier few n l (later-profile m e) = omega arith
+  not-earlier few n l (misshapen e) = omega arith
+  not-earlier few n l (mistyped e) = omega arith
+  not-earlier few n l (misspelt e) = omega arith
+  not-earlier few n l (repeated e) = omega arith
+
+  ten : (at headers : ℕ) → walkOf s ≡ Ended at headers → PassedBefore s j → j < mostElements
+      → letterIn Of1988 s ≡ refusal 10 (placeOf j (itemsOfStream s)) headers
+  ten at headers walked before few =
+      let refuses = at-element (record {
+        item = top;
+        there = there;
+        refuses = unknown (protected-unknown (top .type) is-protected);
+        no-earlier = not-earlier few;
+        all-before = before;
+      }) in
+      refused-element Of1988 s at headers 10 j walked (by-refused Of1988 (treeOf s) 10 j refuses (judge Of1988 (treeOf s)) refl)
+
+  fills-none : (table : List ℕ) (l : Letter) → letterIn Of1988 s ≡ l
+      → (checkedTable Of1988 s table ≡ table) × ((side : Side) (room : ℕ) → listedTable Of1988 side s table room ≡ table)
+  fills-none table (letter headers elements) e =
+      let found = letter-found Of1988 s headers elements e in
+      absurd (accepted-pass Of1988 (treeOf s) elements (found .judged) j top there 10 (unknown (protected-unknown (top .type) is-protected)))
+  fills-none table (refusal number place headers) e = (
+    sym (checks-refused Of1988 s table number place headers e .tabled),
+    λ side room. sym (lists-refused Of1988 side s table [] room number place headers e .tabled),
+  )
+
+pub editions : Editions
+editions = record {
+  contained = contained;
+  alike = λ s e. same-answers s (letters-agree s (agree-alike (treeOf s) e));
+  unnamed = unnamed;
+  ten = λ s at headers j top walked there protected before few. ten s j top there protected at headers walked before few;
+  no-row = λ s j top there protected table. fills-none s j top there protected table (letterIn Of1988 s) refl;
+}

@@ -1,0 +1,57 @@
+-- What is promised of parents and children: by crate parents, and the cases of the answer. Assumes nothing.
+use mathlib.Core.Path.{_≡_, refl, ap, sym, _∙_}
+use mathlib.Core.List.{List}
+use Prim.Native.Nat.{ℕ, _<_, _≤_}
+use native.Mathlib.Omega.{arith}
+use lib.ListN.{length}
+use Rattle.octets.specs.Walk.{streamLimit}
+use Rattle.tree.specs.Tree.{treeOf}
+use Rattle.normal.specs.Normal.{normalForm}
+use Rattle.elements.specs.declared.Edition.{Edition}
+use Rattle.elements.specs.Judge.{Element}
+use Rattle.letters.specs.Letter.{letter, refusal}
+use Rattle.letters.proofs.Apart.{accepted-apart}
+use Rattle.parents.specs.Parent.{parent, children}
+use Rattle.parents.proofs.Parents.{parent-is, none-missed}
+use Rattle.parents.proofs.Climbing.{climb-ends, no-own-ancestor}
+use Rattle.parents.proofs.Children.{children-are, children-all, children-sorted}
+use Rattle.answers.specs.declared.Related.{Related}
+use Rattle.answers.specs.Answers.{letterIn, elementsIn}
+use Rattle.answers.specs.Related.{Relates, related, relatedList}
+use Rattle.answers.proofs.Letters.{letter-found}
+use Rattle.answers.proofs.Tabling.{table-tells}
+use Rattle.answers.proofs.Relating.{relates-refused, relates-16, relates-20, relates-25, relates-letter}
+use Rattle.demands.specs.Family.{Tells, FamilyOf, Family}
+use Rattle.demands.proofs.Demand2.{counted, normal-accepted}
+use Rattle.demands.proofs.Demand3.{member-in, in-member, sorted-at}
+
+-- what the question tells, from a case of it
+tells-by : {edition : Edition} {s table : List ℕ} {row : ℕ} {list : List ℕ} {answer : Related} {after listAfter : List ℕ}
+    → Relates edition s table row (length list) list answer after listAfter → Tells edition s table row list answer after listAfter
+unfolding relatedList
+tells-by {edition} {s} {table} {row} {list} r =
+    let n = ap (λ (a : Related). a .number) (r .answered) in
+    record { answer-is = sym (r .answered); table-is = sym (r .tabled); list-is = sym (r .filled ∙ rw n) }
+
+pub family : (edition : Edition) → Family edition
+family edition = record {
+  of-letter = λ s headers elements e.
+      let apart = accepted-apart edition (treeOf s) elements (letter-found edition s headers elements e .judged) in
+      record {
+        last = λ table j l. table-tells edition s e (counted edition s headers elements e) table j l;
+        exactly = λ j p. (parent-is elements apart j p, none-missed elements apart j p);
+        ends = climb-ends elements apart;
+        no-own-ancestor = no-own-ancestor elements apart;
+        normal = λ within j. let again = normal-accepted edition s headers elements e within in rw again;
+        exactly-children = λ row j.
+            (λ m. children-are elements row j (in-member j (children elements row) (m .0) (m .1)), λ p. member-in j (children elements row) (children-all elements row j p));
+        ordered = λ row i k c d. sorted-at _<_ (children elements row) (children-sorted elements row) i k c d;
+        tells-16 = λ table row list few. tells-by (relates-16 edition s table row (length list) list headers _ elements e refl few);
+        tells-20 = λ table row list enough past. tells-by (relates-20 edition s table row (length list) list headers _ elements e refl enough past);
+        tells-25 = λ table row list enough below short.
+            tells-by (relates-25 edition s table row (length list) list headers _ elements e refl enough below _ refl short);
+        tells = λ table row list enough below room.
+            tells-by (relates-letter edition s table row (length list) list headers _ elements e refl enough below _ refl room);
+      };
+  of-refusal = λ s number place headers e table row list. tells-by (relates-refused edition s table row (length list) list number place headers e);
+}

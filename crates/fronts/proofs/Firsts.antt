@@ -1,0 +1,52 @@
+-- The first item of a stream: what `meet` tells of it (`first-met`), and that it is not refused where the whole stream was walked
+-- (`whole-passes`); and how it is refused (`first-stops`, `first-none`). Assumes nothing.
+use mathlib.Core.Path.{_≡_, ap, sym, _∙_, subst}
+use mathlib.Core.List.{List}
+use mathlib.Core.Bool.{false}
+use Prim.Native.Nat.{ℕ, _<_, _≤_}
+use native.Mathlib.Omega.{arith}
+use lib.ListN.{length}
+use borrow.Author.Tests.{le-leb}
+use Rattle.octets.specs.Walk.{item, ends, stops, ended, deepest}
+use Rattle.octets.specs.Further.{oneOf}
+use Rattle.octets.proofs.Numbers.{Stops, run-stops}
+use Rattle.runs.specs.declared.Run.{Run}
+use Rattle.runs.specs.Runs.{itemsOf, definiteRun, wholeStream, Fine, Meeting}
+use Rattle.fronts.specs.declared.First.the-variants.{Refused}
+use Rattle.fronts.specs.First.{walkFirst, FirstItem, Begins}
+use Rattle.fronts.proofs.Alone.{alone-items, one-only, one-within, whole-alone, alone-stops}
+
+-- the item that is met in the run of the first item alone
+pub first-met : (s : List ℕ) (next : ℕ) → 0 < length s → walkFirst s .how ≡ ends next → {octet first past : ℕ} {inner rest : Run}
+    → Meeting s (definiteRun 0 next deepest) octet first past inner rest → FirstItem s octet inner
+first-met s next l e {octet} {first} {past} {inner} {rest} m =
+    let i = sym (alone-items deepest s 0 (length s) next l e) ∙ m .tree in
+    let z = one-only deepest s 0 (length s) next l e octet first past (itemsOf s inner) (itemsOf s rest) i in
+    record {
+      next = next;
+      first = first;
+      past = past;
+      within = one-within deepest s 0 (length s) next l e (omega arith) .1;
+      ended = e;
+      is = i ∙ ap (item 0 octet first past (itemsOf s inner)) z;
+      fine = m .inner-fine;
+    }
+
+-- where the whole stream was walked, its first item alone is not refused
+pub whole-passes : (s : List ℕ) → 0 < length s → Fine s (wholeStream s) → (number place : ℕ) → Begins s (Refused number place) → ⊥
+whole-passes s l f number place r =
+    let n = whole-alone deepest s 0 (length s) l (f .whole) in
+    let p : ends (n .0) ≡ stops number place = sym (n .1) ∙ r in
+    let z : _≡_ {A = ℕ} 0 1 = cc in
+    omega arith
+
+-- a refusal of the first item alone: one of 2 to 8, in the stream
+pub first-stops : (s : List ℕ) (number place : ℕ) → 0 < length s → walkFirst s .how ≡ stops number place
+    → (2 ≤ number) × (number ≤ 8) × (place ≤ length s)
+first-stops s number place l e =
+    subst (Stops (length s)) (alone-stops deepest s 0 (length s) number place l e) (run-stops deepest s 0 (length s) false (omega arith))
+
+-- no octets, no item
+pub first-none : (s : List ℕ) → length s ≡ 0 → walkFirst s ≡ ended (length s)
+unfolding oneOf
+first-none s e = let l : length s ≤ 0 = omega arith in rw (le-leb (length s) 0 l)

@@ -1,0 +1,43 @@
+-- `odif::date` meets its contract: the part is what the bounds bound, and empty if they are 0 and 0. Assumes nothing.
+use mathlib.Core.Path.{_∙_}
+use borrow.Author.Needs.{needs}
+use native.Mathlib.Omega.{arith}
+use denote.Ref.{now}
+use Rattle.pieces.proofs.Putting.{part-slice}
+use Rattle.odif.proofs.date.Statement.{statement}
+use Rattle.odif.proofs.date.Tie as tie
+
+dated-requires : tie.Need-dated-requires
+dated-requires c κs = search needs
+
+cast-first : tie.Need-cast-first
+cast-first c = search needs
+
+cast-past : tie.Need-cast-past
+cast-past c = search needs
+
+sub-result : tie.Need-sub-result
+sub-result c = let f = c .before .before .dated .ensures .stands in omega (arith, f .order)
+
+part-result-start : tie.Need-part-result-start
+part-result-start c = let f = c .before .before .dated .ensures .stands in omega (arith, f .order)
+
+part-result-end : tie.Need-part-result-end
+part-result-end c = let f = c .before .before .dated .ensures .stands in omega (arith, f .order, f .inside)
+
+returns : tie.Need-returns
+returns c =
+    let f = c .before .before .before .dated .ensures .stands in
+    part-slice _ _ (now (c .before .before .before .before .before .args .stream)) (f .order) ∙ f .part
+
+pub date-spec : {M : Type 1} → statement M
+date-spec =
+    tie.close
+    (tie.spec
+    dated-requires
+    cast-first
+    cast-past
+    sub-result
+    part-result-start
+    part-result-end
+    returns)

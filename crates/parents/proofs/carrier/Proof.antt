@@ -1,0 +1,28 @@
+-- `parents::carrier` meets its contract: the name is hashed and looked up. Assumes nothing.
+use native.Mathlib.Omega.{arith}
+use borrow.Author.Needs.{needs}
+use Rattle.parents.proofs.carrier.Statement.{statement}
+use Rattle.parents.proofs.carrier.Tie as tie
+
+hash-over-requires : tie.Need-hash-over-requires
+hash-over-requires c κs = search needs
+
+find-requires : tie.Need-find-requires
+find-requires c κs =
+    let start = c .before .before .before .before .before in
+    let placed = start .pre .1 .1 in (
+      start .pre .0,
+      (
+        start .pre .1 .0,
+        (
+          record { first-order = placed .0; first-inside = placed .1; second-order = placed .0; second-inside = placed .1 },
+          c .hash-over .ensures .0,
+        ),
+      ),
+    )
+
+returns : tie.Need-returns
+returns c = search needs
+
+pub carrier-spec : {M : Type 1} → statement M
+carrier-spec = tie.close (tie.spec hash-over-requires find-requires returns)

@@ -1,0 +1,152 @@
+//! `odif outline`
+
+use std::io::{self, BufWriter, Write};
+
+use clap::Args;
+use odif::{Element, Kind, Letter, Side};
+use serde::Serialize;
+
+use crate::args::{Asked, Sides};
+use crate::input;
+use crate::status::{Outcome, Status, tell};
+use crate::{explain, show};
+
+/// The octets of a text that a line shows.
+const SHOWN: usize = 40;
+/// The names of object types, as T.415 has them.
+const LAYOUT_TYPES: [&str; 5] = ["document-layout-root", "page-set", "page", "frame", "block"];
+const LOGICAL_TYPES: [&str; 3] = ["document-logical-root", "composite", "basic"];
+
+const EXAMPLES: &str = "\
+Examples:
+  odif outline letter.odif
+  odif outline --logical --json letter.odif | jq '.outline[] | select(.parent == null)'
+
+Exit status: 0 shown; 1 a letter was refused; 2 a file could not be read.";
+
+/// Shows the tree of pages, frames and blocks
+///
+/// Shows the classes and objects of a side as a tree, each below the one whose identifier is its own without the last
+/// group, children in stream order: its number (counted from 0), kind, type, identifier and the start of its text. What
+/// has no such parent stands at the left.
+#[derive(Args)]
+#[command(after_help = EXAMPLES)]
+pub struct Words {
+    #[command(flatten)]
+    asked: Asked,
+    #[command(flatten)]
+    sides: Sides,
+}
+
+/// What JSON has besides the verdict: the same elements in the same order, with depth and parent.
+#[derive(Serialize)]
+struct Shown {
+    side: String,
+    outline: Vec<Line>,
+}
+
+#[derive(Serialize)]
+struct Line {
+    depth: usize,
+    element: usize,
+    parent: Option<usize>,
+    kind: &'static str,
+    #[serde(rename = "type")]
+    object_type: Option<&'static str>,
+    identifier: String,
+    /// The contents that the element's portions name, joined and escaped.
+    text: String,
+    /// Its beginning, for people.
+    #[serde(skip)]
+    beginning: String,
+}
+
+pub fn run(words: &Words) -> Outcome {
+    input::each(&words.asked.files, words.asked.json, |source| {
+        let read = Letter::read_in(source.edition, &source.stream);
+        let mut out = BufWriter::new(io::stdout().lock());
+        match &read {
+            _ if words.asked.json => {
+                let shown = read.as_ref().ok().map(|letter| {
+                    let side = words.sides.of(letter);
+                    Shown { side: side.to_string(), outline: outline(letter, side) }
+                });
+                out.write_all(explain::answer(source, &read, shown).as_bytes())?;
+                out.flush()?;
+            }
+            Ok(letter) => {
+                input::heading(&mut out, &words.asked.files, source)?;
+                for line in outline(letter, words.sides.of(letter)) {
+                    write_line(&mut out, &line)?;
+                }
+                out.flush()?;
+            }
+            Err(refusal) => tell(&explain::refusal(source, refusal)),
+        }
+        Ok(Status::of(&read))
+    })
+}
+
+fn write_line(out: &mut impl Write, line: &Line) -> io::Result<()> {
+    let Line { depth, element, kind, identifier, beginning, .. } = line;
+    let kind = line.object_type.map_or(String::from(*kind), |name| format!("{kind}, {name}"));
+    let front = format!("{element:5}  {:1$}{identifier}  {kind}  ", "", 2 * depth);
+    writeln!(out, "{}", (front + beginning).trim_end())
+}
+
+/// The classes and objects of a side, each before its children.
+fn outline(letter: &Letter<'_>, side: Side) -> Vec<Line> {
+    let elements = letter.elements();
+    let texts = texts(letter, side);
+    let mut children = vec![Vec::new(); elements.len()];
+    let mut left = Vec::new();
+    for (number, element) in elements.iter().enumerate().filter(|(_, element)| side_of(element) == Some(side)) {
+        match element.parent {
+            Some(parent) => children[parent].push(number),
+            None => left.push((0, number)),
+        }
+    }
+    // What is left, the next one last. No row is its own ancestor, so this ends.
+    left.reverse();
+    let mut lines = Vec::new();
+    while let Some((depth, number)) = left.pop() {
+        lines.push(line(letter, side, depth, number, &texts[number]));
+        left.extend(children[number].iter().rev().map(|&child| (depth + 1, child)));
+    }
+    lines
+}
+
+fn line(letter: &Letter<'_>, side: Side, depth: usize, number: usize, text: &[u8]) -> Line {
+    let element = &letter.elements()[number];
+    let names: &[&str] = match side {
+        Side::Layout => &LAYOUT_TYPES,
+        Side::Logical => &LOGICAL_TYPES,
+    };
+    Line {
+        depth,
+        element: number,
+        parent: element.parent,
+        kind: element.kind.name(),
+        object_type: element.object_type.and_then(|number| names.get(usize::from(number)).copied()),
+        identifier: show::escaped(letter.identifier(number).unwrap_or_default()),
+        text: show::escaped(text),
+        beginning: show::beginning(text, SHOWN),
+    }
+}
+
+/// The text of each element: the contents of its matches, in the order of its portions.
+fn texts(letter: &Letter<'_>, side: Side) -> Vec<Vec<u8>> {
+    let mut texts = vec![Vec::new(); letter.elements().len()];
+    for found in letter.reading_list(side).unwrap_or_default() {
+        texts[found.element].extend_from_slice(&letter.content(found.unit).unwrap_or_default());
+    }
+    texts
+}
+
+fn side_of(element: &Element) -> Option<Side> {
+    match element.kind {
+        Kind::LayoutClass | Kind::LayoutObject => Some(Side::Layout),
+        Kind::LogicalClass | Kind::LogicalObject => Some(Side::Logical),
+        _ => None,
+    }
+}
