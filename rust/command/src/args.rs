@@ -141,7 +141,12 @@ impl Sides {
         }
     }
 
-    /// The side to read of this letter, and its reading list.
+    /// The side to read of this letter.
+    pub fn of(&self, letter: &Letter<'_>) -> Side {
+        self.list(letter).0
+    }
+
+    /// The same, and its reading list.
     pub fn list(&self, letter: &Letter<'_>) -> (Side, Vec<Match>) {
         let list = |side| (side, letter.reading_list(side).unwrap_or_default());
         match self.side {
