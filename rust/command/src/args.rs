@@ -5,7 +5,7 @@ use std::io;
 use std::process::ExitCode;
 
 use clap::{Args, CommandFactory, Parser, Subcommand, ValueEnum};
-use odif::{Edition, Letter, Side};
+use odif::{Edition, Letter, Match, Side};
 
 use crate::status::{Failure, Outcome, Status, tell};
 use crate::{check, date, export, list, make, man, normal, outline, same, survey, text, tree};
@@ -143,13 +143,21 @@ impl Sides {
 
     /// The side to read of this letter.
     pub fn of(&self, letter: &Letter<'_>) -> Side {
-        let is_empty = |side| letter.reading_list(side).is_ok_and(|list| list.is_empty());
+        self.list(letter).0
+    }
+
+    /// The same, and its reading list.
+    pub fn list(&self, letter: &Letter<'_>) -> (Side, Vec<Match>) {
+        let list = |side| (side, letter.reading_list(side).unwrap_or_default());
         match self.side {
-            _ if self.logical => Side::Logical,
-            Which::Layout => Side::Layout,
-            Which::Logical => Side::Logical,
-            Which::Auto if is_empty(Side::Layout) && !is_empty(Side::Logical) => Side::Logical,
-            Which::Auto => Side::Layout,
+            _ if self.logical => list(Side::Logical),
+            Which::Layout => list(Side::Layout),
+            Which::Logical => list(Side::Logical),
+            Which::Auto => {
+                let layout = list(Side::Layout);
+                let other = || Some(list(Side::Logical)).filter(|(_, list)| !list.is_empty());
+                if layout.1.is_empty() { other().unwrap_or(layout) } else { layout }
+            }
         }
     }
 }

@@ -5,7 +5,7 @@ use std::io::{self, BufWriter, Write};
 
 use clap::Args;
 use odif::{Letter, Match, Side};
-use serde::Serialize;
+use serde::{Serialize, Serializer};
 
 use crate::args::{Asked, Sides};
 use crate::input;
@@ -41,7 +41,8 @@ pub struct Words {
 /// What JSON has besides the verdict.
 #[derive(Serialize)]
 struct Listed {
-    side: String,
+    #[serde(serialize_with = "in_words")]
+    side: Side,
     elements: usize,
     matches: Vec<Line>,
 }
@@ -66,13 +67,12 @@ pub fn run(words: &Words) -> Outcome {
         let mut out = BufWriter::new(io::stdout().lock());
         match &read {
             _ if words.asked.json => {
-                let listed = read.as_ref().ok().map(|letter| listed(letter, words.sides.of(letter)));
+                let listed = read.as_ref().ok().map(|letter| listed(letter, &words.sides));
                 out.write_all(explain::answer(source, &read, listed).as_bytes())?;
                 out.flush()?;
             }
             Ok(letter) => {
-                let side = words.sides.of(letter);
-                let lines = listed(letter, side).matches;
+                let Listed { side, matches: lines, .. } = listed(letter, &words.sides);
                 input::heading(&mut out, &words.asked.files, source)?;
                 write_lines(&mut out, letter, &lines)?;
                 out.flush()?;
@@ -85,10 +85,14 @@ pub fn run(words: &Words) -> Outcome {
     })
 }
 
-fn listed(letter: &Letter<'_>, side: Side) -> Listed {
-    let list = letter.reading_list(side).unwrap_or_default();
+fn in_words<S: Serializer>(side: &Side, out: S) -> Result<S::Ok, S::Error> {
+    out.collect_str(side)
+}
+
+fn listed(letter: &Letter<'_>, sides: &Sides) -> Listed {
+    let (side, list) = sides.list(letter);
     let matches = list.iter().map(|found| line(letter, side, found)).collect();
-    Listed { side: side.to_string(), elements: letter.elements().len(), matches }
+    Listed { side, elements: letter.elements().len(), matches }
 }
 
 fn line(letter: &Letter<'_>, side: Side, found: &Match) -> Line {

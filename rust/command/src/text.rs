@@ -69,8 +69,7 @@ pub struct Text {
 impl How {
     /// The text of a letter.
     pub fn text(&self, letter: &Letter<'_>) -> Text {
-        let side = self.sides.of(letter);
-        let list = letter.reading_list(side).unwrap_or_default();
+        let (side, list) = self.sides.list(letter);
         let units = letter.elements().iter().filter(|element| element.kind == Kind::TextUnit).count();
         let octets = in_blocks(letter, &list);
         let octets = match self.utf8 {
@@ -131,7 +130,11 @@ pub fn run(words: &Words) -> Outcome {
 
 /// The contents of the matches, one after another.
 fn joined(letter: &Letter<'_>, list: &[Match]) -> Vec<u8> {
-    list.iter().flat_map(|found| letter.content(found.unit).unwrap_or_default().into_owned()).collect()
+    let mut text = Vec::new();
+    for found in list {
+        text.extend_from_slice(&letter.content(found.unit).unwrap_or_default());
+    }
+    text
 }
 
 /// The contents of the matches, each block ending a line.
