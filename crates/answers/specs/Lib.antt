@@ -1,8 +1,6 @@
--- Table: the lent table. Answers: what each question answers. Short: the mailroom's normal form question. Dates: the date of the document.
--- FirstDates: the same by the first element alone. Dating: what their work learns. Asking: what the work behind the others learns.
--- Questions: what the work of any of these leaves.
--- Table: the lent table. Answers: what each question answers. Related: the children of a row. Short: the mailroom's normal form question. Asking: what the
--- work behind them learns. Questions: what the work of any of them leaves.
+-- Table: the lent table. Answers: what each question answers. Related: the children of a row. Short: the mailroom's normal form question.
+-- Dates: the date of the document. FirstDates: the same by the first element alone. Dating: what their work learns. Asking: what the work
+-- behind the others learns. Questions: what the work of any of these leaves.
 pub mod Table
 pub mod Answers
 pub mod Related

@@ -15,7 +15,7 @@ use Rattle.laws.proofs.Tests.{cond-holds}
 use Rattle.headers.specs.Head.{constructed, codeOf, typeField}
 use Rattle.octets.specs.declared.Outcome.{Outcome}
 use Rattle.octets.specs.declared.Outcome.the-variants.{Ended, Refused}
-use Rattle.octets.specs.Walk.{Items, none, item, walkOf}
+use Rattle.octets.specs.Walk.{Items, none, item, End, ends, stops, walkOf}
 use Rattle.tree.specs.Tree.{Tree, empty, leaf, branch, formed, plain, treeOf}
 use Rattle.contents.specs.Search.{is, amount}
 use Rattle.contents.proofs.Firsts.{is-field}
@@ -29,12 +29,17 @@ use Rattle.elements.specs.Rows.{bodyIn, contentOctet, rowOf, rowsOf, placeOf}
 use Rattle.letters.specs.Letter.{Letter, letter, refusal, itemsOfStream, afterWalk, byWalk, letterOf}
 use Rattle.reading.specs.declared.Side.{Side}
 use Rattle.judging.proofs.Lists.{below-length}
-use Rattle.answers.specs.Answers.{letterIn, rowsIn, checked, checkedTable, written, writtenOutput, listed, listedTable, listedList, fetched, located, joinedIn, copied, copiedOutput}
+use Rattle.fronts.specs.First.{walkFirst}
+use Rattle.answers.specs.Answers.{letterIn, rowsIn, checked, checkedTable, written, writtenOutput, listed, listedTable, listedList, fetched, located, joinedIn, copied, copiedOutput, ruled}
+use Rattle.answers.specs.Related.{related, relatedTable, relatedList}
 use Rattle.answers.specs.Short.{writtenShort, writtenShortOutput}
+use Rattle.answers.specs.Dates.{dateOf, dated}
+use Rattle.answers.specs.FirstDates.{firstTree, firstRule, ruledAlone, firstRuled, firstDateOf, firstDated}
 use Rattle.answers.proofs.Letters.{refused-element, letter-found}
 use Rattle.answers.proofs.Checks.{checks-refused}
 use Rattle.answers.proofs.Listing.{lists-refused}
 use Rattle.answers.proofs.Fetching.{fetches-refused}
+use Rattle.answers.proofs.Relating.{relates-refused}
 use Rattle.demands.specs.Refusals.{TopItem, topItems, saysIn, Refuses, too-many, unknown, no-profile, later-profile, misshapen, mistyped, misspelt, repeated, at-element}
 use Rattle.demands.specs.Editions.{isProtected, readAlike, agree, SameAnswers, SameLetterIn, Unnamed, PassedBefore, Editions}
 use Rattle.demands.proofs.Refusals.{accepted-elements, accepted-pass, by-refused}
@@ -229,10 +234,16 @@ module _ (s : List ℕ) (same : letterIn Of1993 s ≡ letterIn Of1988 s) where
     check-table : (table : List ℕ) → checkedTable Of1993 s table ≡ checkedTable Of1988 s table
     list-table : (side : Side) (table : List ℕ) (room : ℕ) → listedTable Of1993 side s table room ≡ listedTable Of1988 side s table room
     content-bounds : (asked : ℕ) → located Of1993 s asked ≡ located Of1988 s asked
+    children-table : (table : List ℕ) (row room : ℕ) → relatedTable Of1993 s table row room ≡ relatedTable Of1988 s table row room
 
   by-rows : rowsIn Of1993 s ≡ rowsIn Of1988 s → Tabled
-  unfolding checked checkedTable listed listedTable fetched located
-  by-rows rows = record { check-table = λ table. rw (same, rows); list-table = λ side table room. rw (same, rows); content-bounds = λ asked. rw (same, rows) }
+  unfolding checked checkedTable listed listedTable fetched located related relatedTable
+  by-rows rows = record {
+    check-table = λ table. rw (same, rows);
+    list-table = λ side table room. rw (same, rows);
+    content-bounds = λ asked. rw (same, rows);
+    children-table = λ table row room. rw (same, rows);
+  }
 
   by-letter : (l : Letter) → letterIn Of1988 s ≡ l → Tabled
   by-letter (letter headers elements) e = by-rows (contained s headers elements e .rows)
@@ -242,10 +253,11 @@ module _ (s : List ℕ) (same : letterIn Of1993 s ≡ letterIn Of1988 s) where
         check-table = λ table. sym (checks-refused Of1993 s table number place headers f .tabled) ∙ checks-refused Of1988 s table number place headers e .tabled;
         list-table = λ side table room. sym (lists-refused Of1993 side s table [] room number place headers f .tabled) ∙ lists-refused Of1988 side s table [] room number place headers e .tabled;
         content-bounds = λ asked. sym (fetches-refused Of1993 s asked number place headers f .answered) ∙ fetches-refused Of1988 s asked number place headers e .answered;
+        children-table = λ table row room. sym (relates-refused Of1993 s table row room [] number place headers f .tabled) ∙ relates-refused Of1988 s table row room [] number place headers e .tabled;
       }
 
   same-answers : SameAnswers s
-  unfolding checked written writtenOutput writtenShort writtenShortOutput listed listedList fetched joinedIn copied copiedOutput
+  unfolding checked written writtenOutput writtenShort writtenShortOutput listed listedList fetched joinedIn copied copiedOutput related relatedList ruled dateOf dated
   same-answers =
       let tables = by-letter (letterIn Of1988 s) refl in
       record {
@@ -262,7 +274,33 @@ module _ (s : List ℕ) (same : letterIn Of1993 s ≡ letterIn Of1988 s) where
         content-bounds = tables .content-bounds;
         joined = λ asked out. rw same;
         joined-output = λ asked out. rw same;
+        children = λ table row room. rw same;
+        children-table = tables .children-table;
+        children-rows = λ table row list. rw same;
+        date = rw same;
+        date-bounds = rw same;
       }
+
+-- rules 10 and 11 of a first element that is read alike
+octet-agrees : (type : List ℕ) (run : Tree) → Alike type run → shapeOf Of1993 type .octet ≡ shapeOf Of1988 type .octet
+unfolding shapeOf
+octet-agrees type run h =
+    cases (is 0xA3 type)
+    (λ t. let e : codeOf type ≡ 0xA3 = eqb-true (codeOf type) 0xA3 t in rw e)
+    (λ t. let same = shapes-agree type t (h .unprotected) in ap (λ (shape : Shape). shape .octet) same)
+
+rule-agrees : (t : Tree) → AllAlike t → firstRule Of1993 t ≡ firstRule Of1988 t
+rule-agrees empty h = refl
+rule-agrees (leaf type value after) h = rw (octet-agrees type empty (h .0))
+rule-agrees (branch type inside after) h = rw (octet-agrees type inside (h .0))
+
+alone-agrees : (t : Tree) → AllAlike t → (how : End) → ruledAlone Of1993 t how ≡ ruledAlone Of1988 t how
+alone-agrees t h (ends next) = rw (rule-agrees t h)
+alone-agrees t h (stops number place) = refl
+
+first-alike : (s : List ℕ) → agree (firstTree s) ≡ true → (firstDateOf Of1993 s ≡ firstDateOf Of1988 s) × (firstDated Of1993 s ≡ firstDated Of1988 s)
+unfolding firstRuled firstDateOf firstDated
+first-alike s e = let same = alone-agrees (firstTree s) (agree-alike (firstTree s) e) (walkFirst s .how) in (rw same, rw same)
 
 -- protected parts have no names: a shape of 1993 with a kind above 8 is one of theirs
 abbrev NoName : Shape → Type 0
@@ -377,6 +415,7 @@ pub editions : Editions
 editions = record {
   contained = contained;
   alike = λ s e. same-answers s (letters-agree s (agree-alike (treeOf s) e));
+  first-alike = first-alike;
   unnamed = unnamed;
   ten = λ s at headers j top walked there protected before few. ten s j top there protected at headers walked before few;
   no-row = λ s j top there protected table. fills-none s j top there protected table (letterIn Of1988 s) refl;

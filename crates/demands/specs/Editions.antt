@@ -19,7 +19,10 @@ use Rattle.reading.specs.declared.Match.{Match}
 use Rattle.reading.specs.declared.Side.{Side}
 use Rattle.answers.specs.Answers.{letterIn, rowsIn, checked, checkedTable, written, writtenOutput, listed, listedTable, matchesIn, listedList, fetched, located}
 use Rattle.answers.specs.Answers.{copied, copiedOutput}
+use Rattle.answers.specs.Related.{related, relatedTable, relatedList}
 use Rattle.answers.specs.Short.{writtenShort, writtenShortOutput}
+use Rattle.answers.specs.Dates.{dateOf, dated}
+use Rattle.answers.specs.FirstDates.{firstTree, firstDateOf, firstDated}
 use Rattle.demands.specs.Refusals.{TopItem, topItems, Refuses}
 
 -- a protected part: A9 to AC
@@ -49,6 +52,11 @@ pub record SameAnswers (s : List ℕ) : Type 0 where
   pub content-bounds : (asked : ℕ) → located Of1993 s asked ≡ located Of1988 s asked
   pub joined : (asked : ℕ) (out : List ℕ) → copied Of1993 s asked out ≡ copied Of1988 s asked out
   pub joined-output : (asked : ℕ) (out : List ℕ) → copiedOutput Of1993 s asked out ≡ copiedOutput Of1988 s asked out
+  pub children : (table : List ℕ) (row room : ℕ) → related Of1993 s table row room ≡ related Of1988 s table row room
+  pub children-table : (table : List ℕ) (row room : ℕ) → relatedTable Of1993 s table row room ≡ relatedTable Of1988 s table row room
+  pub children-rows : (table : List ℕ) (row : ℕ) (list : List ℕ) → relatedList Of1993 s table row list ≡ relatedList Of1988 s table row list
+  pub date : dateOf Of1993 s ≡ dateOf Of1988 s
+  pub date-bounds : dated Of1993 s ≡ dated Of1988 s
 
 -- a letter of both: the same elements, rows and matches
 pub record SameLetterIn (s : List ℕ) (headers : ℕ) (elements : List Element) : Type 0 where
@@ -73,6 +81,8 @@ pub record Editions : Type 0 where
   pub contained : (s : List ℕ) (headers : ℕ) (elements : List Element) → letterIn Of1988 s ≡ letter headers elements → SameLetterIn s headers elements
   -- "A stream with no protected parts and only items on which both editions agree gets the same answer from either."
   pub alike : (s : List ℕ) → agree (treeOf s) ≡ true → SameAnswers s
+  -- the same of the date that is read of the first element alone
+  pub first-alike : (s : List ℕ) → agree (firstTree s) ≡ true → (firstDateOf Of1993 s ≡ firstDateOf Of1988 s) × (firstDated Of1993 s ≡ firstDated Of1988 s)
   -- "Protected parts have kinds above 8 .. no identifier in the row or in rules 14 and 15"
   pub unnamed : (s : List ℕ) (headers : ℕ) (elements : List Element) → letterIn Of1993 s ≡ letter headers elements
       → (j : ℕ) (element : Element) → getElem? elements j ≡ some element → 8 < element .kind → Unnamed element
