@@ -1,28 +1,33 @@
 -- The rule is over kinds and matches: a unit answers a portion exactly when the reading list of the element's side has their record; and the
--- number that the pass for class B looks at is the element of the unit's record. Assumes nothing.
+-- number that the pass for class B looks at is the element of the unit's record. What the pass for class A asks of an element after a front is
+-- told by records too: whether a unit before it answers one of its portions, and what a unit answers before it. Assumes nothing.
 use mathlib.Core.Path.{_≡_, refl, ap, sym, _∙_, subst}
 use mathlib.Core.Logic.{_⊎_, inl, inr, _↔_}
 use mathlib.Core.Bool.{true, _&&_, false≢true}
 use mathlib.Core.Option.{some}
-use mathlib.Core.List.{List, [], _∷_, _++_, List·Memᴰ·head, List·Memᴰ·tail}
+use mathlib.Core.List.{List, [], _∷_, _++_, map, List·Memᴰ·head, List·Memᴰ·tail}
 use Prim.Native.Nat.{ℕ, zero, suc, _+_, _<_}
 use native.Mathlib.Omega.{arith}
 use lib.Dec.{eqb}
-use lib.ListN.{length, getElem?}
+use lib.ListN.{length, getElem?, getD}
 use borrow.Author.Tests.{eqb-true}
 use borrow.Table.Steps.{cases}
 use Rattle.headers.specs.Head.{isIn}
+use Rattle.portions.specs.Portions.{any}
 use Rattle.elements.specs.Judge.{Element}
 use Rattle.reading.specs.declared.Match.{Match}
 use Rattle.reading.specs.declared.Side.{Side}
 use Rattle.reading.specs.declared.Side.the-variants.{Layout}
 use Rattle.reading.specs.Match.{kindsOf, matches, Joined, IsMatch}
+use Rattle.reading.proofs.Lists.{at-getD}
 use Rattle.reading.proofs.Matches.{matches-are, matches-all}
 use Rattle.order.specs.Answers.{_∈_, sideOf, answers, owns, LimitsAside}
 use Rattle.order.specs.ClassB.{rankIn, endB, rankB}
+use Rattle.order.specs.ClassA.{answersSome}
 use Rattle.order.specs.PassB.{layoutOwner}
-use Rattle.order.proofs.Tests.{both, member-at}
+use Rattle.order.proofs.Tests.{both, any-in, any-of, member-at}
 use Rattle.order.proofs.Answering.{answers-told, answers-of, owns-told, owns-of}
+use Rattle.order.proofs.RanksA.{some-told, some-of}
 use Rattle.order.proofs.PassB.{owner-beyond, owner-exact}
 
 abbrev made : (e p u : ℕ) → Match
@@ -119,3 +124,78 @@ owner-match es a i j u at-u = (to, λ (q, m). from q (matches-are Layout es (mad
         let y : layoutOwner 0 (r .pre ++ m .element ∷ r .post) u ≡ suc (0 + length (r .pre)) = eqb-true (layoutOwner 0 (r .pre ++ m .element ∷ r .post) u) (suc (0 + length (r .pre))) (x ∙ o) in
         let z : suc (0 + length (r .pre)) ≡ suc i = let w = r .place in omega arith in
         ap (λ (l : List Element). layoutOwner 0 l u) (r .parts) ∙ y ∙ z
+
+module _ {A : Type 0} where
+  below : (xs : List A) (k : ℕ) (x : A) → getElem? xs k ≡ some x → k < length xs
+  below [] k x e = let z : _≡_ {A = ℕ} 0 1 = cc in absurd (omega arith)
+  below (y ∷ xs) zero x e = omega arith
+  below (y ∷ xs) (suc k) x e = let b = below xs k x e in omega arith
+
+  at-left : (xs ys : List A) (k : ℕ) → k < length xs → getElem? (xs ++ ys) k ≡ getElem? xs k
+  at-left [] ys k l = absurd (omega arith)
+  at-left (x ∷ xs) ys zero l = refl
+  at-left (x ∷ xs) ys (suc k) l = at-left xs ys k (omega arith)
+
+  at-here : (xs : List A) (x : A) (ys : List A) → getElem? (xs ++ x ∷ ys) (length xs) ≡ some x
+  at-here [] x ys = refl
+  at-here (z ∷ xs) x ys = at-here xs x ys
+
+-- a record of the side of element i joins one of its portions with unit j
+pub record Recorded (es : List Element) (i j : ℕ) (e : Element) : Type 0 where
+  pub there : getElem? es i ≡ some e
+  pub portion : ℕ
+  pub record-there : made i portion j ∈ matches (sideOf e) es
+
+owns-record : (es : List Element) (i j : ℕ) (e u : Element) → getElem? es i ≡ some e → getElem? es j ≡ some u → owns e u ≡ true → Recorded es i j e
+owns-record es i j e u at-e at-u o =
+    let (p, m, w) = owns-told e u o in
+    let r = member-at (e .portions) p m in
+    record { there = at-e; portion = r .0; record-there = answers-match es i (r .0) j e p u at-e (r .1) at-u .0 w }
+
+record-owns : (es : List Element) (i j : ℕ) (e u : Element) → getElem? es j ≡ some u → Recorded es i j e → owns e u ≡ true
+record-owns es i j e u at-u r =
+    let m = matches-are (sideOf e) es (made i (r .portion) j) (r .record-there) in
+    let a : some (m .element) ≡ some e = sym (m .element-there) ∙ r .there in
+    let b : m .element ≡ e = cc in
+    let at-p : getElem? (e .portions) (r .portion) ≡ some (m .portion) = subst (λ (d : Element). getElem? (d .portions) (r .portion) ≡ some (m .portion)) b (m .portion-there) in
+    owns-of e u (m .portion) (at-in (e .portions) (r .portion) (m .portion) at-p)
+    (answers-match es i (r .portion) j e (m .portion) u (r .there) at-p at-u .1 (r .record-there))
+
+module _ (front : List Element) (x : Element) (rest : List Element) where
+  abbrev whole : List Element
+  whole = front ++ x ∷ rest
+
+  -- a unit before the element answers one of its portions exactly if the list of its side has a record of the two
+  pub early-match : (any (map (owns x) front) ≡ true) ↔ ((k : ℕ) × (k < length front) × Recorded whole (length front) k x)
+  early-match = (to, λ (k, l, r). from k l r)
+    where
+      to : any (map (owns x) front) ≡ true → (k : ℕ) × (k < length front) × Recorded whole (length front) k x
+      to t =
+          let (u, m, o) = any-in (owns x) front t in
+          let r = member-at front u m in
+          let l = below front (r .0) u (r .1) in
+          (r .0, l, owns-record whole (length front) (r .0) x u (at-here front x rest) (at-left front (x ∷ rest) (r .0) l ∙ r .1) o)
+
+      unit-at : (k : ℕ) → k < length front → (u : Element) × (getElem? front k ≡ some u)
+      unit-at k l = (getD front k x, at-getD front k x l)
+
+      from : (k : ℕ) → k < length front → Recorded whole (length front) k x → any (map (owns x) front) ≡ true
+      from k l r =
+          let (u, p) = unit-at k l in
+          any-of (owns x) front u (at-in front k u p) (record-owns whole (length front) k x u (at-left front (x ∷ rest) k l ∙ p) r)
+
+  -- a unit answers an element of these kinds before it exactly if the list of that element's side has a record of the two
+  pub some-match : (kinds : List ℕ) → (answersSome kinds front x ≡ true)
+      ↔ ((i : ℕ) × (e : Element) × (i < length front) × (isIn (e .kind) kinds ≡ true) × Recorded whole i (length front) e)
+  some-match kinds = (to, λ (i, e, l, k, r). from i e l k r)
+    where
+      to : answersSome kinds front x ≡ true → (i : ℕ) × (e : Element) × (i < length front) × (isIn (e .kind) kinds ≡ true) × Recorded whole i (length front) e
+      to t =
+          let (e, m, k, o) = some-told kinds front x t in
+          let r = member-at front e m in
+          let l = below front (r .0) e (r .1) in
+          (r .0, e, l, k, owns-record whole (r .0) (length front) e x (at-left front (x ∷ rest) (r .0) l ∙ r .1) (at-here front x rest) o)
+
+      from : (i : ℕ) (e : Element) → i < length front → isIn (e .kind) kinds ≡ true → Recorded whole i (length front) e → answersSome kinds front x ≡ true
+      from i e l k r =
+          some-of kinds front x e (at-in front i e (sym (at-left front (x ∷ rest) i l) ∙ r .there)) k (record-owns whole i (length front) e x (at-here front x rest) r)
