@@ -7,27 +7,39 @@ use reader::Reading;
 use crate::rng::Rng;
 use crate::tally::{Origin, Tally, hex};
 
-/// Streams up to this length are cut at every place, longer ones at some.
-const CUT_EVERYWHERE: usize = 2_048;
-/// So many places of a longer stream.
+/// Streams up to this length are cut at every place, and so is one in so many of those that are not long.
+const SHORT: usize = 64;
+const ONE_IN: usize = 64;
+const LONG: usize = 2_048;
+/// So many places of another stream.
 const SOME_PLACES: usize = 8;
 /// Octets past any total.
 static PAST: [u8; STREAM_LIMIT + 16] = [0xA0; STREAM_LIMIT + 16];
 /// What an early close is answered.
 const EARLY: Walked = Walked { number: 29, place: 0, headers: 0 };
 
-/// Holds the engine on one stream: cut in two at every place, octet by octet, and in random blocks with empty ones, blocks
-/// past the total and early closes between.
+/// Holds the engine on one stream: cut in two, at every place or at some, octet by octet in the former case, and in random
+/// blocks with empty ones, blocks past the total and early closes between.
 pub fn hold(stream: &[u8], reading: &Reading<'_>, origin: &Origin, tally: &mut Tally, rng: &mut Rng) {
+    let everywhere = stream.len() <= SHORT || stream.len() <= LONG && rng.one_in(ONE_IN);
+    hold_cut(everywhere, stream, reading, origin, tally, rng);
+}
+
+/// The same, cut at every place, however long the stream is.
+pub fn hold_everywhere(stream: &[u8], origin: &Origin, tally: &mut Tally) {
+    hold_cut(true, stream, &Reading::of(stream), origin, tally, &mut Rng::new(209));
+}
+
+fn hold_cut(everywhere: bool, stream: &[u8], reading: &Reading<'_>, origin: &Origin, tally: &mut Tally, rng: &mut Rng) {
     let wanted = walk_of(reading);
     let mut expect = |holds: bool, what: &str| {
         tally.expect(holds, || format!("{origin}: in blocks: {what}, not {wanted:?}\n  {}", hex(stream)));
     };
     let start = raw::start(stream.len());
     expect(start.number == u32::from(stream.len() > STREAM_LIMIT), "the number of the start");
-    let octet_by_octet = states_of(start.state, stream);
+    let octet_by_octet = if everywhere { states_of(start.state, stream) } else { Vec::new() };
     expect(octet_by_octet.last().is_none_or(|&last| raw::close(last) == wanted), "octet by octet");
-    let places: Vec<usize> = if stream.len() <= CUT_EVERYWHERE {
+    let places: Vec<usize> = if everywhere {
         (0..=stream.len()).collect()
     } else {
         (0..SOME_PLACES).map(|_| rng.below(stream.len() + 1)).collect()
@@ -57,11 +69,8 @@ fn walk_of(reading: &Reading<'_>) -> Walked {
     }
 }
 
-/// The state after each octet; none of a stream that is long.
+/// The state after each octet.
 fn states_of(mut state: Blocks, stream: &[u8]) -> Vec<Blocks> {
-    if stream.len() > CUT_EVERYWHERE {
-        return Vec::new();
-    }
     let step = |octet: &u8| {
         state = raw::take(state, &[*octet]).state;
         state
@@ -84,7 +93,7 @@ fn meaning(state: &Blocks) -> impl PartialEq + use<> {
 /// One cutting, with empty blocks, blocks past the total and early closes. What went wrong, if anything.
 fn in_random_blocks(stream: &[u8], wanted: Walked, rng: &mut Rng) -> Option<String> {
     let sizes = [1, 2, 3, 7, 8, 9, 17, 64, 512, 4_096];
-    let longest = *rng.pick(if stream.len() > CUT_EVERYWHERE { &sizes[6..] } else { &sizes });
+    let longest = *rng.pick(if stream.len() > LONG { &sizes[6..] } else { &sizes });
     let mut state = raw::start(stream.len()).state;
     let mut rest = stream;
     loop {

@@ -57,7 +57,7 @@ pub fn hold(holder: &mut Holder) {
         example(holder, &format!("{name}, in an indefinite profile"), &indefinite(0xA0, &value), within, Some(&normal));
     }
     for (name, stream, out) in listed() {
-        holder.hold(&stream, Origin::Fixed(name.into()), &mut Rng::new(1));
+        holder.hold_and_cut(&stream, Origin::Fixed(name.into()), &mut Rng::new(1));
         let written = lister(&stream);
         holder.tally.expect(written == out, || format!("{name}: listed as\n{written}"));
     }
@@ -65,7 +65,7 @@ pub fn hold(holder: &mut Holder) {
 
 /// Holds the library to one example; the reader is held to the library as for any stream.
 fn example(holder: &mut Holder, name: &str, stream: &[u8], answer: &str, normal: Option<&[u8]>) {
-    holder.hold(stream, Origin::Fixed(name.into()), &mut Rng::new(1));
+    holder.hold_and_cut(stream, Origin::Fixed(name.into()), &mut Rng::new(1));
     let mut table = [0; 16 * ROW_WIDTH];
     let checked = raw::check(stream, &mut table);
     let given = format!("{} {} {}", checked.number, checked.place, checked.headers);
@@ -83,7 +83,7 @@ fn edition_example(holder: &mut Holder, fields: &[&str]) {
         panic!("a line of seven fields: {fields:?}")
     };
     let stream = octets(hex);
-    holder.hold(&stream, Origin::Fixed(name.into()), &mut Rng::new(1));
+    holder.hold_and_cut(&stream, Origin::Fixed(name.into()), &mut Rng::new(1));
     let mut table = [0; 4 * ROW_WIDTH];
     let given = Edition::ALL.map(|edition| {
         let checked = raw::check_in(edition, &stream, &mut table);

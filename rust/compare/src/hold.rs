@@ -38,6 +38,12 @@ impl Holder {
         }
     }
 
+    /// The same, and the block engine on the stream cut at every place.
+    pub fn hold_and_cut(&mut self, stream: &[u8], origin: Origin, rng: &mut Rng) {
+        blocks::hold_everywhere(stream, &origin, &mut self.tally);
+        self.hold(stream, origin, rng);
+    }
+
     fn hold_in(&mut self, edition: Edition, reading: &Reading<'_>, stream: &[u8], origin: &Origin, rng: &mut Rng) {
         let before = stream.to_vec();
         let mut one = One { edition, stream, reading, origin, tally: &mut self.tally };
