@@ -137,7 +137,7 @@ checks-all s {answer} {table} zero-number o =
       full = ap length is ∙ length-append all-numbers (drop (length all-numbers) lentTable)
           ∙ omega (arith, length-drop (length all-numbers) lentTable, a .few, d .rows-counted);
       lines = ap (λ (l : List ℕ). rowLines l 0 (answer .elements)) is ∙ ap (rowLines (onto all-numbers lentTable) 0) count
-      ∙ table-lines (a .elements) (rowsIn Of1988 s) (drop (length all-numbers) lentTable);
+          ∙ table-lines (a .elements) (rowsIn Of1988 s) (drop (length all-numbers) lentTable);
     }
 
 -- the lines of a stream, by the check's number

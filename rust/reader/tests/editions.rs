@@ -51,8 +51,8 @@ fn rows_of_protected_parts() {
     let stream = octets("A000 A907470131 03020780 AA07 470131 0402DEAD");
     let mut table = [7; 3 * ROW_WIDTH];
     assert_eq!(Reading::by(Edition::Of1993, &stream).check(&mut table).number, 0);
-    assert_eq!(table[ROW_WIDTH..2 * ROW_WIDTH], [9, 255, 2, 11, 0, 0, 0, 0, 0, 0, 0, 0]);
-    assert_eq!(table[2 * ROW_WIDTH..], [10, 255, 11, 20, 0, 0, 0, 0, 0, 0, 18, 20]);
+    assert_eq!(table[ROW_WIDTH..2 * ROW_WIDTH], [9, 255, 2, 11, 0, 0, 0, 0, 0, 0, 0, 0, 65535]);
+    assert_eq!(table[2 * ROW_WIDTH..], [10, 255, 11, 20, 0, 0, 0, 0, 0, 0, 18, 20, 65535]);
 }
 
 /// A protected part that has the name a unit looks for is in no match, and neither is one that a unit would name.

@@ -48,7 +48,11 @@ fn check_names_the_protected_parts() {
     let counts = "6 elements, 22 items, 63 octets; 1 sealed document profile, 1 pre-enciphered body part";
     assert_eq!(run.text(), format!("standard input: accepted, {counts}\n"));
     let run = odif_with(&["check", "--edition", "1993", "--json", "-"], OF_1993);
-    assert!(run.text().ends_with(",\"headers\":22,\"elements\":6,\"protected_parts\":2}\n"), "{}", run.text());
+    assert!(
+        run.text().ends_with(",\"headers\":22,\"elements\":6,\"protected_parts\":2,\"date\":null}\n"),
+        "{}",
+        run.text()
+    );
     let run = odif_with(&["check", "--edition=1993", "-"], &[0xA0, 0x00, 0xAC, 0x02, 0x04, 0x00]);
     let wanted = "number 12 at octet 2: element 1 (counted from 0), a post-enciphered body part: ";
     assert!(run.status == 1 && run.text().contains(wanted), "{}", run.text());
