@@ -1,5 +1,5 @@
--- The same items with their places: what the pass over a run finds. `dates-places` (proofs/Places) shows that they are the items of the
--- tree. Definitions only: assumes nothing.
+-- The same items with their places: what the pass over a run finds. `dates-places` (proofs/Trees) shows that they are the items of the tree.
+-- Definitions only: assumes nothing.
 use Prim.Native.Nat.{ℕ, zero, suc, _+_, _≤_}
 use mathlib.Core.Path.{_≡_}
 use mathlib.Core.Bool.{cond}

@@ -1,5 +1,5 @@
--- More of the walk, for the code and the examples: no question is defined by it. The value of one item, one item alone, and the numbers
--- that go with an outcome. Definitions only: assumes nothing.
+-- More of the walk: the value of one item, one item alone, by which the first date is defined (W-206), and the numbers that go with an outcome.
+-- Definitions only: assumes nothing.
 use Prim.Native.Nat.{ℕ, _-_}
 use mathlib.Core.Bool.{false}
 use mathlib.Core.List.{List}
