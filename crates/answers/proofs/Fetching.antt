@@ -29,10 +29,10 @@ use Rattle.answers.specs.declared.ContentFound.{ContentFound}
 use Rattle.answers.specs.declared.Found.{Found}
 use Rattle.answers.specs.declared.Reason.{Reason}
 use Rattle.answers.specs.declared.ContentFound.the-variants.{NoUnit, Content as Part, Pieces}
-use Rattle.answers.specs.Answers.{letterIn, rowsIn, Fetched, handed, withheld, fetchedBy, partOf, fetched, whyNot, located, Fetches, allOf, joinedIn}
+use Rattle.answers.specs.Answers.{letterIn, rowsIn, Fetched, handed, withheld, fetchedBy, partOf, fetched, whyNot, located, allOf, joinedIn}
 use Rattle.answers.proofs.Small.{refusal-small}
 use Rattle.answers.proofs.Judging.{Accepting}
-use Rattle.answers.specs.Asking.{ContentAt, otherKind, heldWhole, heldInPieces, nowhere, FindsContent}
+use Rattle.answers.specs.Asking.{ContentAt, otherKind, heldWhole, heldInPieces, nowhere, Fetches, FindsContent}
 
 -- past the end of a list there is nothing
 nothing-past : {A : Type 0} (xs : List A) (k : ℕ) → length xs ≤ k → getElem? xs k ≡ none

@@ -17,8 +17,8 @@ use Rattle.answers.specs.declared.Related.{Related}
 use Rattle.answers.specs.declared.Told.{Told}
 use Rattle.answers.specs.declared.Question.{Question}
 use Rattle.answers.specs.declared.Question.the-variants.{Rules, Check, Content, Joined, List as Reading, Children}
-use Rattle.answers.specs.Answers.{letterIn, ruledBy, ruled, CheckOutcome, Fetches, JoinedOutcome}
-use Rattle.answers.specs.Asking.{ListsFlat}
+use Rattle.answers.specs.Answers.{letterIn, ruledBy, ruled, CheckOutcome, JoinedOutcome}
+use Rattle.answers.specs.Asking.{ListsFlat, Fetches}
 use Rattle.answers.specs.Related.{Relates, ChildrenOutcome, relatedList, related}
 use Rattle.answers.specs.Questions.{reasonTold, checkTold, locatedTold, copiedTold, listedTold, relatedTold, checkOf, locatedOf, copiedOf, listedOf, relatedOf, refusedTold, Leaves}
 use Rattle.answers.proofs.Small.{refusal-small}

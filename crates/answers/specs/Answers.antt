@@ -186,15 +186,11 @@ located edition s asked =
     locatedAt (fetched edition s asked)
     (cond (eqb (fetched edition s asked .number) 0) (contentIn (getElem? (rowsIn edition s) asked)) noSpan)
 
--- They are where the content stands that the question in its other form hands back: in the stream, and nothing is left open.
+-- They are where the part stands that the question in its other form hands back, in the stream: demands has that of every stream.
 pub record Stands (edition : Edition) (s : List ℕ) (asked first past : ℕ) : Type 0 where
   pub part : slice first past s ≡ fetched edition s asked .part
   pub order : first ≤ past
   pub inside : past ≤ length s
-
-pub record Fetches (edition : Edition) (s : List ℕ) (asked : ℕ) (told : Found) : Type 0 where
-  pub answered : told ≡ located edition s asked
-  pub stands : Stands edition s asked (told .first) (told .past)
 
 -- The joined content: "The content is the pieces joined in order", "a 04 being one piece".
 abbrev pub allOf : Content → Fetched

@@ -33,7 +33,7 @@ use Rattle.answers.specs.declared.Listed.{Listed}
 use Rattle.answers.specs.declared.Found.{Found}
 use Rattle.answers.specs.declared.ContentFound.{ContentFound}
 use Rattle.answers.specs.declared.ContentFound.the-variants.{NoUnit, Content, Pieces}
-use Rattle.answers.specs.Answers.{listed, listedTable, matchesIn, onto, Fetched, handed, withheld, Fetches, joinedIn, copiedFrom}
+use Rattle.answers.specs.Answers.{listed, listedTable, matchesIn, onto, Fetched, handed, withheld, located, Stands, joinedIn, copiedFrom}
 
 -- a stream was judged and accepted, and these are its rows in scratch, whatever the indexes hold
 pub record JudgedIn (edition : Edition) (s rows : List ℕ) (count : ℕ) : Type 0 where
@@ -80,6 +80,11 @@ abbrev pub Known : (s : List ℕ) → ContentFound → Type 0
 Known s NoUnit = Unit {0}
 Known s (Content first past) = Unit {0}
 Known s (Pieces run) = Fine s run
+
+-- the answer in bounds, with what `odif::content` needs to hand the part back; crate demands has that it holds of every stream (`located-stands`)
+pub record Fetches (edition : Edition) (s : List ℕ) (asked : ℕ) (told : Found) : Type 0 where
+  pub answered : told ≡ located edition s asked
+  pub stands : Stands edition s asked (told .first) (told .past)
 
 -- what is fetched, in numbers that fit 32 bits
 pub record FindsContent (edition : Edition) (s : List ℕ) (asked : ℕ) (found : ContentFound) : Type 0 where

@@ -17,8 +17,8 @@ ghost use Rattle.tree.specs.Accepts.{Accepts};
 ghost use Rattle.runs.specs.Runs.{wholeStream, treeIn, Fine};
 ghost use Rattle.pieces.specs.Pieces.{joined};
 ghost use Rattle.letters.specs.Content.{RowIn};
-ghost use Rattle.answers.specs.Answers.{Fetches, JoinedOutcome};
-ghost use Rattle.answers.specs.Asking.{JudgedIn, ContentAt, FindsContent, Copies};
+ghost use Rattle.answers.specs.Answers.{JoinedOutcome};
+ghost use Rattle.answers.specs.Asking.{JudgedIn, ContentAt, Fetches, FindsContent, Copies};
 
 const TEXT_UNIT: u32 = 3;
 

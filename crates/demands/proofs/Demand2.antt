@@ -2,14 +2,14 @@
 -- tree, so all that depends on the tree alone is the same of it. Assumes nothing.
 use mathlib.Core.Path.{_≡_, refl, ap, sym, _∙_}
 use mathlib.Core.Logic.{_↔_}
-use mathlib.Core.Bool.{false}
+use mathlib.Core.Bool.{false, false≢true}
 use mathlib.Core.List.{List}
 use mathlib.Core.Option.{some}
 use Prim.Native.Nat.{ℕ, _/_, _<_, _≤_}
 use native.Mathlib.Omega.{arith}
 use lib.Dec.{eqb, ltb}
 use lib.ListN.{length, getElem?}
-use borrow.Author.Tests.{ne-eqb, le-ltb, ltb-true, ltb-false}
+use borrow.Author.Tests.{ne-eqb, eq-eqb, eqb-true, le-ltb, ltb-true, ltb-false}
 use borrow.Table.Steps.{cases}
 use Rattle.octets.specs.declared.Outcome.the-variants.{Ended}
 use Rattle.octets.specs.Walk.{streamLimit, deepest, walkOf}
@@ -24,18 +24,20 @@ use Rattle.answers.specs.Table.{tableWidth}
 use Rattle.elements.specs.declared.Row.{Row}
 use Rattle.elements.specs.declared.Edition.{Edition}
 use Rattle.elements.specs.Judge.{Element, accepted, judge}
-use Rattle.letters.specs.Letter.{letter, refusal, itemsOfStream}
+use Rattle.letters.specs.Letter.{Letter, letter, refusal, itemsOfStream}
 use Rattle.letters.proofs.Table.{end-to-end, pairs-within}
 use Rattle.judging.proofs.Lists.{below-length, at-below}
-use Rattle.answers.specs.Answers.{letterIn, rowsIn, onto, tableOf, checked, checkedTable, written, writtenOutput, listed, fetched, joinedIn, copied}
+use Rattle.answers.specs.Answers.{letterIn, rowsIn, onto, tableOf, checked, checkedTable, written, writtenOutput, listed, Fetched, fetched, located, Stands, joinedIn, copied}
 use Rattle.demands.specs.Refusals.{TopItem, topItems}
-use Rattle.demands.specs.Demands.{IsLetterOf, RowTells, OfLetter, RefusedByAll, Demand2, itemCount}
+use Rattle.demands.specs.Demands.{IsLetterOf, TellsContent, RowTells, UnitAt, OfLetter, RefusedByAll, Demand2, itemCount}
 use Rattle.answers.proofs.Letters.{Found, letter-found, accepted-letter}
 use Rattle.answers.proofs.Judging.{accepts-walked}
 use Rattle.answers.proofs.Small.{refusal-small}
+use Rattle.demands.proofs.Demand1.{demand1}
 use Rattle.demands.proofs.Refusals.{refused-is}
 use Rattle.demands.proofs.Telling.{Proper, proper, count-tree, tops-counted, rows-counted, rows-tell}
 use Rattle.demands.proofs.Joining.{told-within, content, content-20, content-21, joins, joins-20, joins-22, part-joined}
+use Rattle.demands.proofs.Locating.{located-nowhere, located-part}
 use Rattle.answers.proofs.Checks.{checks-letter}
 
 -- the header count of a walk that ended is the tree's item count
@@ -178,10 +180,34 @@ refused-alike edition s number place headers e =
       joined = λ asked out. rw (e, other);
     }
 
+-- where the part of an element stands: by what the stream is
+module _ (edition : Edition) (s : List ℕ) (asked : ℕ) where
+  row-at : (headers : ℕ) (elements : List Element) → letterIn edition s ≡ letter headers elements → (unit : Element) → UnitAt elements asked unit
+      → (row : Row) × (getElem? (rowsIn edition s) asked ≡ some row) × TellsContent s (row .content) (unit .content)
+  row-at headers elements e unit at =
+      let (item, on-top) = top-at edition s headers elements e asked unit (at .there) in
+      let (row, there) = at-below (rowsIn edition s) asked (omega (arith, below-length elements asked unit (at .there), counted edition s headers elements e)) in
+      (row, there, tell edition s headers elements e asked row item unit there on-top (at .there) .content)
+
+  located-by : (l : Letter) → letterIn edition s ≡ l → fetched edition s asked .number ≡ 0 → Stands edition s asked (located edition s asked .first) (located edition s asked .past)
+  located-by (refusal number place headers) e p =
+      let q = ap (λ (f : Fetched). f .number) (refused-alike edition s number place headers e .content asked) in
+      absurd (omega (arith, refusal-small edition s number place headers e .low))
+  located-by (letter headers elements) e p =
+      let f = found edition s headers elements e in
+      located-part edition s asked e (stream-fine s (f .at) headers (f .walked)) (row-at headers elements e) p
+
+  located-stands : Stands edition s asked (located edition s asked .first) (located edition s asked .past)
+  located-stands =
+      cases (eqb (fetched edition s asked .number) 0)
+      (λ t. located-by (letterIn edition s) refl (eqb-true (fetched edition s asked .number) 0 t))
+      (λ t. located-nowhere edition s asked t (demand1 edition .content-empty s asked (λ z. false≢true (sym t ∙ eq-eqb (fetched edition s asked .number) 0 z))))
+
 pub demand2 : (edition : Edition) → Demand2 edition
 demand2 edition = record {
   accepted-is = λ s headers elements. (letter-is edition s headers elements, is-letter edition s headers elements);
   refused-is = λ s. refused-is edition s;
   refused-alike = refused-alike edition;
   of-letter = of-letter edition;
+  located-stands = located-stands edition;
 }

@@ -14,7 +14,7 @@ use Rattle.answers.specs.declared.Copied.{Copied}
 use Rattle.answers.specs.declared.Related.{Related}
 use Rattle.answers.specs.Related.{ChildrenOutcome}
 use Rattle.answers.specs.Short.{ShortOutcome}
-use Rattle.answers.specs.Answers.{CheckOutcome, NormalOutcome, ListOutcome, fetched, whyNot, Fetches, JoinedOutcome}
+use Rattle.answers.specs.Answers.{CheckOutcome, NormalOutcome, ListOutcome, fetched, whyNot, located, JoinedOutcome}
 
 pub check-determined : {edition : Edition} {s table : List ℕ} {a b : Checked} {t u : List ℕ} → CheckOutcome edition s table a t → CheckOutcome edition s table b u → (a ≡ b) × (t ≡ u)
 check-determined x y = (x .answered ∙ sym (y .answered), x .tabled ∙ sym (y .tabled))
@@ -36,8 +36,8 @@ content-determined edition s asked p q x y = x ∙ sym y
 pub why-determined : (edition : Edition) (s : List ℕ) (asked : ℕ) (a b : Reason) → a ≡ whyNot edition s asked → b ≡ whyNot edition s asked → a ≡ b
 why-determined edition s asked a b x y = x ∙ sym y
 
-pub located-determined : {edition : Edition} {s : List ℕ} {asked : ℕ} {a b : Found} → Fetches edition s asked a → Fetches edition s asked b → a ≡ b
-located-determined x y = x .answered ∙ sym (y .answered)
+pub located-determined : (edition : Edition) (s : List ℕ) (asked : ℕ) (a b : Found) → a ≡ located edition s asked → b ≡ located edition s asked → a ≡ b
+located-determined edition s asked a b x y = x ∙ sym y
 
 pub joined-determined : {edition : Edition} {s : List ℕ} {asked : ℕ} {out : List ℕ} {a b : Copied} {t u : List ℕ}
     → JoinedOutcome edition s asked out a t → JoinedOutcome edition s asked out b u → (a ≡ b) × (t ≡ u)

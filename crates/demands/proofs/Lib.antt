@@ -1,5 +1,5 @@
 -- Demand1, Demand2, Demand3: a value of each demand. Refusals: when each of 1 to 15 is given. Telling: a row tells what its element says.
--- Joining: of the content. Kept: what the normal form keeps, row by row. Family: parents and children. SameLetter: when two files are the
+-- Joining: of the content. Locating: where a part stands. Kept: what the normal form keeps, row by row. Family: parents and children. SameLetter: when two files are the
 -- same letter. Mailroom: the mailroom's normal form. DocumentDate, FirstDate: the date of the document, and by the first element alone.
 -- OneElement: an element read by both editions. Editions: the two beside each other. Examples: the examples hold. Determined: two outcomes
 -- of one contract are equal. Wrong: the wrong programs of document 01 meet no contract.
@@ -7,6 +7,7 @@ pub mod Demand1
 pub mod Refusals
 pub mod Telling
 pub mod Joining
+pub mod Locating
 pub mod Demand2
 pub mod Demand3
 pub mod Kept

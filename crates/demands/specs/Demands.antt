@@ -23,7 +23,7 @@ use Rattle.reading.specs.declared.Side.{Side}
 use Rattle.reading.specs.Match.{unitKind, matches, IsMatch, Before, units, portionsOn}
 use Rattle.answers.specs.Table.{rowsLent}
 use Rattle.answers.specs.Answers.{letterIn, rowsIn, onto, tableOf, refusedCheck, checked, checkedTable, written, writtenOutput, listed, listedTable, matchesIn}
-use Rattle.answers.specs.Answers.{listedList, handed, withheld, fetched, joinedIn, copied, copiedOutput}
+use Rattle.answers.specs.Answers.{listedList, handed, withheld, fetched, located, Stands, joinedIn, copied, copiedOutput}
 use Rattle.demands.specs.Refusals.{TopItem, topItems, contentsIn, RefusedWith}
 
 -- A number that a question may give, and its place: 0, one of 1 to 15, or one of the question's own, "where the question can give it". The
@@ -181,6 +181,8 @@ pub record Demand2 (edition : Edition) : Type 0 where
   pub refused-is : (s : List ℕ) (number place : ℕ) → ((headers : ℕ) × (letterIn edition s ≡ refusal number place headers)) ↔ RefusedWith edition s number place
   pub refused-alike : (s : List ℕ) (number place headers : ℕ) → letterIn edition s ≡ refusal number place headers → RefusedByAll edition s number place headers
   pub of-letter : (s : List ℕ) (headers : ℕ) (elements : List Element) → letterIn edition s ≡ letter headers elements → OfLetter edition s headers elements
+  -- the bounds that a caller of C is answered lie in the stream, and the part stands between them
+  pub located-stands : (s : List ℕ) (asked : ℕ) → Stands edition s asked (located edition s asked .first) (located edition s asked .past)
 
 -- a record stands somewhere in a list
 abbrev pub In : Match → List Match → Type 0

@@ -14,7 +14,7 @@ use normal::Answer;
 pub use reading::Match;
 pub use reading::Side;
 ghost use mathlib.Core.Path.{_≡_};
-ghost use Rattle.answers.specs.Answers.{ruled, CheckOutcome, NormalOutcome, ListOutcome, fetched, whyNot, Fetches, JoinedOutcome};
+ghost use Rattle.answers.specs.Answers.{ruled, CheckOutcome, NormalOutcome, ListOutcome, fetched, whyNot, located, Stands, JoinedOutcome};
 ghost use Rattle.answers.specs.Related.{ChildrenOutcome};
 ghost use Rattle.answers.specs.Short.{ShortOutcome};
 ghost use Rattle.making.specs.Answers.{MakeOutcome};
@@ -128,7 +128,7 @@ pub fn why(edition: Edition, stream: &[u8], element: usize) -> Reason
 
 // Where the content of an element stands in the stream, with the number and place of a refusal.
 fn locate(edition: Edition, stream: &[u8], element: usize) -> Found
-    ensures { λ r. ⌜ Fetches edition (now (stream .entry)) element r ⌝ }
+    ensures { λ r. ⌜ (r ≡ located edition (now (stream .entry)) element) × Stands edition (now (stream .entry)) element (r .first) (r .past) ⌝ }
 {
     let mut rows = [0u32; 0];
     let mut numbers = [0u32; 0];
@@ -357,14 +357,14 @@ pub extern "C" fn odif_logical_1993(stream: &[u8], table: &mut [u32], list: &mut
 
 #[no_mangle]
 pub extern "C" fn odif_content(stream: &[u8], element: u32) -> Found
-    ensures { λ r. ⌜ Fetches Edition.Of1988 (now (stream .entry)) element r ⌝ }
+    ensures { λ r. ⌜ r ≡ located Edition.Of1988 (now (stream .entry)) element ⌝ }
 {
     locate(Edition::Of1988, stream, element as usize)
 }
 
 #[no_mangle]
 pub extern "C" fn odif_content_1993(stream: &[u8], element: u32) -> Found
-    ensures { λ r. ⌜ Fetches Edition.Of1993 (now (stream .entry)) element r ⌝ }
+    ensures { λ r. ⌜ r ≡ located Edition.Of1993 (now (stream .entry)) element ⌝ }
 {
     locate(Edition::Of1993, stream, element as usize)
 }

@@ -17,17 +17,17 @@ cast-past : tie.Need-cast-past
 cast-past c = search needs
 
 sub-result : tie.Need-sub-result
-sub-result c = let f = c .before .before .locate .ensures .stands in omega (arith, f .order)
+sub-result c = let f = c .before .before .locate .ensures .1 in omega (arith, f .order)
 
 part-result-start : tie.Need-part-result-start
-part-result-start c = let f = c .before .before .locate .ensures .stands in omega (arith, f .order)
+part-result-start c = let f = c .before .before .locate .ensures .1 in omega (arith, f .order)
 
 part-result-end : tie.Need-part-result-end
-part-result-end c = let f = c .before .before .locate .ensures .stands in omega (arith, f .order, f .inside)
+part-result-end c = let f = c .before .before .locate .ensures .1 in omega (arith, f .order, f .inside)
 
 returns : tie.Need-returns
 returns c =
-    let f = c .before .before .before .locate .ensures .stands in
+    let f = c .before .before .before .locate .ensures .1 in
     part-slice _ _ (now (c .before .before .before .before .before .args .stream)) (f .order) ∙ f .part
 
 pub content-spec : {M : Type 1} → statement M

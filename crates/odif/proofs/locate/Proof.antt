@@ -17,7 +17,7 @@ ask-requires : tie.Need-ask-requires
 ask-requires c κs = tt
 
 returns : tie.Need-returns
-returns c = content-left (c .before .before .before .ask .ensures)
+returns c = let f = content-left (c .before .before .before .ask .ensures) in (f .answered, f .stands)
 
 pub locate-spec : {M : Type 1} → statement M
 locate-spec =

@@ -8,7 +8,7 @@ locate-requires : tie.Need-locate-requires
 locate-requires c κs = search needs
 
 returns : tie.Need-returns
-returns c = why-located _ _ _ (c .locate .ensures .answered)
+returns c = why-located _ _ _ (c .locate .ensures .0)
 
 pub why-spec : {M : Type 1} → statement M
 why-spec =
