@@ -1,4 +1,5 @@
-// The public questions, and nothing else. None has a `requires`: any caller may ask, of any octets, with any buffers.
+// The public questions, and nothing else. None has a `requires`: any caller may ask, of any octets, with any buffers. Those of the base are here,
+// those that were asked for later each in a file of their own.
 pub use answers::Checked;
 pub use answers::Copied;
 pub use answers::Dated;
@@ -15,19 +16,19 @@ pub use reading::Match;
 pub use reading::Side;
 ghost use mathlib.Core.Path.{_≡_};
 ghost use Rattle.answers.specs.Answers.{ruled, CheckOutcome, NormalOutcome, ListOutcome, fetched, whyNot, located, Stands, JoinedOutcome};
-ghost use Rattle.answers.specs.Related.{ChildrenOutcome};
-ghost use Rattle.answers.specs.Short.{ShortOutcome};
-ghost use Rattle.making.specs.Answers.{MakeOutcome};
-ghost use Rattle.making.specs.Flat.{entriesOf};
-ghost use Rattle.answers.specs.Dates.{dateOf, DateOutcome};
-ghost use Rattle.answers.specs.FirstDates.{FirstDateOutcome};
 
 mod arriving; // arriving.rt: a letter that arrives in blocks
+mod dating; // dating.rt: the date of the document
+mod family; // family.rt: the children of a row
+mod made; // made.rt: a letter that is made
+mod mailroom; // mailroom.rt: the normal form of a short stream
 
-// The most octets of a stream that the mailroom box asks about.
-const SHORT_LIMIT: usize = 65535;
-
-const TOO_LONG: u32 = 1;
+pub use dating::date;
+pub use dating::dated;
+pub use dating::first_date;
+pub use family::children;
+pub use made::make;
+pub use mailroom::normal_short;
 
 // Checks a stream and fills the element table, thirteen numbers a row. The viewer asks this first.
 pub fn check(edition: Edition, stream: &[u8], table: &mut [u32]) -> Checked
@@ -171,35 +172,6 @@ pub fn joined(edition: Edition, stream: &[u8], element: usize, out: &mut [u8]) -
     }
 }
 
-// Lists the children of a row in stream order, as row numbers, and fills the element table. The viewer's tree pane asks this; nothing is written
-// to a list that is too short.
-pub fn children(
-    edition: Edition,
-    stream: &[u8],
-    row: usize,
-    table: &mut [u32],
-    list: &mut [u32],
-) -> Related
-    ensures { λ r. ⌜ ChildrenOutcome edition (now (stream .entry)) (now (table .entry)) row (now (list .entry)) r (now (table .exit)) (now (list .exit)) ⌝ }
-{
-    let mut octets = [0u8; 0];
-    let room = list.len();
-    let told = scratch::ask(
-        edition,
-        stream,
-        Question::Children { row, room },
-        table,
-        list,
-        &mut octets,
-    );
-    Related {
-        number: told.number,
-        place: told.place,
-        elements: told.elements,
-        children: told.listed,
-    }
-}
-
 // Why rules 1 to 15 refuse a stream: 0 at 0 if they don't.
 fn refused_by(edition: Edition, stream: &[u8]) -> Reason
     ensures { λ r. ⌜ r ≡ ruled edition (now (stream .entry)) ⌝ }
@@ -219,78 +191,6 @@ fn refused_by(edition: Edition, stream: &[u8]) -> Reason
         number: told.number,
         place: told.place,
     }
-}
-
-// Writes the normal form of a stream of at most 65,535 octets, which is never longer than the stream. The mailroom box asks this: an output
-// as long as the stream is always enough.
-pub fn normal_short(edition: Edition, stream: &[u8], out: &mut [u8]) -> Written
-    ensures { λ r. ⌜ ShortOutcome edition (now (stream .entry)) (now (out .entry)) r (now (out .exit)) ⌝ }
-{
-    if SHORT_LIMIT < stream.len() {
-        return Written {
-            number: TOO_LONG,
-            place: 0,
-            length: 0,
-        };
-    }
-    let refused = refused_by(edition, stream);
-    if refused.number != 0 {
-        return Written {
-            number: refused.number,
-            place: refused.place,
-            length: 0,
-        };
-    }
-    match normal::write_short(stream, out) {
-        Answer::Written { length } => Written {
-            number: 0,
-            place: 0,
-            length: length as u32,
-        },
-        Answer::Refused { number, place } => Written {
-            number: number as u32,
-            place: place as u32,
-            length: 0,
-        },
-    }
-}
-
-// Makes a letter of entries, of which each has an identifier, a portion and a text: six numbers an entry, a first and past in the buffer for
-// each of these. A handler's answer is made of this; nothing is written to an output that is too short.
-pub fn make(buffer: &[u8], entries: &[u32], out: &mut [u8]) -> Written
-    ensures { λ r. ⌜ MakeOutcome (now (buffer .entry)) (entriesOf (now (entries .entry))) (now (out .entry)) r (now (out .exit)) ⌝ }
-{
-    making::make(buffer, entries, out)
-}
-
-// The date of the document: the octets of the one date in the letter's profile, a part of the caller's own stream. It is an empty part if the
-// stream is refused, or has no such date, or that names no day. The viewer shows it above the letter, and `dated` says why it is empty.
-pub fn date<'a>(edition: Edition, stream: &'a [u8]) -> &'a [u8]
-    ensures { λ r. ⌜ now r ≡ dateOf edition (now (stream .entry)) .part ⌝ }
-{
-    let told = dated(edition, stream);
-    let first = told.first as usize;
-    let past = told.past as usize;
-    &stream[first..past]
-}
-
-// The same date in numbers: where its octets stand, and its year, month and day. With a refusal they are 0.
-pub fn dated(edition: Edition, stream: &[u8]) -> Dated
-    ensures { λ r. ⌜ DateOutcome edition (now (stream .entry)) r ⌝ }
-{
-    let refused = refused_by(edition, stream);
-    if refused.number != 0 {
-        return answers::refused_date(refused.number, refused.place);
-    }
-    answers::date_of_letter(stream)
-}
-
-// The date of the document by the first element alone, with the note that the remainder is unread. The inbox list asks this of each letter, or of
-// its front: the octets after the first element are counted and not read.
-pub fn first_date(edition: Edition, stream: &[u8]) -> FirstDated
-    ensures { λ r. ⌜ FirstDateOutcome edition (now (stream .entry)) r ⌝ }
-{
-    answers::date_of_first(edition, stream)
 }
 
 // The same questions for C, as include/odif.h declares them: a slice is a pointer and a length, and a null pointer with length 0 is fine. Each
@@ -381,78 +281,4 @@ pub extern "C" fn odif_joined_1993(stream: &[u8], element: u32, out: &mut [u8]) 
     ensures { λ r. ⌜ JoinedOutcome Edition.Of1993 (now (stream .entry)) element (now (out .entry)) r (now (out .exit)) ⌝ }
 {
     joined(Edition::Of1993, stream, element as usize, out)
-}
-
-#[no_mangle]
-pub extern "C" fn odif_normal_short(stream: &[u8], out: &mut [u8]) -> Written
-    ensures { λ r. ⌜ ShortOutcome Edition.Of1988 (now (stream .entry)) (now (out .entry)) r (now (out .exit)) ⌝ }
-{
-    normal_short(Edition::Of1988, stream, out)
-}
-
-#[no_mangle]
-pub extern "C" fn odif_children(
-    stream: &[u8],
-    row: u32,
-    table: &mut [u32],
-    list: &mut [u32],
-) -> Related
-    ensures { λ r. ⌜ ChildrenOutcome Edition.Of1988 (now (stream .entry)) (now (table .entry)) row (now (list .entry)) r (now (table .exit)) (now (list .exit)) ⌝ }
-{
-    children(Edition::Of1988, stream, row as usize, table, list)
-}
-
-#[no_mangle]
-pub extern "C" fn odif_children_1993(
-    stream: &[u8],
-    row: u32,
-    table: &mut [u32],
-    list: &mut [u32],
-) -> Related
-    ensures { λ r. ⌜ ChildrenOutcome Edition.Of1993 (now (stream .entry)) (now (table .entry)) row (now (list .entry)) r (now (table .exit)) (now (list .exit)) ⌝ }
-{
-    children(Edition::Of1993, stream, row as usize, table, list)
-}
-
-#[no_mangle]
-pub extern "C" fn odif_normal_short_1993(stream: &[u8], out: &mut [u8]) -> Written
-    ensures { λ r. ⌜ ShortOutcome Edition.Of1993 (now (stream .entry)) (now (out .entry)) r (now (out .exit)) ⌝ }
-{
-    normal_short(Edition::Of1993, stream, out)
-}
-
-// The header's `odif_make` hands its entries to this one as numbers.
-#[no_mangle]
-pub extern "C" fn odif_make_numbers(buffer: &[u8], entries: &[u32], out: &mut [u8]) -> Written
-    ensures { λ r. ⌜ MakeOutcome (now (buffer .entry)) (entriesOf (now (entries .entry))) (now (out .entry)) r (now (out .exit)) ⌝ }
-{
-    make(buffer, entries, out)
-}
-
-#[no_mangle]
-pub extern "C" fn odif_date(stream: &[u8]) -> Dated
-    ensures { λ r. ⌜ DateOutcome Edition.Of1988 (now (stream .entry)) r ⌝ }
-{
-    dated(Edition::Of1988, stream)
-}
-
-#[no_mangle]
-pub extern "C" fn odif_first_date(stream: &[u8]) -> FirstDated
-    ensures { λ r. ⌜ FirstDateOutcome Edition.Of1988 (now (stream .entry)) r ⌝ }
-{
-    first_date(Edition::Of1988, stream)
-}
-
-#[no_mangle]
-pub extern "C" fn odif_date_1993(stream: &[u8]) -> Dated
-    ensures { λ r. ⌜ DateOutcome Edition.Of1993 (now (stream .entry)) r ⌝ }
-{
-    dated(Edition::Of1993, stream)
-}
-
-#[no_mangle]
-pub extern "C" fn odif_first_date_1993(stream: &[u8]) -> FirstDated
-    ensures { λ r. ⌜ FirstDateOutcome Edition.Of1993 (now (stream .entry)) r ⌝ }
-{
-    first_date(Edition::Of1993, stream)
 }

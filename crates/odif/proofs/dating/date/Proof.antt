@@ -4,8 +4,8 @@ use borrow.Author.Needs.{needs}
 use native.Mathlib.Omega.{arith}
 use denote.Ref.{now}
 use Rattle.pieces.proofs.Putting.{part-slice}
-use Rattle.odif.proofs.date.Statement.{statement}
-use Rattle.odif.proofs.date.Tie as tie
+use Rattle.odif.proofs.dating.date.Statement.{statement}
+use Rattle.odif.proofs.dating.date.Tie as tie
 
 dated-requires : tie.Need-dated-requires
 dated-requires c κs = search needs

@@ -9,8 +9,8 @@ use Rattle.answers.specs.Dates.{DateOutcome}
 use Rattle.answers.proofs.Letters.{letter-found}
 use Rattle.answers.proofs.Dating.{date-refused}
 use Rattle.answers.proofs.Working.{is-letter}
-use Rattle.odif.proofs.dated.Statement.{statement}
-use Rattle.odif.proofs.dated.Tie as tie
+use Rattle.odif.proofs.dating.dated.Statement.{statement}
+use Rattle.odif.proofs.dating.dated.Tie as tie
 
 refused-by-requires : tie.Need-refused-by-requires
 refused-by-requires c κs = search needs

@@ -2,8 +2,8 @@
 use native.Mathlib.Omega.{arith}
 use borrow.Author.Needs.{needs}
 use Rattle.answers.proofs.Working.{children-left}
-use Rattle.odif.proofs.children.Statement.{statement}
-use Rattle.odif.proofs.children.Tie as tie
+use Rattle.odif.proofs.family.children.Statement.{statement}
+use Rattle.odif.proofs.family.children.Tie as tie
 
 slice-aggregate-ask : tie.Need-slice-aggregate-ask
 slice-aggregate-ask c = search needs

@@ -8,8 +8,8 @@ use Rattle.normal.specs.declared.Answer.{Answer}
 use Rattle.answers.specs.Asking.{writtenAs}
 use Rattle.odif.proofs.Writing.{Fits}
 use Rattle.odif.proofs.Short.{Passed, refused, passed, passed-whole, short-over, short-refused, short-letter}
-use Rattle.odif.proofs.normal_short.Statement.{statement}
-use Rattle.odif.proofs.normal_short.Tie as tie
+use Rattle.odif.proofs.mailroom.normal_short.Statement.{statement}
+use Rattle.odif.proofs.mailroom.normal_short.Tie as tie
 
 returns : tie.Need-returns
 returns c = let a = c .before .before .before .args in short-over (a .edition) (now (a .stream)) (now (a .out)) (c .if1 .taken)

@@ -1,0 +1,66 @@
+// The date of the document: by its profile, once the stream is judged; and by the first element alone.
+use super::Dated;
+use super::Edition;
+use super::FirstDated;
+use super::refused_by;
+ghost use mathlib.Core.Path.{_≡_};
+ghost use Rattle.answers.specs.Dates.{dateOf, DateOutcome};
+ghost use Rattle.answers.specs.FirstDates.{FirstDateOutcome};
+
+// The date of the document: the octets of the one date in the letter's profile, a part of the caller's own stream. It is an empty part if the
+// stream is refused, or has no such date, or that names no day. The viewer shows it above the letter, and `dated` says why it is empty.
+pub fn date<'a>(edition: Edition, stream: &'a [u8]) -> &'a [u8]
+    ensures { λ r. ⌜ now r ≡ dateOf edition (now (stream .entry)) .part ⌝ }
+{
+    let told = dated(edition, stream);
+    let first = told.first as usize;
+    let past = told.past as usize;
+    &stream[first..past]
+}
+
+// The same date in numbers: where its octets stand, and its year, month and day. With a refusal they are 0.
+pub fn dated(edition: Edition, stream: &[u8]) -> Dated
+    ensures { λ r. ⌜ DateOutcome edition (now (stream .entry)) r ⌝ }
+{
+    let refused = refused_by(edition, stream);
+    if refused.number != 0 {
+        return answers::refused_date(refused.number, refused.place);
+    }
+    answers::date_of_letter(stream)
+}
+
+// The date of the document by the first element alone, with the note that the remainder is unread. The inbox list asks this of each letter, or of
+// its front: the octets after the first element are counted and not read.
+pub fn first_date(edition: Edition, stream: &[u8]) -> FirstDated
+    ensures { λ r. ⌜ FirstDateOutcome edition (now (stream .entry)) r ⌝ }
+{
+    answers::date_of_first(edition, stream)
+}
+
+#[no_mangle]
+pub extern "C" fn odif_date(stream: &[u8]) -> Dated
+    ensures { λ r. ⌜ DateOutcome Edition.Of1988 (now (stream .entry)) r ⌝ }
+{
+    dated(Edition::Of1988, stream)
+}
+
+#[no_mangle]
+pub extern "C" fn odif_date_1993(stream: &[u8]) -> Dated
+    ensures { λ r. ⌜ DateOutcome Edition.Of1993 (now (stream .entry)) r ⌝ }
+{
+    dated(Edition::Of1993, stream)
+}
+
+#[no_mangle]
+pub extern "C" fn odif_first_date(stream: &[u8]) -> FirstDated
+    ensures { λ r. ⌜ FirstDateOutcome Edition.Of1988 (now (stream .entry)) r ⌝ }
+{
+    first_date(Edition::Of1988, stream)
+}
+
+#[no_mangle]
+pub extern "C" fn odif_first_date_1993(stream: &[u8]) -> FirstDated
+    ensures { λ r. ⌜ FirstDateOutcome Edition.Of1993 (now (stream .entry)) r ⌝ }
+{
+    first_date(Edition::Of1993, stream)
+}

@@ -1,0 +1,59 @@
+// The mailroom's question: the normal form of a short stream.
+use super::Edition;
+use super::Written;
+use super::refused_by;
+use normal::Answer;
+ghost use Rattle.answers.specs.Short.{ShortOutcome};
+
+// The most octets of a stream that the mailroom box asks about.
+const SHORT_LIMIT: usize = 65535;
+
+const TOO_LONG: u32 = 1;
+
+// Writes the normal form of a stream of at most 65,535 octets, which is never longer than the stream. The mailroom box asks this: an output
+// as long as the stream is always enough.
+pub fn normal_short(edition: Edition, stream: &[u8], out: &mut [u8]) -> Written
+    ensures { λ r. ⌜ ShortOutcome edition (now (stream .entry)) (now (out .entry)) r (now (out .exit)) ⌝ }
+{
+    if SHORT_LIMIT < stream.len() {
+        return Written {
+            number: TOO_LONG,
+            place: 0,
+            length: 0,
+        };
+    }
+    let refused = refused_by(edition, stream);
+    if refused.number != 0 {
+        return Written {
+            number: refused.number,
+            place: refused.place,
+            length: 0,
+        };
+    }
+    match normal::write_short(stream, out) {
+        Answer::Written { length } => Written {
+            number: 0,
+            place: 0,
+            length: length as u32,
+        },
+        Answer::Refused { number, place } => Written {
+            number: number as u32,
+            place: place as u32,
+            length: 0,
+        },
+    }
+}
+
+#[no_mangle]
+pub extern "C" fn odif_normal_short(stream: &[u8], out: &mut [u8]) -> Written
+    ensures { λ r. ⌜ ShortOutcome Edition.Of1988 (now (stream .entry)) (now (out .entry)) r (now (out .exit)) ⌝ }
+{
+    normal_short(Edition::Of1988, stream, out)
+}
+
+#[no_mangle]
+pub extern "C" fn odif_normal_short_1993(stream: &[u8], out: &mut [u8]) -> Written
+    ensures { λ r. ⌜ ShortOutcome Edition.Of1993 (now (stream .entry)) (now (out .entry)) r (now (out .exit)) ⌝ }
+{
+    normal_short(Edition::Of1993, stream, out)
+}
