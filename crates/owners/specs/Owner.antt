@@ -1,8 +1,8 @@
 -- Which portion of which element a text unit answers, by the rows and the index that are there: the unit's record of a side, found from the unit.
--- And what else the order rules look at: how many portions an element lists, whether it has an identifier. W-207. Definitions only: assumes nothing.
+-- W-207. Definitions only: assumes nothing.
 use Prim.Native.Nat.{ℕ, suc, _≤_}
 use mathlib.Core.Path.{_≡_}
-use mathlib.Core.Bool.{Bool, true, cond}
+use mathlib.Core.Bool.{true, cond}
 use mathlib.Core.List.{List, [], _∷_}
 use lib.ListN.{length}
 use lib.Seq.{slice}
@@ -16,8 +16,8 @@ use Rattle.elements.specs.Judge.{Element}
 use Rattle.reading.specs.declared.Match.{Match}
 use Rattle.reading.specs.declared.Side.{Side}
 use Rattle.reading.specs.Match.{kindsOf, matches}
-use Rattle.reading.specs.Ready.{portionsAt, RowsTell, elementAt}
-use Rattle.order.specs.Answers.{_∈_, named}
+use Rattle.reading.specs.Ready.{portionsAt, RowsTell}
+use Rattle.order.specs.Answers.{_∈_}
 use Rattle.owners.specs.declared.Owner.{Owner}
 use Rattle.owners.specs.declared.Owner.the-variants.{Nobody, Of}
 
@@ -33,12 +33,6 @@ OwnerIs side elements unit Nobody = (element portion : ℕ) → made element por
 abbrev pub OwnerAt : Side → (s rows : List ℕ) → (n unit : ℕ) → Owner → Type 0
 OwnerAt side s rows n unit owner = (elements : List Element) → RowsTell s rows n elements → OwnerIs side elements unit owner
 
-abbrev pub ListsAt : (s rows : List ℕ) → (n j count : ℕ) → Type 0
-ListsAt s rows n j count = (elements : List Element) → RowsTell s rows n elements → count ≡ length (elementAt elements j .portions)
-
-abbrev pub NamedAt : (s rows : List ℕ) → (n j : ℕ) → Bool → Type 0
-NamedAt s rows n j test = (elements : List Element) → RowsTell s rows n elements → test ≡ named (elementAt elements j)
-
 -- what is known when owners are looked up: the rows of an accepted letter, and the index of its identifiers
 pub record Known (s rows head next : List ℕ) (n : ℕ) : Type 0 where
   pub elements : List Element
@@ -47,20 +41,20 @@ pub record Known (s rows head next : List ℕ) (n : ℕ) : Type 0 where
   pub logicals : Bounded s rows logicalColumn n
   pub indexed : Filed s rows identifierColumn head next n
 
+-- a row's portions
+abbrev pub listedAt : (s rows : List ℕ) → (j : ℕ) → List (List ℕ)
+listedAt s rows j = values (treeIn s (portionsAt rows j))
+
 -- the portions of a row can be met: they are no other items, and at most 64
 pub record Meetable (s rows : List ℕ) (j : ℕ) : Type 0 where
   pub fine : Fine s (portionsAt rows j)
   pub only-portions : allPortions (treeIn s (portionsAt rows j)) ≡ true
-  pub few : length (values (treeIn s (portionsAt rows j))) ≤ mostPortions
+  pub few : length (listedAt s rows j) ≤ mostPortions
 
 -- the first of these portions, from number n on, that has these octets
 unfoldable pub ownerAmong : (row n : ℕ) → (portions : List (List ℕ)) → (bytes : List ℕ) → Owner
 ownerAmong row n [] bytes = Nobody
 ownerAmong row n (portion ∷ portions) bytes = cond (same portion bytes) (Of row n) (ownerAmong row (suc n) portions bytes)
-
--- a row's portions
-abbrev pub listedAt : (s rows : List ℕ) → (j : ℕ) → List (List ℕ)
-listedAt s rows j = values (treeIn s (portionsAt rows j))
 
 -- the same of a row that has the name before the last space, if it is of the side
 abbrev pub ownerBy : Side → (s rows : List ℕ) → (row first past : ℕ) → Owner

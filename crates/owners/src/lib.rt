@@ -10,8 +10,9 @@ ghost use Prim.Native.Nat.{_+_, _*_, _<_, _≤_};
 ghost use lib.ListN.{length};
 ghost use lib.Seq.{slice};
 ghost use Rattle.index.specs.Rows.{rowWidth};
-ghost use Rattle.index.specs.Columns.{kindAt};
-ghost use Rattle.owners.specs.Owner.{OwnerAt, ListsAt, NamedAt, Known, Meetable, ownerAmong, listedAt, ownerBy};
+ghost use Rattle.index.specs.Columns.{identifierColumn, kindAt};
+ghost use Rattle.reading.specs.Ready.{spanAt, there};
+ghost use Rattle.owners.specs.Owner.{OwnerAt, Known, Meetable, ownerAmong, listedAt, ownerBy};
 
 // The kind of a text unit.
 const TEXT_UNIT: usize = 3;
@@ -37,24 +38,15 @@ pub fn kind_at(rows: &[u32], j: usize) -> usize
 }
 
 // Whether the element of row j has an identifier.
-pub fn is_named(s: &[u8], rows: &[u32], n: usize, j: usize) -> bool
-    requires { ⌜ (j < n) × (n * rowWidth ≤ length (now rows)) ⌝ }
-    ensures { λ r. ⌜ NamedAt (now (s .entry)) (now (rows .entry)) n j r ⌝ }
+pub fn is_named(rows: &[u32], j: usize) -> bool
+    requires { ⌜ j * rowWidth + rowWidth ≤ length (now rows) ⌝ }
+    ensures { λ r. ⌜ r ≡ there (spanAt (now (rows .entry)) identifierColumn j) ⌝ }
 {
     reading::is_there(reading::bounds_at(rows, j, IDENTIFIER))
 }
 
 // How many portions the element of row j lists.
-pub fn portions_of(s: &[u8], rows: &[u32], head: &[u16], next: &[u16], n: usize, j: usize) -> usize
-    requires { ⌜ Known (now s) (now rows) (now head) (now next) n ⌝ }
-    requires { ⌜ j < n ⌝ }
-    ensures { λ r. ⌜ ListsAt (now (s .entry)) (now (rows .entry)) n j r ⌝ }
-{
-    count_portions(s, rows, j)
-}
-
-// How many portions row j has.
-fn count_portions(s: &[u8], rows: &[u32], j: usize) -> usize
+pub fn portions_of(s: &[u8], rows: &[u32], j: usize) -> usize
     requires { ⌜ j * rowWidth + rowWidth ≤ length (now rows) ⌝ }
     requires { ⌜ Meetable (now s) (now rows) j ⌝ }
     ensures { λ r. ⌜ r ≡ length (listedAt (now (s .entry)) (now (rows .entry)) j) ⌝ }
