@@ -51,7 +51,7 @@ pub record Left (s rows : List ℕ) (j : ℕ) (left : Run) (met : ℕ) : Type 0 
   pub counted : met + length (values (treeIn s left)) ≡ length (listedAt s rows j)
 
 pub left-all : {s rows : List ℕ} {j : ℕ} → Meetable s rows j → Left s rows j (portionsAt rows j) 0
-left-all m = record { fine = m .fine; only-portions = m .only-portions; counted = refl }
+left-all m = record { fine = m .fine; only-portions = m .only-portions; counted = omega arith }
 
 module _ {s rows : List ℕ} {j : ℕ} {left : Run} {k : ℕ} (l : Left s rows j left k) where
   pub left-none : itemsOf s left ≡ none → k ≡ length (listedAt s rows j)
