@@ -203,14 +203,7 @@ fn step_b(
 }
 
 // The elements after the first, from the state that it left.
-fn pass(
-    s: &[u8],
-    rows: &[u32],
-    head: &[u16],
-    next: &[u16],
-    n: usize,
-    start: State,
-) -> Fault
+fn pass(s: &[u8], rows: &[u32], head: &[u16], next: &[u16], n: usize, start: State) -> Fault
     requires { ⌜ Known (now s) (now rows) (now head) (now next) n ⌝ }
     requires { ⌜ 0 < n ⌝ }
     ensures { λ r. ⌜ PassIs (now (s .entry)) (now (rows .entry)) n (stateOf start) r ⌝ }

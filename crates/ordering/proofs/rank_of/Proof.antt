@@ -1,39 +1,81 @@
+-- `ordering::rank_of` meets its contract: the tests are those of the table. Assumes nothing.
+use borrow.Author.Tests.{eq-eqb, ne-eqb}
+use Rattle.order.specs.ClassB.{rankIn}
 use Rattle.ordering.proofs.rank_of.Statement.{statement}
 use Rattle.ordering.proofs.rank_of.Tie as tie
-use Rattle.ordering.proofs.rank_of.Reads as reads
-use Rattle.ordering.proofs.rank_of.Lts as lts
 
--- src/lib.rt:45:9
 returns : tie.Need-returns
-returns c = ?
+unfolding rankIn
+returns c = rw (eq-eqb _ _ (c .if1 .taken))
 
--- src/lib.rt:48:9
 returns-2 : tie.Need-returns-2
-returns-2 c = ?
+unfolding rankIn
+returns-2 c = rw (
+  ne-eqb _ _ (c .before .if1 .left),
+  eq-eqb _ _ (c .if2 .taken),
+)
 
--- src/lib.rt:51:9
 returns-3 : tie.Need-returns-3
-returns-3 c = ?
+unfolding rankIn
+returns-3 c = rw (
+  ne-eqb _ _ (c .before .before .if1 .left),
+  ne-eqb _ _ (c .before .if2 .left),
+  eq-eqb _ _ (c .if3 .taken),
+)
 
--- src/lib.rt:54:9
 returns-4 : tie.Need-returns-4
-returns-4 c = ?
+unfolding rankIn
+returns-4 c = rw (
+  ne-eqb _ _ (c .before .before .before .if1 .left),
+  ne-eqb _ _ (c .before .before .if2 .left),
+  ne-eqb _ _ (c .before .if3 .left),
+  eq-eqb _ _ (c .if4 .taken),
+)
 
--- src/lib.rt:57:9
 returns-5 : tie.Need-returns-5
-returns-5 c = ?
+unfolding rankIn
+returns-5 c = rw (
+  ne-eqb _ _ (c .before .before .before .before .if1 .left),
+  ne-eqb _ _ (c .before .before .before .if2 .left),
+  ne-eqb _ _ (c .before .before .if3 .left),
+  ne-eqb _ _ (c .before .if4 .left),
+  eq-eqb _ _ (c .if5 .taken),
+)
 
--- src/lib.rt:60:9
 returns-6 : tie.Need-returns-6
-returns-6 c = ?
+unfolding rankIn
+returns-6 c = rw (
+  ne-eqb _ _ (c .before .before .before .before .before .if1 .left),
+  ne-eqb _ _ (c .before .before .before .before .if2 .left),
+  ne-eqb _ _ (c .before .before .before .if3 .left),
+  ne-eqb _ _ (c .before .before .if4 .left),
+  ne-eqb _ _ (c .before .if5 .left),
+  eq-eqb _ _ (c .if6 .taken),
+)
 
--- src/lib.rt:63:9
 returns-7 : tie.Need-returns-7
-returns-7 c = ?
+unfolding rankIn
+returns-7 c = rw (
+  ne-eqb _ _ (c .before .before .before .before .before .before .if1 .left),
+  ne-eqb _ _ (c .before .before .before .before .before .if2 .left),
+  ne-eqb _ _ (c .before .before .before .before .if3 .left),
+  ne-eqb _ _ (c .before .before .before .if4 .left),
+  ne-eqb _ _ (c .before .before .if5 .left),
+  ne-eqb _ _ (c .before .if6 .left),
+  eq-eqb _ _ (c .if7 .taken),
+)
 
--- src/lib.rt:41:1
 returns-8 : tie.Need-returns-8
-returns-8 c = ?
+unfolding rankIn
+returns-8 c = rw (
+  ne-eqb _ _ (c .before .before .before .before .before .before .if1 .left),
+  ne-eqb _ _ (c .before .before .before .before .before .if2 .left),
+  ne-eqb _ _ (c .before .before .before .before .if3 .left),
+  ne-eqb _ _ (c .before .before .before .if4 .left),
+  ne-eqb _ _ (c .before .before .if5 .left),
+  ne-eqb _ _ (c .before .if6 .left),
+  ne-eqb _ _ (c .if7 .left),
+)
 
 pub rank-of-spec : {M : Type 1} → statement M
 rank-of-spec =

@@ -1,31 +1,32 @@
+-- `ordering::step_b` meets its contract: a unit takes the one step, any other element the other. Assumes nothing.
+use mathlib.Core.Path.{sym, _∙_}
+use native.Mathlib.Omega.{arith}
 use borrow.Author.Needs.{needs}
+use Rattle.ordering.specs.Steps.{stateOf}
+use Rattle.ordering.proofs.Seeing.{step-unit, step-head}
 use Rattle.ordering.proofs.step_b.Statement.{statement}
 use Rattle.ordering.proofs.step_b.Tie as tie
-use Rattle.ordering.proofs.step_b.Reads as reads
-use Rattle.ordering.proofs.step_b.Lts as lts
-use Rattle.ordering.proofs.head_step.Reads as head-step-reads
-use Rattle.ordering.proofs.unit_step.Reads as unit-step-reads
-use Rattle.owners.proofs.kind_at.Reads as kind-at-reads
 
--- src/lib.rt:199:8
 kind-at-requires : tie.Need-kind-at-requires
-kind-at-requires c κs = search needs
+kind-at-requires c κs = let start = c .before .before .before .before in omega (arith, start .pre .1, start .pre .0 .identifiers .in-table)
 
--- src/lib.rt:200:9
 unit-step-requires : tie.Need-unit-step-requires
 unit-step-requires c κs = search needs
 
--- src/lib.rt:200:9
 returns : tie.Need-returns
-returns c = ?
+returns c elements ready aside =
+    let start = c .before .before .before .before .before .before .before in
+    c .unit-step .ensures elements ready aside
+    ∙ step-unit ready (start .args .j) (start .pre .1) (stateOf (start .args .state)) (sym (c .before .before .kind-at .ensures) ∙ c .before .if1 .taken)
 
--- src/lib.rt:202:5
 head-step-requires : tie.Need-head-step-requires
 head-step-requires c κs = search needs
 
--- src/lib.rt:186:1
 returns-2 : tie.Need-returns-2
-returns-2 c = ?
+returns-2 c elements ready aside =
+    let start = c .before .before .before .before .before .before .before in
+    c .head-step .ensures elements ready aside
+    ∙ step-head ready (start .args .j) (start .pre .1) (stateOf (start .args .state)) (λ e. c .before .if1 .left (c .before .before .kind-at .ensures ∙ e))
 
 pub step-b-spec : {M : Type 1} → statement M
 step-b-spec =

@@ -1,38 +1,44 @@
+-- `ordering::unit_step` meets its contract: the unit's owner is the one of its record. Assumes nothing.
+use mathlib.Core.Path.{subst}
 use borrow.Author.Needs.{needs}
+use Rattle.reading.specs.declared.Side.the-variants.{Layout}
+use Rattle.owners.specs.Owner.{OwnerIs}
+use Rattle.ordering.specs.Steps.{stateOf}
+use Rattle.ordering.proofs.Seeing.{unit-nobody, unit-other, unit-own}
 use Rattle.ordering.proofs.unit_step.Statement.{statement}
 use Rattle.ordering.proofs.unit_step.Tie as tie
-use Rattle.ordering.proofs.unit_step.Reads as reads
-use Rattle.ordering.proofs.unit_step.Lts as lts
-use Rattle.ordering.proofs.one_fewer.Reads as one-fewer-reads
-use Rattle.owners.proofs.owner_of.Reads as owner-of-reads
 
--- src/lib.rt:141:11
 owner-of-requires : tie.Need-owner-of-requires
 owner-of-requires c κs = search needs
 
--- src/lib.rt:142:26
 enum-told : tie.Need-enum-told
 enum-told c = search needs
 
--- src/lib.rt:143:21
 enum-known-row : tie.Need-enum-known-row
 enum-known-row c = search needs
 
--- src/lib.rt:145:17
 returns : tie.Need-returns
-returns c = ?
+returns c elements ready aside =
+    let start = c .before .before .before .before .before .before .before .before .before .before in
+    let found = c .before .before .before .row .given in
+    unit-other ready (start .args .u) (start .pre .1) aside (stateOf (start .args .state)) (found .0 .0) (found .0 .1 .0)
+    (subst (OwnerIs Layout elements (start .args .u)) (found .1) (c .before .before .before .before .before .owner-of .ensures elements ready)) (c .if1 .taken)
 
--- src/lib.rt:150:23
 one-fewer-requires : tie.Need-one-fewer-requires
 one-fewer-requires c κs = search needs
 
--- src/lib.rt:128:1
 returns-2 : tie.Need-returns-2
-returns-2 c = ?
+returns-2 c elements ready aside =
+    let start = c .before .before .before .before .before .before .before in
+    unit-nobody ready (start .args .u) (start .pre .1) aside (stateOf (start .args .state))
+    (subst (OwnerIs Layout elements (start .args .u)) (c .enum-told .given .1) (c .before .before .owner-of .ensures elements ready))
 
--- src/lib.rt:128:1
 returns-3 : tie.Need-returns-3
-returns-3 c = ?
+returns-3 c elements ready aside =
+    let start = c .before .before .before .before .before .before .before .before .before .before .before in
+    let found = c .before .before .before .before .row .given in
+    unit-own ready (start .args .u) (start .pre .1) aside (stateOf (start .args .state)) (found .0 .0) (found .0 .1 .0)
+    (subst (OwnerIs Layout elements (start .args .u)) (found .1) (c .before .before .before .before .before .before .owner-of .ensures elements ready)) (c .one-fewer .result) (c .one-fewer .ensures) (c .before .if1 .left)
 
 pub unit-step-spec : {M : Type 1} → statement M
 unit-step-spec =
