@@ -1,0 +1,2 @@
+-- Pass: the pass.
+pub mod Pass
