@@ -1,9 +1,9 @@
 -- What the rows of an accepted letter tell of an element: its kind, whether it has an identifier, how many portions it lists, and that these can
 -- be met. And what is known while they are met. Assumes nothing.
-use mathlib.Core.Path.{_≡_, refl, ap, sym, _∙_}
+use mathlib.Core.Path.{_≡_, ap, sym, _∙_}
 use mathlib.Core.Bool.{true}
 use mathlib.Core.List.{List}
-use Prim.Native.Nat.{ℕ, suc, _+_, _*_, _<_, _≤_}
+use Prim.Native.Nat.{ℕ, suc, _+_, _<_}
 use native.Mathlib.Omega.{arith}
 use lib.ListN.{length}
 use lib.Dec.{ltb}
@@ -13,14 +13,15 @@ use Rattle.runs.specs.declared.Run.{Run}
 use Rattle.runs.specs.Runs.{itemsOf, treeIn, Fine, Meeting}
 use Rattle.portions.specs.Portions.{mostPortions, allPortions, values}
 use Rattle.portions.proofs.Meetings.{values-next, portions-left, values-end}
-use Rattle.index.specs.Rows.{rowWidth}
-use Rattle.index.specs.Columns.{identifierColumn, kindAt, firstAt, pastAt}
+use Rattle.index.specs.Columns.{identifierColumn, kindAt, firstAt, pastAt, Bounded}
 use Rattle.elements.specs.Judge.{Element}
-use Rattle.reading.specs.Ready.{spanAt, there, nameIn, portionsAt, Tells, RowsTell, elementAt}
+use Rattle.reading.specs.declared.Side.{Side}
+use Rattle.reading.specs.declared.Side.the-variants.{Layout, Logical}
+use Rattle.reading.specs.Ready.{columnOf, spanAt, there, nameIn, portionsAt, Tells, RowsTell, elementAt}
 use Rattle.reading.proofs.Listing.{element-there, element-told}
 use Rattle.reading.proofs.OnePlace.{few-portions}
 use Rattle.order.specs.Answers.{present, named}
-use Rattle.owners.specs.Owner.{listedAt, Meetable}
+use Rattle.owners.specs.Owner.{Known, listedAt, Meetable}
 
 module _ {s rows : List ℕ} {n : ℕ} {elements : List Element} (ready : RowsTell s rows n elements) (j : ℕ) (below : j < n) where
   abbrev told : Tells s rows j (elementAt elements j)
@@ -51,7 +52,7 @@ pub record Left (s rows : List ℕ) (j : ℕ) (left : Run) (met : ℕ) : Type 0 
   pub counted : met + length (values (treeIn s left)) ≡ length (listedAt s rows j)
 
 pub left-all : {s rows : List ℕ} {j : ℕ} → Meetable s rows j → Left s rows j (portionsAt rows j) 0
-left-all m = record { fine = m .fine; only-portions = m .only-portions; counted = refl }
+left-all m = record { fine = m .fine; only-portions = m .only-portions; counted = omega arith }
 
 module _ {s rows : List ℕ} {j : ℕ} {left : Run} {k : ℕ} (l : Left s rows j left k) where
   pub left-none : itemsOf s left ≡ none → k ≡ length (listedAt s rows j)
@@ -66,3 +67,8 @@ module _ {s rows : List ℕ} {j : ℕ} {left : Run} {k : ℕ} (l : Left s rows j
 
     pub left-small : Meetable s rows j → k < mostPortions
     left-small m = omega (arith, one-fewer, l .counted, m .few)
+
+-- the identifiers of either side lie in the stream
+pub bounded-on : {s rows head next : List ℕ} {n : ℕ} → Known s rows head next n → (side : Side) → Bounded s rows (columnOf side) n
+bounded-on known Layout = known .identifiers
+bounded-on known Logical = known .logicals

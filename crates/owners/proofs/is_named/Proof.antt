@@ -1,22 +1,18 @@
+-- `owners::is_named` meets its contract. Assumes nothing.
+use mathlib.Core.Path.{ap, _∙_}
 use borrow.Author.Needs.{needs}
+use Rattle.reading.specs.Ready.{there}
 use Rattle.owners.proofs.is_named.Statement.{statement}
 use Rattle.owners.proofs.is_named.Tie as tie
-use Rattle.owners.proofs.is_named.Reads as reads
-use Rattle.owners.proofs.is_named.Lts as lts
-use Rattle.reading.proofs.bounds_at.Reads as bounds-at-reads
-use Rattle.reading.proofs.is_there.Reads as is-there-reads
 
--- src/lib.rt:45:23
 bounds-at-requires : tie.Need-bounds-at-requires
 bounds-at-requires c κs = search needs
 
--- src/lib.rt:45:5
 is-there-requires : tie.Need-is-there-requires
 is-there-requires c κs = search needs
 
--- src/lib.rt:41:1
 returns : tie.Need-returns
-returns c = ?
+returns c = c .is-there .ensures ∙ ap there (c .before .bounds-at .ensures)
 
 pub is-named-spec : {M : Type 1} → statement M
 is-named-spec = tie.close (tie.spec bounds-at-requires is-there-requires returns)

@@ -1,31 +1,34 @@
+-- `owners::owner_by` meets its contract: the kind is tested, and the portions of a row of the side are looked through. Assumes nothing.
+use mathlib.Core.Path.{_≡_, ap, sym, _∙_}
+use Prim.Native.Nat.{ℕ}
 use borrow.Author.Needs.{needs}
+use borrow.Author.Tests.{not-true, not-false}
+use Rattle.headers.specs.Head.{isIn}
+use Rattle.index.specs.Columns.{kindAt}
+use Rattle.reading.specs.Match.{kindsOf}
 use Rattle.owners.proofs.owner_by.Statement.{statement}
 use Rattle.owners.proofs.owner_by.Tie as tie
-use Rattle.owners.proofs.owner_by.Reads as reads
-use Rattle.owners.proofs.owner_by.Lts as lts
-use Rattle.owners.proofs.kind_at.Reads as kind-at-reads
-use Rattle.owners.proofs.portion_with.Reads as portion-with-reads
-use Rattle.reading.proofs.is_read.Reads as is-read-reads
 
--- src/lib.rt:109:32
 kind-at-requires : tie.Need-kind-at-requires
 kind-at-requires c κs = search needs
 
--- src/lib.rt:109:9
 is-read-requires : tie.Need-is-read-requires
 is-read-requires c κs = search needs
 
--- src/lib.rt:110:9
-returns : tie.Need-returns
-returns c = ?
+-- the kind was tested
+kind-read : (c : tie.After-is-read) →
+    let a = c .before .before .before .before .args in
+    isIn (kindAt (a .rows .now) (a .row)) (kindsOf (a .side)) ≡ c .is-read .result
+kind-read c = ap (λ (k : ℕ). isIn k (kindsOf (c .before .before .before .before .args .side))) (sym (c .before .kind-at .ensures)) ∙ sym (c .is-read .ensures)
 
--- src/lib.rt:112:5
+returns : tie.Need-returns
+returns c = rw (kind-read (c .before) ∙ not-true _ (c .if1 .taken))
+
 portion-with-requires : tie.Need-portion-with-requires
 portion-with-requires c κs = search needs
 
--- src/lib.rt:103:1
 returns-2 : tie.Need-returns-2
-returns-2 c = ?
+returns-2 c = rw (kind-read (c .before .before) ∙ not-false _ (c .before .if1 .left)) (c .portion-with .ensures)
 
 pub owner-by-spec : {M : Type 1} → statement M
 owner-by-spec =
