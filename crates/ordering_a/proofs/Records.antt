@@ -28,7 +28,7 @@ use Rattle.order.specs.Answers.{_∈_, sideOf, owns}
 use Rattle.order.specs.ClassA.{answersSome}
 use Rattle.order.proofs.FrontA.{of-kind, kind-of}
 use Rattle.order.proofs.AsMatches.{Recorded, early-match, some-match}
-use Rattle.ordering_a.specs.Pass.{made}
+use Rattle.owners.specs.Owner.{made}
 
 -- a kind of a side tells the side
 pub side-told : (side : Side) (e : Element) → isIn (e .kind) (kindsOf side) ≡ true → sideOf e ≡ side

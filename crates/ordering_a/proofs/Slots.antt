@@ -29,12 +29,10 @@ use Rattle.order.proofs.Place.{aside-left}
 use Rattle.order.proofs.SightsA.{slot-none}
 use Rattle.order.proofs.AsMatches.{answers-match}
 use Rattle.order.proofs.CountsA.{slot-is}
-use Rattle.ordering_a.specs.Pass.{made}
+use Rattle.owners.specs.Owner.{made}
+use Rattle.ordering_a.specs.Pass.{before}
 use Rattle.ordering_a.proofs.Records.{front, here, rest, whole, row-below, row-kind, side-told, record-portion}
 
--- how many portions elements of a kind list before element j
-abbrev pub before : (kind : ℕ) → List Element → (j : ℕ) → ℕ
-before kind es j = length (listedOf kind (take j es))
 
 -- one element more
 one-lists : (kind : ℕ) (e : Element) → length (listedOf kind (e ∷ [])) ≡ countIf (eqb (e .kind) kind) (length (e .portions))

@@ -1,0 +1,100 @@
+-- One row more, as the code takes it: of whatever elements the rows tell. Assumes nothing.
+use mathlib.Core.Path.{_≡_, refl, ap, sym, _∙_, subst}
+use mathlib.Core.Bool.{true, false}
+use mathlib.Core.List.{List}
+use Prim.Native.Nat.{ℕ, suc, _+_, _*_, _<_, _≤_}
+use borrow.Table.Steps.{cases}
+use native.Mathlib.Omega.{arith}
+use lib.ListN.{length}
+use Rattle.index.specs.Rows.{rowWidth}
+use Rattle.elements.specs.Judge.{Element}
+use Rattle.reading.specs.declared.Side.{Side}
+use Rattle.reading.specs.declared.Side.the-variants.{Layout, Logical}
+use Rattle.reading.specs.Ready.{RowsTell, elementAt}
+use Rattle.order.specs.Answers.{LimitsAside}
+use Rattle.ranks.specs.declared.Sight.{Sight}
+use Rattle.ranks.specs.Step.{stands, Small}
+use Rattle.owners.specs.Owner.{Known, listedAt}
+use Rattle.owners.proofs.Telling.{kind-told, named-told, lists-told, meetable}
+use Rattle.ordering_a.specs.declared.Own.{Own}
+use Rattle.ordering_a.specs.declared.Walk.{Walk}
+use Rattle.ordering_a.specs.declared.Step.{Step}
+use Rattle.ordering_a.specs.declared.Step.the-variants.{Stops, Goes}
+use Rattle.ordering_a.specs.Pass.{OwnIs, OwnAt, kindFor, ownFor, rowFor, Told, before, Reaches, sightFor, walkFor, Standing, Bounds, StepAt}
+use Rattle.ordering_a.proofs.Turns.{row-rises, row-few}
+use Rattle.ordering_a.proofs.Standing.{Seen, stops-here, goes-here}
+use Rattle.ordering_a.proofs.Passing.{small, bounds-next}
+
+pub told-of : {s rows head next : List ℕ} {n : ℕ} → Known s rows head next n → Told s rows n
+told-of known = record { elements = known .elements; ready = known .ready; in-table = known .identifiers .in-table }
+
+pub few-rows : {s rows : List ℕ} {n : ℕ} → Told s rows n → n ≤ 4096
+few-rows told = omega (arith, told .ready .apart .few, told .ready .counted)
+
+pub row-inside : {s rows : List ℕ} {n : ℕ} → Told s rows n → (j : ℕ) → j < n → j * rowWidth + rowWidth ≤ length rows
+row-inside told j l = omega (arith, told .in-table)
+
+module _ {s rows : List ℕ} {n : ℕ} (told : Told s rows n) (k : ℕ) (l : k < n) (w : Walk) (bounds : Bounds k w) (layout logical : Own)
+    (a : OwnAt Layout s rows n k layout) (b : OwnAt Logical s rows n k logical) (kind row : ℕ) (kind-is : kind ≡ kindFor (w .layouts))
+    (row-is : row ≡ rowFor (ownFor (w .layouts) layout logical) kind (w .row)) where
+  own-low : ownFor (w .layouts) layout logical .row ≤ k
+  unfolding ownFor
+  own-low = cases (w .layouts) (λ t. rw t (a .in-rows)) (λ t. rw t (b .in-rows))
+
+  pub row-low : row ≤ k
+  row-low = subst (λ (i : ℕ). i ≤ k) (sym row-is) (row-few (ownFor (w .layouts) layout logical) kind (w .row) k (bounds .row) own-low)
+
+  pub row-on : w .row ≤ row
+  row-on = subst (λ (i : ℕ). w .row ≤ i) (sym row-is) (row-rises (ownFor (w .layouts) layout logical) kind (w .row))
+
+  module _ (base : ℕ) (reaches : Reaches s rows n kind (w .row) (w .base) row base) (x : Sight) (x-is : x ≡ sightFor s rows k w layout logical row base) where
+    lists-few : x .lists ≤ 64
+    unfolding sightFor
+    lists-few = subst (λ (y : Sight). y .lists ≤ 64) (sym x-is) (meetable (told .ready) k l .few)
+
+    pub small-is : Small (w .state) x
+    small-is = small k w x (omega (arith, few-rows told)) bounds lists-few
+
+    module _ (es : List Element) (ready : RowsTell s rows n es) (aside : LimitsAside es) (st : Standing es k w) where
+      inside : k < length es
+      inside = omega (arith, ready .counted)
+
+      of-layout : OwnIs Layout es (length es) k layout
+      of-layout = subst (λ (m : ℕ). OwnIs Layout es m k layout) (sym (ready .counted)) (a .is es ready)
+
+      of-logical : OwnIs Logical es (length es) k logical
+      of-logical = subst (λ (m : ℕ). OwnIs Logical es m k logical) (sym (ready .counted)) (b .is es ready)
+
+      row-same : row ≡ rowFor (ownFor (w .layouts) layout logical) (kindFor (w .layouts)) (w .row)
+      row-same = row-is ∙ ap (λ (i : ℕ). rowFor (ownFor (w .layouts) layout logical) i (w .row)) kind-is
+
+      base-same : base ≡ before (kindFor (w .layouts)) es row
+      base-same = reaches .is es ready (st .base-is ∙ ap (λ (i : ℕ). before i es (w .row)) (sym kind-is)) ∙ ap (λ (i : ℕ). before i es row) kind-is
+
+      seen : Seen es k w layout logical row base x
+      unfolding sightFor
+      seen =
+          subst (Seen es k w layout logical row base) (sym x-is)
+          (record {
+            kind = sym (kind-told ready k l);
+            named-is = sym (named-told ready k l);
+            lists = sym (lists-told ready k l);
+            early = refl;
+            generic = refl;
+            specific = refl;
+            ordered = refl;
+            turn = refl;
+          })
+
+    pub stops : stands (w .state) x ≡ false → StepAt s rows n k w Stops
+    stops t es ready aside st =
+        stops-here es aside k (inside es ready aside st) w st (bounds .row) layout logical (of-layout es ready aside st) (of-logical es ready aside st) row base
+        (row-same es ready aside st) (base-same es ready aside st) x (seen es ready aside st) t
+
+    pub goes : (v : Walk) → v ≡ walkFor w x layout logical row base → stands (w .state) x ≡ true → StepAt s rows n k w (Goes v)
+    goes v v-is t = (
+      subst (Bounds (suc k)) (sym v-is) (bounds-next k w x layout logical row base bounds lists-few row-low (reaches .small)),
+      λ es ready aside st. subst (Standing es (suc k)) (sym v-is)
+          (goes-here es aside k (inside es ready aside st) w st (bounds .row) layout logical (of-layout es ready aside st) (of-logical es ready aside st) row base
+          (row-same es ready aside st) (base-same es ready aside st) x (seen es ready aside st) t),
+    )

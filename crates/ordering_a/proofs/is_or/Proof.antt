@@ -1,0 +1,18 @@
+-- `ordering_a::is_or` meets its contract: by its two cases. Assumes nothing.
+use Prim.Native.Nat.{_-_}
+use Rattle.ordering_a.specs.Pass.{orLayout}
+use Rattle.ordering_a.proofs.is_or.Statement.{statement}
+use Rattle.ordering_a.proofs.is_or.Tie as tie
+use Rattle.ordering_a.proofs.is_or.Reads as reads
+use Rattle.ordering_a.proofs.is_or.Lts as lts
+
+returns : tie.Need-returns
+unfolding orLayout
+returns c = rw (c .if1 .taken)
+
+returns-2 : tie.Need-returns-2
+unfolding orLayout
+returns-2 c = rw (c .if1 .left)
+
+pub is-or-spec : {M : Type 1} → statement M
+is-or-spec = tie.close (tie.spec returns returns-2)

@@ -1,0 +1,18 @@
+-- `ordering_a::kind_for` meets its contract: by its two cases. Assumes nothing.
+use Prim.Native.Nat.{_-_}
+use Rattle.ordering_a.specs.Pass.{kindFor}
+use Rattle.ordering_a.proofs.kind_for.Statement.{statement}
+use Rattle.ordering_a.proofs.kind_for.Tie as tie
+use Rattle.ordering_a.proofs.kind_for.Reads as reads
+use Rattle.ordering_a.proofs.kind_for.Lts as lts
+
+returns : tie.Need-returns
+unfolding kindFor
+returns c = rw (c .if1 .taken)
+
+returns-2 : tie.Need-returns-2
+unfolding kindFor
+returns-2 c = rw (c .if1 .left)
+
+pub kind-for-spec : {M : Type 1} → statement M
+kind-for-spec = tie.close (tie.spec returns returns-2)
