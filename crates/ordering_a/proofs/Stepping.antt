@@ -5,25 +5,32 @@ use mathlib.Core.List.{List}
 use Prim.Native.Nat.{ℕ, suc, _+_, _*_, _<_, _≤_}
 use borrow.Table.Steps.{cases}
 use native.Mathlib.Omega.{arith}
+use native.Mathlib.Numerals.{add-one}
 use lib.ListN.{length}
 use Rattle.index.specs.Rows.{rowWidth}
+use Rattle.index.specs.Columns.{kindAt}
 use Rattle.elements.specs.Judge.{Element}
 use Rattle.reading.specs.declared.Side.{Side}
 use Rattle.reading.specs.declared.Side.the-variants.{Layout, Logical}
 use Rattle.reading.specs.Ready.{RowsTell, elementAt}
 use Rattle.order.specs.Answers.{LimitsAside}
+use Rattle.order.specs.declared.Fault.{Fault}
+use Rattle.order.specs.declared.Fault.the-variants.{Nowhere, At}
+use Rattle.order.specs.Begins.{classA}
+use Rattle.order.specs.Coded.{FaultIn}
+use Rattle.order.proofs.PassA.{pass-exactly}
 use Rattle.ranks.specs.declared.Sight.{Sight}
-use Rattle.ranks.specs.Step.{stands, Small}
+use Rattle.ranks.specs.Step.{stands, waiting, Small}
 use Rattle.owners.specs.Owner.{Known, listedAt}
 use Rattle.owners.proofs.Telling.{kind-told, named-told, lists-told, meetable}
 use Rattle.ordering_a.specs.declared.Own.{Own}
 use Rattle.ordering_a.specs.declared.Walk.{Walk}
 use Rattle.ordering_a.specs.declared.Step.{Step}
 use Rattle.ordering_a.specs.declared.Step.the-variants.{Stops, Goes}
-use Rattle.ordering_a.specs.Pass.{OwnIs, OwnAt, kindFor, ownFor, rowFor, Told, before, Reaches, sightFor, walkFor, Standing, Bounds, StepAt}
+use Rattle.ordering_a.specs.Pass.{OwnIs, OwnAt, kindFor, ownFor, rowFor, Told, before, Reaches, sightFor, walkFor, startOf, Standing, Bounds, StepAt}
 use Rattle.ordering_a.proofs.Turns.{row-rises, row-few}
 use Rattle.ordering_a.proofs.Standing.{Seen, stops-here, goes-here}
-use Rattle.ordering_a.proofs.Passing.{small, bounds-next}
+use Rattle.ordering_a.proofs.Passing.{start, start-bounds, ends-waiting, ends-whole, small, bounds-next}
 
 pub told-of : {s rows head next : List ℕ} {n : ℕ} → Known s rows head next n → Told s rows n
 told-of known = record { elements = known .elements; ready = known .ready; in-table = known .identifiers .in-table }
@@ -98,3 +105,39 @@ module _ {s rows : List ℕ} {n : ℕ} (told : Told s rows n) (k : ℕ) (l : k <
           (goes-here es aside k (inside es ready aside st) w st (bounds .row) layout logical (of-layout es ready aside st) (of-logical es ready aside st) row base
           (row-same es ready aside st) (base-same es ready aside st) x (seen es ready aside st) t),
     )
+
+-- what is known before row k
+pub record Walking (s rows : List ℕ) (n k : ℕ) (w : Walk) : Type 0 where
+  pub within : k ≤ n
+  pub bounds : Bounds k w
+  pub standing : (es : List Element) → RowsTell s rows n es → LimitsAside es → Standing es k w
+
+pub walking-first : {s rows : List ℕ} {n : ℕ} → Told s rows n → 0 < n → kindAt rows 0 ≡ 0 → Walking s rows n 1 (startOf n)
+walking-first {s} {rows} {n} told l k =
+    record {
+      within = omega arith;
+      bounds = start-bounds n;
+      standing = λ es ready aside. start es n (ready .counted) l (sym (kind-told ready 0 l) ∙ k);
+    }
+
+module _ {s rows : List ℕ} {n k : ℕ} {w : Walk} (at : Walking s rows n k w) where
+  pub walking-stops : StepAt s rows n k w Stops → FaultIn classA s rows n (At k)
+  walking-stops step es ready aside = sym (step es ready aside (at .standing es ready aside)) ∙ pass-exactly es aside
+
+  pub walking-more : {v : Walk} → k < n → StepAt s rows n k w (Goes v) → Walking s rows n (k + 1) v
+  walking-more {v} l step =
+      subst (λ (i : ℕ). Walking s rows n i v) (sym (add-one k))
+      (record { within = omega arith; bounds = step .0; standing = λ es ready aside. step .1 es ready aside (at .standing es ready aside) })
+
+  module _ (end : n ≤ k) where
+    last : k ≡ n
+    last = omega (arith, at .within)
+
+    stands-at : (es : List Element) → RowsTell s rows n es → LimitsAside es → Standing es n w
+    stands-at es ready aside = subst (λ (i : ℕ). Standing es i w) last (at .standing es ready aside)
+
+    pub walking-ends : waiting (w .state) ≡ true → FaultIn classA s rows n (At n)
+    walking-ends t es ready aside = ends-waiting es aside n (ready .counted) w (stands-at es ready aside) t
+
+    pub walking-whole : waiting (w .state) ≡ false → FaultIn classA s rows n Nowhere
+    walking-whole t es ready aside = ends-whole es aside n (ready .counted) w (stands-at es ready aside) t

@@ -1,3 +1,10 @@
+-- `ordering_a::pass` meets its contract: the rows are taken in turn. The measure is how many are left. Assumes nothing.
+use mathlib.Core.Path.{sym, _∙_, subst}
+use Prim.Native.Nat.{_-_}
+use native.Mathlib.Omega.{arith}
+use Rattle.ordering_a.specs.Pass.{before, StepAt}
+use borrow.Author.Needs.{needs}
+use Rattle.ordering_a.proofs.Stepping.{told-of, few-rows, Walking, walking-first, walking-more, walking-stops, walking-ends, walking-whole}
 use Rattle.ordering_a.proofs.pass.Statement.{statement}
 use Rattle.ordering_a.proofs.pass.Tie as tie
 use Rattle.ordering_a.proofs.pass.Reads as reads
@@ -8,66 +15,58 @@ use Rattle.ordering_a.proofs.take_row.Reads as take-row-reads
 use Rattle.ranks.proofs.is_waiting.Reads as is-waiting-reads
 
 abbrev Inv-loop : tie.InvT-loop
-Inv-loop s rows head next n w₀ k₀ w k = ?
+Inv-loop s rows head next n w₀ k₀ w k = Walking s rows n k w
 
 abbrev μ-loop : tie.MeasureT-loop
-μ-loop s rows head next n w₀ k₀ w k = ?
+μ-loop s rows head next n w₀ k₀ w k = n - k
 
--- src/lib.rt:285:9
 first-walk-requires : tie.Need-first-walk-requires Inv-loop μ-loop
-first-walk-requires c κs = ?
+first-walk-requires c κs = search needs
 
--- src/lib.rt:287:5
 loop-holds : tie.Need-loop-holds Inv-loop μ-loop
-loop-holds c = ?
+loop-holds c = let start = c .before .before .before .before .before in rw (c .first-walk .ensures) (walking-first (told-of (start .pre .0)) (start .pre .1 .0) (start .pre .1 .1))
 
--- src/lib.rt:288:13
 look-requires : tie.Need-look-requires Inv-loop μ-loop
-look-requires c κs = ?
+look-requires c κs = let start = c .before .before .before .before .before .before .before in (start .pre .0, omega arith)
 
--- src/lib.rt:289:13
 look-requires-2 : tie.Need-look-requires-2 Inv-loop μ-loop
-look-requires-2 c κs = ?
+look-requires-2 c κs = let start = c .before .before .before .before .before .before .before .before in (start .pre .0, omega arith)
 
--- src/lib.rt:290:15
 take-row-requires : tie.Need-take-row-requires Inv-loop μ-loop
-take-row-requires c κs = ?
+take-row-requires c κs = let start = c .before .before .before .before .before .before .before .before .before in ((told-of (start .pre .0), omega arith), (c .before .before .before .loop .inv .bounds, (c .before .look .ensures, c .look2 .ensures)))
 
--- src/lib.rt:291:28
 enum-told : tie.Need-enum-told Inv-loop μ-loop
-enum-told c = ?
+enum-told c = search needs
 
--- src/lib.rt:291:28
 returns : tie.Need-returns Inv-loop μ-loop
-returns c = ?
+returns c = 
+    let start = c .before .before .before .before .before .before .before .before .before .before .before .before in
+    let at = c .before .before .before .before .before .before .loop in
+    walking-stops (at .inv) (subst (StepAt (start .args .s .now) (start .args .rows .now) (start .args .n) (at .k) (at .w)) (c .enum-told .given .1) (c .before .before .take-row .ensures))
 
--- src/lib.rt:292:24
 enum-known-after : tie.Need-enum-known-after Inv-loop μ-loop
-enum-known-after c = ?
+enum-known-after c = search needs
 
--- src/lib.rt:294:17
 add-k : tie.Need-add-k Inv-loop μ-loop
-add-k c = ?
+add-k c = let start = c .before .before .before .before .before .before .before .before .before .before .before .before .before in omega (arith, few-rows (told-of (start .pre .0)))
 
--- src/lib.rt:287:5
 loop-less : tie.Need-loop-less Inv-loop μ-loop
-loop-less c = ?
+loop-less c = omega arith
 
--- src/lib.rt:287:5
 loop-again : tie.Need-loop-again Inv-loop μ-loop
-loop-again c = ?
+loop-again c = 
+    let start = c .before .before .before .before .before .before .before .before .before .before .before .before .before in
+    let at = c .before .before .before .before .before .before .before .loop in
+    walking-more (at .inv) (omega arith) (subst (StepAt (start .args .s .now) (start .args .rows .now) (start .args .n) (at .k) (at .w)) (c .before .after .given .1) (c .before .before .before .take-row .ensures))
 
--- src/lib.rt:298:8
 is-waiting-requires : tie.Need-is-waiting-requires Inv-loop μ-loop
-is-waiting-requires c κs = ?
+is-waiting-requires c κs = search needs
 
--- src/lib.rt:299:9
 returns-2 : tie.Need-returns-2 Inv-loop μ-loop
-returns-2 c = ?
+returns-2 c = let at = c .before .before .before .loop in walking-ends (at .inv) (omega arith) (sym (c .before .is-waiting .ensures) ∙ c .if1 .taken)
 
--- src/lib.rt:280:1
 returns-3 : tie.Need-returns-3 Inv-loop μ-loop
-returns-3 c = ?
+returns-3 c = let at = c .before .before .before .loop in walking-whole (at .inv) (omega arith) (sym (c .before .is-waiting .ensures) ∙ c .if1 .left)
 
 pub pass-spec : {M : Type 1} → statement M
 pass-spec =

@@ -1,3 +1,11 @@
+-- `ordering_a::take_row` meets its contract: what is seen is judged by the step. Assumes nothing.
+use mathlib.Core.Path.{ap, sym, _∙_}
+use Prim.Native.Nat.{_-_}
+use native.Mathlib.Omega.{arith}
+use borrow.Author.Tests.{not-true, not-false}
+use Rattle.ordering_a.specs.Pass.{rowFor, before}
+use Rattle.ordering_a.specs.declared.Own.{Own}
+use Rattle.ordering_a.proofs.Stepping.{row-low, row-on, small-is, stops, goes}
 use borrow.Author.Needs.{needs}
 use Rattle.ordering_a.proofs.take_row.Statement.{statement}
 use Rattle.ordering_a.proofs.take_row.Tie as tie
@@ -11,41 +19,62 @@ use Rattle.ordering_a.proofs.see.Reads as see-reads
 use Rattle.ordering_a.proofs.walk_on.Reads as walk-on-reads
 use Rattle.ranks.proofs.may_stand.Reads as may-stand-reads
 
--- src/lib.rt:250:9
 kind-for-requires : tie.Need-kind-for-requires
 kind-for-requires c κs = search needs
 
--- src/lib.rt:251:23
 own-for-requires : tie.Need-own-for-requires
 own-for-requires c κs = search needs
 
--- src/lib.rt:251:9
 row-for-requires : tie.Need-row-for-requires
 row-for-requires c κs = search needs
 
--- src/lib.rt:252:9
 reach-requires : tie.Need-reach-requires
-reach-requires c κs = ?
+reach-requires c κs = 
+    let start = c .before .before .before .before .before in
+    let a = start .args in
+    let by = c .before .before .kind-for in
+    let to = c .row-for in
+    let row-is = to .ensures ∙ ap (λ (o : Own). rowFor o (by .result) (a .w .row)) (c .before .own-for .ensures) in
+    (start .pre .0 .0, (row-on (start .pre .0 .0) (a .k) (start .pre .0 .1) (a .w) (start .pre .1 .0) (a .layout) (a .logical) (start .pre .1 .1 .0) (start .pre .1 .1 .1) (by .result) (to .result) (by .ensures) row-is, omega (arith, row-low (start .pre .0 .0) (a .k) (start .pre .0 .1) (a .w) (start .pre .1 .0) (a .layout) (a .logical) (start .pre .1 .1 .0) (start .pre .1 .1 .1) (by .result) (to .result) (by .ensures) row-is, start .pre .0 .1), start .pre .1 .0 .base))
 
--- src/lib.rt:253:9
 see-requires : tie.Need-see-requires
-see-requires c κs = search needs
+see-requires c κs = let start = c .before .before .before .before .before .before in (start .pre .0 .0, start .pre .0 .1)
 
--- src/lib.rt:254:9
 may-stand-requires : tie.Need-may-stand-requires
 may-stand-requires c κs = search needs
 
--- src/lib.rt:255:9
 returns : tie.Need-returns
-returns c = ?
+returns c = 
+    let start = c .before .before .before .before .before .before .before .before .before in
+    let a = start .args in
+    let by = c .before .before .before .before .before .before .kind-for in
+    let to = c .before .before .before .before .row-for in
+    let row-is = to .ensures ∙ ap (λ (o : Own). rowFor o (by .result) (a .w .row)) (c .before .before .before .before .before .own-for .ensures) in
+    let base = c .before .before .before .reach in
+    let x = c .before .before .see in
+    stops (start .pre .0 .0) (a .k) (start .pre .0 .1) (a .w) (start .pre .1 .0) (a .layout) (a .logical) (start .pre .1 .1 .0) (start .pre .1 .1 .1) (by .result) (to .result) (by .ensures) row-is (base .result) (base .ensures) (x .result) (x .ensures) (sym (c .before .may-stand .ensures) ∙ not-true _ (c .if1 .taken))
 
--- src/lib.rt:257:16
 walk-on-requires : tie.Need-walk-on-requires
-walk-on-requires c κs = ?
+walk-on-requires c κs = 
+    let start = c .before .before .before .before .before .before .before .before .before in
+    let a = start .args in
+    let by = c .before .before .before .before .before .before .kind-for in
+    let to = c .before .before .before .before .row-for in
+    let row-is = to .ensures ∙ ap (λ (o : Own). rowFor o (by .result) (a .w .row)) (c .before .before .before .before .before .own-for .ensures) in
+    let base = c .before .before .before .reach in
+    let x = c .before .before .see in
+    small-is (start .pre .0 .0) (a .k) (start .pre .0 .1) (a .w) (start .pre .1 .0) (a .layout) (a .logical) (start .pre .1 .1 .0) (start .pre .1 .1 .1) (by .result) (to .result) (by .ensures) row-is (base .result) (base .ensures) (x .result) (x .ensures)
 
--- src/lib.rt:244:1
 returns-2 : tie.Need-returns-2
-returns-2 c = ?
+returns-2 c = 
+    let start = c .before .before .before .before .before .before .before .before .before .before in
+    let a = start .args in
+    let by = c .before .before .before .before .before .before .before .kind-for in
+    let to = c .before .before .before .before .before .row-for in
+    let row-is = to .ensures ∙ ap (λ (o : Own). rowFor o (by .result) (a .w .row)) (c .before .before .before .before .before .before .own-for .ensures) in
+    let base = c .before .before .before .before .reach in
+    let x = c .before .before .before .see in
+    goes (start .pre .0 .0) (a .k) (start .pre .0 .1) (a .w) (start .pre .1 .0) (a .layout) (a .logical) (start .pre .1 .1 .0) (start .pre .1 .1 .1) (by .result) (to .result) (by .ensures) row-is (base .result) (base .ensures) (x .result) (x .ensures) (c .walk-on .result) (c .walk-on .ensures) (sym (c .before .before .may-stand .ensures) ∙ not-false _ (c .before .if1 .left))
 
 pub take-row-spec : {M : Type 1} → statement M
 take-row-spec =
