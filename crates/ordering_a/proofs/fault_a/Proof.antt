@@ -1,3 +1,11 @@
+-- `ordering_a::fault_a` meets its contract: the first is the profile, and then the pass. Assumes nothing.
+use mathlib.Core.Path.{_∙_}
+use Prim.Native.Nat.{_-_, _<_}
+use native.Mathlib.Omega.{arith}
+use Rattle.ordering_a.specs.Pass.{before}
+use mathlib.Core.Logic.{inl, inr}
+use Rattle.owners.proofs.Telling.{kind-told}
+use Rattle.ordering_a.proofs.Passing.{no-profile}
 use borrow.Author.Needs.{needs}
 use Rattle.ordering_a.proofs.fault_a.Statement.{statement}
 use Rattle.ordering_a.proofs.fault_a.Tie as tie
@@ -6,23 +14,21 @@ use Rattle.ordering_a.proofs.fault_a.Lts as lts
 use Rattle.ordering_a.proofs.pass.Reads as pass-reads
 use Rattle.owners.proofs.kind_at.Reads as kind-at-reads
 
--- src/lib.rt:311:9
 returns : tie.Need-returns
-returns c = ?
+returns c = λ elements ready aside. no-profile elements aside (inl (ready .counted ∙ c .if1 .taken))
 
--- src/lib.rt:313:8
 kind-at-requires : tie.Need-kind-at-requires
 kind-at-requires c κs = search needs
 
--- src/lib.rt:314:9
 returns-2 : tie.Need-returns-2
-returns-2 c = ?
+returns-2 c = 
+    let start = c .before .before .before .before .before .before .before in
+    let l : 0 < start .args .n = omega arith in
+    λ elements ready aside. no-profile elements aside (inr (λ e. c .if2 .taken (c .before .kind-at .ensures ∙ kind-told ready 0 l ∙ e)))
 
--- src/lib.rt:316:5
 pass-requires : tie.Need-pass-requires
 pass-requires c κs = search needs
 
--- src/lib.rt:306:1
 returns-3 : tie.Need-returns-3
 returns-3 c = search needs
 
