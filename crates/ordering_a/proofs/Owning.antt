@@ -1,13 +1,13 @@
 -- What an owner tells of a unit is so: by the one record that a unit has on a side. Assumes nothing.
 use mathlib.Core.Path.{_≡_, refl, ap, sym, _∙_, subst}
 use mathlib.Core.Logic.{_⊎_, inl, inr}
-use mathlib.Core.Bool.{Bool, true, false, cond, false≢true, true≢false}
+use mathlib.Core.Bool.{Bool, true, false, false≢true}
 use mathlib.Core.List.{List, [], _∷_}
 use Prim.Native.Nat.{ℕ, _<_, _≤_}
 use native.Mathlib.Omega.{arith}
 use lib.Dec.{eqb, ltb}
 use lib.ListN.{length, take}
-use borrow.Author.Tests.{eqb-true, eqb-false, eq-eqb, ne-eqb, ltb-true, ltb-false, lt-ltb, le-ltb}
+use borrow.Author.Tests.{eqb-true, eqb-false, ne-eqb, ltb-true, ltb-false}
 use borrow.Table.Steps.{cases}
 use Rattle.headers.specs.Head.{isIn}
 use Rattle.index.specs.Columns.{kindAt}
@@ -22,9 +22,8 @@ use Rattle.owners.specs.declared.Owner.{Owner}
 use Rattle.owners.specs.declared.Owner.the-variants.{Nobody, Of}
 use Rattle.owners.specs.Owner.{made, OwnerIs}
 use Rattle.owners.proofs.Telling.{kind-told}
-use Rattle.ordering_a.specs.declared.Own.{Own}
 use Rattle.ordering_a.specs.Pass.{RowBelow, ownOf, OwnIs}
-use Rattle.ordering_a.proofs.Records.{row-below, row-kind, other-row, some-of-record, some-told-record, one-record}
+use Rattle.ordering_a.proofs.Records.{row-below, other-row, some-of-record, some-told-record, one-record}
 
 -- kind 0 is of no side
 no-kind : (side : Side) → isIn 0 (kindsOf side) ≡ true → ⊥

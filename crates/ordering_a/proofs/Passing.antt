@@ -1,29 +1,29 @@
 -- The pass from its start, after the profile, to its end; and that no number wraps on the way. Assumes nothing.
 use mathlib.Core.Path.{_≡_, refl, ap, sym, _∙_, subst}
 use mathlib.Core.Logic.{_⊎_, inl, inr}
-use mathlib.Core.Bool.{Bool, true, false, cond, not, _&&_}
-use mathlib.Core.List.{List, [], _∷_, _++_, map}
-use Prim.Native.Nat.{ℕ, zero, suc, _+_, _-_, _*_, _<_, _≤_}
+use mathlib.Core.Bool.{true, false, cond, _&&_}
+use mathlib.Core.List.{List, [], _∷_}
+use Prim.Native.Nat.{ℕ, suc, _*_, _<_, _≤_}
 use native.Mathlib.Omega.{arith}
 use lib.Dec.{eqb}
-use lib.ListN.{length, take, drop, drop-of-length-le}
+use lib.ListN.{length, take, drop-of-length-le}
 use borrow.Author.Tests.{eq-eqb, ne-eqb, not-true, not-false}
 use Rattle.elements.specs.Judge.{Element}
 use Rattle.reading.specs.declared.Side.{Side}
 use Rattle.reading.specs.Match.{matches}
-use Rattle.reading.specs.Ready.{RowsTell, elementAt}
+use Rattle.reading.specs.Ready.{elementAt}
 use Rattle.order.specs.Answers.{_∈_, LimitsAside}
 use Rattle.order.specs.Begins.{classA}
-use Rattle.order.specs.Fault.{Found, in-order, fault, faultOf}
+use Rattle.order.specs.Fault.{in-order, fault, faultOf}
 use Rattle.order.specs.PassA.{sightsA, passA, placeA}
 use Rattle.order.proofs.PassA.{pass-exactly}
 use Rattle.ranks.specs.declared.Sight.{Sight}
-use Rattle.ranks.specs.Step.{countOf, one, next, waiting, asState, Small}
+use Rattle.ranks.specs.Step.{next, waiting, asState, Small}
 use Rattle.ranks.proofs.Steps.{count-few, one-few}
 use Rattle.owners.specs.Owner.{made}
 use Rattle.ordering_a.specs.declared.Own.{Own}
 use Rattle.ordering_a.specs.declared.Walk.{Walk}
-use Rattle.ordering_a.specs.Pass.{kindFor, before, walkFor, startOf, Standing, Bounds}
+use Rattle.ordering_a.specs.Pass.{kindFor, walkFor, startOf, Standing, Bounds}
 use Rattle.ordering_a.proofs.Records.{unit-kind}
 use Rattle.ordering_a.proofs.Slots.{before-none}
 

@@ -1,7 +1,7 @@
 -- Portions counted on, row by row. Assumes nothing.
-use mathlib.Core.Path.{_≡_, refl, ap, sym, _∙_, subst}
+use mathlib.Core.Path.{_≡_, ap, sym, _∙_}
 use mathlib.Core.List.{List}
-use Prim.Native.Nat.{ℕ, suc, _+_, _*_, _<_, _≤_}
+use Prim.Native.Nat.{ℕ, _+_, _*_, _<_, _≤_}
 use native.Mathlib.Omega.{arith}
 use native.Mathlib.Numerals.{add-one}
 use lib.Dec.{eqb}
@@ -11,7 +11,6 @@ use Rattle.index.specs.Columns.{kindAt}
 use Rattle.elements.specs.Judge.{Element}
 use Rattle.reading.specs.Ready.{RowsTell, elementAt}
 use Rattle.order.specs.PassA.{countIf}
-use Rattle.owners.specs.Owner.{listedAt}
 use Rattle.owners.proofs.Telling.{kind-told, lists-told, meetable}
 use Rattle.ordering_a.specs.Pass.{countsIn, Told, before, Reaches}
 use Rattle.ordering_a.proofs.Slots.{before-more}

@@ -1,16 +1,15 @@
 -- What the records of the reading lists tell of element k after the elements before it: whether a unit before it answers one of its portions,
 -- and which element before it a unit answers, of which kind. Assumes nothing.
 use mathlib.Core.Path.{_≡_, refl, ap, sym, _∙_, subst}
-use mathlib.Core.Logic.{_⊎_, inl, inr}
-use mathlib.Core.Bool.{Bool, true, false, cond, false≢true, true≢false}
+use mathlib.Core.Bool.{true, false, false≢true}
 use mathlib.Core.Option.{some}
 use mathlib.Core.List.{List, [], _∷_, _++_, map}
-use Prim.Native.Nat.{ℕ, zero, suc, _+_, _<_, _≤_}
+use Prim.Native.Nat.{ℕ, zero, suc, _<_}
 use native.Mathlib.Omega.{arith}
 use lib.Dec.{eqb}
 use lib.ListN.{length, getElem?, getD, take, drop}
 use lib.Seq.{split-at, length-take-le}
-use borrow.Author.Tests.{eqb-true, eq-eqb}
+use borrow.Author.Tests.{eqb-true}
 use borrow.Table.Steps.{cases}
 use Rattle.headers.specs.Head.{isIn}
 use Rattle.portions.specs.Portions.{any}
@@ -127,9 +126,13 @@ module _ (es : List Element) where
     pub some-of-record : (side : Side) (row p kind : ℕ) → row < k → made row p k ∈ matches side es → elementAt es row .kind ≡ kind
         → answersSome (kind ∷ []) front here ≡ true
     some-of-record side row p kind l m e =
-        some-match front here rest (kind ∷ []) .1
-        (row, elementAt es row, omega (arith, front-length), kind-of (elementAt es row) kind e,
-          subst (λ (xs : List Element). Recorded xs row (length front) (elementAt es row)) whole recorded)
+        some-match front here rest (kind ∷ []) .1 (
+          row,
+          elementAt es row,
+          omega (arith, front-length),
+          kind-of (elementAt es row) kind e,
+          subst (λ (xs : List Element). Recorded xs row (length front) (elementAt es row)) whole recorded,
+        )
       where
         recorded : Recorded es row (length front) (elementAt es row)
         recorded =
@@ -147,10 +150,13 @@ module _ (es : List Element) where
         let q = subst (λ (xs : List Element). Recorded xs i (length front) e) (sym whole) r in
         let f = of-kind e kind a in
         let d = there-is i e (q .there) in
-        let g = side-told side e (ap (λ (n : ℕ). isIn n (kindsOf side)) f ∙ s) in
-        (i, q .portion, omega (arith, front-length),
+        let g = side-told side e (ap (λ (n : ℕ). isIn n (kindsOf side)) f ∙ s) in (
+          i,
+          q .portion,
+          omega (arith, front-length),
           subst (λ (given : Side). made i (q .portion) k ∈ matches given es) g (subst (λ (n : ℕ). made i (q .portion) n ∈ matches (sideOf e) es) front-length (q .record-there)),
-          ap (λ (y : Element). y .kind) d ∙ f)
+          ap (λ (y : Element). y .kind) d ∙ f,
+        )
 
   -- a unit has one record of a side at most
   pub one-record : Apart es → (side : Side) (row p row2 p2 u : ℕ) → made row p u ∈ matches side es → made row2 p2 u ∈ matches side es → row ≡ row2

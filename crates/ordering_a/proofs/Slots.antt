@@ -1,23 +1,21 @@
 -- The number of the portion by which a unit is ordered, from the record of the unit and how many portions are listed before that of its
 -- element; and whether that number is the next. Assumes nothing.
 use mathlib.Core.Path.{_≡_, refl, ap, sym, _∙_, subst}
-use mathlib.Core.Bool.{Bool, true, false, cond, not, _&&_, _||_, false≢true, true≢false}
-use mathlib.Core.Option.{some}
-use mathlib.Core.List.{List, [], _∷_, _++_, map, append-nil, Memᴰ·of-map}
+use mathlib.Core.Bool.{Bool, true, false, _&&_, true≢false}
+use mathlib.Core.List.{List, [], _∷_, _++_, append-nil, Memᴰ·of-map}
 use Prim.Native.Nat.{ℕ, zero, suc, _+_, _-_, _<_, _≤_}
 use native.Mathlib.Omega.{arith}
 use lib.Dec.{eqb, leb}
-use lib.ListN.{length, getElem?, getD, take, drop, length-append, length-map}
+use lib.ListN.{length, getD, take, drop, length-append, length-map}
 use lib.Seq.{split-at, length-take-le, take-take, take-suc, getD-take}
-use borrow.Author.Tests.{eqb-true, eqb-false, eq-eqb, ne-eqb, le-leb, lt-leb, leb-true, leb-false}
+use borrow.Author.Tests.{eqb-true, eqb-false, eq-eqb, ne-eqb, leb-true, leb-false}
 use borrow.Table.Steps.{cases}
 use Rattle.elements.specs.Judge.{Element}
-use Rattle.letters.specs.Apart.{Apart}
 use Rattle.reading.specs.declared.Side.{Side}
-use Rattle.reading.specs.Match.{kindsOf, matches}
+use Rattle.reading.specs.Match.{matches}
 use Rattle.reading.specs.Ready.{elementAt, noElement}
 use Rattle.reading.proofs.Lists.{at-getD}
-use Rattle.order.specs.Answers.{_∈_, sideOf, answers, LimitsAside, Listed, listedBy, everything, keep}
+use Rattle.order.specs.Answers.{_∈_, answers, LimitsAside, Listed, listedBy, everything, keep}
 use Rattle.order.specs.ClassA.{answersSome, listedOf}
 use Rattle.order.specs.PassA.{slotIn, countIf}
 use Rattle.order.proofs.Answering.{owns-of}
@@ -31,8 +29,7 @@ use Rattle.order.proofs.AsMatches.{answers-match}
 use Rattle.order.proofs.CountsA.{slot-is}
 use Rattle.owners.specs.Owner.{made}
 use Rattle.ordering_a.specs.Pass.{before}
-use Rattle.ordering_a.proofs.Records.{front, here, rest, whole, row-below, row-kind, side-told, record-portion}
-
+use Rattle.ordering_a.proofs.Records.{rest, whole, row-kind, side-told, record-portion}
 
 -- one element more
 one-lists : (kind : ℕ) (e : Element) → length (listedOf kind (e ∷ [])) ≡ countIf (eqb (e .kind) kind) (length (e .portions))

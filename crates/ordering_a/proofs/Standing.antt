@@ -2,27 +2,26 @@
 -- known before the next is so again. Assumes nothing.
 use mathlib.Core.Path.{_≡_, refl, ap, sym, _∙_, subst}
 use mathlib.Core.Logic.{_⊎_, inl, inr}
-use mathlib.Core.Bool.{Bool, true, false, cond, not, _&&_, _||_, false≢true, true≢false}
+use mathlib.Core.Bool.{Bool, true, false, cond, not, _||_, true≢false}
 use mathlib.Core.List.{List, [], _∷_, _++_, map}
-use Prim.Native.Nat.{ℕ, zero, suc, _+_, _-_, _*_, _<_, _≤_}
+use Prim.Native.Nat.{ℕ, suc, _+_, _<_, _≤_}
 use native.Mathlib.Omega.{arith}
-use lib.Dec.{eqb, leb, ltb}
+use lib.Dec.{eqb, ltb}
 use lib.ListN.{length, take, drop}
 use lib.Seq.{take-suc, drop-cons}
-use borrow.Author.Tests.{eqb-true, eqb-false, eq-eqb, ne-eqb, ltb-true, ltb-false}
+use borrow.Author.Tests.{eqb-true, eqb-false, eq-eqb, ltb-true, ltb-false}
 use borrow.Table.Steps.{cases}
-use Rattle.headers.specs.Head.{isIn}
 use Rattle.portions.specs.Portions.{all, any}
 use Rattle.elements.specs.Judge.{Element}
 use Rattle.reading.specs.declared.Side.{Side}
 use Rattle.reading.specs.declared.Side.the-variants.{Layout, Logical}
-use Rattle.reading.specs.Match.{unitKind, kindsOf, matches}
+use Rattle.reading.specs.Match.{unitKind, matches}
 use Rattle.reading.specs.Ready.{elementAt, noElement}
 use Rattle.order.specs.Answers.{_∈_, named, owns, LimitsAside}
 use Rattle.order.specs.ClassB.{rankIn}
-use Rattle.order.specs.ClassA.{rowsA, endA, specificRank, unitRank, classKinds, objectKinds, answersSome, orderedBy, listedOf}
-use Rattle.order.specs.Fault.{Found, fault}
-use Rattle.order.specs.PassA.{listedIn, answersOf, slotIn, SightA, sightA, sightsA, StateA, rankSeen, testsA, nextA, passA, placeA, countIf}
+use Rattle.order.specs.ClassA.{endA, specificRank, unitRank, classKinds, objectKinds, orderedBy, listedOf}
+use Rattle.order.specs.Fault.{fault}
+use Rattle.order.specs.PassA.{listedIn, answersOf, slotIn, sightA, sightsA, rankSeen, testsA, passA, placeA, countIf}
 use Rattle.order.proofs.Place.{aside-left}
 use Rattle.order.proofs.SightsA.{Passing, passing-told}
 use Rattle.order.proofs.CountsA.{generic-count, specific-count}
@@ -33,7 +32,7 @@ use Rattle.owners.specs.Owner.{made}
 use Rattle.ordering_a.specs.declared.Own.{Own}
 use Rattle.ordering_a.specs.declared.Walk.{Walk}
 use Rattle.ordering_a.specs.Pass.{OwnIs, kindFor, ownFor, rowFor, turnFor, counts, lesser, before, orLayout, walkFor, Standing}
-use Rattle.ordering_a.proofs.Records.{whole, front-length, early-of, early-told, unit-kind}
+use Rattle.ordering_a.proofs.Records.{whole, early-of, early-told, unit-kind}
 use Rattle.ordering_a.proofs.Slots.{before-none}
 use Rattle.ordering_a.proofs.Turns.{Ordering, ordering, ordered-is, turn-is, base-next, record-of, row-stays, ordered-counts}
 

@@ -10,22 +10,19 @@ use lib.ListN.{length}
 use Rattle.index.specs.Rows.{rowWidth}
 use Rattle.index.specs.Columns.{kindAt}
 use Rattle.elements.specs.Judge.{Element}
-use Rattle.reading.specs.declared.Side.{Side}
 use Rattle.reading.specs.declared.Side.the-variants.{Layout, Logical}
-use Rattle.reading.specs.Ready.{RowsTell, elementAt}
+use Rattle.reading.specs.Ready.{RowsTell}
 use Rattle.order.specs.Answers.{LimitsAside}
-use Rattle.order.specs.declared.Fault.{Fault}
 use Rattle.order.specs.declared.Fault.the-variants.{Nowhere, At}
 use Rattle.order.specs.Begins.{classA}
 use Rattle.order.specs.Coded.{FaultIn}
 use Rattle.order.proofs.PassA.{pass-exactly}
 use Rattle.ranks.specs.declared.Sight.{Sight}
 use Rattle.ranks.specs.Step.{stands, waiting, Small}
-use Rattle.owners.specs.Owner.{Known, listedAt}
+use Rattle.owners.specs.Owner.{Known}
 use Rattle.owners.proofs.Telling.{kind-told, named-told, lists-told, meetable}
 use Rattle.ordering_a.specs.declared.Own.{Own}
 use Rattle.ordering_a.specs.declared.Walk.{Walk}
-use Rattle.ordering_a.specs.declared.Step.{Step}
 use Rattle.ordering_a.specs.declared.Step.the-variants.{Stops, Goes}
 use Rattle.ordering_a.specs.Pass.{OwnIs, OwnAt, kindFor, ownFor, rowFor, Told, before, Reaches, sightFor, walkFor, startOf, Standing, Bounds, StepAt}
 use Rattle.ordering_a.proofs.Turns.{row-rises, row-few}

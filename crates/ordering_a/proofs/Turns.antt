@@ -1,12 +1,12 @@
 -- What the numbers of a unit say of the number by which it is ordered: whether it has one, and whether that is the next. Assumes nothing.
-use mathlib.Core.Path.{_≡_, refl, ap, sym, _∙_, subst}
-use mathlib.Core.Bool.{Bool, true, false, cond, not, _&&_, _||_, false≢true, true≢false}
-use mathlib.Core.List.{List, [], _∷_}
+use mathlib.Core.Path.{_≡_, refl, ap, sym, _∙_}
+use mathlib.Core.Bool.{Bool, true, false, not, _&&_, _||_}
+use mathlib.Core.List.{List}
 use Prim.Native.Nat.{ℕ, suc, _+_, _-_, _<_, _≤_}
 use native.Mathlib.Omega.{arith}
 use lib.Dec.{eqb, leb, ltb}
 use lib.ListN.{length, take}
-use borrow.Author.Tests.{eqb-true, eqb-false, eq-eqb, ne-eqb, leb-true, lt-ltb, le-ltb, ltb-true, ltb-false}
+use borrow.Author.Tests.{eqb-true, eq-eqb, ne-eqb, leb-true, ltb-true, ltb-false}
 use borrow.Table.Steps.{cases}
 use Rattle.headers.specs.Head.{isIn}
 use Rattle.elements.specs.Judge.{Element}
@@ -16,7 +16,7 @@ use Rattle.reading.specs.Match.{kindsOf, matches}
 use Rattle.reading.specs.Ready.{elementAt}
 use Rattle.order.specs.Answers.{_∈_, LimitsAside}
 use Rattle.order.specs.ClassA.{listedOf}
-use Rattle.order.specs.PassA.{slotIn, countIf}
+use Rattle.order.specs.PassA.{slotIn}
 use Rattle.order.proofs.Tests.{both}
 use Rattle.ranks.specs.Step.{one}
 use Rattle.owners.specs.Owner.{made}

@@ -18,8 +18,11 @@ ghost use Rattle.ordering_a.specs.Pass.{RowBelow, ownOf, OwnAt, kindFor,
 ghost use Rattle.ordering_a.specs.Pass.{lesser, orLayout, sightFor, walkFor, startOf, Bounds, StepAt};
 
 const LAYOUT_CLASS: usize = 1;
+
 const LAYOUT_OBJECT: usize = 2;
+
 const LOGICAL_CLASS: usize = 5;
+
 const LOGICAL_OBJECT: usize = 6;
 
 // Whose portion a unit answers on a side: the kind of the element, if it stands before the unit, its row and the place of the portion; kind 0,
@@ -197,7 +200,17 @@ fn is_or(test: bool, kind: usize) -> bool
 }
 
 // What is seen of row k.
-fn see(s: &[u8], rows: &[u32], n: usize, k: usize, w: Walk, layout: Own, logical: Own, row: usize, base: usize) -> Sight
+fn see(
+    s: &[u8],
+    rows: &[u32],
+    n: usize,
+    k: usize,
+    w: Walk,
+    layout: Own,
+    logical: Own,
+    row: usize,
+    base: usize,
+) -> Sight
     requires { ⌜ Told (now s) (now rows) n × (k < n) ⌝ }
     ensures { λ r. ⌜ r ≡ sightFor (now (s .entry)) (now (rows .entry)) k w layout logical row base ⌝ }
 {

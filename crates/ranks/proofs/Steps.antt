@@ -1,5 +1,5 @@
 -- A step over what is seen is the step of the definition: test by test. Assumes nothing.
-use mathlib.Core.Path.{_≡_, refl, ap, sym, _∙_}
+use mathlib.Core.Path.{_≡_, refl, sym}
 use mathlib.Core.Bool.{Bool, true, false, not, _&&_}
 use mathlib.Core.List.{[], _∷_}
 use Prim.Native.Nat.{ℕ, _≤_}
@@ -10,7 +10,7 @@ use lib.Dec.{eqb, leb, ltb}
 use Rattle.order.specs.Answers.{profileKind}
 use Rattle.order.specs.ClassA.{endA}
 use Rattle.portions.specs.Portions.{all}
-use Rattle.order.specs.PassA.{SightA, StateA, rankSeen, testsA, nextA}
+use Rattle.order.specs.PassA.{SightA, rankSeen, testsA, nextA}
 use Rattle.ranks.specs.declared.Sight.{Sight}
 use Rattle.ranks.specs.declared.State.{State}
 use Rattle.ranks.specs.Step.{rankOf, tabled, complete, settled, comes, stands, one, countOf, next, asState, Sees}

@@ -1,11 +1,8 @@
 -- `ordering_a::count_kinds` meets its contract: by its four cases. Assumes nothing.
-use Prim.Native.Nat.{_-_}
 use borrow.Author.Tests.{eq-eqb, ne-eqb}
-use Rattle.ordering_a.specs.Pass.{counts, before}
+use Rattle.ordering_a.specs.Pass.{counts}
 use Rattle.ordering_a.proofs.count_kinds.Statement.{statement}
 use Rattle.ordering_a.proofs.count_kinds.Tie as tie
-use Rattle.ordering_a.proofs.count_kinds.Reads as reads
-use Rattle.ordering_a.proofs.count_kinds.Lts as lts
 
 returns : tie.Need-returns
 unfolding counts

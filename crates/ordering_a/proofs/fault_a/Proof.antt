@@ -1,18 +1,13 @@
 -- `ordering_a::fault_a` meets its contract: the first is the profile, and then the pass. Assumes nothing.
 use mathlib.Core.Path.{_∙_}
-use Prim.Native.Nat.{_-_, _<_}
+use Prim.Native.Nat.{_<_}
 use native.Mathlib.Omega.{arith}
-use Rattle.ordering_a.specs.Pass.{before}
 use mathlib.Core.Logic.{inl, inr}
 use Rattle.owners.proofs.Telling.{kind-told}
 use Rattle.ordering_a.proofs.Passing.{no-profile}
 use borrow.Author.Needs.{needs}
 use Rattle.ordering_a.proofs.fault_a.Statement.{statement}
 use Rattle.ordering_a.proofs.fault_a.Tie as tie
-use Rattle.ordering_a.proofs.fault_a.Reads as reads
-use Rattle.ordering_a.proofs.fault_a.Lts as lts
-use Rattle.ordering_a.proofs.pass.Reads as pass-reads
-use Rattle.owners.proofs.kind_at.Reads as kind-at-reads
 
 returns : tie.Need-returns
 returns c = λ elements ready aside. no-profile elements aside (inl (ready .counted ∙ c .if1 .taken))
@@ -21,7 +16,7 @@ kind-at-requires : tie.Need-kind-at-requires
 kind-at-requires c κs = search needs
 
 returns-2 : tie.Need-returns-2
-returns-2 c = 
+returns-2 c =
     let start = c .before .before .before .before .before .before .before in
     let l : 0 < start .args .n = omega arith in
     λ elements ready aside. no-profile elements aside (inr (λ e. c .if2 .taken (c .before .kind-at .ensures ∙ kind-told ready 0 l ∙ e)))

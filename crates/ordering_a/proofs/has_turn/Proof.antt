@@ -1,12 +1,9 @@
 -- `ordering_a::has_turn` meets its contract: test by test. Assumes nothing.
-use Prim.Native.Nat.{_-_}
 use native.Mathlib.Omega.{arith}
 use borrow.Author.Tests.{eq-eqb, ne-eqb, le-leb, lt-leb}
-use Rattle.ordering_a.specs.Pass.{turnFor, before}
+use Rattle.ordering_a.specs.Pass.{turnFor}
 use Rattle.ordering_a.proofs.has_turn.Statement.{statement}
 use Rattle.ordering_a.proofs.has_turn.Tie as tie
-use Rattle.ordering_a.proofs.has_turn.Reads as reads
-use Rattle.ordering_a.proofs.has_turn.Lts as lts
 
 returns : tie.Need-returns
 unfolding turnFor

@@ -1,10 +1,7 @@
 -- `ordering_a::is_or` meets its contract: by its two cases. Assumes nothing.
-use Prim.Native.Nat.{_-_}
 use Rattle.ordering_a.specs.Pass.{orLayout}
 use Rattle.ordering_a.proofs.is_or.Statement.{statement}
 use Rattle.ordering_a.proofs.is_or.Tie as tie
-use Rattle.ordering_a.proofs.is_or.Reads as reads
-use Rattle.ordering_a.proofs.is_or.Lts as lts
 
 returns : tie.Need-returns
 unfolding orLayout

@@ -1,10 +1,7 @@
 -- `ordering_a::kind_for` meets its contract: by its two cases. Assumes nothing.
-use Prim.Native.Nat.{_-_}
 use Rattle.ordering_a.specs.Pass.{kindFor}
 use Rattle.ordering_a.proofs.kind_for.Statement.{statement}
 use Rattle.ordering_a.proofs.kind_for.Tie as tie
-use Rattle.ordering_a.proofs.kind_for.Reads as reads
-use Rattle.ordering_a.proofs.kind_for.Lts as lts
 
 returns : tie.Need-returns
 unfolding kindFor

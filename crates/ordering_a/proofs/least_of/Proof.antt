@@ -1,12 +1,9 @@
 -- `ordering_a::least_of` meets its contract: by its two cases. Assumes nothing.
-use Prim.Native.Nat.{_-_}
 use native.Mathlib.Omega.{arith}
 use borrow.Author.Tests.{lt-ltb, le-ltb}
-use Rattle.ordering_a.specs.Pass.{before, lesser}
+use Rattle.ordering_a.specs.Pass.{lesser}
 use Rattle.ordering_a.proofs.least_of.Statement.{statement}
 use Rattle.ordering_a.proofs.least_of.Tie as tie
-use Rattle.ordering_a.proofs.least_of.Reads as reads
-use Rattle.ordering_a.proofs.least_of.Lts as lts
 
 returns : tie.Need-returns
 unfolding lesser

@@ -1,29 +1,24 @@
 -- `ordering_a::look` meets its contract: what the owner tells is so. Assumes nothing.
 use mathlib.Core.Path.{sym, subst}
-use Prim.Native.Nat.{_-_, _≤_}
-use Rattle.ordering_a.specs.Pass.{before}
+use Prim.Native.Nat.{_≤_}
 use Rattle.ordering_a.specs.declared.Own.{Own}
 use Rattle.ordering_a.specs.Pass.{OwnIs}
 use Rattle.ordering_a.proofs.Owning.{own-is, row-inside, row-low}
 use borrow.Author.Needs.{needs}
 use Rattle.ordering_a.proofs.look.Statement.{statement}
 use Rattle.ordering_a.proofs.look.Tie as tie
-use Rattle.ordering_a.proofs.look.Reads as reads
-use Rattle.ordering_a.proofs.look.Lts as lts
-use Rattle.ordering_a.proofs.own_of.Reads as own-of-reads
-use Rattle.owners.proofs.owner_of.Reads as owner-of-reads
 
 owner-of-requires : tie.Need-owner-of-requires
 owner-of-requires c κs = search needs
 
 own-of-requires : tie.Need-own-of-requires
-own-of-requires c κs = 
+own-of-requires c κs =
     let start = c .before .before .before .before .before in
     let known = start .pre .0 in
     (row-inside (known .ready) (start .args .side) (start .args .u) (start .pre .1) (c .owner-of .result) (c .owner-of .ensures (known .elements) (known .ready)), known .identifiers .in-table)
 
 returns : tie.Need-returns
-returns c = 
+returns c =
     let start = c .before .before .before .before .before .before in
     let a = start .args in
     record {

@@ -1,10 +1,7 @@
 -- `ordering_a::own_for` meets its contract: by its two cases. Assumes nothing.
-use Prim.Native.Nat.{_-_}
 use Rattle.ordering_a.specs.Pass.{ownFor}
 use Rattle.ordering_a.proofs.own_for.Statement.{statement}
 use Rattle.ordering_a.proofs.own_for.Tie as tie
-use Rattle.ordering_a.proofs.own_for.Reads as reads
-use Rattle.ordering_a.proofs.own_for.Lts as lts
 
 returns : tie.Need-returns
 unfolding ownFor

@@ -1,15 +1,12 @@
 -- `ordering_a::own_of` meets its contract: by who the owner is, and where it stands. Assumes nothing.
 use mathlib.Core.Path.{ap, sym, _∙_, subst}
-use Prim.Native.Nat.{_-_, _<_, _≤_}
+use Prim.Native.Nat.{_<_, _≤_}
 use native.Mathlib.Omega.{arith}
 use borrow.Author.Tests.{lt-ltb, le-ltb}
-use Rattle.ordering_a.specs.Pass.{RowBelow, ownOf, before}
+use Rattle.ordering_a.specs.Pass.{RowBelow, ownOf}
 use borrow.Author.Needs.{needs}
 use Rattle.ordering_a.proofs.own_of.Statement.{statement}
 use Rattle.ordering_a.proofs.own_of.Tie as tie
-use Rattle.ordering_a.proofs.own_of.Reads as reads
-use Rattle.ordering_a.proofs.own_of.Lts as lts
-use Rattle.owners.proofs.kind_at.Reads as kind-at-reads
 
 enum-told : tie.Need-enum-told
 enum-told c = search needs
@@ -18,25 +15,25 @@ enum-known-owner : tie.Need-enum-known-owner
 enum-known-owner c = search needs
 
 kind-at-requires : tie.Need-kind-at-requires
-kind-at-requires c κs = 
+kind-at-requires c κs =
     let start = c .before .before .before .before .before in
     let found = c .before .before .owner .given in
     let l : found .0 .0 < start .args .n = subst (RowBelow (start .args .n)) (found .1) (start .pre .0) in
     omega (arith, l, start .pre .1)
 
 returns : tie.Need-returns
-returns c = 
+returns c =
     let a = c .before .before .before .before .before .before .args in
     let found = c .before .before .before .owner .given in
     rw (c .kind-at .ensures) (sym (ap (ownOf (a .rows .now) (a .n) (a .u)) (found .1) ∙ rw (lt-ltb _ _ (c .before .if1 .taken))))
 
 returns-2 : tie.Need-returns-2
-returns-2 c = 
+returns-2 c =
     let a = c .before .before .before .args in
     sym (ap (ownOf (a .rows .now) (a .n) (a .u)) (c .enum-told .given .1))
 
 returns-3 : tie.Need-returns-3
-returns-3 c = 
+returns-3 c =
     let a = c .before .before .before .before .before .args in
     let found = c .before .before .owner .given in
     let h : a .u ≤ found .0 .0 = omega arith in

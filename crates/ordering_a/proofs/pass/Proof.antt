@@ -2,17 +2,11 @@
 use mathlib.Core.Path.{sym, _∙_, subst}
 use Prim.Native.Nat.{_-_}
 use native.Mathlib.Omega.{arith}
-use Rattle.ordering_a.specs.Pass.{before, StepAt}
+use Rattle.ordering_a.specs.Pass.{StepAt}
 use borrow.Author.Needs.{needs}
 use Rattle.ordering_a.proofs.Stepping.{told-of, few-rows, Walking, walking-first, walking-more, walking-stops, walking-ends, walking-whole}
 use Rattle.ordering_a.proofs.pass.Statement.{statement}
 use Rattle.ordering_a.proofs.pass.Tie as tie
-use Rattle.ordering_a.proofs.pass.Reads as reads
-use Rattle.ordering_a.proofs.pass.Lts as lts
-use Rattle.ordering_a.proofs.first_walk.Reads as first-walk-reads
-use Rattle.ordering_a.proofs.look.Reads as look-reads
-use Rattle.ordering_a.proofs.take_row.Reads as take-row-reads
-use Rattle.ranks.proofs.is_waiting.Reads as is-waiting-reads
 
 abbrev Inv-loop : tie.InvT-loop
 Inv-loop s rows head next n w₀ k₀ w k = Walking s rows n k w
@@ -39,7 +33,7 @@ enum-told : tie.Need-enum-told Inv-loop μ-loop
 enum-told c = search needs
 
 returns : tie.Need-returns Inv-loop μ-loop
-returns c = 
+returns c =
     let start = c .before .before .before .before .before .before .before .before .before .before .before .before in
     let at = c .before .before .before .before .before .before .loop in
     walking-stops (at .inv) (subst (StepAt (start .args .s .now) (start .args .rows .now) (start .args .n) (at .k) (at .w)) (c .enum-told .given .1) (c .before .before .take-row .ensures))
@@ -54,7 +48,7 @@ loop-less : tie.Need-loop-less Inv-loop μ-loop
 loop-less c = omega arith
 
 loop-again : tie.Need-loop-again Inv-loop μ-loop
-loop-again c = 
+loop-again c =
     let start = c .before .before .before .before .before .before .before .before .before .before .before .before .before in
     let at = c .before .before .before .before .before .before .before .loop in
     walking-more (at .inv) (omega arith) (subst (StepAt (start .args .s .now) (start .args .rows .now) (start .args .n) (at .k) (at .w)) (c .before .after .given .1) (c .before .before .before .take-row .ensures))

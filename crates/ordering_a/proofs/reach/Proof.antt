@@ -1,14 +1,10 @@
 -- `ordering_a::reach` meets its contract: the rows are counted in turn. The measure is how many are left. Assumes nothing.
 use Prim.Native.Nat.{_-_, _<_, _≤_}
 use native.Mathlib.Omega.{arith}
-use Rattle.ordering_a.specs.Pass.{before}
 use Rattle.ordering_a.proofs.Reaching.{Counted, counted-none, counts-few, counted-more, counted-all}
 use Rattle.ordering_a.proofs.Stepping.{few-rows}
 use Rattle.ordering_a.proofs.reach.Statement.{statement}
 use Rattle.ordering_a.proofs.reach.Tie as tie
-use Rattle.ordering_a.proofs.reach.Reads as reads
-use Rattle.ordering_a.proofs.reach.Lts as lts
-use Rattle.ordering_a.proofs.count_in.Reads as count-in-reads
 
 abbrev Inv-loop : tie.InvT-loop
 Inv-loop s rows n kind row base to at₀ total₀ at total = (row ≤ at) × (at ≤ to) × Counted s rows n kind row base at total
@@ -23,7 +19,7 @@ count-in-requires : tie.Need-count-in-requires Inv-loop μ-loop
 count-in-requires c κs = let start = c .before .before .before .before in (start .pre .0, omega (arith, start .pre .1 .1))
 
 add-total : tie.Need-add-total Inv-loop μ-loop
-add-total c = 
+add-total c =
     let start = c .before .before .before .before .before in
     let at = c .before .before .loop in
     let l : at .at < start .args .n = omega (arith, start .pre .1 .1) in
@@ -36,7 +32,7 @@ loop-less : tie.Need-loop-less Inv-loop μ-loop
 loop-less c = omega arith
 
 loop-again : tie.Need-loop-again Inv-loop μ-loop
-loop-again c = 
+loop-again c =
     let start = c .before .before .before .before .before in
     let at = c .before .before .loop in
     let l : at .at < start .args .n = omega (arith, start .pre .1 .1) in

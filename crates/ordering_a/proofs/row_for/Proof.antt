@@ -1,12 +1,9 @@
 -- `ordering_a::row_for` meets its contract: by its three cases. Assumes nothing.
-use Prim.Native.Nat.{_-_}
 use native.Mathlib.Omega.{arith}
 use borrow.Author.Tests.{eq-eqb, ne-eqb, lt-ltb, le-ltb}
-use Rattle.ordering_a.specs.Pass.{rowFor, before}
+use Rattle.ordering_a.specs.Pass.{rowFor}
 use Rattle.ordering_a.proofs.row_for.Statement.{statement}
 use Rattle.ordering_a.proofs.row_for.Tie as tie
-use Rattle.ordering_a.proofs.row_for.Reads as reads
-use Rattle.ordering_a.proofs.row_for.Lts as lts
 
 returns : tie.Need-returns
 unfolding rowFor

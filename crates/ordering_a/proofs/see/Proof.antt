@@ -1,20 +1,10 @@
 -- `ordering_a::see` meets its contract: number by number. Assumes nothing.
-use Prim.Native.Nat.{_-_}
-use Rattle.ordering_a.specs.Pass.{before, sightFor}
+use Rattle.ordering_a.specs.Pass.{sightFor}
 use Rattle.owners.proofs.Telling.{meetable}
 use Rattle.ordering_a.proofs.Stepping.{row-inside}
 use borrow.Author.Needs.{needs}
 use Rattle.ordering_a.proofs.see.Statement.{statement}
 use Rattle.ordering_a.proofs.see.Tie as tie
-use Rattle.ordering_a.proofs.see.Reads as reads
-use Rattle.ordering_a.proofs.see.Lts as lts
-use Rattle.ordering_a.proofs.count_kinds.Reads as count-kinds-reads
-use Rattle.ordering_a.proofs.has_turn.Reads as has-turn-reads
-use Rattle.ordering_a.proofs.kind_for.Reads as kind-for-reads
-use Rattle.ordering_a.proofs.own_for.Reads as own-for-reads
-use Rattle.owners.proofs.is_named.Reads as is-named-reads
-use Rattle.owners.proofs.kind_at.Reads as kind-at-reads
-use Rattle.owners.proofs.portions_of.Reads as portions-of-reads
 
 own-for-requires : tie.Need-own-for-requires
 own-for-requires c κs = search needs

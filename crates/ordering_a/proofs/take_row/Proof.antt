@@ -1,23 +1,13 @@
 -- `ordering_a::take_row` meets its contract: what is seen is judged by the step. Assumes nothing.
 use mathlib.Core.Path.{ap, sym, _∙_}
-use Prim.Native.Nat.{_-_}
 use native.Mathlib.Omega.{arith}
 use borrow.Author.Tests.{not-true, not-false}
-use Rattle.ordering_a.specs.Pass.{rowFor, before}
+use Rattle.ordering_a.specs.Pass.{rowFor}
 use Rattle.ordering_a.specs.declared.Own.{Own}
 use Rattle.ordering_a.proofs.Stepping.{row-low, row-on, small-is, stops, goes}
 use borrow.Author.Needs.{needs}
 use Rattle.ordering_a.proofs.take_row.Statement.{statement}
 use Rattle.ordering_a.proofs.take_row.Tie as tie
-use Rattle.ordering_a.proofs.take_row.Reads as reads
-use Rattle.ordering_a.proofs.take_row.Lts as lts
-use Rattle.ordering_a.proofs.kind_for.Reads as kind-for-reads
-use Rattle.ordering_a.proofs.own_for.Reads as own-for-reads
-use Rattle.ordering_a.proofs.reach.Reads as reach-reads
-use Rattle.ordering_a.proofs.row_for.Reads as row-for-reads
-use Rattle.ordering_a.proofs.see.Reads as see-reads
-use Rattle.ordering_a.proofs.walk_on.Reads as walk-on-reads
-use Rattle.ranks.proofs.may_stand.Reads as may-stand-reads
 
 kind-for-requires : tie.Need-kind-for-requires
 kind-for-requires c κs = search needs
@@ -29,7 +19,7 @@ row-for-requires : tie.Need-row-for-requires
 row-for-requires c κs = search needs
 
 reach-requires : tie.Need-reach-requires
-reach-requires c κs = 
+reach-requires c κs =
     let start = c .before .before .before .before .before in
     let a = start .args in
     let by = c .before .before .kind-for in
@@ -44,7 +34,7 @@ may-stand-requires : tie.Need-may-stand-requires
 may-stand-requires c κs = search needs
 
 returns : tie.Need-returns
-returns c = 
+returns c =
     let start = c .before .before .before .before .before .before .before .before .before in
     let a = start .args in
     let by = c .before .before .before .before .before .before .kind-for in
@@ -55,7 +45,7 @@ returns c =
     stops (start .pre .0 .0) (a .k) (start .pre .0 .1) (a .w) (start .pre .1 .0) (a .layout) (a .logical) (start .pre .1 .1 .0) (start .pre .1 .1 .1) (by .result) (to .result) (by .ensures) row-is (base .result) (base .ensures) (x .result) (x .ensures) (sym (c .before .may-stand .ensures) ∙ not-true _ (c .if1 .taken))
 
 walk-on-requires : tie.Need-walk-on-requires
-walk-on-requires c κs = 
+walk-on-requires c κs =
     let start = c .before .before .before .before .before .before .before .before .before in
     let a = start .args in
     let by = c .before .before .before .before .before .before .kind-for in
@@ -66,7 +56,7 @@ walk-on-requires c κs =
     small-is (start .pre .0 .0) (a .k) (start .pre .0 .1) (a .w) (start .pre .1 .0) (a .layout) (a .logical) (start .pre .1 .1 .0) (start .pre .1 .1 .1) (by .result) (to .result) (by .ensures) row-is (base .result) (base .ensures) (x .result) (x .ensures)
 
 returns-2 : tie.Need-returns-2
-returns-2 c = 
+returns-2 c =
     let start = c .before .before .before .before .before .before .before .before .before .before in
     let a = start .args in
     let by = c .before .before .before .before .before .before .before .kind-for in

@@ -1,14 +1,8 @@
 -- `ordering_a::walk_on` meets its contract: field by field. Assumes nothing.
-use Prim.Native.Nat.{_-_}
-use Rattle.ordering_a.specs.Pass.{before, walkFor}
+use Rattle.ordering_a.specs.Pass.{walkFor}
 use borrow.Author.Needs.{needs}
 use Rattle.ordering_a.proofs.walk_on.Statement.{statement}
 use Rattle.ordering_a.proofs.walk_on.Tie as tie
-use Rattle.ordering_a.proofs.walk_on.Reads as reads
-use Rattle.ordering_a.proofs.walk_on.Lts as lts
-use Rattle.ordering_a.proofs.is_or.Reads as is-or-reads
-use Rattle.ordering_a.proofs.least_of.Reads as least-of-reads
-use Rattle.ranks.proofs.after.Reads as after-reads
 
 after-requires : tie.Need-after-requires
 after-requires c κs = search needs

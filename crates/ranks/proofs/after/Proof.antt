@@ -5,12 +5,6 @@ use Rattle.ranks.specs.Step.{next}
 use borrow.Author.Needs.{needs}
 use Rattle.ranks.proofs.after.Statement.{statement}
 use Rattle.ranks.proofs.after.Tie as tie
-use Rattle.ranks.proofs.after.Reads as reads
-use Rattle.ranks.proofs.after.Lts as lts
-use Rattle.ranks.proofs.count_of.Reads as count-of-reads
-use Rattle.ranks.proofs.one_if.Reads as one-if-reads
-use Rattle.ranks.proofs.rank_of.Reads as rank-of-reads
-use Rattle.ranks.proofs.without.Reads as without-reads
 
 rank-of-requires : tie.Need-rank-of-requires
 rank-of-requires c κs = search needs

@@ -3,8 +3,6 @@ use borrow.Author.Tests.{ne-eqb}
 use Rattle.ranks.specs.Step.{comes}
 use Rattle.ranks.proofs.can_come.Statement.{statement}
 use Rattle.ranks.proofs.can_come.Tie as tie
-use Rattle.ranks.proofs.can_come.Reads as reads
-use Rattle.ranks.proofs.can_come.Lts as lts
 
 returns : tie.Need-returns
 unfolding comes

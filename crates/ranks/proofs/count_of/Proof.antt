@@ -3,8 +3,6 @@ use borrow.Author.Tests.{eq-eqb, ne-eqb}
 use Rattle.ranks.specs.Step.{countOf}
 use Rattle.ranks.proofs.count_of.Statement.{statement}
 use Rattle.ranks.proofs.count_of.Tie as tie
-use Rattle.ranks.proofs.count_of.Reads as reads
-use Rattle.ranks.proofs.count_of.Lts as lts
 
 returns : tie.Need-returns
 unfolding countOf

@@ -5,10 +5,6 @@ use Rattle.ranks.specs.Step.{complete}
 use borrow.Author.Needs.{needs}
 use Rattle.ranks.proofs.is_complete.Statement.{statement}
 use Rattle.ranks.proofs.is_complete.Tie as tie
-use Rattle.ranks.proofs.is_complete.Reads as reads
-use Rattle.ranks.proofs.is_complete.Lts as lts
-use Rattle.ranks.proofs.can_come.Reads as can-come-reads
-use Rattle.ranks.proofs.is_settled.Reads as is-settled-reads
 
 is-settled-requires : tie.Need-is-settled-requires
 is-settled-requires c κs = search needs

@@ -1,14 +1,9 @@
 -- `ranks::is_settled` meets its contract: by its two cases. Assumes nothing.
-use mathlib.Core.Path.{_≡_}
-use mathlib.Core.Bool.{false}
 use native.Mathlib.Omega.{arith}
-use lib.Dec.{leb}
 use borrow.Author.Tests.{le-leb, lt-leb}
 use Rattle.ranks.specs.Step.{settled}
 use Rattle.ranks.proofs.is_settled.Statement.{statement}
 use Rattle.ranks.proofs.is_settled.Tie as tie
-use Rattle.ranks.proofs.is_settled.Reads as reads
-use Rattle.ranks.proofs.is_settled.Lts as lts
 
 returns : tie.Need-returns
 unfolding settled

@@ -1,14 +1,9 @@
 -- `ranks::is_tabled` meets its contract: test by test. Assumes nothing.
-use mathlib.Core.Bool.{true}
 use native.Mathlib.Omega.{arith}
-use lib.Dec.{ltb}
-use mathlib.Core.Path.{_≡_}
 use borrow.Author.Tests.{eq-eqb, ne-eqb, lt-ltb, le-ltb}
 use Rattle.ranks.specs.Step.{tabled}
 use Rattle.ranks.proofs.is_tabled.Statement.{statement}
 use Rattle.ranks.proofs.is_tabled.Tie as tie
-use Rattle.ranks.proofs.is_tabled.Reads as reads
-use Rattle.ranks.proofs.is_tabled.Lts as lts
 
 returns : tie.Need-returns
 unfolding tabled

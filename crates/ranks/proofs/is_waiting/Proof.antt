@@ -3,8 +3,6 @@ use borrow.Author.Tests.{ne-eqb}
 use Rattle.ranks.specs.Step.{waiting}
 use Rattle.ranks.proofs.is_waiting.Statement.{statement}
 use Rattle.ranks.proofs.is_waiting.Tie as tie
-use Rattle.ranks.proofs.is_waiting.Reads as reads
-use Rattle.ranks.proofs.is_waiting.Lts as lts
 
 returns : tie.Need-returns
 unfolding waiting

@@ -4,11 +4,6 @@ use Rattle.ranks.specs.Step.{stands, tabled, complete}
 use borrow.Author.Needs.{needs}
 use Rattle.ranks.proofs.may_stand.Statement.{statement}
 use Rattle.ranks.proofs.may_stand.Tie as tie
-use Rattle.ranks.proofs.may_stand.Reads as reads
-use Rattle.ranks.proofs.may_stand.Lts as lts
-use Rattle.ranks.proofs.is_complete.Reads as is-complete-reads
-use Rattle.ranks.proofs.is_tabled.Reads as is-tabled-reads
-use Rattle.ranks.proofs.rank_of.Reads as rank-of-reads
 
 rank-of-requires : tie.Need-rank-of-requires
 rank-of-requires c κs = search needs

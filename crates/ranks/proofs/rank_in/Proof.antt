@@ -5,9 +5,6 @@ use Rattle.ranks.proofs.Table.{in-table, past-table}
 use borrow.Author.Needs.{needs}
 use Rattle.ranks.proofs.rank_in.Statement.{statement}
 use Rattle.ranks.proofs.rank_in.Tie as tie
-use Rattle.ranks.proofs.rank_in.Reads as reads
-use Rattle.ranks.proofs.rank_in.Lts as lts
-use Rattle.ranks.proofs.wide.Reads as wide-reads
 
 returns : tie.Need-returns
 returns c = past-table (c .before .args .kind) (omega arith)

@@ -1,16 +1,10 @@
 -- `ranks::rank_of` meets its contract: by its cases. Assumes nothing.
-use mathlib.Core.Bool.{true}
 use native.Mathlib.Omega.{arith}
-use lib.Dec.{ltb}
-use mathlib.Core.Path.{_≡_}
 use borrow.Author.Tests.{ne-eqb, lt-ltb}
 use Rattle.ranks.specs.Step.{rankOf}
 use borrow.Author.Needs.{needs}
 use Rattle.ranks.proofs.rank_of.Statement.{statement}
 use Rattle.ranks.proofs.rank_of.Tie as tie
-use Rattle.ranks.proofs.rank_of.Reads as reads
-use Rattle.ranks.proofs.rank_of.Lts as lts
-use Rattle.ranks.proofs.rank_in.Reads as rank-in-reads
 
 rank-in-requires : tie.Need-rank-in-requires
 rank-in-requires c κs = search needs
