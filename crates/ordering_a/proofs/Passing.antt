@@ -21,11 +21,12 @@ use Rattle.ranks.specs.declared.Sight.{Sight}
 use Rattle.ranks.specs.Step.{next, waiting, asState, Small}
 use Rattle.ranks.proofs.Steps.{count-few, one-few}
 use Rattle.owners.specs.Owner.{made}
-use Rattle.ordering_a.specs.declared.Own.{Own}
+use Rattle.turns.specs.declared.Own.{Own}
 use Rattle.ordering_a.specs.declared.Walk.{Walk}
-use Rattle.ordering_a.specs.Pass.{kindFor, walkFor, startOf, Standing, Bounds}
-use Rattle.ordering_a.proofs.Records.{unit-kind}
-use Rattle.ordering_a.proofs.Slots.{before-none}
+use Rattle.turns.specs.Turns.{kindFor}
+use Rattle.ordering_a.specs.Pass.{walkFor, startOf, Standing, Bounds}
+use Rattle.turns.proofs.Records.{unit-kind}
+use Rattle.turns.proofs.Slots.{before-none}
 
 -- after the profile
 pub start : (es : List Element) (n : ℕ) → length es ≡ n → 0 < n → elementAt es 0 .kind ≡ 0 → Standing es 1 (startOf n)

@@ -29,12 +29,13 @@ use Rattle.ranks.specs.declared.Sight.{Sight}
 use Rattle.ranks.specs.Step.{rankOf, stands, one, next, asState, Sees}
 use Rattle.ranks.proofs.Steps.{rank-seen, stands-exactly, next-exactly}
 use Rattle.owners.specs.Owner.{made}
-use Rattle.ordering_a.specs.declared.Own.{Own}
+use Rattle.turns.specs.declared.Own.{Own}
 use Rattle.ordering_a.specs.declared.Walk.{Walk}
-use Rattle.ordering_a.specs.Pass.{OwnIs, kindFor, ownFor, rowFor, turnFor, counts, lesser, before, orLayout, walkFor, Standing}
-use Rattle.ordering_a.proofs.Records.{whole, early-of, early-told, unit-kind}
-use Rattle.ordering_a.proofs.Slots.{before-none}
-use Rattle.ordering_a.proofs.Turns.{Ordering, ordering, ordered-is, turn-is, base-next, record-of, row-stays, ordered-counts}
+use Rattle.turns.specs.Turns.{OwnIs, kindFor, ownFor, rowFor, turnFor, counts, before}
+use Rattle.ordering_a.specs.Pass.{lesser, orLayout, walkFor, Standing}
+use Rattle.turns.proofs.Records.{whole, early-of, early-told, unit-kind}
+use Rattle.turns.proofs.Slots.{before-none}
+use Rattle.turns.proofs.Turns.{Ordering, ordering, ordered-is, turn-is, base-next, record-of, row-stays, ordered-counts}
 
 -- what is seen of element k, by what the element says
 pub record Seen (es : List Element) (k : ℕ) (w : Walk) (layout logical : Own) (row base : ℕ) (x : Sight) : Type 0 where

@@ -2,12 +2,11 @@
 use mathlib.Core.Path.{_≡_, refl, ap, sym, _∙_, subst}
 use mathlib.Core.Bool.{true, false}
 use mathlib.Core.List.{List}
-use Prim.Native.Nat.{ℕ, suc, _+_, _*_, _<_, _≤_}
+use Prim.Native.Nat.{ℕ, suc, _+_, _<_, _≤_}
 use borrow.Table.Steps.{cases}
 use native.Mathlib.Omega.{arith}
 use native.Mathlib.Numerals.{add-one}
 use lib.ListN.{length}
-use Rattle.index.specs.Rows.{rowWidth}
 use Rattle.index.specs.Columns.{kindAt}
 use Rattle.elements.specs.Judge.{Element}
 use Rattle.reading.specs.declared.Side.the-variants.{Layout, Logical}
@@ -21,22 +20,18 @@ use Rattle.ranks.specs.declared.Sight.{Sight}
 use Rattle.ranks.specs.Step.{stands, waiting, Small}
 use Rattle.owners.specs.Owner.{Known}
 use Rattle.owners.proofs.Telling.{kind-told, named-told, lists-told, meetable}
-use Rattle.ordering_a.specs.declared.Own.{Own}
+use Rattle.turns.specs.declared.Own.{Own}
 use Rattle.ordering_a.specs.declared.Walk.{Walk}
 use Rattle.ordering_a.specs.declared.Step.the-variants.{Stops, Goes}
-use Rattle.ordering_a.specs.Pass.{OwnIs, OwnAt, kindFor, ownFor, rowFor, Told, before, Reaches, sightFor, walkFor, startOf, Standing, Bounds, StepAt}
-use Rattle.ordering_a.proofs.Turns.{row-rises, row-few}
+use Rattle.turns.specs.Turns.{OwnIs, OwnAt, kindFor, ownFor, rowFor, Told, before, Reaches}
+use Rattle.ordering_a.specs.Pass.{sightFor, walkFor, startOf, Standing, Bounds, StepAt}
+use Rattle.turns.proofs.Reaching.{few-rows}
+use Rattle.turns.proofs.Turns.{row-rises, row-few}
 use Rattle.ordering_a.proofs.Standing.{Seen, stops-here, goes-here}
 use Rattle.ordering_a.proofs.Passing.{start, start-bounds, ends-waiting, ends-whole, small, bounds-next}
 
 pub told-of : {s rows head next : List ℕ} {n : ℕ} → Known s rows head next n → Told s rows n
 told-of known = record { elements = known .elements; ready = known .ready; in-table = known .identifiers .in-table }
-
-pub few-rows : {s rows : List ℕ} {n : ℕ} → Told s rows n → n ≤ 4096
-few-rows told = omega (arith, told .ready .apart .few, told .ready .counted)
-
-pub row-inside : {s rows : List ℕ} {n : ℕ} → Told s rows n → (j : ℕ) → j < n → j * rowWidth + rowWidth ≤ length rows
-row-inside told j l = omega (arith, told .in-table)
 
 module _ {s rows : List ℕ} {n : ℕ} (told : Told s rows n) (k : ℕ) (l : k < n) (w : Walk) (bounds : Bounds k w) (layout logical : Own)
     (a : OwnAt Layout s rows n k layout) (b : OwnAt Logical s rows n k logical) (kind row : ℕ) (kind-is : kind ≡ kindFor (w .layouts))

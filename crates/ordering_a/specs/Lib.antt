@@ -1,2 +1,2 @@
--- Pass: the pass.
+-- Pass: what the pass sees, keeps and answers.
 pub mod Pass

@@ -4,7 +4,8 @@ use Prim.Native.Nat.{_-_}
 use native.Mathlib.Omega.{arith}
 use Rattle.ordering_a.specs.Pass.{StepAt}
 use borrow.Author.Needs.{needs}
-use Rattle.ordering_a.proofs.Stepping.{told-of, few-rows, Walking, walking-first, walking-more, walking-stops, walking-ends, walking-whole}
+use Rattle.turns.proofs.Reaching.{few-rows}
+use Rattle.ordering_a.proofs.Stepping.{told-of, Walking, walking-first, walking-more, walking-stops, walking-ends, walking-whole}
 use Rattle.ordering_a.proofs.pass.Statement.{statement}
 use Rattle.ordering_a.proofs.pass.Tie as tie
 

@@ -1,7 +1,7 @@
 -- `ordering_a::see` meets its contract: number by number. Assumes nothing.
 use Rattle.ordering_a.specs.Pass.{sightFor}
 use Rattle.owners.proofs.Telling.{meetable}
-use Rattle.ordering_a.proofs.Stepping.{row-inside}
+use Rattle.turns.proofs.Reaching.{row-inside}
 use borrow.Author.Needs.{needs}
 use Rattle.ordering_a.proofs.see.Statement.{statement}
 use Rattle.ordering_a.proofs.see.Tie as tie

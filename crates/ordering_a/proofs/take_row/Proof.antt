@@ -2,8 +2,8 @@
 use mathlib.Core.Path.{ap, sym, _∙_}
 use native.Mathlib.Omega.{arith}
 use borrow.Author.Tests.{not-true, not-false}
-use Rattle.ordering_a.specs.Pass.{rowFor}
-use Rattle.ordering_a.specs.declared.Own.{Own}
+use Rattle.turns.specs.Turns.{rowFor}
+use Rattle.turns.specs.declared.Own.{Own}
 use Rattle.ordering_a.proofs.Stepping.{row-low, row-on, small-is, stops, goes}
 use borrow.Author.Needs.{needs}
 use Rattle.ordering_a.proofs.take_row.Statement.{statement}

@@ -1,10 +1,10 @@
--- `ordering_a::reach` meets its contract: the rows are counted in turn. The measure is how many are left. Assumes nothing.
+-- `turns::reach` meets its contract: the rows are counted in turn. The measure is how many are left. Assumes nothing.
 use Prim.Native.Nat.{_-_, _<_, _≤_}
 use native.Mathlib.Omega.{arith}
-use Rattle.ordering_a.proofs.Reaching.{Counted, counted-none, counts-few, counted-more, counted-all}
-use Rattle.ordering_a.proofs.Stepping.{few-rows}
-use Rattle.ordering_a.proofs.reach.Statement.{statement}
-use Rattle.ordering_a.proofs.reach.Tie as tie
+use Rattle.turns.proofs.Reaching.{Counted, counted-none, counts-few, counted-more, counted-all}
+use Rattle.turns.proofs.Reaching.{few-rows}
+use Rattle.turns.proofs.reach.Statement.{statement}
+use Rattle.turns.proofs.reach.Tie as tie
 
 abbrev Inv-loop : tie.InvT-loop
 Inv-loop s rows n kind row base to at₀ total₀ at total = (row ≤ at) × (at ≤ to) × Counted s rows n kind row base at total

@@ -1,8 +1,8 @@
--- `ordering_a::count_kinds` meets its contract: by its four cases. Assumes nothing.
+-- `turns::count_kinds` meets its contract: by its four cases. Assumes nothing.
 use borrow.Author.Tests.{eq-eqb, ne-eqb}
-use Rattle.ordering_a.specs.Pass.{counts}
-use Rattle.ordering_a.proofs.count_kinds.Statement.{statement}
-use Rattle.ordering_a.proofs.count_kinds.Tie as tie
+use Rattle.turns.specs.Turns.{counts}
+use Rattle.turns.proofs.count_kinds.Statement.{statement}
+use Rattle.turns.proofs.count_kinds.Tie as tie
 
 returns : tie.Need-returns
 unfolding counts

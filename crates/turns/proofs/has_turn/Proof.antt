@@ -1,9 +1,9 @@
--- `ordering_a::has_turn` meets its contract: test by test. Assumes nothing.
+-- `turns::has_turn` meets its contract: test by test. Assumes nothing.
 use native.Mathlib.Omega.{arith}
 use borrow.Author.Tests.{eq-eqb, ne-eqb, le-leb, lt-leb}
-use Rattle.ordering_a.specs.Pass.{turnFor}
-use Rattle.ordering_a.proofs.has_turn.Statement.{statement}
-use Rattle.ordering_a.proofs.has_turn.Tie as tie
+use Rattle.turns.specs.Turns.{turnFor}
+use Rattle.turns.proofs.has_turn.Statement.{statement}
+use Rattle.turns.proofs.has_turn.Tie as tie
 
 returns : tie.Need-returns
 unfolding turnFor

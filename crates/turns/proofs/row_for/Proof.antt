@@ -1,9 +1,9 @@
--- `ordering_a::row_for` meets its contract: by its three cases. Assumes nothing.
+-- `turns::row_for` meets its contract: by its three cases. Assumes nothing.
 use native.Mathlib.Omega.{arith}
 use borrow.Author.Tests.{eq-eqb, ne-eqb, lt-ltb, le-ltb}
-use Rattle.ordering_a.specs.Pass.{rowFor}
-use Rattle.ordering_a.proofs.row_for.Statement.{statement}
-use Rattle.ordering_a.proofs.row_for.Tie as tie
+use Rattle.turns.specs.Turns.{rowFor}
+use Rattle.turns.proofs.row_for.Statement.{statement}
+use Rattle.turns.proofs.row_for.Tie as tie
 
 returns : tie.Need-returns
 unfolding rowFor

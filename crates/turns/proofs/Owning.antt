@@ -22,8 +22,8 @@ use Rattle.owners.specs.declared.Owner.{Owner}
 use Rattle.owners.specs.declared.Owner.the-variants.{Nobody, Of}
 use Rattle.owners.specs.Owner.{made, OwnerIs}
 use Rattle.owners.proofs.Telling.{kind-told}
-use Rattle.ordering_a.specs.Pass.{RowBelow, ownOf, OwnIs}
-use Rattle.ordering_a.proofs.Records.{row-below, other-row, some-of-record, some-told-record, one-record}
+use Rattle.turns.specs.Turns.{RowBelow, ownOf, OwnIs}
+use Rattle.turns.proofs.Records.{row-below, other-row, some-of-record, some-told-record, one-record}
 
 -- kind 0 is of no side
 no-kind : (side : Side) → isIn 0 (kindsOf side) ≡ true → ⊥

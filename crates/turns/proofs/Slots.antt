@@ -28,8 +28,8 @@ use Rattle.order.proofs.SightsA.{slot-none}
 use Rattle.order.proofs.AsMatches.{answers-match}
 use Rattle.order.proofs.CountsA.{slot-is}
 use Rattle.owners.specs.Owner.{made}
-use Rattle.ordering_a.specs.Pass.{before}
-use Rattle.ordering_a.proofs.Records.{rest, whole, row-kind, side-told, record-portion}
+use Rattle.turns.specs.Turns.{before}
+use Rattle.turns.proofs.Records.{rest, whole, row-kind, side-told, record-portion}
 
 -- one element more
 one-lists : (kind : ℕ) (e : Element) → length (listedOf kind (e ∷ [])) ≡ countIf (eqb (e .kind) kind) (length (e .portions))

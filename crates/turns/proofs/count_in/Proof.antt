@@ -1,11 +1,11 @@
--- `ordering_a::count_in` meets its contract: by the kind of the row. Assumes nothing.
+-- `turns::count_in` meets its contract: by the kind of the row. Assumes nothing.
 use mathlib.Core.Path.{sym, _∙_}
 use borrow.Author.Tests.{eq-eqb, ne-eqb}
-use Rattle.ordering_a.specs.Pass.{countsIn}
+use Rattle.turns.specs.Turns.{countsIn}
 use Rattle.owners.proofs.Telling.{meetable}
-use Rattle.ordering_a.proofs.Stepping.{row-inside}
-use Rattle.ordering_a.proofs.count_in.Statement.{statement}
-use Rattle.ordering_a.proofs.count_in.Tie as tie
+use Rattle.turns.proofs.Reaching.{row-inside}
+use Rattle.turns.proofs.count_in.Statement.{statement}
+use Rattle.turns.proofs.count_in.Tie as tie
 
 kind-at-requires : tie.Need-kind-at-requires
 kind-at-requires c κs = let start = c .before .before in row-inside (start .pre .0) (start .args .j) (start .pre .1)

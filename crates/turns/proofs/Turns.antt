@@ -20,9 +20,9 @@ use Rattle.order.specs.PassA.{slotIn}
 use Rattle.order.proofs.Tests.{both}
 use Rattle.ranks.specs.Step.{one}
 use Rattle.owners.specs.Owner.{made}
-use Rattle.ordering_a.specs.declared.Own.{Own}
-use Rattle.ordering_a.specs.Pass.{OwnIs, kindFor, ownFor, rowFor, turnFor, counts, before}
-use Rattle.ordering_a.proofs.Slots.{no-slot, slot-told, behind, is-next}
+use Rattle.turns.specs.declared.Own.{Own}
+use Rattle.turns.specs.Turns.{OwnIs, kindFor, ownFor, rowFor, turnFor, counts, before}
+use Rattle.turns.proofs.Slots.{no-slot, slot-told, behind, is-next}
 
 module _ (es : List Element) (aside : LimitsAside es) (n k : ℕ) (below : k < length es) (side : Side) (kind : ℕ) (on-side : isIn kind (kindsOf side) ≡ true) (own : Own)
     (own-is : OwnIs side es n k own) (row ordered : ℕ) (row-low : row ≤ k) (base-low : before kind es row ≤ ordered) where

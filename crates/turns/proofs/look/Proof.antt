@@ -1,12 +1,12 @@
--- `ordering_a::look` meets its contract: what the owner tells is so. Assumes nothing.
+-- `turns::look` meets its contract: what the owner tells is so. Assumes nothing.
 use mathlib.Core.Path.{sym, subst}
 use Prim.Native.Nat.{_≤_}
-use Rattle.ordering_a.specs.declared.Own.{Own}
-use Rattle.ordering_a.specs.Pass.{OwnIs}
-use Rattle.ordering_a.proofs.Owning.{own-is, row-inside, row-low}
+use Rattle.turns.specs.declared.Own.{Own}
+use Rattle.turns.specs.Turns.{OwnIs}
+use Rattle.turns.proofs.Owning.{own-is, row-inside, row-low}
 use borrow.Author.Needs.{needs}
-use Rattle.ordering_a.proofs.look.Statement.{statement}
-use Rattle.ordering_a.proofs.look.Tie as tie
+use Rattle.turns.proofs.look.Statement.{statement}
+use Rattle.turns.proofs.look.Tie as tie
 
 owner-of-requires : tie.Need-owner-of-requires
 owner-of-requires c κs = search needs

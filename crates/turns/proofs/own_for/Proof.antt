@@ -1,7 +1,7 @@
--- `ordering_a::own_for` meets its contract: by its two cases. Assumes nothing.
-use Rattle.ordering_a.specs.Pass.{ownFor}
-use Rattle.ordering_a.proofs.own_for.Statement.{statement}
-use Rattle.ordering_a.proofs.own_for.Tie as tie
+-- `turns::own_for` meets its contract: by its two cases. Assumes nothing.
+use Rattle.turns.specs.Turns.{ownFor}
+use Rattle.turns.proofs.own_for.Statement.{statement}
+use Rattle.turns.proofs.own_for.Tie as tie
 
 returns : tie.Need-returns
 unfolding ownFor

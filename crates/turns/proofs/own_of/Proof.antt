@@ -1,12 +1,12 @@
--- `ordering_a::own_of` meets its contract: by who the owner is, and where it stands. Assumes nothing.
+-- `turns::own_of` meets its contract: by who the owner is, and where it stands. Assumes nothing.
 use mathlib.Core.Path.{ap, sym, _∙_, subst}
 use Prim.Native.Nat.{_<_, _≤_}
 use native.Mathlib.Omega.{arith}
 use borrow.Author.Tests.{lt-ltb, le-ltb}
-use Rattle.ordering_a.specs.Pass.{RowBelow, ownOf}
+use Rattle.turns.specs.Turns.{RowBelow, ownOf}
 use borrow.Author.Needs.{needs}
-use Rattle.ordering_a.proofs.own_of.Statement.{statement}
-use Rattle.ordering_a.proofs.own_of.Tie as tie
+use Rattle.turns.proofs.own_of.Statement.{statement}
+use Rattle.turns.proofs.own_of.Tie as tie
 
 enum-told : tie.Need-enum-told
 enum-told c = search needs

@@ -7,13 +7,21 @@ use native.Mathlib.Numerals.{add-one}
 use lib.Dec.{eqb}
 use lib.ListN.{length}
 use borrow.Table.Steps.{cases}
+use Rattle.index.specs.Rows.{rowWidth}
 use Rattle.index.specs.Columns.{kindAt}
 use Rattle.elements.specs.Judge.{Element}
 use Rattle.reading.specs.Ready.{RowsTell, elementAt}
 use Rattle.order.specs.PassA.{countIf}
 use Rattle.owners.proofs.Telling.{kind-told, lists-told, meetable}
-use Rattle.ordering_a.specs.Pass.{countsIn, Told, before, Reaches}
-use Rattle.ordering_a.proofs.Slots.{before-more}
+use Rattle.turns.specs.Turns.{countsIn, Told, before, Reaches}
+use Rattle.turns.proofs.Slots.{before-more}
+
+-- there are few rows, and each is one of the table
+pub few-rows : {s rows : List ℕ} {n : ℕ} → Told s rows n → n ≤ 4096
+few-rows told = omega (arith, told .ready .apart .few, told .ready .counted)
+
+pub row-inside : {s rows : List ℕ} {n : ℕ} → Told s rows n → (j : ℕ) → j < n → j * rowWidth + rowWidth ≤ length rows
+row-inside told j l = omega (arith, told .in-table)
 
 -- what was counted up to a row
 pub record Counted (s rows : List ℕ) (n kind row base at total : ℕ) : Type 0 where

@@ -1,7 +1,7 @@
--- `ordering_a::kind_for` meets its contract: by its two cases. Assumes nothing.
-use Rattle.ordering_a.specs.Pass.{kindFor}
-use Rattle.ordering_a.proofs.kind_for.Statement.{statement}
-use Rattle.ordering_a.proofs.kind_for.Tie as tie
+-- `turns::kind_for` meets its contract: by its two cases. Assumes nothing.
+use Rattle.turns.specs.Turns.{kindFor}
+use Rattle.turns.proofs.kind_for.Statement.{statement}
+use Rattle.turns.proofs.kind_for.Tie as tie
 
 returns : tie.Need-returns
 unfolding kindFor
