@@ -5,14 +5,15 @@ use mathlib.Core.List.{List}
 use Rattle.elements.specs.Judge.{Element}
 use Rattle.reading.specs.Ready.{RowsTell}
 use Rattle.order.specs.declared.Class.{Class as Asked}
-use Rattle.order.specs.declared.Class.the-variants.{B}
+use Rattle.order.specs.declared.Class.the-variants.{A, B}
 use Rattle.order.specs.declared.Fault.{Fault}
 use Rattle.order.specs.declared.Fault.the-variants.{Nowhere, At}
 use Rattle.order.specs.Answers.{LimitsAside}
-use Rattle.order.specs.Begins.{Class, classB}
+use Rattle.order.specs.Begins.{Class, classA, classB}
 use Rattle.order.specs.Fault.{Found, in-order, fault, faultOf}
 
 abbrev pub classOf : Asked → Class
+classOf A = classA
 classOf B = classB
 
 abbrev pub foundOf : Fault → Found

@@ -30,6 +30,7 @@ fn fault_in(s: &[u8], class: Class, rows: &[u32], head: &[u16], next: &[u16], n:
     ensures { λ r. ⌜ FaultIn (classOf class) (now (s .entry)) (now (rows .entry)) n r ⌝ }
 {
     match class {
+        Class::A => ordering_a::fault_a(s, rows, head, next, n),
         Class::B => ordering::fault_b(s, rows, head, next, n),
     }
 }
