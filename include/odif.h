@@ -59,12 +59,14 @@
    23   not exactly one date of the document in the profile, or it is constructed     0
    24   the first ten octets of the date name no day                                  0
    25   the list is shorter than the children                                         0
+   26   the elements through this one begin no stream in the asked order; or          the element, or the
+        only the end is missing                                                       stream's length
    27   a part of an entry is outside the buffer, or ends before it begins            the entry's number
    28   a block is past the total that was told                                       0
    29   a letter in blocks is closed before all its octets have come                  0
 
    1 comes first, then the first fault of 2 to 8 in stream order, then the elements in order, 9 to 15 in order within
-   each, then 16, 17, 18, 19 or 20 where the question can give it; 21, 22 and 25 come after 20, 23 and 24 after 15. A
+   each, then 16, 17, 18, 19 or 20 where the question can give it; 21, 22 and 25 come after 20, 23, 24 and 26 after 15. A
    refusal leaves the lent table, list and output as they were, except that 19 and 25 leave the finished table. Counts
    are 0 with a refusal, except that 19 and 25 keep the element count and the check's header count comes with every
    answer.
@@ -206,6 +208,11 @@ typedef struct {
     uint32_t unread;   /* always 1: what follows the first element is unread */
 } odif_first_dated;
 
+typedef struct {
+    uint32_t number;   /* 0, or the refusal: 1 to 15, 26 */
+    uint32_t place;    /* the refusal's place */
+} odif_ordered;
+
 /* One match: the text unit's identifier is the element's identifier, one space, the portion. All count from 0. */
 typedef struct {
     uint32_t element;  /* the row of the class or object */
@@ -265,6 +272,13 @@ odif_related odif_children(const uint8_t *ODIF_APART stream, size_t stream_len, 
                            uint32_t *ODIF_APART table, size_t table_len,
                            uint32_t *ODIF_APART list, size_t list_len);
 
+/* Whether the elements stand in the order of interchange class A (7.2 of T.415 of 1993) or of class B (7.3), whatever
+   class the profile names. In class A text units stand in two groups, after all classes and after all objects; in class
+   B right after the class or object that lists their portions. In both every portion has its unit in the end. odif_check
+   accepts either order, and neither. Nothing but the stream is lent. */
+odif_ordered odif_order_a(const uint8_t *stream, size_t stream_len);
+odif_ordered odif_order_b(const uint8_t *stream, size_t stream_len);
+
 /* Finds the date of the document. */
 odif_dated odif_date(const uint8_t *stream, size_t stream_len);
 
@@ -292,6 +306,8 @@ odif_copied odif_joined_1993(const uint8_t *ODIF_APART stream, size_t stream_len
 odif_related odif_children_1993(const uint8_t *ODIF_APART stream, size_t stream_len, uint32_t row,
                                 uint32_t *ODIF_APART table, size_t table_len,
                                 uint32_t *ODIF_APART list, size_t list_len);
+odif_ordered odif_order_a_1993(const uint8_t *stream, size_t stream_len);
+odif_ordered odif_order_b_1993(const uint8_t *stream, size_t stream_len);
 odif_dated odif_date_1993(const uint8_t *stream, size_t stream_len);
 odif_first_dated odif_first_date_1993(const uint8_t *stream, size_t stream_len);
 

@@ -28,6 +28,7 @@ static const char *const sentences[] = {
     [23] = "the profile does not have exactly one date of the document, or that is constructed",
     [24] = "the date of the document does not begin with a day as in 1988-06-05",
     [25] = "the list is shorter than the children",
+    [26] = "the elements are not in the order that was asked",
     [27] = "a part of an entry is outside the buffer, or ends before it begins",
     [28] = "a block is past the total that was told",
     [29] = "the letter was closed before all its octets had come",

@@ -12,6 +12,8 @@ pub use answers::Related;
 pub use answers::Written;
 pub use elements::Edition;
 use normal::Answer;
+pub use order::Class;
+pub use orders::Ordered;
 pub use reading::Match;
 pub use reading::Side;
 ghost use mathlib.Core.Path.{_≡_};
@@ -20,6 +22,7 @@ ghost use Rattle.answers.specs.Answers.{ruled, CheckOutcome, NormalOutcome, Lis
 mod arriving; // arriving.rt: a letter that arrives in blocks
 mod dating; // dating.rt: the date of the document
 mod family; // family.rt: the children of a row
+mod in_order; // in_order.rt: the order of a letter by an interchange class
 mod made; // made.rt: a letter that is made
 mod mailroom; // mailroom.rt: the normal form of a short stream
 
@@ -27,6 +30,7 @@ pub use dating::date;
 pub use dating::dated;
 pub use dating::first_date;
 pub use family::children;
+pub use in_order::order;
 pub use made::make;
 pub use mailroom::normal_short;
 
