@@ -26,6 +26,7 @@ use Rattle.ordering_a.specs.declared.Step.{Step}
 use Rattle.ordering_a.specs.declared.Step.the-variants.{Stops, Goes}
 use Rattle.turns.specs.Turns.{kindFor, ownFor, turnFor, counts, before}
 
+-- the lesser of two
 unfoldable pub lesser : (a b : ℕ) → ℕ
 lesser a b = cond (ltb a b) a b
 
@@ -43,8 +44,9 @@ sightFor s rows k w layout logical row base =
       turn = turnFor (ownFor (w .layouts) layout logical) (kindFor (w .layouts)) row base (w .state .ordered);
     }
 
-unfoldable pub orLayout : Bool → (kind : ℕ) → Bool
-orLayout test kind = test || eqb kind 2
+-- there is a layout object: there was one before, or the element is one
+unfoldable pub hasLayouts : (before : Bool) → (kind : ℕ) → Bool
+hasLayouts before kind = before || eqb kind 2
 
 -- and what is known after it
 unfoldable pub walkFor : Walk → Sight → (layout logical : Own) → (row base : ℕ) → Walk
@@ -54,7 +56,7 @@ walkFor w x layout logical row base =
       least = lesser (w .least) (lesser (layout .later) (logical .later));
       row = row;
       base = base;
-      layouts = orLayout (w .layouts) (x .kind);
+      layouts = hasLayouts (w .layouts) (x .kind);
     }
 
 -- after the profile: nothing has been
@@ -72,7 +74,7 @@ pub record Standing (elements : List Element) (k : ℕ) (w : Walk) : Type 0 wher
   pub base-low : w .base ≤ w .state .ordered
   pub ordered-rank : (w .row ≡ 0) ⊎ (specificRank ≤ w .state .rank)
 
--- and of the numbers: none can pass what a number holds
+-- and of the numbers: at most 64 portions an element, so that none can pass what a number holds
 pub record Bounds (k : ℕ) (w : Walk) : Type 0 where
   pub row : w .row ≤ k
   pub base : w .base ≤ 64 * w .row
