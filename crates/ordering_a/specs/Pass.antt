@@ -65,13 +65,18 @@ startOf n = record { state = record { rank = 0; generic = 0; specific = 0; order
 
 -- what is known before element k, of the elements,
 pub record Standing (elements : List Element) (k : ℕ) (w : Walk) : Type 0 where
+  -- the place of 26 is what the definition's pass finds from here
   pub goes-on : placeA (sightsA [] elements) ≡ passA (asState (w .state)) k (sightsA (take k elements) (drop k elements))
+  -- of the rows from k on that a unit before k answers on a side, the least; how many rows there are, if there is none
   pub least-low : k ≤ w .least
   pub no-less : (side : Side) (row portion u : ℕ) → u < k → made row portion u ∈ matches side elements → (row < k) ⊎ (w .least ≤ row)
   pub least-is : (w .least ≡ length elements) ⊎ ((side : Side) × (portion : ℕ) × (u : ℕ) × (u < k) × (made (w .least) portion u ∈ matches side elements))
+  -- there is a layout object among the elements before k
   pub layouts-is : any (map (λ e. eqb (e .kind) 2) (take k elements)) ≡ w .layouts
+  -- so many portions are listed before the row, by the objects by which units are ordered; their units have been
   pub base-is : w .base ≡ before (kindFor (w .layouts)) elements (w .row)
   pub base-low : w .base ≤ w .state .ordered
+  -- where portions were counted, an ordered unit has been
   pub ordered-rank : (w .row ≡ 0) ⊎ (specificRank ≤ w .state .rank)
 
 -- and of the numbers: at most 64 portions an element, so that none can pass what a number holds
@@ -82,6 +87,7 @@ pub record Bounds (k : ℕ) (w : Walk) : Type 0 where
   pub specific : w .state .specific ≤ 64 * k
   pub ordered : w .state .ordered ≤ k
 
+-- what a step answers: 26 is here, or the same is known before the next element
 abbrev pub StepAt : (s rows : List ℕ) → (n k : ℕ) → Walk → Step → Type 0
 StepAt s rows n k w Stops =
     (elements : List Element) → RowsTell s rows n elements → LimitsAside elements → Standing elements k w → placeA (sightsA [] elements) ≡ fault k
