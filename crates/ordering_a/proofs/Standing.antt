@@ -32,7 +32,7 @@ use Rattle.owners.specs.Owner.{made}
 use Rattle.turns.specs.declared.Own.{Own}
 use Rattle.ordering_a.specs.declared.Walk.{Walk}
 use Rattle.turns.specs.Turns.{OwnIs, kindFor, ownFor, rowFor, turnFor, counts, before}
-use Rattle.ordering_a.specs.Pass.{lesser, orLayout, walkFor, Standing}
+use Rattle.ordering_a.specs.Pass.{lesser, hasLayouts, walkFor, Standing}
 use Rattle.turns.proofs.Records.{whole, early-of, early-told, unit-kind}
 use Rattle.turns.proofs.Slots.{before-none}
 use Rattle.turns.proofs.Turns.{Ordering, ordering, ordered-is, turn-is, base-next, record-of, row-stays, ordered-counts}
@@ -260,8 +260,8 @@ module _ (es : List Element) (aside : LimitsAside es) (k : ℕ) (below : k < len
         of-three (inr p) (inl q) = subst Least (sym (p ∙ q)) (new layout (later Layout layout a))
         of-three (inr p) (inr q) = subst Least (sym (p ∙ q)) (new logical (later Logical logical b))
 
-    layouts-is : any (map (λ e. eqb (e .kind) 2) (take (suc k) es)) ≡ orLayout (w .layouts) (x .kind)
-    unfolding orLayout
+    layouts-is : any (map (λ e. eqb (e .kind) 2) (take (suc k) es)) ≡ hasLayouts (w .layouts) (x .kind)
+    unfolding hasLayouts
     layouts-is =
         ap (λ (xs : List Element). any (map (λ e. eqb (e .kind) 2) xs)) (take-suc es k noElement below) ∙ any-more (λ e. eqb (e .kind) 2) front here
         ∙ rw (st .layouts-is, seen .kind)
@@ -300,13 +300,13 @@ module _ (es : List Element) (aside : LimitsAside es) (k : ℕ) (below : k < len
         which (inl z) = z
         which (inr l) = let r = layout-rank e in absurd (omega arith)
 
-    base-again : base ≡ before (kindFor (orLayout (w .layouts) (x .kind))) es row
-    unfolding orLayout
+    base-again : base ≡ before (kindFor (hasLayouts (w .layouts) (x .kind))) es row
+    unfolding hasLayouts
     base-again =
         cases (eqb (x .kind) 2)
         (λ u. let z = object-row (eqb-true (x .kind) 2 u) in
         let none : (i : ℕ) → before i es row ≡ 0 = λ i. ap (before i es) z ∙ before-none i es in
-        base-is ∙ none by ∙ sym (none (kindFor (orLayout (w .layouts) (x .kind)))))
+        base-is ∙ none by ∙ sym (none (kindFor (hasLayouts (w .layouts) (x .kind)))))
         (λ u. let same : (w .layouts) || eqb (x .kind) 2 ≡ w .layouts = rw u (or-nothing (w .layouts)) in base-is ∙ ap (λ (i : Bool). before (kindFor i) es row) (sym same))
       where
         or-nothing : (c : Bool) → c || false ≡ c

@@ -26,6 +26,7 @@ use Rattle.ordering_a.specs.declared.Step.{Step}
 use Rattle.ordering_a.specs.declared.Step.the-variants.{Stops, Goes}
 use Rattle.turns.specs.Turns.{kindFor, ownFor, turnFor, counts, before}
 
+-- the lesser of two
 unfoldable pub lesser : (a b : ℕ) → ℕ
 lesser a b = cond (ltb a b) a b
 
@@ -43,8 +44,9 @@ sightFor s rows k w layout logical row base =
       turn = turnFor (ownFor (w .layouts) layout logical) (kindFor (w .layouts)) row base (w .state .ordered);
     }
 
-unfoldable pub orLayout : Bool → (kind : ℕ) → Bool
-orLayout test kind = test || eqb kind 2
+-- there is a layout object: there was one before, or the element is one
+unfoldable pub hasLayouts : (before : Bool) → (kind : ℕ) → Bool
+hasLayouts before kind = before || eqb kind 2
 
 -- and what is known after it
 unfoldable pub walkFor : Walk → Sight → (layout logical : Own) → (row base : ℕ) → Walk
@@ -54,7 +56,7 @@ walkFor w x layout logical row base =
       least = lesser (w .least) (lesser (layout .later) (logical .later));
       row = row;
       base = base;
-      layouts = orLayout (w .layouts) (x .kind);
+      layouts = hasLayouts (w .layouts) (x .kind);
     }
 
 -- after the profile: nothing has been
@@ -63,16 +65,21 @@ startOf n = record { state = record { rank = 0; generic = 0; specific = 0; order
 
 -- what is known before element k, of the elements,
 pub record Standing (elements : List Element) (k : ℕ) (w : Walk) : Type 0 where
+  -- the place of 26 is what the definition's pass finds from here
   pub goes-on : placeA (sightsA [] elements) ≡ passA (asState (w .state)) k (sightsA (take k elements) (drop k elements))
+  -- of the rows from k on that a unit before k answers on a side, the least; how many rows there are, if there is none
   pub least-low : k ≤ w .least
   pub no-less : (side : Side) (row portion u : ℕ) → u < k → made row portion u ∈ matches side elements → (row < k) ⊎ (w .least ≤ row)
   pub least-is : (w .least ≡ length elements) ⊎ ((side : Side) × (portion : ℕ) × (u : ℕ) × (u < k) × (made (w .least) portion u ∈ matches side elements))
+  -- there is a layout object among the elements before k
   pub layouts-is : any (map (λ e. eqb (e .kind) 2) (take k elements)) ≡ w .layouts
+  -- so many portions are listed before the row, by the objects by which units are ordered; their units have been
   pub base-is : w .base ≡ before (kindFor (w .layouts)) elements (w .row)
   pub base-low : w .base ≤ w .state .ordered
+  -- where portions were counted, an ordered unit has been
   pub ordered-rank : (w .row ≡ 0) ⊎ (specificRank ≤ w .state .rank)
 
--- and of the numbers: none can pass what a number holds
+-- and of the numbers: at most 64 portions an element, so that none can pass what a number holds
 pub record Bounds (k : ℕ) (w : Walk) : Type 0 where
   pub row : w .row ≤ k
   pub base : w .base ≤ 64 * w .row
@@ -80,6 +87,7 @@ pub record Bounds (k : ℕ) (w : Walk) : Type 0 where
   pub specific : w .state .specific ≤ 64 * k
   pub ordered : w .state .ordered ≤ k
 
+-- what a step answers: 26 is here, or the same is known before the next element
 abbrev pub StepAt : (s rows : List ℕ) → (n k : ℕ) → Walk → Step → Type 0
 StepAt s rows n k w Stops =
     (elements : List Element) → RowsTell s rows n elements → LimitsAside elements → Standing elements k w → placeA (sightsA [] elements) ≡ fault k

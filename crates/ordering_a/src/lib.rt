@@ -13,7 +13,7 @@ ghost use Rattle.owners.specs.Owner.{Known};
 ghost use Rattle.ranks.specs.Step.{Small};
 ghost use Rattle.reading.specs.declared.Side.{Side};
 ghost use Rattle.turns.specs.Turns.{OwnAt, Told};
-ghost use Rattle.ordering_a.specs.Pass.{lesser, orLayout, sightFor, walkFor, startOf, Bounds, StepAt};
+ghost use Rattle.ordering_a.specs.Pass.{lesser, hasLayouts, sightFor, walkFor, startOf, Bounds, StepAt};
 
 const LAYOUT_CLASS: usize = 1;
 
@@ -39,6 +39,7 @@ pub enum Step {
     Goes(Walk),
 }
 
+// The lesser of two.
 fn least_of(a: usize, b: usize) -> usize
     ensures { λ r. ⌜ r ≡ lesser a b ⌝ }
 {
@@ -48,10 +49,11 @@ fn least_of(a: usize, b: usize) -> usize
     b
 }
 
-fn is_or(test: bool, kind: usize) -> bool
-    ensures { λ r. ⌜ r ≡ orLayout test kind ⌝ }
+// Whether there is a layout object, after an element of a kind.
+fn has_layouts(before: bool, kind: usize) -> bool
+    ensures { λ r. ⌜ r ≡ hasLayouts before kind ⌝ }
 {
-    if test {
+    if before {
         return true;
     }
     kind == LAYOUT_OBJECT
@@ -101,7 +103,7 @@ fn walk_on(w: Walk, x: Sight, layout: Own, logical: Own, row: usize, base: usize
 {
     let state = ranks::after(w.state, x);
     let least = least_of(w.least, least_of(layout.later, logical.later));
-    let layouts = is_or(w.layouts, x.kind);
+    let layouts = has_layouts(w.layouts, x.kind);
     Walk {
         state,
         least,
@@ -156,13 +158,14 @@ fn pass(s: &[u8], rows: &[u32], head: &[u16], next: &[u16], n: usize) -> Fault
     let mut w = first_walk(n);
     let mut k: usize = 1;
     while k < n {
-        let layout = turns::look(s, rows, head, next, n, Side::Layout, k);
-        let logical = turns::look(s, rows, head, next, n, Side::Logical, k);
-        match take_row(s, rows, n, k, w, layout, logical) {
-            Step::Stops => return Fault::At(k),
+        let at = k;
+        k += 1;
+        let layout = turns::look(s, rows, head, next, n, Side::Layout, at);
+        let logical = turns::look(s, rows, head, next, n, Side::Logical, at);
+        match take_row(s, rows, n, at, w, layout, logical) {
+            Step::Stops => return Fault::At(at),
             Step::Goes(after) => {
                 w = after;
-                k += 1;
             }
         }
     }

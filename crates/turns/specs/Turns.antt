@@ -44,6 +44,7 @@ pub record OwnIs (side : Side) (elements : List Element) (n u : ℕ) (own : Own)
   pub no-later : (row portion : ℕ) → made row portion u ∈ matches side elements → (row < u) ⊎ (own .later ≤ row)
   pub later-is : (own .later ≡ n) ⊎ ((portion : ℕ) × (u < own .later) × (made (own .later) portion u ∈ matches side elements))
 
+-- the same of whatever elements the rows tell
 pub record OwnAt (side : Side) (s rows : List ℕ) (n u : ℕ) (own : Own) : Type 0 where
   pub is : (elements : List Element) → RowsTell s rows n elements → OwnIs side elements n u own
   pub in-rows : own .row ≤ u
@@ -55,12 +56,15 @@ kindFor layouts = cond layouts 2 6
 unfoldable pub ownFor : (layouts : Bool) → (layout logical : Own) → Own
 ownFor layouts layout logical = cond layouts layout logical
 
+-- the row up to which portions are counted for a unit: that of its element, if it is ordered and not behind; else as before
 unfoldable pub rowFor : (own : Own) → (kind row : ℕ) → ℕ
 rowFor own kind row = cond (eqb (own .kind) kind) (cond (ltb (own .row) row) row (own .row)) row
 
+-- the turn of a unit has come: it is not ordered, or its portion is the next one, where so many are listed before those of its element
 unfoldable pub turnFor : (own : Own) → (kind row base ordered : ℕ) → Bool
 turnFor own kind row base ordered = cond (eqb (own .kind) kind) (eqb (own .row) row && (leb base ordered && eqb (own .portion) (ordered - base))) true
 
+-- how many of the two that a unit answers are of their kind
 unfoldable pub counts : (layout : Own) (a : ℕ) (logical : Own) (b : ℕ) → ℕ
 counts layout a logical b = countIf (eqb (layout .kind) a) 1 + countIf (eqb (logical .kind) b) 1
 
@@ -78,6 +82,7 @@ pub record Told (s rows : List ℕ) (n : ℕ) : Type 0 where
 abbrev pub before : (kind : ℕ) → List Element → (j : ℕ) → ℕ
 before kind elements j = length (listedOf kind (take j elements))
 
+-- portions were counted on from a row to another
 pub record Reaches (s rows : List ℕ) (n kind row base to reached : ℕ) : Type 0 where
   pub small : reached ≤ 64 * to
   pub is : (elements : List Element) → RowsTell s rows n elements → base ≡ before kind elements row → reached ≡ before kind elements to

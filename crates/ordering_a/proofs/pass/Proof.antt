@@ -21,6 +21,9 @@ first-walk-requires c κs = search needs
 loop-holds : tie.Need-loop-holds Inv-loop μ-loop
 loop-holds c = let start = c .before .before .before .before .before in rw (c .first-walk .ensures) (walking-first (told-of (start .pre .0)) (start .pre .1 .0) (start .pre .1 .1))
 
+add-k : tie.Need-add-k Inv-loop μ-loop
+add-k c = let start = c .before .before .before .before .before .before .before in omega (arith, few-rows (told-of (start .pre .0)))
+
 look-requires : tie.Need-look-requires Inv-loop μ-loop
 look-requires c κs = let start = c .before .before .before .before .before .before .before in (start .pre .0, omega arith)
 
@@ -41,9 +44,6 @@ returns c =
 
 enum-known-after : tie.Need-enum-known-after Inv-loop μ-loop
 enum-known-after c = search needs
-
-add-k : tie.Need-add-k Inv-loop μ-loop
-add-k c = let start = c .before .before .before .before .before .before .before .before .before .before .before .before .before in omega (arith, few-rows (told-of (start .pre .0)))
 
 loop-less : tie.Need-loop-less Inv-loop μ-loop
 loop-less c = omega arith
@@ -71,13 +71,13 @@ pass-spec =
     μ-loop
     first-walk-requires
     loop-holds
+    add-k
     look-requires
     look-requires-2
     take-row-requires
     enum-told
     returns
     enum-known-after
-    add-k
     loop-less
     loop-again
     is-waiting-requires

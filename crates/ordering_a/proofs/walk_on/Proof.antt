@@ -13,14 +13,14 @@ least-of-requires c κs = search needs
 least-of-requires-2 : tie.Need-least-of-requires-2
 least-of-requires-2 c κs = search needs
 
-is-or-requires : tie.Need-is-or-requires
-is-or-requires c κs = search needs
+has-layouts-requires : tie.Need-has-layouts-requires
+has-layouts-requires c κs = search needs
 
 returns : tie.Need-returns
 unfolding walkFor
-returns c = rw (c .before .before .before .after .ensures, c .before .least-of2 .ensures, c .before .before .least-of .ensures, c .is-or .ensures)
+returns c = rw (c .before .before .before .after .ensures, c .before .least-of2 .ensures, c .before .before .least-of .ensures, c .has-layouts .ensures)
 
 pub walk-on-spec : {M : Type 1} → statement M
 walk-on-spec =
     tie.close
-    (tie.spec after-requires least-of-requires least-of-requires-2 is-or-requires returns)
+    (tie.spec after-requires least-of-requires least-of-requires-2 has-layouts-requires returns)
