@@ -62,8 +62,12 @@ fn verdict_of_items(s: &[u8], r: Run) -> usize
     if two.octet != FIXED {
         return measures::NOT_FIXED;
     }
-    let h = measures::integer_of(&s[one.first..one.past]);
-    let v = measures::integer_of(&s[two.first..two.past]);
+    let first = one.first;
+    let past = one.past;
+    let h = measures::integer_of(&s[first..past]);
+    let from = two.first;
+    let to = two.past;
+    let v = measures::integer_of(&s[from..to]);
     measures::verdict_of_two(h, v)
 }
 
