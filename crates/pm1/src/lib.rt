@@ -1,7 +1,7 @@
 // The PM1 desk: a question over the reader, which pages of a letter are within PM1. It asks `odif::check`, and goes through the elements by
 // `runs::meet`; nothing else of the reader's is used.
-pub use odif::Edition;
 use answers::TABLE_WIDTH;
+pub use odif::Edition;
 use runs::Met;
 use runs::Run;
 ghost use mathlib.Core.Path.{_≡_};
