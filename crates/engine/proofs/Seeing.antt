@@ -12,6 +12,7 @@ use Rattle.headers.specs.declared.Header.{Header}
 use Rattle.headers.specs.declared.Head.{Head}
 use Rattle.headers.specs.declared.Head.the-variants.{Item, ClosingMark, Refusal}
 use Rattle.headers.specs.Head.{octetAt, headAt}
+use Rattle.headers.proofs.Lies.{HeadOk, head-ok}
 use Rattle.blocks.specs.Engine.{Open, Standing, reading, State, limitOf, markedOf, roomOf, wanted, whole, moved, decide, feed}
 use Rattle.blocks.proofs.Headers.{Ends, same-head, as-wanted, two-wanted, eight-wanted, same-wanted, told-wanted}
 use Rattle.blocks.proofs.Goes.{header-octets}
@@ -26,10 +27,14 @@ back-moved i at (Item h) =
 back-moved i at ClosingMark = refl
 back-moved i at (Refusal number place) = let a : at + place ≡ at + (i + place - i) = omega arith in rw a
 
-ahead-of : (b : List ℕ) (marked : Bool) (i : ℕ) (h : Head) → length b ≤ wanted b → Ends b marked h → Numbered h → Ahead (length b) i (moved i h)
-ahead-of b marked i (Item h) l e n = omega arith
-ahead-of b marked i ClosingMark l e n = omega (arith, e .0)
-ahead-of b marked i (Refusal number place) l e n = (n .0, n .1, let z = n .2 in omega arith)
+ahead-of : (b : List ℕ) (marked : Bool) (i left room : ℕ) (h : Head) → length b ≡ min (wanted b) left → Ends b marked h → HeadOk 0 left room h → Numbered h
+    → Ahead (length b) i (moved i h)
+ahead-of b marked i left room (Item h) l e o n =
+    let order = o .order in
+    let within = o .within in
+    omega arith
+ahead-of b marked i left room ClosingMark l e o n = omega (arith, e .0)
+ahead-of b marked i left room (Refusal number place) l e o n = (n .0, n .1, let z = n .2 in omega arith)
 
 is-whole : (b : List ℕ) (left : ℕ) → length b ≡ min (wanted b) left → whole b left ≡ true
 unfolding whole
@@ -74,7 +79,8 @@ seen-of total k os at block i m b rest here part n z eight j =
     let h = headAt b 0 left (markedOf os) (roomOf os) in
     let e : headAt block i (i + left) (markedOf os) (roomOf os) ≡ moved i h =
     same-head block b i (i + left) left refl rest here s (is-whole b left j) (markedOf os) (roomOf os) in
-    let a : Ahead (length b) i (moved i h) = ahead-of b (markedOf os) i h (omega arith) (as-wanted b left (markedOf os) (roomOf os)) (numbered b left (markedOf os) (roomOf os)) in
+    let a : Ahead (length b) i (moved i h) = ahead-of b (markedOf os) i left (roomOf os) h j (as-wanted b left (markedOf os) (roomOf os))
+    (head-ok b 0 left (roomOf os) (markedOf os)) (numbered b left (markedOf os) (roomOf os)) in
     record {
       size = m;
       some = z;

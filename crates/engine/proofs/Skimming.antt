@@ -1,123 +1,209 @@
--- What a header that was read in a block leaves, case by case, and how the loop goes on from there. Assumes nothing.
+-- What a header that was read in a block leaves, case by case, and where the skimming stands after it (`turned`). Assumes nothing.
 use mathlib.Core.Path.{_≡_, refl, ap, sym, _∙_, subst}
-use mathlib.Core.Bool.{Bool, true, false, cond}
+use mathlib.Core.Bool.{Bool, true, false, cond, false≢true}
 use mathlib.Core.List.{List, [], _∷_, _++_}
-use Prim.Native.Nat.{ℕ, zero, suc, _+_, _-_, _*_, _/_, _%_, _<_, _≤_}
+use Prim.Native.Nat.{ℕ, zero, suc, _+_, _-_, _*_, _/_, _%_, _<_, _≤_, min}
 use native.Mathlib.Omega.{arith}
 use native.Mathlib.Numerals.{add-one}
-use lib.Dec.{eqb}
+use lib.Dec.{eqb, leb}
 use lib.ListN.{length, take, drop, set, length-drop, length-set, take-append-drop}
 use lib.Seq.{drop-drop, drop-length, length-take-le}
-use borrow.Author.Tests.{eq-eqb, ne-eqb, eqb-true, le-leb}
+use borrow.Author.Tests.{eq-eqb, ne-eqb, eqb-true, eqb-false, le-leb, lt-leb, leb-true, leb-false}
 use Rattle.headers.specs.declared.Header.{Header}
 use Rattle.headers.specs.declared.Head.{Head}
 use Rattle.headers.specs.declared.Head.the-variants.{Item, ClosingMark, Refusal}
 use Rattle.headers.specs.Head.{constructed, headAt}
 use Rattle.headers.proofs.Lies.{Lies, HeadOk, head-ok}
-use Rattle.laws.proofs.Tests.{cond-holds}
-use Rattle.blocks.specs.Engine.{Open, Standing, reading, found, State, limitOf, markedOf, roomOf, settle, arrive, feed}
+use Rattle.blocks.specs.Engine.{Open, Standing, reading, found, State, limitOf, markedOf, roomOf, settle, arrive, decide, feed}
 use Rattle.blocks.proofs.Goes.{finding-stays}
 use Rattle.blocks.proofs.Cutting.{feed-append}
 use Rattle.engine.specs.declared.Blocks.{Blocks}
+use Rattle.engine.specs.declared.skim.Seat.{Seat}
 use Rattle.engine.specs.declared.skim.Skim.{Skim}
-use Rattle.engine.specs.Stored.{openOf, opensOf, stateOf, Sound, atHeader, Seen, Skims, Turns, passedTo, Passes}
+use Rattle.engine.specs.Stored.{openOf, opensOf, stateOf, Sound, atHeader, back, Seen, Turns, placeOf, InRun, GoesOn, Seated, Reads, Skims, Before, Settles, leftBy}
 use Rattle.engine.proofs.Stores.{innermost, settle-going, others, pushed, level-is}
 use Rattle.engine.proofs.Turning.{values}
 use Rattle.engine.proofs.Seeing.{seen}
 
-module _ (total headers level : ℕ) (ends : List ℕ) (at : ℕ) (block : List ℕ) (i : ℕ) where
-  abbrev os : List Open
-  os = opensOf level ends
+-- one open item less
+one-less : (n : ℕ) (ends : List ℕ) → drop 1 (opensOf n ends) ≡ opensOf (n - 1) ends
+one-less zero ends = refl
+one-less (suc n) ends = let e : suc n - 1 ≡ n = omega arith in rw e
 
-  pub looked : (limit : ℕ) (marked : Bool) → limit ≡ limitOf total os → marked ≡ markedOf os → (r g : Head)
-      → r ≡ headAt block i (i + (limit - at)) marked (16 - level) → r ≡ g → at < limit → i + 8 ≤ length block
-      → Seen total headers os at block i g × HeadOk i (i + (limit - at)) (16 - level) g
-  looked limit marked l m r g e f a eight =
-      let d = level-is level ends in
-      let b : at < limitOf total os = omega arith in
-      let p : headAt block i (i + (limitOf total os - at)) (markedOf os) (roomOf os) ≡ g = rw (← l, ← m, d) (sym e ∙ f) in (
-        subst (Seen total headers os at block i) p (seen total headers os at block i b eight),
-        subst (HeadOk i (i + (limit - at)) (16 - level)) (sym e ∙ f) (head-ok block i (i + (limit - at)) (16 - level) marked),
+through : (a b c : ℕ) → a ≤ b → b ≤ c → a ≤ c
+through a b c x y = omega arith
+
+stop-is : (base from at : ℕ) → from ≤ at → at ≡ from + (base + (at - from) - base)
+stop-is base from at l = omega arith
+
+further-on : (base from i at : ℕ) → from ≤ i → i ≤ at → base + (i - from) + (at - i) ≡ base + (at - from)
+further-on base from i at f l = omega arith
+
+-- a place before the stop of a run is before its limit in the letter
+within-limit : (base from stop limit i at : ℕ) → stop ≡ from + (limit - base) → from ≤ i → i < stop → at ≤ stop → from ≤ at → base + (at - from) ≤ limit
+within-limit base from stop limit i at e f l w o = omega arith
+
+module _ (seat : Seat) (s : Skim) (ends block : List ℕ) (p : Reads seat ends s block) where
+  abbrev os : List Open
+  os = opensOf (s .level) ends
+
+  abbrev here : ℕ
+  here = placeOf seat (s .i)
+
+  pub looked : (r g : Head) → r ≡ headAt block (s .i) (s .stop) (s .marked) (16 - s .level) → r ≡ g
+      → Seen (seat .total) (s .headers) os here block (s .i) g × HeadOk (s .i) (s .stop) (16 - s .level) g
+  looked r g e f =
+      let d = level-is (s .level) ends in
+      let stop = p .run .stop in
+      let from = p .from in
+      let before = p .before in
+      let size = p .size in
+      let eight = p .eight in
+      let b : here < limitOf (seat .total) os = omega arith in
+      let w : s .stop ≡ s .i + (limitOf (seat .total) os - here) = omega arith in
+      let h : headAt block (s .i) (s .i + (limitOf (seat .total) os - here)) (markedOf os) (roomOf os) ≡ g = rw (← w, ← p .run .marked, d) (sym e ∙ f) in (
+        subst (Seen (seat .total) (s .headers) os here block (s .i)) h (seen (seat .total) (s .headers) os here block (s .i) b (omega arith)),
+        subst (HeadOk (s .i) (s .stop) (16 - s .level)) (sym e ∙ f) (head-ok block (s .i) (s .stop) (16 - s .level) (s .marked)),
       )
 
-  pub skims-open : (g : Header) (e : ℕ) → Seen total headers os at block i (Item g) → constructed (g .octet) ≡ true → level < 16 → length ends ≡ 16
-      → openOf e ≡ record { bound = at + (g .bound - i); marked = g .marked } → i ≤ g .start
-      → Skims total headers level ends at block i (record { level = level + 1; headers = headers + 1; at = at + (g .start - i); number = 0 }) (set ends level e)
-  skims-open g e s q l n o f =
-      let a = s .ahead in
-      let h : level < length ends = omega arith in
+  pub bounded : (g : Header) → Lies (s .i) (s .stop) (16 - s .level) g → placeOf seat (g .bound) ≤ 2147483647
+  bounded g l =
+      let from = p .from in
+      let x = l .header in
+      let y = l .order in
+      through (placeOf seat (g .bound)) (limitOf (seat .total) os) 2147483647
+      (within-limit (seat .base) (seat .from) (s .stop) (limitOf (seat .total) os) (s .i) (g .bound) (p .run .stop) from (p .before) (l .within) (omega arith))
+      (p .run .limit)
+
+  pub skims-open : (g : Header) (e : ℕ) → Seen (seat .total) (s .headers) os here block (s .i) (Item g) → Lies (s .i) (s .stop) (16 - s .level) g
+      → constructed (g .octet) ≡ true → openOf e ≡ record { bound = placeOf seat (g .bound); marked = g .marked }
+      → Skims seat s ends block
+      (record { level = s .level + 1; i = g .start; stop = g .bound; marked = g .marked; headers = s .headers + 1; number = 0; place = 0 })
+      (set ends (s .level) e)
+  skims-open g e w l q o =
+      let a = w .ahead in
+      let from = p .from in
+      let stop = p .run .stop in
+      let limit = p .run .limit in
+      let x = l .header in
+      let y = l .order in
+      let z = l .within in
+      let deep = l .deep in
+      let before = p .before in
+      let h : s .level < length ends = (let n = p .sixteen in omega arith) in
+      let more = pushed (s .level) ends e (record { bound = placeOf seat (g .bound); marked = g .marked }) h o in
+      let stops = stop-is (seat .base) (seat .from) (g .bound) (omega arith) in
+      let to = further-on (seat .base) (seat .from) (s .i) (g .start) from (omega arith) in
+      let by = further-on (seat .base) (seat .from) (s .i) (g .bound) from (omega arith) in
       record {
-        size = s .size;
-        some = s .some;
-        eight = s .eight;
+        size = w .size;
+        some = w .some;
+        eight = w .eight;
         depth = omega arith;
         counted = omega arith;
         ahead = λ _. omega arith;
-        kept = length-set ends level e;
-        state = s .state ∙ rw (q, pushed level ends e (record { bound = at + (g .bound - i); marked = g .marked }) h o, add-one headers);
+        all = λ n. absurd (n refl);
+        near = omega arith;
+        kept = length-set ends (s .level) e;
+        run = λ _ _. record { stop = rw more stops; marked = rw more; limit = rw more (bounded g l) };
+        state = w .state ∙ rw (q, to, by, more, add-one (s .headers));
       }
 
-  pub skims-past : (g : Header) → Seen total headers os at block i (Item g) → constructed (g .octet) ≡ false → level ≤ 16 → i ≤ g .start → g .start ≤ g .bound
-      → Skims total headers level ends at block i (record { level = level; headers = headers + 1; at = at + (g .bound - i); number = 0 }) ends
-  skims-past g s q l f b =
-      let a = s .ahead in
+  -- an item that leaves nothing open
+  passes : (g : Header) (w : Seen (seat .total) (s .headers) os here block (s .i) (Item g)) → Lies (s .i) (s .stop) (16 - s .level) g
+      → decide (here + w .size) (s .headers) os here (back (s .i) here (Item g)) ≡ arrive (here + w .size) (s .headers + 1) os (placeOf seat (g .bound))
+      → Skims seat s ends block
+      (record { level = s .level; i = g .bound; stop = s .stop; marked = s .marked; headers = s .headers + 1; number = 0; place = 0 }) ends
+  passes g w l e =
+      let a = w .ahead in
+      let stop = p .run .stop in
+      let limit = p .run .limit in
+      let y = l .order in
+      let z = l .within in
       record {
-        size = s .size;
-        some = s .some;
-        eight = s .eight;
-        depth = l;
+        size = w .size;
+        some = w .some;
+        eight = w .eight;
+        depth = p .depth;
         counted = omega arith;
         ahead = λ _. omega arith;
+        all = λ n. absurd (n refl);
+        near = omega arith;
         kept = refl;
-        state = s .state ∙ rw (q, add-one headers);
+        run = λ _ _. record { stop = stop; marked = p .run .marked; limit = limit };
+        state = w .state ∙ ap (λ (x : Standing). record { total = seat .total; taken = here + w .size; standing = x }) e;
       }
 
-  pub skims-none : level ≡ 0 → Seen total headers os at block i ClosingMark
-      → Skims total headers level ends at block i (record { level = 0; headers = headers; at = at + 2; number = 0 }) ends
-  skims-none z s =
-      let a = s .ahead in
+  pub skims-past : (g : Header) → Seen (seat .total) (s .headers) os here block (s .i) (Item g) → Lies (s .i) (s .stop) (16 - s .level) g
+      → constructed (g .octet) ≡ false
+      → Skims seat s ends block
+      (record { level = s .level; i = g .bound; stop = s .stop; marked = s .marked; headers = s .headers + 1; number = 0; place = 0 }) ends
+  skims-past g w l q =
+      let from = p .from in
+      let x = l .header in
+      let y = l .order in
+      let by : here + (g .bound - s .i) ≡ placeOf seat (g .bound) = omega arith in
+      passes g w l (rw (q, by, add-one (s .headers)))
+
+  -- constructed, and nothing stands in it: it ends where its header does
+  pub skims-empty : (g : Header) → Seen (seat .total) (s .headers) os here block (s .i) (Item g) → Lies (s .i) (s .stop) (16 - s .level) g
+      → constructed (g .octet) ≡ true → g .start ≡ g .bound → g .marked ≡ false
+      → Skims seat s ends block
+      (record { level = s .level; i = g .bound; stop = s .stop; marked = s .marked; headers = s .headers + 1; number = 0; place = 0 }) ends
+  skims-empty g w l q n m =
+      let from = p .from in
+      let a = w .ahead in
+      let x = l .header in
+      let past = here + w .size in
+      let to : here + (g .start - s .i) ≡ past = omega arith in
+      let by : here + (g .bound - s .i) ≡ past = omega arith in
+      let end : placeOf seat (g .bound) ≡ past = omega arith in
+      passes g w l (rw (q, to, by, end, m, eq-eqb past past refl, le-leb past past (omega arith), add-one (s .headers)))
+
+  pub skims-mark : Seen (seat .total) (s .headers) os here block (s .i) ClosingMark
+      → Skims seat s ends block
+      (record { level = s .level - 1; i = s .i + 2; stop = s .i + 2; marked = s .marked; headers = s .headers; number = 0; place = 0 }) ends
+  skims-mark w =
+      let a = w .ahead in
+      let from = p .from in
+      let eight = p .eight in
+      let depth = p .depth in
+      let short = p .seated .short in
+      let to : here + 2 ≡ placeOf seat (s .i + 2) = omega arith in
       record {
-        size = s .size;
-        some = s .some;
-        eight = s .eight;
+        size = w .size;
+        some = w .some;
+        eight = w .eight;
         depth = omega arith;
         counted = omega arith;
         ahead = λ _. omega arith;
+        all = λ n. absurd (n refl);
+        near = omega arith;
         kept = refl;
-        state = s .state ∙ rw z;
+        run = λ _ h. absurd (omega arith);
+        state = w .state ∙ rw (one-less (s .level) ends, to);
       }
 
-  pub skims-mark : 0 < level → level ≤ 16 → Seen total headers os at block i ClosingMark
-      → Skims total headers level ends at block i (record { level = level - 1; headers = headers; at = at + 2; number = 0 }) ends
-  skims-mark z l s =
-      let a = s .ahead in
-      let p : drop 1 os ≡ opensOf (level - 1) ends = rw (innermost level ends z) in
-      record {
-        size = s .size;
-        some = s .some;
-        eight = s .eight;
-        depth = omega arith;
-        counted = omega arith;
-        ahead = λ _. omega arith;
-        kept = refl;
-        state = s .state ∙ ap (λ (x : List Open). record { total = total; taken = at + s .size; standing = arrive (at + s .size) headers x (at + 2) }) p;
-      }
-
-  pub skims-refused : (number place : ℕ) → Seen total headers os at block i (Refusal number place) → level ≤ 16
-      → Skims total headers level ends at block i (record { level = level; headers = headers; at = at; number = number }) ends
-  skims-refused number place s l =
-      let a = s .ahead in
+  pub skims-refused : (number place : ℕ) → Seen (seat .total) (s .headers) os here block (s .i) (Refusal number place)
+      → Skims seat s ends block
+      (record { level = s .level; i = seat .size; stop = 0; marked = s .marked; headers = s .headers; number = number; place = here }) ends
+  skims-refused number place w =
+      let a = w .ahead in
       let ne : number ≡ 0 → ⊥ = λ z. omega (arith, a .0) in
-      let p : at + (place - i) ≡ at = omega (arith, a .2) in
+      let short = p .seated .short in
+      let there : here + (place - s .i) ≡ here = omega (arith, a .2) in
       record {
-        size = s .size;
-        some = s .some;
-        eight = s .eight;
-        depth = l;
+        size = w .size;
+        some = w .some;
+        eight = w .eight;
+        depth = p .depth;
         counted = omega arith;
         ahead = λ z. absurd (ne z);
+        all = λ _. refl;
+        near = omega arith;
         kept = refl;
-        state = s .state ∙ rw (ne-eqb number 0 ne, p);
+        run = λ z _. absurd (ne z);
+        state = w .state ∙ rw (ne-eqb number 0 ne, there);
       }
 
 -- octets of a value, or none
@@ -128,120 +214,6 @@ reach total t k os at [] h = let z : t + 0 ≡ t = omega arith in rw z
 reach total t k os at (y ∷ ys) h =
     let ne : at ≡ t → ⊥ = λ e. omega arith in
     rw (ne-eqb at t ne) (values total t k os at [] (y ∷ ys) (omega arith) h)
-
--- The loop stands before the header at i of the block, which is at `at` of the letter.
-module _ (b : Blocks) (block : List ℕ) (start total headers level : ℕ) (ends : List ℕ) (at i : ℕ) (begun : List ℕ)
-    (inv : feed (stateOf b) (drop start block) ≡ feed (atHeader total headers (opensOf level ends) at) (drop i block))
-    (from : start ≤ i) (within : i ≤ length block) (fits : at + (length block - i) ≤ total) (small : total ≤ 1048576)
-    (depth : level ≤ 16) (counted : headers ≤ at) (same : total ≡ b .total) where
-  pub here-turn : Turns b block start
-      (record { total = total; taken = at; headers = headers; number = 0; place = 0; at = at; level = level; have = 0; ends = ends; begun = begun }) i
-  here-turn =
-      record {
-        further = from;
-        within = within;
-        fits = fits;
-        total = same;
-        state = inv;
-        sound = λ _. record { depth = depth; kept = omega arith; counted = counted; small = small };
-      }
-
-  module _ (r : Skim) (after : List ℕ) (eight : i + 8 ≤ length block) (s : Skims total headers level ends at block i r after) where
-    abbrev w : Standing
-    w = cond (eqb (r .number) 0) (arrive (at + s .size) (r .headers) (opensOf (r .level) after) (r .at)) (found (r .number) at (r .headers))
-
-    abbrev rest : List ℕ
-    rest = drop (i + s .size) block
-
-    rest-size : length rest ≡ length block - (i + s .size)
-    rest-size = length-drop (i + s .size) block
-
-    on : feed (stateOf b) (drop start block) ≡ feed (record { total = total; taken = at + s .size; standing = w }) rest
-    on =
-        let a = atHeader total headers (opensOf level ends) at in
-        inv ∙ ap (feed a) (sym (take-append-drop (s .size) (drop i block))) ∙ feed-append a (take (s .size) (drop i block)) (drop (s .size) (drop i block))
-        ∙ rw (s .state, drop-drop (s .size) i block)
-
-    pub found-turn : (r .number ≡ 0 → ⊥) → Turns b block start
-        (record { total = total; taken = at + (length block - i); headers = r .headers; number = r .number; place = at; at = at; level = r .level; have = 0; ends = after; begun = begun })
-        (length block)
-    found-turn ne =
-        let m = s .eight in
-        let n = rest-size in
-        let e : w ≡ found (r .number) at (r .headers) = rw (ne-eqb (r .number) 0 ne) in
-        let t : at + s .size + length rest ≡ at + (length block - i) = omega arith in
-        record {
-          further = omega arith;
-          within = omega arith;
-          fits = omega arith;
-          total = same;
-          sound = λ z. absurd (ne z);
-          state =
-              on ∙ ap (λ (x : Standing). feed (record { total = total; taken = at + s .size; standing = x }) rest) e
-              ∙ finding-stays total (at + s .size) (r .number) at (r .headers) rest ∙ rw (t, drop-length block, ne-eqb (r .number) 0 ne);
-        }
-
-    pub leave-turn : r .number ≡ 0 → length block - i < r .at - at → Turns b block start
-        (record { total = total; taken = at + (length block - i); headers = r .headers; number = 0; place = 0; at = r .at; level = r .level; have = 0; ends = after; begun = begun })
-        (length block)
-    leave-turn z far =
-        let m = s .eight in
-        let some = s .some in
-        let n = rest-size in
-        let c = s .counted in
-        let e : w ≡ arrive (at + s .size) (r .headers) (opensOf (r .level) after) (r .at) = rw (eq-eqb (r .number) 0 z) in
-        let t : at + s .size + length rest ≡ at + (length block - i) = omega arith in
-        let ne : r .at ≡ at + (length block - i) → ⊥ = λ q. omega arith in
-        record {
-          further = omega arith;
-          within = omega arith;
-          fits = omega arith;
-          total = same;
-          sound = λ _. record { depth = s .depth; kept = omega arith; counted = omega arith; small = small };
-          state =
-              on ∙ ap (λ (x : Standing). feed (record { total = total; taken = at + s .size; standing = x }) rest) e
-              ∙ reach total (at + s .size) (r .headers) (opensOf (r .level) after) (r .at) rest (omega arith) ∙ rw (t, drop-length block, ne-eqb (r .at) (at + (length block - i)) ne);
-        }
-
-    -- the value lies in the block
-    module _ (z : r .number ≡ 0) (near : r .at - at ≤ length block - i) where
-      abbrev j : ℕ
-      j = i + (r .at - at)
-
-      settled : feed (stateOf b) (drop start block)
-          ≡ feed (record { total = total; taken = r .at; standing = settle (r .headers) (opensOf (r .level) after) (r .at) }) (drop j block)
-      settled =
-          let a = s .ahead z in
-          let n = rest-size in
-          let d = r .at - at - s .size in
-          let ys = take d rest in
-          let l : length ys ≡ d = length-take-le d rest (omega arith) in
-          let e : w ≡ arrive (at + s .size) (r .headers) (opensOf (r .level) after) (r .at) = rw (eq-eqb (r .number) 0 z) in
-          let t : at + s .size + length ys ≡ r .at = omega arith in
-          let k : i + s .size + d ≡ j = omega arith in
-          let x : State = record { total = total; taken = at + s .size; standing = arrive (at + s .size) (r .headers) (opensOf (r .level) after) (r .at) } in
-          let v : feed x ys ≡ record { total = total; taken = r .at; standing = settle (r .headers) (opensOf (r .level) after) (r .at) } =
-          reach total (at + s .size) (r .headers) (opensOf (r .level) after) (r .at) ys (omega arith) ∙ rw (t, eq-eqb (r .at) (r .at) refl) in
-          on ∙ ap (λ (y : Standing). feed (record { total = total; taken = at + s .size; standing = y }) rest) e
-          ∙ ap (feed x) (sym (take-append-drop d rest)) ∙ feed-append x ys (drop d rest) ∙ rw (v, drop-drop d (i + s .size) block, k)
-
-      pub unclosed-turn : (place : ℕ) → settle (r .headers) (opensOf (r .level) after) (r .at) ≡ found 7 place (r .headers) → Turns b block start
-          (record { total = total; taken = r .at; headers = r .headers; number = 7; place = place; at = r .at; level = r .level; have = 0; ends = after; begun = begun }) j
-      unclosed-turn place e =
-          let a = s .ahead z in
-          record {
-            further = omega arith;
-            within = omega arith;
-            fits = omega arith;
-            total = same;
-            sound = λ q. absurd (omega arith);
-            state = settled ∙ rw e;
-          }
-
-      -- what the loop knows when it goes on
-      pub goes-on : (deep : ℕ) → settle (r .headers) (opensOf (r .level) after) (r .at) ≡ reading (r .headers) (opensOf deep after) (r .at) []
-          → feed (stateOf b) (drop start block) ≡ feed (atHeader total (r .headers) (opensOf deep after) (r .at)) (drop j block)
-      goes-on deep e = settled ∙ rw e
 
 -- the engine stands before a header of which nothing has come
 pub ready : (b : Blocks) → b .number ≡ 0 → b .have ≡ 0 → b .at ≡ b .taken → stateOf b ≡ atHeader (b .total) (b .headers) (opensOf (b .level) (b .ends)) (b .at)
@@ -256,159 +228,398 @@ pub settle-open : (total n : ℕ) (ends : List ℕ) (at k : ℕ) → at < limitO
 settle-open total zero ends at k l = refl
 settle-open total (suc n) ends at k l = settle-going (suc n) ends (omega arith) at k (let e : suc n - 1 ≡ n = omega arith in rw e l)
 
--- An item that leaves nothing open, in a block.
-module _ (total k level : ℕ) (ends : List ℕ) (at : ℕ) (block : List ℕ) (i : ℕ) (depth : level ≤ 16) (sixteen : length ends ≡ 16) (small : total ≤ 1048576)
-    (counted : k ≤ at) (fits : at + (length block - i) ≤ total) (before : at < limitOf total (opensOf level ends)) (eight : i + 8 ≤ length block) where
-  abbrev stopping : ℕ
-  stopping = i + (limitOf total (opensOf level ends) - at)
+-- what is told of the skimming after one header more
+pub record Turned (seat : Seat) (s : Skim) (ends block : List ℕ) (r : Skim) (after : List ℕ) : Type 0 where
+  pub further : s .i < r .i
+  pub near : r .i ≤ seat .from + 2147483647
+  pub depth : r .level ≤ 16
+  pub counted : r .number ≡ 0 → r .headers ≤ placeOf seat (min (r .i) (seat .size))
+  pub reads : r .i + 8 ≤ seat .size → Reads seat after r block
+  pub state : feed (atHeader (seat .total) (s .headers) (opensOf (s .level) ends) (placeOf seat (s .i))) (drop (s .i) block)
+      ≡ feed (stateOf (leftBy seat [] after r)) (drop (min (r .i) (seat .size)) block)
 
-  abbrev standing : Blocks
-  standing = record { total = total; taken = at; at = at; level = level; headers = k; number = 0; place = 0; have = 0; ends = ends; begun = [] }
+module _ (seat : Seat) (s : Skim) (ends block : List ℕ) (p : Reads seat ends s block) (k : Skim) (after : List ℕ) (w : Skims seat s ends block k after) where
+  abbrev at : ℕ
+  at = placeOf seat (s .i)
 
-  abbrev Moves : (past : ℕ) → Type 0
-  Moves past = feed (atHeader total k (opensOf level ends) at) (drop i block)
-      ≡ feed (atHeader total (k + 1) (opensOf level ends) (at + (past - i))) (drop past block)
+  abbrev came : Standing
+  came = cond (eqb (k .number) 0) (arrive (at + w .size) (k .headers) (opensOf (k .level) after) (placeOf seat (k .i))) (found (k .number) (k .place) (k .headers))
 
-  moved-on : (r : Skim) (after : List ℕ) → Skims total k level ends at block i r after → r .number ≡ 0 → r .headers ≡ k + 1 → (past : ℕ) → i ≤ past
-      → r .at ≡ at + (past - i) → past ≤ length block → opensOf level after ≡ opensOf level ends
-      → settle (r .headers) (opensOf (r .level) after) (r .at) ≡ reading (r .headers) (opensOf level after) (r .at) [] → Moves past
-  moved-on r after s z h past f a w o q =
-      let near : r .at - at ≤ length block - i = omega arith in
-      let j : i + (r .at - at) ≡ past = omega arith in
-      goes-on standing block i total k level ends at i [] refl (omega arith) (omega arith) fits small depth counted refl r after eight s z near level q
-      ∙ rw (j, h, a, o)
+  abbrev rest : List ℕ
+  rest = drop (s .i + w .size) block
 
-  pass-primitive : (g : Header) → Seen total k (opensOf level ends) at block i (Item g) → Lies i stopping (16 - level) g → constructed (g .octet) ≡ false
-      → g .bound < stopping → g .bound ≤ length block → Moves (g .bound)
-  pass-primitive g s l q p w =
-      let x = l .header in
-      let y = l .order in
-      let open-still : at + (g .bound - i) < limitOf total (opensOf level ends) = omega arith in
-      moved-on (record { level = level; at = at + (g .bound - i); headers = k + 1; number = 0 }) ends
-      (skims-past total k level ends at block i g s q depth (omega arith) (omega arith)) refl refl (g .bound) (omega arith) refl w refl
-      (settle-open total level ends (at + (g .bound - i)) (k + 1) open-still)
+  rest-size : length rest ≡ length block - (s .i + w .size)
+  rest-size = length-drop (s .i + w .size) block
 
-  pass-empty : (g : Header) → Seen total k (opensOf level ends) at block i (Item g) → Lies i stopping (16 - level) g → constructed (g .octet) ≡ true
-      → g .start ≡ g .bound → g .marked ≡ false → g .bound < stopping → g .bound ≤ length block → Moves (g .bound)
-  pass-empty g s l q n m p w =
-      let x = l .header in
-      let d = l .deep in
-      let to = at + (g .start - i) in
-      let e = 2 * (at + (g .bound - i)) in
-      let o : Open = record { bound = at + (g .bound - i); marked = g .marked } in
-      let half : e / 2 ≡ at + (g .bound - i) = omega arith in
-      let even : e % 2 ≡ 0 = omega arith in
-      let stored : openOf e ≡ o = rw (half, even, m) in
-      let room : level < length ends = omega arith in
-      let open-still : to < limitOf total (opensOf level ends) = omega arith in
-      let same = others level level ends e (omega arith) in
-      let ended : at + (g .bound - i) ≤ to = omega arith in
-      let more = pushed level ends e o room stored in
-      moved-on (record { level = level + 1; at = to; headers = k + 1; number = 0 }) (set ends level e)
-      (skims-open total k level ends at block i g e s q (omega arith) sixteen stored (omega arith)) refl refl (g .bound) (omega arith) (omega arith) w same
-      (rw (more, same, le-leb (at + (g .bound - i)) to ended, m) (settle-open total level ends to (k + 1) open-still))
+  abbrev From : State
+  From = feed (atHeader (seat .total) (s .headers) (opensOf (s .level) ends) at) (drop (s .i) block)
 
-  pass-item : (g : Header) → Seen total k (opensOf level ends) at block i (Item g) → Lies i stopping (16 - level) g → (c e m : Bool)
-      → constructed (g .octet) ≡ c → eqb (g .start) (g .bound) ≡ e → g .marked ≡ m → (past : ℕ)
-      → past ≡ cond c (cond e (cond m 0 (g .bound)) 0) (g .bound) → 0 < past → past < stopping → past ≤ length block → (i + 2 ≤ past) × Moves past
-  pass-item g s l false e m q n t past b z p w =
-      let x = l .header in
-      let y = l .order in
-      (omega arith, rw b (pass-primitive g s l q (omega arith) (omega arith)))
-  pass-item g s l true true false q n t past b z p w =
-      let x = l .header in
-      let y = l .order in
-      (omega arith, rw b (pass-empty g s l q (eqb-true (g .start) (g .bound) n) t (omega arith) (omega arith)))
-  pass-item g s l true true true q n t past b z p w = absurd (omega arith)
-  pass-item g s l true false m q n t past b z p w = absurd (omega arith)
+  on : From ≡ feed (record { total = seat .total; taken = at + w .size; standing = came }) rest
+  on =
+      let a = atHeader (seat .total) (s .headers) (opensOf (s .level) ends) at in
+      ap (feed a) (sym (take-append-drop (w .size) (drop (s .i) block)))
+      ∙ feed-append a (take (w .size) (drop (s .i) block)) (drop (w .size) (drop (s .i) block)) ∙ rw (w .state, drop-drop (w .size) (s .i) block)
 
-  -- what was read there, and passed
-  pub pass-one : (head : Head) → head ≡ headAt block i stopping (markedOf (opensOf level ends)) (16 - level) → (past : ℕ) → past ≡ passedTo head
-      → 0 < past → past < stopping → past ≤ length block → (i + 2 ≤ past) × Moves past
-  pass-one (Item g) e past b z p w =
-      let (s, l) = looked total k level ends at block i (limitOf total (opensOf level ends)) (markedOf (opensOf level ends)) refl refl (Item g) (Item g) e refl before eight in
-      pass-item g s l (constructed (g .octet)) (eqb (g .start) (g .bound)) (g .marked) refl refl refl past b z p w
-  pass-one ClosingMark e past b z p w = absurd (omega arith)
-  pass-one (Refusal number place) e past b z p w = absurd (omega arith)
-
--- what holds of the items passed up to a place: `Passes`, its last part
-abbrev pub Passing : (block : List ℕ) → (from stop : ℕ) → (marked : Bool) → (room to count : ℕ) → Type 0
-Passing block from stop marked room to count =
-    (total headers level : ℕ) (ends : List ℕ) (at : ℕ) → level ≤ 16 → length ends ≡ 16 → total ≤ 1048576 → headers ≤ at
-    → at + (length block - from) ≤ total → at < limitOf total (opensOf level ends) → stop ≡ from + (limitOf total (opensOf level ends) - at)
-    → marked ≡ markedOf (opensOf level ends) → room ≡ 16 - level
-    → feed (atHeader total headers (opensOf level ends) at) (drop from block)
-    ≡ feed (atHeader total (headers + count) (opensOf level ends) (at + (to - from))) (drop to block)
-
-pub passing-none : (block : List ℕ) (from stop : ℕ) (marked : Bool) (room : ℕ) → Passing block from stop marked room from 0
-passing-none block from stop marked room total headers level ends at d n m k f b t r o =
-    let a : headers + 0 ≡ headers = omega arith in
-    let c : at + (from - from) ≡ at = omega arith in
-    rw (a, c)
-
--- an item that is passed has a header of two octets at least
-pub passing-less : (block : List ℕ) (i stop : ℕ) (marked : Bool) (room : ℕ) (head : Head) → head ≡ headAt block i stop marked room → (past : ℕ)
-    → past ≡ passedTo head → 0 < past → i + 2 ≤ past
-passing-less block i stop marked room (Item g) e past b z =
-    let l : Lies i stop room g = subst (HeadOk i stop room) (sym e) (head-ok block i stop room marked) in
-    let x = l .header in
-    let y = l .order in
-    let P : ℕ → Type 0 = λ n. 0 < n → i + 2 ≤ n in
-    let go : P (passedTo (Item g)) =
-    cond-holds P (constructed (g .octet))
-    (λ _. cond-holds P (eqb (g .start) (g .bound)) (λ _. cond-holds P (g .marked) (λ _ w. absurd (omega arith)) (λ _ _. omega arith)) (λ _ w. absurd (omega arith)))
-    (λ _ _. omega arith) in
-    rw b (go (rw (← b) z))
-passing-less block i stop marked room ClosingMark e past b z = absurd (omega arith)
-passing-less block i stop marked room (Refusal number place) e past b z = absurd (omega arith)
-
-pub passing-one : (block : List ℕ) (from stop : ℕ) (marked : Bool) (room i count : ℕ) → from ≤ i → i < stop → i + 8 ≤ length block → count ≤ i - from
-    → Passing block from stop marked room i count → (head : Head) → head ≡ headAt block i stop marked room → (past : ℕ) → past ≡ passedTo head → 0 < past
-    → past < stop → past + 8 ≤ length block → Passing block from stop marked room past (count + 1)
-passing-one block from stop marked room i count f s l c v head e past b z p w total headers level ends at d n m k g u t r o =
-    let here = at + (i - from) in
-    let limit = limitOf total (opensOf level ends) in
-    let stops : stop ≡ i + (limit - here) = omega arith in
-    let e′ : head ≡ headAt block i (i + (limit - here)) (markedOf (opensOf level ends)) (16 - level) = rw (← stops, ← r, ← o) e in
-    let p′ : past < i + (limit - here) = omega arith in
-    let one = pass-one total (headers + count) level ends here block i d n m (omega arith) (omega arith) (omega arith) l head e′ past b z p′ (omega arith) in
-    let less = one .0 in
-    let a : headers + count + 1 ≡ headers + (count + 1) = omega arith in
-    let q : here + (past - i) ≡ at + (past - from) = omega arith in
-    v total headers level ends at d n m k g u t r o ∙ one .1 ∙ rw (a, q)
-
--- the loop stands before the header at i of the block, which has eight octets there
-pub record Stood (x : State) (block : List ℕ) (start total headers level : ℕ) (ends : List ℕ) (at i : ℕ) : Type 0 where
-  pub inv : x ≡ feed (atHeader total headers (opensOf level ends) at) (drop i block)
-  pub from : start ≤ i
-  pub within : i ≤ length block
-  pub fits : at + (length block - i) ≤ total
-  pub counted : headers ≤ at
-  pub eight : i + 8 ≤ length block
-  pub before : at < limitOf total (opensOf level ends)
-
--- so it does after the items passed, and the header there is read
-pub passed-on : (x : State) (block : List ℕ) (start total headers level : ℕ) (ends : List ℕ) (at i : ℕ) → level ≤ 16 → headers ≤ at → start ≤ i → i ≤ length block
-    → at + (length block - i) ≤ total → length ends ≡ 16 → x ≡ feed (atHeader total headers (opensOf level ends) at) (drop i block) → total ≤ 1048576
-    → (limit : ℕ) → limit ≡ limitOf total (opensOf level ends) → at < limit → (marked : Bool) → marked ≡ markedOf (opensOf level ends) → (to count : ℕ) (head : Head)
-    → Passes block i (i + (limit - at)) marked (16 - level) to count head
-    → Stood x block start total (headers + count) level ends (at + (to - i)) to
-    × (head ≡ headAt block to (to + (limit - (at + (to - i)))) marked (16 - level))
-passed-on x block start total headers level ends at i d k f w fits n e m limit l b marked mk to count head p =
-    let a = p .further in
-    let q = p .before in
-    let eight = p .eight in
-    let c = p .counted in
-    let stop : i + (limit - at) ≡ i + (limitOf total (opensOf level ends) - at) = omega arith in
-    let same : i + (limit - at) ≡ to + (limit - (at + (to - i))) = omega arith in (
+  found-left : (k .number ≡ 0 → ⊥) → Turned seat s ends block k after
+  found-left ne =
+      let size = p .size in
+      let from = p .from in
+      let eight = p .eight in
+      let few = w .eight in
+      let n = rest-size in
+      let i : k .i ≡ seat .size = w .all ne in
+      let m : min (k .i) (seat .size) ≡ length block = omega arith in
+      let e : came ≡ found (k .number) (k .place) (k .headers) = rw (ne-eqb (k .number) 0 ne) in
+      let t : at + w .size + length rest ≡ placeOf seat (length block) = omega arith in
       record {
-        inv = e ∙ p .state total headers level ends at d n m k fits (omega arith) stop mk refl;
+        further = omega arith;
+        near = w .near;
+        depth = w .depth;
+        counted = λ z. absurd (ne z);
+        reads = λ h. absurd (omega arith);
+        state =
+            on ∙ ap (λ (x : Standing). feed (record { total = seat .total; taken = at + w .size; standing = x }) rest) e
+            ∙ finding-stays (seat .total) (at + w .size) (k .number) (k .place) (k .headers) rest ∙ rw (m, drop-length block, ne-eqb (k .number) 0 ne, t);
+      }
+
+  leave-left : k .number ≡ 0 → seat .size < k .i → Turned seat s ends block k after
+  leave-left z far =
+      let size = p .size in
+      let from = p .from in
+      let eight = p .eight in
+      let few = w .eight in
+      let one = p .counted in
+      let two = w .counted in
+      let n = rest-size in
+      let m : min (k .i) (seat .size) ≡ length block = omega arith in
+      let e : came ≡ arrive (at + w .size) (k .headers) (opensOf (k .level) after) (placeOf seat (k .i)) = rw (eq-eqb (k .number) 0 z) in
+      let t : at + w .size + length rest ≡ placeOf seat (length block) = omega arith in
+      let ne : placeOf seat (k .i) ≡ placeOf seat (length block) → ⊥ = λ q. omega arith in
+      let more : k .headers ≤ at + 1 = omega arith in
+      let most : at + 1 ≤ placeOf seat (length block) = omega arith in
+      record {
+        further = omega arith;
+        near = w .near;
+        depth = w .depth;
+        counted = λ _. rw m (through (k .headers) (at + 1) (placeOf seat (length block)) more most);
+        reads = λ h. absurd (omega arith);
+        state =
+            on ∙ ap (λ (x : Standing). feed (record { total = seat .total; taken = at + w .size; standing = x }) rest) e
+            ∙ reach (seat .total) (at + w .size) (k .headers) (opensOf (k .level) after) (placeOf seat (k .i)) rest (omega arith)
+            ∙ rw (m, drop-length block, eq-eqb (k .number) 0 z, t, ne-eqb (placeOf seat (k .i)) (placeOf seat (length block)) ne);
+      }
+
+  -- the next header lies in the block
+  module _ (z : k .number ≡ 0) (near : k .i ≤ seat .size) where
+    abbrev there : ℕ
+    there = placeOf seat (k .i)
+
+    arrived : From ≡ feed (record { total = seat .total; taken = there; standing = settle (k .headers) (opensOf (k .level) after) there }) (drop (k .i) block)
+    arrived =
+        let a = w .ahead z in
+        let size = p .size in
+        let from = p .from in
+        let n = rest-size in
+        let d = k .i - s .i - w .size in
+        let ys = take d rest in
+        let l : length ys ≡ d = length-take-le d rest (omega arith) in
+        let e : came ≡ arrive (at + w .size) (k .headers) (opensOf (k .level) after) there = rw (eq-eqb (k .number) 0 z) in
+        let t : at + w .size + length ys ≡ there = omega arith in
+        let j : s .i + w .size + d ≡ k .i = omega arith in
+        let x : State = record { total = seat .total; taken = at + w .size; standing = arrive (at + w .size) (k .headers) (opensOf (k .level) after) there } in
+        let v : feed x ys ≡ record { total = seat .total; taken = there; standing = settle (k .headers) (opensOf (k .level) after) there } =
+        reach (seat .total) (at + w .size) (k .headers) (opensOf (k .level) after) there ys (omega arith) ∙ rw (t, eq-eqb there there refl) in
+        on ∙ ap (λ (y : Standing). feed (record { total = seat .total; taken = at + w .size; standing = y }) rest) e
+        ∙ ap (feed x) (sym (take-append-drop d rest)) ∙ feed-append x ys (drop d rest) ∙ rw (v, drop-drop d (s .i + w .size) block, j)
+
+    settled-left : (r : Skim) → Settles seat after k r → r .number ≡ 0 → Turned seat s ends block r after
+    settled-left r q c =
+        let a = w .ahead z in
+        let some = w .some in
+        let size = p .size in
+        let from = p .from in
+        let one = p .counted in
+        let two = w .counted in
+        let same : r .i ≡ k .i = q .same c in
+        let headers = q .headers in
+        let m : min (r .i) (seat .size) ≡ k .i = omega arith in
+        let close = w .near in
+        let e : settle (k .headers) (opensOf (k .level) after) there ≡ reading (k .headers) (opensOf (r .level) after) there [] =
+        q .state z near ∙ rw (eq-eqb (r .number) 0 c) in
+        record {
+          further = omega arith;
+          near = omega arith;
+          depth = q .depth;
+          counted = λ _. omega arith;
+          reads =
+              λ h.
+              record {
+                seated = p .seated;
+                size = size;
+                from = omega arith;
+                eight = h;
+                number = c;
+                depth = q .depth;
+                counted = omega arith;
+                sixteen = w .kept ∙ p .sixteen;
+                before = q .run c h .0;
+                run = q .run c h .1;
+              };
+          state = arrived ∙ rw (m, e, eq-eqb (r .number) 0 c, same, headers);
+        }
+
+    unclosed-left : (r : Skim) → Settles seat after k r → (r .number ≡ 0 → ⊥) → Turned seat s ends block r after
+    unclosed-left r q c =
+        let size = p .size in
+        let from = p .from in
+        let a = w .ahead z in
+        let eight = p .eight in
+        let all : r .i ≡ seat .size = q .all z c in
+        let short = p .seated .short in
+        let n = length-drop (k .i) block in
+        let m : min (r .i) (seat .size) ≡ length block = omega arith in
+        let t : there + length (drop (k .i) block) ≡ placeOf seat (length block) = omega arith in
+        let e : settle (k .headers) (opensOf (k .level) after) there ≡ found (r .number) (r .place) (k .headers) = q .state z near ∙ rw (ne-eqb (r .number) 0 c) in
+        record {
+          further = omega arith;
+          near = omega arith;
+          depth = q .depth;
+          counted = λ y. absurd (c y);
+          reads = λ h. absurd (omega arith);
+          state =
+              arrived ∙ ap (λ (x : Standing). feed (record { total = seat .total; taken = there; standing = x }) (drop (k .i) block)) e
+              ∙ finding-stays (seat .total) there (r .number) (r .place) (k .headers) (drop (k .i) block)
+              ∙ rw (m, drop-length block, ne-eqb (r .number) 0 c, t, q .headers);
+        }
+
+  by-cases : (r : Skim) → Settles seat after k r → (a b c : Bool) → eqb (k .number) 0 ≡ a → leb (k .i) (seat .size) ≡ b → eqb (r .number) 0 ≡ c
+      → Turned seat s ends block r after
+  by-cases r q false b c x y z =
+      let ne = eqb-false (k .number) 0 x in subst (λ (v : Skim). Turned seat s ends block v after) (sym (q .stays ne)) (found-left ne)
+  by-cases r q true false c x y z =
+      let far = leb-false (k .i) (seat .size) y in
+      subst (λ (v : Skim). Turned seat s ends block v after) (sym (q .past far)) (leave-left (eqb-true (k .number) 0 x) far)
+  by-cases r q true true true x y z =
+      settled-left (eqb-true (k .number) 0 x) (leb-true (k .i) (seat .size) y) r q (eqb-true (r .number) 0 z)
+  by-cases r q true true false x y z =
+      unclosed-left (eqb-true (k .number) 0 x) (leb-true (k .i) (seat .size) y) r q (eqb-false (r .number) 0 z)
+
+  -- what closing is told
+  pub comes : Before seat after k
+  comes =
+      record {
+        seated = p .seated;
+        from = past-from (eqb (k .number) 0) refl;
+        near = w .near;
+        depth = w .depth;
+        run = w .run;
+      }
+    where
+      past-from : (b : Bool) → eqb (k .number) 0 ≡ b → seat .from ≤ k .i
+      past-from true e = let a = w .ahead (eqb-true (k .number) 0 e) in let f = p .from in omega arith
+      past-from false e = let a = w .all (eqb-false (k .number) 0 e) in let o = p .seated .order in omega arith
+
+  -- a turn of the loop: the header is read, and what ends after it is closed
+  pub turned : (r : Skim) → Settles seat after k r → Turned seat s ends block r after
+  turned r q = by-cases r q (eqb (k .number) 0) (leb (k .i) (seat .size)) (eqb (r .number) 0) refl refl refl
+
+-- the open items of a state that is reading
+opensIn : Standing → List Open
+opensIn (reading headers opens at begun) = opens
+opensIn (found number place headers) = []
+
+opens-same : {k at : ℕ} {os ps : List Open} → reading k os at [] ≡ reading k ps at [] → os ≡ ps
+unfolding opensIn
+opens-same e = ap opensIn e
+
+isReading : Standing → Bool
+isReading (reading headers opens at begun) = true
+isReading (found number place headers) = false
+
+no-finding : {n p k h at : ℕ} {ps : List Open} → found n p k ≡ reading h ps at [] → ⊥
+unfolding isReading
+no-finding e = false≢true (ap isReading e)
+
+-- Where the loop stands: what is left to take of the block is the same, and the header there is read if it lies in the block.
+pub record Skimming (b : Blocks) (block : List ℕ) (start : ℕ) (seat : Seat) (ends : List ℕ) (s : Skim) : Type 0 where
+  pub from : seat .from ≤ s .i
+  pub near : s .i ≤ seat .from + 2147483647
+  pub depth : s .level ≤ 16
+  pub counted : s .number ≡ 0 → s .headers ≤ placeOf seat (min (s .i) (seat .size))
+  pub reads : s .i + 8 ≤ seat .size → Reads seat ends s block
+  pub state : feed (stateOf b) (drop start block) ≡ feed (stateOf (leftBy seat [] ends s)) (drop (min (s .i) (seat .size)) block)
+
+-- and after one header more
+pub goes : (b : Blocks) (block : List ℕ) (start : ℕ) (seat : Seat) (ends : List ℕ) (s : Skim) → Skimming b block start seat ends s → Reads seat ends s block
+    → (after : List ℕ) (r : Skim) → Turned seat s ends block r after → Skimming b block start seat after r
+goes b block start seat ends s v p after r t =
+    let from = v .from in
+    let more = t .further in
+    let eight = p .eight in
+    let m : min (s .i) (seat .size) ≡ s .i = omega arith in
+    let here : feed (stateOf (leftBy seat [] ends s)) (drop (min (s .i) (seat .size)) block)
+    ≡ feed (atHeader (seat .total) (s .headers) (opensOf (s .level) ends) (placeOf seat (s .i))) (drop (s .i) block) =
+    rw (m, eq-eqb (s .number) 0 (p .number)) in
+    record { from = omega arith; near = t .near; depth = t .depth; counted = t .counted; reads = t .reads; state = v .state ∙ here ∙ t .state }
+
+-- the block from place `start` on, where the engine stands before a header
+abbrev pub seatOf : Blocks → (block : List ℕ) → (start : ℕ) → Seat
+seatOf b block start = record { total = b .total; base = b .at; from = start; size = length block }
+
+module _ (b : Blocks) (block : List ℕ) (start : ℕ) (sound : Sound b) (z : b .number ≡ 0) (h : b .have ≡ 0) (t : b .at ≡ b .taken) (l : start ≤ length block)
+    (fits : b .taken + (length block - start) ≤ b .total) (short : length block ≤ b .total) where
+  pub begins : (s : Skim) → length (b .ends) ≡ 16 → GoesOn (seatOf b block start) (b .ends) (b .level) start (b .headers) s → start < s .stop
+      → Skimming b block start (seatOf b block start) (b .ends) s
+  begins s sixteen g before =
+      let fine = sound z in
+      let level = g .inside in
+      let i = g .at in
+      let headers = g .passed in
+      let small = fine .small in
+      let deep = fine .depth in
+      let more = fine .counted in
+      let m : min (s .i) (length block) ≡ start = omega arith in
+      let y : start - start ≡ 0 = omega arith in
+      let x : b .at + 0 ≡ b .at = omega arith in
+      record {
         from = omega arith;
-        within = omega arith;
-        fits = omega arith;
-        counted = omega arith;
-        eight = eight;
-        before = omega arith;
-      },
-      p .read ∙ rw same,
-    )
+        near = omega arith;
+        depth = omega arith;
+        counted = λ _. omega arith;
+        reads =
+            λ eight.
+            record {
+              seated = record { small = small; short = omega arith; order = l; fits = omega arith };
+              size = refl;
+              from = omega arith;
+              eight = eight;
+              number = g .number;
+              depth = omega arith;
+              counted = omega arith;
+              sixteen = sixteen;
+              before = omega arith;
+              run = g .run;
+            };
+        state =
+            ap (λ (v : State). feed v (drop start block)) (ready b z h t)
+            ∙ rw (m, eq-eqb (s .number) 0 (g .number), i, level, headers, y, x);
+      }
+
+  -- where the loop ends
+  pub ends-turn : (ends begun : List ℕ) (s : Skim) → Skimming b block start (seatOf b block start) ends s → (r : Blocks) (j : ℕ)
+      → r ≡ leftBy (seatOf b block start) begun ends s → j ≡ min (s .i) (length block) → Turns b block start r j
+  ends-turn ends begun s v r j e q =
+      let from = v .from in
+      let small = sound z .small in
+      let m : min (s .i) (length block) ≤ length block = omega arith in
+      let f : start ≤ min (s .i) (length block) = omega arith in
+      let rest : b .at + (min (s .i) (length block) - start) + (length block - min (s .i) (length block)) ≤ b .total = omega arith in
+      rw (e, q)
+      (record {
+        further = f;
+        within = m;
+        sound = λ n. record { depth = v .depth; kept = omega arith; counted = v .counted n; small = small };
+        fits = rest;
+        total = refl;
+        state = v .state;
+      })
+
+-- where closing comes to its end, the limit is not reached
+pub settle-stops : (total k at : ℕ) (os ps : List Open) → at < total → settle k os at ≡ reading k ps at [] → at < limitOf total ps
+settle-stops total k at [] ps l e = subst (λ (x : List Open). at < limitOf total x) (opens-same e) l
+settle-stops total k at (o ∷ outer) ps l e = go (leb (o .bound) at) (o .marked) refl refl e (settle-stops total k at outer ps l)
+  where
+    go : (b m : Bool) → leb (o .bound) at ≡ b → o .marked ≡ m
+        → cond b (cond m (found 7 (o .bound) k) (settle k outer at)) (reading k (o ∷ outer) at []) ≡ reading k ps at []
+        → (settle k outer at ≡ reading k ps at [] → at < limitOf total ps) → at < limitOf total ps
+    go false m b _ f inner = subst (λ (x : List Open). at < limitOf total x) (opens-same f) (leb-false (o .bound) at b)
+    go true false _ _ f inner = inner f
+    go true true _ _ f inner = absurd (no-finding f)
+
+-- What closing leaves, case by case.
+module _ (seat : Seat) (ends : List ℕ) (s : Skim) (b : Before seat ends s) where
+  abbrev next : ℕ
+  next = placeOf seat (s .i)
+
+  pub settles-inside : s .i < s .stop → Settles seat ends s s
+  settles-inside l =
+      record {
+        depth = b .depth;
+        headers = refl;
+        stays = λ _. refl;
+        past = λ _. refl;
+        same = λ _. refl;
+        all = λ z n. absurd (n z);
+        run = λ z _. (l, b .run z l);
+        state =
+            λ z _.
+            let from = b .from in
+            let stop = b .run z l .stop in
+            let open-still : next < limitOf (seat .total) (opensOf (s .level) ends) = omega arith in
+            rw (eq-eqb (s .number) 0 z) (settle-open (seat .total) (s .level) ends next (s .headers) open-still);
+      }
+
+  pub settles-found : (s .number ≡ 0 → ⊥) → Settles seat ends s s
+  settles-found ne =
+      record {
+        depth = b .depth;
+        headers = refl;
+        stays = λ _. refl;
+        past = λ _. refl;
+        same = λ _. refl;
+        all = λ z _. absurd (ne z);
+        run = λ z _. absurd (ne z);
+        state = λ z _. absurd (ne z);
+      }
+
+  pub settles-past : seat .size < s .i → Settles seat ends s s
+  settles-past far =
+      record {
+        depth = b .depth;
+        headers = refl;
+        stays = λ _. refl;
+        past = λ _. refl;
+        same = λ _. refl;
+        all = λ z n. absurd (n z);
+        run = λ _ h. absurd (omega arith);
+        state = λ _ h. absurd (omega arith);
+      }
+
+  module _ (z : s .number ≡ 0) (near : s .i ≤ seat .size) where
+    pub settles-unclosed : (place : ℕ) → settle (s .headers) (opensOf (s .level) ends) next ≡ found 7 place (s .headers)
+        → Settles seat ends s
+        (record { level = s .level; i = seat .size; stop = 0; marked = s .marked; headers = s .headers; number = 7; place = place })
+    settles-unclosed place e =
+        record {
+          depth = b .depth;
+          headers = refl;
+          stays = λ n. absurd (n z);
+          past = λ far. absurd (omega arith);
+          same = λ q. absurd (omega arith);
+          all = λ _ _. refl;
+          run = λ q _. absurd (omega arith);
+          state = λ _ _. e;
+        }
+
+    pub settles-on : (level : ℕ) (r : Skim) → level ≤ 16 → GoesOn seat ends level (s .i) (s .headers) r
+        → settle (s .headers) (opensOf (s .level) ends) next ≡ reading (s .headers) (opensOf level ends) next [] → Settles seat ends s r
+    settles-on level r deep g e =
+        record {
+          depth = rw (g .inside) deep;
+          headers = g .passed;
+          stays = λ n. absurd (n z);
+          past = λ far. absurd (omega arith);
+          same = λ _. g .at;
+          all = λ _ n. absurd (n (g .number));
+          run =
+              λ _ h.
+              let from = b .from in
+              let fits = b .seated .fits in
+              let i = g .at in
+              let stop = g .run .stop in
+              let some : next < seat .total = omega arith in
+              let limit : next < limitOf (seat .total) (opensOf (r .level) ends) =
+              rw (g .inside) (settle-stops (seat .total) (s .headers) next (opensOf (s .level) ends) (opensOf level ends) some e) in
+              (omega (arith, limit, stop, i), g .run);
+          state = λ _ _. rw (eq-eqb (r .number) 0 (g .number), g .inside) e;
+        }

@@ -1,6 +1,6 @@
 -- What the stored state stands for, and what the three questions answer of it. The ends of the open items lie in an array, the outermost
 -- first, each twice and one more if the item waits for its closing mark. Definitions only: assumes nothing.
-use Prim.Native.Nat.{ℕ, zero, suc, _+_, _-_, _/_, _%_, _<_, _≤_}
+use Prim.Native.Nat.{ℕ, zero, suc, _+_, _-_, _/_, _%_, _<_, _≤_, min}
 use mathlib.Core.Path.{_≡_}
 use mathlib.Core.Bool.{Bool, true, false, cond, _&&_}
 use mathlib.Core.List.{List, [], _∷_}
@@ -8,13 +8,13 @@ use lib.ListN.{getD, take, drop, length}
 use lib.Dec.{eqb, leb}
 use Rattle.headers.specs.declared.Head.{Head}
 use Rattle.headers.specs.declared.Head.the-variants.{Item, ClosingMark, Refusal}
-use Rattle.headers.specs.Head.{constructed, headAt}
 use Rattle.octets.specs.Walk.{streamLimit, deepest}
-use Rattle.blocks.specs.Engine.{Open, Standing, reading, found, State, limitOf, markedOf, arrive, feed, decide}
+use Rattle.blocks.specs.Engine.{Open, Standing, reading, found, State, limitOf, markedOf, settle, arrive, feed, decide}
 use Rattle.octets.specs.Further.{Told}
 use Rattle.blocks.specs.Blocks.{Taken as Given, start, take as taking, close}
 use Rattle.engine.specs.declared.Blocks.{Blocks}
 use Rattle.engine.specs.declared.Taken.{Taken}
+use Rattle.engine.specs.declared.skim.Seat.{Seat}
 use Rattle.engine.specs.declared.skim.Skim.{Skim}
 
 -- an open item, as its end is stored
@@ -118,7 +118,7 @@ back i at (Refusal number place) = Refusal number (at + (place - i))
 
 -- what was read at place i from a header of so many octets
 abbrev pub Ahead : (size i : ℕ) → Head → Type 0
-Ahead size i (Item h) = i + size ≤ h .start
+Ahead size i (Item h) = i + size ≡ h .start
 Ahead size i ClosingMark = size ≤ 2
 Ahead size i (Refusal number place) = (0 < number) × (number ≤ 8) × (place ≡ i)
 
@@ -131,38 +131,98 @@ pub record Seen (total headers : ℕ) (os : List Open) (at : ℕ) (block : List 
   pub state : feed (atHeader total headers os at) (take size (drop i block))
       ≡ record { total = total; taken = at + size; standing = decide (at + size) headers os at (back i at head) }
 
--- What reading the header at i of a block leaves: so many levels and headers, the place of the next header and the ends, or a number.
-pub record Skims (total headers level : ℕ) (ends : List ℕ) (at : ℕ) (block : List ℕ) (i : ℕ) (r : Skim) (after : List ℕ) : Type 0 where
+-- the place in the letter of a place in the block
+abbrev pub placeOf : Seat → ℕ → ℕ
+placeOf seat i = seat .base + (i - seat .from)
+
+-- The run that is read inside these open items: where it ends in the block, and whether it waits for a closing mark.
+pub record InRun (seat : Seat) (ends : List ℕ) (s : Skim) : Type 0 where
+  pub stop : s .stop ≡ seat .from + (limitOf (seat .total) (opensOf (s .level) ends) - seat .base)
+  pub marked : s .marked ≡ markedOf (opensOf (s .level) ends)
+  pub limit : limitOf (seat .total) (opensOf (s .level) ends) ≤ 2147483647
+
+-- the skimming goes on at a place, inside so many open items
+pub record GoesOn (seat : Seat) (ends : List ℕ) (level i headers : ℕ) (r : Skim) : Type 0 where
+  pub inside : r .level ≡ level
+  pub at : r .i ≡ i
+  pub passed : r .headers ≡ headers
+  pub number : r .number ≡ 0
+  pub run : InRun seat ends r
+
+-- a block that lies in its letter
+pub record Seated (seat : Seat) : Type 0 where
+  pub small : seat .total ≤ streamLimit
+  pub short : seat .size ≤ streamLimit
+  pub order : seat .from ≤ seat .size
+  pub fits : seat .base + (seat .size - seat .from) ≤ seat .total
+
+-- the skimming stands before a header that lies in the block
+pub record Reads (seat : Seat) (ends : List ℕ) (s : Skim) (block : List ℕ) : Type 0 where
+  pub seated : Seated seat
+  pub size : seat .size ≡ length block
+  pub from : seat .from ≤ s .i
+  pub eight : s .i + 8 ≤ seat .size
+  pub number : s .number ≡ 0
+  pub depth : s .level ≤ deepest
+  pub counted : s .headers ≤ placeOf seat (s .i)
+  pub sixteen : length ends ≡ deepest
+  pub before : s .i < s .stop
+  pub run : InRun seat ends s
+
+-- What reading the header there leaves: the place of the next header, so many levels and headers and the ends; or a number.
+pub record Skims (seat : Seat) (s : Skim) (ends block : List ℕ) (r : Skim) (after : List ℕ) : Type 0 where
   pub size : ℕ
   pub some : 0 < size
   pub eight : size ≤ 8
   pub depth : r .level ≤ deepest
-  pub counted : r .headers ≤ headers + 1
-  pub ahead : r .number ≡ 0 → at + size ≤ r .at
+  pub counted : r .headers ≤ s .headers + 1
+  pub ahead : r .number ≡ 0 → s .i + size ≤ r .i
+  pub all : (r .number ≡ 0 → ⊥) → r .i ≡ seat .size
+  pub near : r .i ≤ seat .from + 2147483647
   pub kept : length after ≡ length ends
-  pub state : feed (atHeader total headers (opensOf level ends) at) (take size (drop i block))
+  pub run : r .number ≡ 0 → r .i < r .stop → InRun seat after r
+  pub state : feed (atHeader (seat .total) (s .headers) (opensOf (s .level) ends) (placeOf seat (s .i))) (take size (drop (s .i) block))
       ≡ record {
-        total = total;
-        taken = at + size;
-        standing = cond (eqb (r .number) 0) (arrive (at + size) (r .headers) (opensOf (r .level) after) (r .at)) (found (r .number) at (r .headers));
+        total = seat .total;
+        taken = placeOf seat (s .i) + size;
+        standing =
+            cond (eqb (r .number) 0)
+            (arrive (placeOf seat (s .i) + size) (r .headers) (opensOf (r .level) after) (placeOf seat (r .i)))
+            (found (r .number) (r .place) (r .headers));
       }
 
--- the place past an item that leaves nothing open: it is primitive, or nothing stands in it; 0 of anything else
-abbrev pub passedTo : Head → ℕ
-passedTo (Item h) = cond (constructed (h .octet)) (cond (eqb (h .start) (h .bound)) (cond (h .marked) 0 (h .bound)) 0) (h .bound)
-passedTo ClosingMark = 0
-passedTo (Refusal number place) = 0
+-- the skimming stands before the next header, and the items that end there are still open
+pub record Before (seat : Seat) (ends : List ℕ) (s : Skim) : Type 0 where
+  pub seated : Seated seat
+  pub from : seat .from ≤ s .i
+  pub near : s .i ≤ seat .from + 2147483647
+  pub depth : s .level ≤ deepest
+  pub run : s .number ≡ 0 → s .i < s .stop → InRun seat ends s
 
--- Items that leave nothing open stand from one place of a block to another, so many of them, in a run that goes on to `stop`: taking them moves
--- the engine, in whatever items it stands; and then a header stands there.
-pub record Passes (block : List ℕ) (from stop : ℕ) (marked : Bool) (room to count : ℕ) (head : Head) : Type 0 where
-  pub further : from ≤ to
-  pub before : to < stop
-  pub eight : to + 8 ≤ length block
-  pub counted : count ≤ to - from
-  pub read : head ≡ headAt block to stop marked room
-  pub state : (total headers level : ℕ) (ends : List ℕ) (at : ℕ) → level ≤ deepest → length ends ≡ deepest → total ≤ streamLimit
-      → headers ≤ at → at + (length block - from) ≤ total → at < limitOf total (opensOf level ends) → stop ≡ from + (limitOf total (opensOf level ends) - at)
-      → marked ≡ markedOf (opensOf level ends) → room ≡ deepest - level
-      → feed (atHeader total headers (opensOf level ends) at) (drop from block)
-      ≡ feed (atHeader total (headers + count) (opensOf level ends) (at + (to - from))) (drop to block)
+-- What closing them leaves, if the next header lies in the block; else nothing is done.
+pub record Settles (seat : Seat) (ends : List ℕ) (s r : Skim) : Type 0 where
+  pub depth : r .level ≤ deepest
+  pub headers : r .headers ≡ s .headers
+  pub stays : (s .number ≡ 0 → ⊥) → r ≡ s
+  pub past : seat .size < s .i → r ≡ s
+  pub same : r .number ≡ 0 → r .i ≡ s .i
+  pub all : s .number ≡ 0 → (r .number ≡ 0 → ⊥) → r .i ≡ seat .size
+  pub run : r .number ≡ 0 → r .i + 8 ≤ seat .size → (r .i < r .stop) × InRun seat ends r
+  pub state : s .number ≡ 0 → s .i ≤ seat .size → settle (s .headers) (opensOf (s .level) ends) (placeOf seat (s .i))
+      ≡ cond (eqb (r .number) 0) (reading (s .headers) (opensOf (r .level) ends) (placeOf seat (s .i)) []) (found (r .number) (r .place) (s .headers))
+
+-- the state in which skimming a block leaves the engine
+abbrev pub leftBy : Seat → (begun ends : List ℕ) → Skim → Blocks
+leftBy seat begun ends s =
+    record {
+      total = seat .total;
+      taken = placeOf seat (min (s .i) (seat .size));
+      at = placeOf seat (s .i);
+      level = s .level;
+      headers = s .headers;
+      number = s .number;
+      place = s .place;
+      have = 0;
+      ends = ends;
+      begun = begun;
+    }

@@ -1,4 +1,4 @@
-// A header that is cut: its octets are kept until it has come, and then it is read as the walk reads it (`headers::head_apart`).
+// A header that is cut: its octets are kept until it has come, and then it is read as the walk reads it (`headers::read_head`).
 use super::Blocks;
 use super::DEEPEST;
 use super::ends;
@@ -173,6 +173,6 @@ pub fn header_octet(mut b: Blocks, octet: u8) -> Blocks
         return b;
     }
     let marked = ends::marked_at(&ends, b.level);
-    let head = headers::head_apart(&octets, 0, left, marked, DEEPEST - b.level);
+    let head = headers::read_head(&octets, 0, left, marked, DEEPEST - b.level);
     decided(b, limit, head)
 }

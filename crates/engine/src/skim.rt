@@ -1,141 +1,153 @@
-// The headers that lie in a block one after another, with their values: read where they stand, with the state's numbers in locals.
+// The headers that lie in a block one after another, with their values: read where they stand, in one loop, with the state's numbers in locals.
 use super::Blocks;
 use super::DEEPEST;
 use super::Moved;
 use super::ends;
 use headers::Head;
+use headers::Header;
 ghost use mathlib.Core.Path.{_≡_};
 ghost use mathlib.Core.Bool.{true};
-ghost use Prim.Native.Nat.{_+_, _-_, _<_, _≤_};
+ghost use Prim.Native.Nat.{_+_, _-_, _<_, _≤_, min};
 ghost use lib.ListN.{length};
-ghost use Rattle.blocks.specs.Engine.{limitOf, markedOf};
+ghost use Rattle.blocks.specs.Engine.{limitOf};
 ghost use Rattle.headers.specs.Head.{headAt};
-ghost use Rattle.engine.specs.Stored.{opensOf, Sound, Turns, Skims, passedTo, Passes};
+ghost use Rattle.engine.specs.Stored.{opensOf, Sound, Turns, GoesOn, Reads, Skims, Before, Settles, leftBy};
 
-// What a header leaves that was read in a block.
+// Where a block lies in a letter of so many octets: its place `from` is the letter's place `base`, and it has `size` octets.
+pub struct Seat {
+    pub total: usize,
+    pub base: usize,
+    pub from: usize,
+    pub size: usize,
+}
+
+// Where the skimming of a block stands: the next header is at `i` of the block, or past its end, inside `level` open items. The run that is
+// read there goes on to `stop` of the block, and waits for a closing mark if it is `marked`; a `stop` that is not past `i` tells
+// nothing. Or there is a finding, and then all of the block is taken.
 pub struct Skim {
     pub level: usize,
-    pub at: usize,
+    pub i: usize,
+    pub stop: usize,
+    pub marked: bool,
     pub headers: u32,
     pub number: u32,
+    pub place: u32,
 }
 
-// A header that was read in a block, at `to`, after so many items that leave nothing open.
-pub struct Stopped {
-    pub to: usize,
-    pub count: u32,
-    pub head: Head,
+// The skimming goes on.
+fn going(level: usize, i: usize, stop: usize, marked: bool, headers: u32) -> Skim
+    ensures { λ r. ⌜ r ≡ record { level = level; i = i; stop = stop; marked = marked; headers = headers; number = 0; place = 0 } ⌝ }
+{
+    Skim {
+        level,
+        i,
+        stop,
+        marked,
+        headers,
+        number: 0,
+        place: 0,
+    }
 }
 
-// The place past an item that leaves nothing open: it is primitive, or nothing stands in it. 0 if there is none.
-fn passed_to(head: Head) -> usize
-    ensures { λ r. ⌜ r ≡ passedTo head ⌝ }
+// A finding: what is left of the block is only counted.
+fn finding(s: Skim, size: usize, number: u32, place: u32) -> Skim
+    ensures { λ r. ⌜ r ≡ record { level = s .level; i = size; stop = 0; marked = s .marked; headers = s .headers; number = number; place = place } ⌝ }
+{
+    Skim {
+        level: s.level,
+        i: size,
+        stop: 0,
+        marked: s.marked,
+        headers: s.headers,
+        number,
+        place,
+    }
+}
+
+// The place in the block where the run inside so many open items ends.
+fn stop_at(ends: &[u32; 16], level: usize, seat: Seat) -> usize
+    requires { ⌜ (level ≤ 16) × (seat .total ≤ 1048576) × (seat .from ≤ 1048576) ⌝ }
+    ensures { λ r. ⌜ (r ≡ seat .from + (limitOf (seat .total) (opensOf level (now (ends .entry))) - seat .base))
+        × (limitOf (seat .total) (opensOf level (now (ends .entry))) ≤ 2147483647) ⌝ }
+{
+    let limit = ends::limit_at(ends, level, seat.total);
+    if limit < seat.base {
+        return seat.from;
+    }
+    seat.from + (limit - seat.base)
+}
+
+// The skimming goes on at i, inside so many open items.
+fn go_on(ends: &[u32; 16], seat: Seat, level: usize, i: usize, headers: u32) -> Skim
+    requires { ⌜ (level ≤ 16) × (seat .total ≤ 1048576) × (seat .from ≤ 1048576) ⌝ }
+    ensures { λ r. ⌜ GoesOn seat (now (ends .entry)) level i headers r ⌝ }
+{
+    let stop = stop_at(ends, level, seat);
+    let marked = ends::marked_at(ends, level);
+    going(level, i, stop, marked, headers)
+}
+
+// One open item less.
+fn outside(level: usize) -> usize
+    ensures { λ r. ⌜ r ≡ level - 1 ⌝ }
+{
+    if level == 0 {
+        return 0;
+    }
+    level - 1
+}
+
+// What the header at i of a block does, up to the next header. An item that is primitive, or in which nothing stands, leaves nothing open.
+fn skim_one(ends: &mut [u32; 16], s: Skim, seat: Seat, block: &[u8], head: Head) -> Skim
+    requires { ⌜ Reads seat (now ends) s (now block) × (head ≡ headAt (now block) (s .i) (s .stop) (s .marked) (16 - s .level)) ⌝ }
+    ensures { λ r. ⌜ Skims seat s (now (ends .entry)) (now (block .entry)) r (now (ends .exit)) ⌝ }
 {
     match head {
         Head::Item(h) => {
             if h.octet / 32 % 2 != 1 {
-                return h.bound;
+                return going(s.level, h.bound, s.stop, s.marked, s.headers + 1);
             }
-            if h.start != h.bound {
-                return 0;
+            if h.start == h.bound {
+                if !h.marked {
+                    return going(s.level, h.bound, s.stop, s.marked, s.headers + 1);
+                }
             }
-            if h.marked {
-                return 0;
-            }
-            h.bound
-        }
-        Head::ClosingMark => 0,
-        Head::Refusal { number, place } => 0,
-    }
-}
-
-// Passes the items from `from` on that leave nothing open, in a run that goes on to `stop`, as far as eight octets of the block are left
-// after each, and gives the header that stands there. This is what most items of a letter are, so nothing else is looked at.
-fn pass_items(block: &[u8], from: usize, stop: usize, marked: bool, room: usize) -> Stopped
-    requires { ⌜ (from < stop) × (from + 8 ≤ length (now block)) × (length (now block) ≤ 1048576) ⌝ }
-    ensures { λ r. ⌜ Passes (now (block .entry)) from stop marked room (r .to) (r .count) (r .head) ⌝ }
-{
-    let last = block.len() - 8;
-    let mut i = from;
-    let mut count: u32 = 0;
-    loop {
-        let head = headers::head_apart(block, i, stop, marked, room);
-        let past = passed_to(head);
-        if past == 0 {
-            return Stopped { to: i, count, head };
-        }
-        if stop <= past {
-            return Stopped { to: i, count, head };
-        }
-        if last < past {
-            return Stopped { to: i, count, head };
-        }
-        i = past;
-        count = count + 1;
-    }
-}
-
-// What the header at i of a block does, which is at `at` of the letter.
-fn skim_one(
-    ends: &mut [u32; 16],
-    level: usize,
-    headers: u32,
-    total: usize,
-    limit: usize,
-    marked: bool,
-    at: usize,
-    block: &[u8],
-    i: usize,
-    head: Head,
-) -> Skim
-    requires { ⌜ (level ≤ 16) × (headers ≤ 1048576) × (limit ≡ limitOf total (opensOf level (now ends))) × (limit ≤ 2147483647)
-        × (marked ≡ markedOf (opensOf level (now ends))) × (at < limit) × (i + 8 ≤ length (now block)) × (length (now block) ≤ 1048576)
-        × (length (now ends) ≡ 16) × (head ≡ headAt (now block) i (i + (limit - at)) marked (16 - level)) ⌝ }
-    ensures { λ r. ⌜ Skims total headers level (now (ends .entry)) at (now (block .entry)) i r (now (ends .exit)) ⌝ }
-{
-    match head {
-        Head::Item(h) => {
-            let bound = at + (h.bound - i);
-            if h.octet / 32 % 2 == 1 {
-                let start = at + (h.start - i);
-                ends[level] = ends::end_of(bound, h.marked);
-                return Skim {
-                    level: level + 1,
-                    at: start,
-                    headers: headers + 1,
-                    number: 0,
-                };
-            }
-            Skim {
-                level,
-                at: bound,
-                headers: headers + 1,
-                number: 0,
-            }
+            let n = s.level;
+            ends[n] = ends::end_of(seat.base + (h.bound - seat.from), h.marked);
+            going(n + 1, h.start, h.bound, h.marked, s.headers + 1)
         }
         Head::ClosingMark => {
-            if level == 0 {
-                return Skim {
-                    level: 0,
-                    at: at + 2,
-                    headers,
-                    number: 0,
-                };
-            }
-            Skim {
-                level: level - 1,
-                at: at + 2,
-                headers,
-                number: 0,
-            }
+            let next = s.i + 2;
+            going(outside(s.level), next, next, s.marked, s.headers)
         }
-        Head::Refusal { number, place } => Skim {
-            level,
-            at,
-            headers,
-            number: number as u32,
-        },
+        Head::Refusal { number, place } => finding(
+            s,
+            seat.size,
+            number as u32,
+            (seat.base + (s.i - seat.from)) as u32,
+        ),
     }
+}
+
+// Closes the items that end where the next header is, if that lies in the block.
+fn settled(ends: &[u32; 16], s: Skim, seat: Seat) -> Skim
+    requires { ⌜ Before seat (now ends) s ⌝ }
+    ensures { λ r. ⌜ Settles seat (now (ends .entry)) s r ⌝ }
+{
+    if s.i < s.stop {
+        return s;
+    }
+    if s.number != 0 {
+        return s;
+    }
+    if seat.size < s.i {
+        return s;
+    }
+    let c = ends::close_ended(ends, s.level, seat.base + (s.i - seat.from));
+    if c.unclosed {
+        return finding(s, seat.size, 7, c.place);
+    }
+    go_on(ends, seat, c.level, s.i, s.headers)
 }
 
 // Whether the engine stands before a header of which nothing has come.
@@ -151,6 +163,39 @@ fn is_ready(b: Blocks) -> bool
     b.at == b.taken
 }
 
+fn smaller(a: usize, b: usize) -> usize
+    ensures { λ r. ⌜ r ≡ min a b ⌝ }
+{
+    if a < b {
+        return a;
+    }
+    b
+}
+
+// The state in which the skimming of a block leaves the engine.
+fn left(b: Blocks, ends: [u32; 16], s: Skim, seat: Seat) -> Moved
+    requires { ⌜ (seat .from ≤ s .i) × (seat .from ≤ seat .size) × (seat .base + (s .i - seat .from) ≤ 4294967295) ⌝ }
+    ensures { λ r. ⌜ (r .state ≡ leftBy seat (b .begun) ends s) × (r .to ≡ min (s .i) (seat .size)) ⌝ }
+{
+    let to = smaller(s.i, seat.size);
+    let begun = b.begun;
+    Moved {
+        state: Blocks {
+            total: seat.total,
+            taken: seat.base + (to - seat.from),
+            at: seat.base + (s.i - seat.from),
+            level: s.level,
+            headers: s.headers,
+            number: s.number,
+            place: s.place,
+            have: 0,
+            ends,
+            begun,
+        },
+        to,
+    }
+}
+
 // The headers that lie in the block one after another, with their values.
 pub fn skim_block(b: Blocks, block: &[u8], from: usize) -> Moved
     requires { ⌜ Sound b × (from ≤ length (now block)) × (b .taken + (length (now block) - from) ≤ b .total) × (length (now block) ≤ b .total) ⌝ }
@@ -159,121 +204,21 @@ pub fn skim_block(b: Blocks, block: &[u8], from: usize) -> Moved
     if !is_ready(b) {
         return Moved { state: b, to: from };
     }
-    let n = block.len();
-    let total = b.total;
-    let begun = b.begun;
+    let seat = Seat {
+        total: b.total,
+        base: b.at,
+        from,
+        size: block.len(),
+    };
     let mut ends = b.ends;
-    let mut level = b.level;
-    let mut headers = b.headers;
-    let mut at = b.at;
-    let mut i = from;
-    while 8 <= n - i {
-        let limit = ends::limit_at(&ends, level, total);
-        if limit <= at {
-            return Moved {
-                state: Blocks {
-                    total,
-                    taken: at,
-                    at,
-                    level,
-                    headers,
-                    number: 0,
-                    place: 0,
-                    have: 0,
-                    ends,
-                    begun,
-                },
-                to: i,
-            };
-        }
-        let marked = ends::marked_at(&ends, level);
-        let p = pass_items(block, i, i + (limit - at), marked, DEEPEST - level);
-        headers = headers + p.count;
-        at = at + (p.to - i);
-        i = p.to;
-        let head = p.head;
-        let k = skim_one(
-            &mut ends,
-            level,
-            headers,
-            total,
-            limit,
-            marked,
-            at,
-            block,
-            i,
-            head,
-        );
-        if k.number != 0 {
-            return Moved {
-                state: Blocks {
-                    total,
-                    taken: at + (n - i),
-                    at,
-                    level: k.level,
-                    headers: k.headers,
-                    number: k.number,
-                    place: at as u32,
-                    have: 0,
-                    ends,
-                    begun,
-                },
-                to: n,
-            };
-        }
-        if n - i < k.at - at {
-            return Moved {
-                state: Blocks {
-                    total,
-                    taken: at + (n - i),
-                    at: k.at,
-                    level: k.level,
-                    headers: k.headers,
-                    number: 0,
-                    place: 0,
-                    have: 0,
-                    ends,
-                    begun,
-                },
-                to: n,
-            };
-        }
-        let c = ends::close_ended(&ends, k.level, k.at);
-        if c.unclosed {
-            return Moved {
-                state: Blocks {
-                    total,
-                    taken: k.at,
-                    at: k.at,
-                    level: k.level,
-                    headers: k.headers,
-                    number: 7,
-                    place: c.place,
-                    have: 0,
-                    ends,
-                    begun,
-                },
-                to: i + (k.at - at),
-            };
-        }
-        i = i + (k.at - at);
-        at = k.at;
-        headers = k.headers;
-        level = c.level;
+    let mut s = go_on(&ends, seat, b.level, from, b.headers);
+    if s.stop <= from {
+        return Moved { state: b, to: from };
     }
-    Moved {
-        state: Blocks {
-            total,
-            taken: at,
-            at,
-            level,
-            headers,
-            number: 0,
-            place: 0,
-            have: 0,
-            ends,
-            begun,
-        },
-        to: i,
+    while s.i + 8 <= seat.size {
+        let head = headers::head_apart(block, s.i, s.stop, s.marked, DEEPEST - s.level);
+        let k = skim_one(&mut ends, s, seat, block, head);
+        s = settled(&ends, k, seat);
     }
+    left(b, ends, s, seat)
 }

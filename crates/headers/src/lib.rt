@@ -180,8 +180,9 @@ fn closing_at(s: &[u8], at: usize, limit: usize, marked: bool) -> Head
     }
 }
 
-// What stands at `at`, rule by rule.
-fn read_head(s: &[u8], at: usize, limit: usize, marked: bool, room: usize) -> Head
+// What stands at `at`, rule by rule. It is a function of its own in every program, for callers that read one header: the walk of one item,
+// and the block engine where a header is cut.
+pub fn read_head(s: &[u8], at: usize, limit: usize, marked: bool, room: usize) -> Head
     requires { ⌜ (at < length (now s)) × (min limit (at + 8) ≤ length (now s)) ⌝ }
     ensures { λ r. ⌜ r ≡ headAt (now (s .entry)) at limit marked room ⌝ }
 {
@@ -248,8 +249,8 @@ pub fn head_at(s: &[u8], at: usize, limit: usize, marked: bool, room: usize) -> 
     read_head(s, at, limit, marked, room)
 }
 
-// The same, for callers other than the walk of a whole stream: the block engine, and the walk of one item. The compiler makes a function with
-// one caller part of it, and with more than one the walk would call `head_at` for each item and hand its answer through memory.
+// The same, for the block engine's loop alone. The compiler makes a function with one caller part of it; with a second one the walk, or the
+// engine, would call it for each item and take its answer from memory, and then each takes twice as long.
 pub fn head_apart(s: &[u8], at: usize, limit: usize, marked: bool, room: usize) -> Head
     requires { ⌜ (at < length (now s)) × (min limit (at + 8) ≤ length (now s)) ⌝ }
     ensures { λ r. ⌜ r ≡ headAt (now (s .entry)) at limit marked room ⌝ }

@@ -110,7 +110,7 @@ pub fn walk_one(s: &[u8], at: usize, limit: usize, room: usize) -> Outcome
             count: 0,
         };
     }
-    match headers::head_apart(s, at, limit, false, room) {
+    match headers::read_head(s, at, limit, false, room) {
         Head::ClosingMark => Outcome::Ended {
             at: at + 2,
             count: 0,

@@ -14,8 +14,8 @@ returns c =
     let a = c .before .before .args in
     sym (one-ends (a .room) (a .s .now) (a .at) (a .limit) (c .if1 .taken))
 
-head-apart-requires : tie.Need-head-apart-requires
-head-apart-requires c κs = search needs
+read-head-requires : tie.Need-read-head-requires
+read-head-requires c κs = search needs
 
 enum-told : tie.Need-enum-told
 enum-told c = search needs
@@ -33,7 +33,7 @@ walk-item-requires : tie.Need-walk-item-requires
 walk-item-requires c κs =
     let a = c .before .before .before .before .before .before .args in
     let h = c .before .h .given in
-    let o = header-ok (a .s .now) (a .at) (a .limit) (a .room) false (h .0 .0) (sym (c .before .before .before .head-apart .ensures) ∙ h .1) in
+    let o = header-ok (a .s .now) (a .at) (a .limit) (a .room) false (h .0 .0) (sym (c .before .before .before .read-head .ensures) ∙ h .1) in
     (o .deep, o .order, omega arith)
 
 enum-known-next : tie.Need-enum-known-next
@@ -43,7 +43,7 @@ add-t19 : tie.Need-add-t19
 add-t19 c =
     let a = c .before .before .before .before .before .before .before .before .before .before .args in
     let h = c .before .before .before .before .before .h .given in
-    let e = sym (c .before .before .before .before .before .before .before .head-apart .ensures) ∙ h .1 in
+    let e = sym (c .before .before .before .before .before .before .before .read-head .ensures) ∙ h .1 in
     let v = c .before .next .given in
     let o = passed-ok (a .room) (a .s .now) (a .at) (a .limit) false (h .0 .0) e _ _ (sym (c .before .before .before .walk-item .ensures) ∙ v .1) in
     omega arith
@@ -55,7 +55,7 @@ add-t20 : tie.Need-add-t20
 add-t20 c =
     let a = c .before .before .before .before .before .before .before .before .before .before .args in
     let h = c .before .before .before .before .before .h .given in
-    let e = sym (c .before .before .before .before .before .before .before .head-apart .ensures) ∙ h .1 in
+    let e = sym (c .before .before .before .before .before .before .before .read-head .ensures) ∙ h .1 in
     let v = c .before .number2 .given in
     let o = broken-ok (a .room) (a .s .now) (a .at) (a .limit) false (h .0 .0) e _ _ _ (sym (c .before .before .before .walk-item .ensures) ∙ v .1) in
     omega arith
@@ -63,18 +63,18 @@ add-t20 c =
 returns-2 : tie.Need-returns-2
 returns-2 c =
     let a = c .before .before .before .before .before .args in
-    sym (one-closes (a .room) (a .s .now) (a .at) (a .limit) (c .before .before .before .if1 .left) (sym (c .before .before .head-apart .ensures) ∙ c .enum-told .given .1))
+    sym (one-closes (a .room) (a .s .now) (a .at) (a .limit) (c .before .before .before .if1 .left) (sym (c .before .before .read-head .ensures) ∙ c .enum-told .given .1))
 
 returns-3 : tie.Need-returns-3
 returns-3 c =
     let a = c .before .before .before .before .before .before .args in
-    sym (one-refuses (a .room) (a .s .now) (a .at) (a .limit) (c .before .before .before .before .if1 .left) _ _ (sym (c .before .before .before .head-apart .ensures) ∙ c .before .number .given .1))
+    sym (one-refuses (a .room) (a .s .now) (a .at) (a .limit) (c .before .before .before .before .if1 .left) _ _ (sym (c .before .before .before .read-head .ensures) ∙ c .before .number .given .1))
 
 returns-4 : tie.Need-returns-4
 returns-4 c =
     let a = c .before .before .before .before .before .before .before .before .before .before .args in
     let h = c .before .before .before .before .before .h .given in
-    let e = sym (c .before .before .before .before .before .before .before .head-apart .ensures) ∙ h .1 in
+    let e = sym (c .before .before .before .before .before .before .before .read-head .ensures) ∙ h .1 in
     let v = c .before .next .given in
     sym (one-passes (a .room) (a .s .now) (a .at) (a .limit) (c .before .before .before .before .before .before .before .before .if1 .left) (h .0 .0) e _ _ (sym (c .before .before .before .walk-item .ensures) ∙ v .1))
 
@@ -82,7 +82,7 @@ returns-5 : tie.Need-returns-5
 returns-5 c =
     let a = c .before .before .before .before .before .before .before .before .before .before .args in
     let h = c .before .before .before .before .before .h .given in
-    let e = sym (c .before .before .before .before .before .before .before .head-apart .ensures) ∙ h .1 in
+    let e = sym (c .before .before .before .before .before .before .before .read-head .ensures) ∙ h .1 in
     let v = c .before .number2 .given in
     sym (one-breaks (a .room) (a .s .now) (a .at) (a .limit) (c .before .before .before .before .before .before .before .before .if1 .left) (h .0 .0) e _ _ _ (sym (c .before .before .before .walk-item .ensures) ∙ v .1))
 
@@ -91,7 +91,7 @@ walk-one-spec =
     tie.close
     (tie.spec
     returns
-    head-apart-requires
+    read-head-requires
     enum-told
     add-t16
     enum-known-number

@@ -4,10 +4,7 @@ use mathlib.Core.Bool.{true, false}
 use Prim.Native.Nat.{ℕ, _+_, _-_, _/_, _%_, _<_, _≤_}
 use native.Mathlib.Omega.{arith}
 use borrow.Author.Tests.{eq-eqb, ne-eqb}
-use Rattle.headers.specs.declared.Head.the-variants.{Item, ClosingMark, Refusal}
-use Rattle.headers.specs.Head.{constructed}
 use Rattle.engine.proofs.Stores.{innermost}
-use Rattle.engine.proofs.Skimming.{looked, skims-open, skims-past, skims-none, skims-mark, skims-refused}
 use borrow.Author.Needs.{needs}
 use Rattle.engine.proofs.ends.limit_at.Statement.{statement}
 use Rattle.engine.proofs.ends.limit_at.Tie as tie

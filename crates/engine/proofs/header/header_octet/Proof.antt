@@ -1,4 +1,4 @@
--- `header_octet`: the octet is kept, and if the header has come with it, `head_apart` on the octets kept says what it is. Assumes nothing.
+-- `header_octet`: the octet is kept, and if the header has come with it, `read_head` on the octets kept says what it is. Assumes nothing.
 use mathlib.Core.Path.{_≡_, sym, ap, _∙_}
 use mathlib.Core.Bool.{true, false}
 use Prim.Native.Nat.{_+_, _-_}
@@ -62,14 +62,14 @@ returns c =
 marked-at-requires : tie.Need-marked-at-requires
 marked-at-requires c κs = search needs
 
-slice-aggregate-head-apart : tie.Need-slice-aggregate-head-apart
-slice-aggregate-head-apart c = search needs
+slice-aggregate-read-head : tie.Need-slice-aggregate-read-head
+slice-aggregate-read-head c = search needs
 
-sub-head-apart : tie.Need-sub-head-apart
-sub-head-apart c = search needs
+sub-read-head : tie.Need-sub-read-head
+sub-read-head c = search needs
 
-head-apart-requires : tie.Need-head-apart-requires
-head-apart-requires c κs =
+read-head-requires : tie.Need-read-head-requires
+read-head-requires c κs =
     let i = c .before .before .before .before .before .before .before .before .before .before .before .before in
     let b = i .args .t1 in
     let x = i .args .octet in
@@ -90,7 +90,7 @@ decided-requires c κs =
     let left = c .before .before .before .before .before .before .before .before .left-of in
     let octets = set (b .begun) (b .have) x in
     let marked = c .before .before .marked-at .result in
-    let e : c .head-apart .result ≡ headAt octets 0 (l .result - b .at) marked (16 - b .level) = c .head-apart .ensures ∙ rw (have, left .ensures) in (
+    let e : c .read-head .result ≡ headAt octets 0 (l .result - b .at) marked (16 - b .level) = c .read-head .ensures ∙ rw (have, left .ensures) in (
       i .pre .0,
       i .pre .1,
       i .pre .3,
@@ -113,11 +113,11 @@ returns-2 c =
     let limit = c .before .before .before .before .before .before .before .before .before .before .limit-at in
     let e : left .result ≡ limitOf (b .total) (opens b) - b .at = left .ensures ∙ rw (limit .ensures .0) in
     let yes = not-false (c .before .before .before .before .before .before .is-whole .result) (c .before .before .before .before .before .if1 .left) in
-    let h : c .before .head-apart .result ≡ headAt (set (b .begun) (b .have) x) 0 (left .result) (markedOf (opens b)) (16 - b .level) =
-    c .before .head-apart .ensures ∙ rw (have, c .before .before .before .marked-at .ensures) in
+    let h : c .before .read-head .result ≡ headAt (set (b .begun) (b .have) x) 0 (left .result) (markedOf (opens b)) (16 - b .level) =
+    c .before .read-head .ensures ∙ rw (have, c .before .before .before .marked-at .ensures) in
     let all : whole (take (b .have + 1) (set (b .begun) (b .have) x)) (left .result) ≡ true = rw (← have) (sym (w .0) ∙ yes) in
     let d = c .decided .ensures in
-    (d .0 ∙ ap (stands b) (whole-octet b x (omega arith) (left .result) e (c .before .head-apart .result) h all), d .1, d .2, d .3)
+    (d .0 ∙ ap (stands b) (whole-octet b x (omega arith) (left .result) e (c .before .read-head .result) h all), d .1, d .2, d .3)
 
 pub header-octet-spec : {M : Type 1} → statement M
 header-octet-spec =
@@ -132,8 +132,8 @@ header-octet-spec =
     is-whole-requires
     returns
     marked-at-requires
-    slice-aggregate-head-apart
-    sub-head-apart
-    head-apart-requires
+    slice-aggregate-read-head
+    sub-read-head
+    read-head-requires
     decided-requires
     returns-2)

@@ -1,14 +1,9 @@
 -- `is_ready`: what its tests tell. Assumes nothing.
 use mathlib.Core.Path.{_≡_, refl, ap, sym, _∙_}
 use mathlib.Core.Bool.{true, false, false≢true}
-use mathlib.Core.List.{List, []}
 use Prim.Native.Nat.{ℕ, _+_, _-_, _/_, _%_, _<_, _≤_}
 use native.Mathlib.Omega.{arith}
-use lib.ListN.{length, length-map, drop}
 use borrow.Author.Tests.{eqb-true, not-true, not-false}
-use Rattle.blocks.specs.Engine.{State, feed, settle, reading, found}
-use Rattle.engine.specs.Stored.{opensOf, stateOf, atHeader, Fine, Sound}
-use Rattle.engine.proofs.Skimming.{ready, none-turn, here-turn, found-turn, leave-turn, unclosed-turn, goes-on}
 use Rattle.engine.proofs.skim.is_ready.Statement.{statement}
 use Rattle.engine.proofs.skim.is_ready.Tie as tie
 use Rattle.engine.proofs.skim.is_ready.Reads as reads
