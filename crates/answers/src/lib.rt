@@ -21,6 +21,7 @@ mod content; // content.rt: the content of one element, as a part or copied
 mod date; // date.rt: the date of the document
 mod first_date; // first_date.rt: the same by the first element alone
 mod table; // table.rt: the lent table
+mod whole; // whole.rt: the whole reading of a side
 
 use children::children_judged;
 use content::join_judged;
@@ -128,6 +129,16 @@ pub struct Related {
     pub place: u32,
     pub elements: u32,
     pub children: u32,
+}
+
+// What is answered of the whole reading of a side.
+#[repr(C)]
+pub struct Shown {
+    pub number: u32,
+    pub place: u32,
+    pub elements: u32,
+    pub lines: u32,
+    pub length: u32,
 }
 
 // A question that is put to a stream. Those that want a list say how many records or rows it has room for.

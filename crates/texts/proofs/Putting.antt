@@ -24,6 +24,18 @@ part-put out own ys n room e =
     let new : ys ≡ own ++ drop (n + length own) out = e ∙ rw all (ap (λ (z : List ℕ). own ++ z) (drop-drop (length own) n out)) in
     rw (none-after, append-nil ys, new, ← (append-assoc (take n out) own (drop (n + length own) out))) (sym (sets-eq own out n room))
 
+-- how long the texts are that are left
+pub size-left : (text : Text) (numbers : List ℕ) (k count : ℕ) → k < count
+    → length (textsOf text (recordsFrom numbers k (count - k)))
+    ≡ length (text (getD numbers (3 * k + 2) 0)) + length (textsOf text (recordsFrom numbers (k + 1) (count - (k + 1))))
+unfolding textsOf
+size-left text numbers k count l =
+    rw (records-step numbers k count l) (length-append (text (getD numbers (3 * k + 2) 0)) (textsOf text (recordsFrom numbers (k + 1) (count - (k + 1)))))
+
+pub size-none : (text : Text) (numbers : List ℕ) (k count : ℕ) → count ≤ k → length (textsOf text (recordsFrom numbers k (count - k))) ≡ 0
+unfolding textsOf
+size-none text numbers k count l = rw (records-none numbers k count l)
+
 -- the texts of the matches before number k are put, and where they end
 pub record PutSoFar (text : Text) (numbers₀ : List ℕ) (count : ℕ) (out₀ : List ℕ) (k done : ℕ) (numbers out : List ℕ) : Type 0 where
   pub within : k ≤ count
