@@ -85,59 +85,74 @@ module _ (edition : Edition) (side : Side) (s table : List ℕ) (room : ℕ) (ou
     unfolding textsIn
     all-texts = ap (textsOf (textIn edition s)) all-matches
 
-    -- 22
-    pub shows-22 : length out < length (textsIn edition side s) → TextsFlat edition side s table room out (unshown 22 0 (answer .elements)) tableAfter flat out
-    unfolding shownOutput
-    shows-22 short =
-        let t : eqb (answer .number) 0 ≡ true = eq-eqb (answer .number) 0 zero-number in
-        let u : ltb (length out) (length (textsIn edition side s)) ≡ true = lt-ltb _ _ short in
-        let told : shown edition side s table room out ≡ unshown 22 0 (answer .elements) = by-list ∙ rw (t, u) in
-        record { answered = sym told; tabled = l .tabled; put = rw told; lined = record { stored = no-lines flat; fits = omega arith; enough = omega arith } }
+    module _ {lines : ℕ} (all : lines ≡ answer .matches) where
+      those-texts : textsOf (textIn edition s) (recordsFrom flat 0 lines) ≡ textsIn edition side s
+      those-texts = ap (λ (n : ℕ). textsOf (textIn edition s) (recordsFrom flat 0 n)) all ∙ all-texts
 
-    -- all is put
-    pub shows-all : {n : ℕ} {numbers after : List ℕ} → n ≡ length (textsIn edition side s) → length (textsIn edition side s) ≤ length out
-        → 4 * answer .matches ≤ length flat → length numbers ≡ length flat → PutsTexts (textIn edition s) flat (answer .matches) out numbers after
-        → TextsFlat edition side s table room out (record { number = 0; place = 0; elements = answer .elements; lines = answer .matches; length = n }) tableAfter numbers after
-    unfolding shownOutput linesIn
-    shows-all {n} {numbers} {after} size room-out room-flat long p =
-        let texts = textsIn edition side s in
-        let t : eqb (answer .number) 0 ≡ true = eq-eqb (answer .number) 0 zero-number in
-        let u : ltb (length out) (length texts) ≡ false = le-ltb (length out) (length texts) room-out in
-        let told : shown edition side s table room out ≡ record { number = 0; place = 0; elements = answer .elements; lines = answer .matches; length = n } =
-        by-list ∙ rw (t, u, size) in
-        let e : 0 + length texts ≡ length texts = omega arith in
-        let form : sets out 0 texts ≡ onto texts out = sets-eq texts out 0 (omega arith) ∙ ap (λ (k : ℕ). texts ++ drop k out) e in
-        let put-all : after ≡ onto texts out = p .put ∙ ap (sets out 0) all-texts ∙ form in
-        let ends : numbers ≡ sets flat (3 * answer .matches) (pasts (textIn edition s) 0 (matchesIn edition side s)) =
-        p .ended ∙ ap (λ (ms : List Match). sets flat (3 * answer .matches) (pasts (textIn edition s) 0 ms)) all-matches in
-        record {
-          answered = sym told;
-          tabled = l .tabled;
-          put = put-all ∙ rw told;
-          lined = record {
-            stored = lines-all (textIn edition s) flat numbers (answer .matches) (matchesIn edition side s) all-matches how-many room-flat ends;
-            fits = omega arith;
-            enough = l .enough;
-          };
-        }
+      -- 22
+      pub shows-22 : {n : ℕ} → n ≡ length (textsOf (textIn edition s) (recordsFrom flat 0 lines)) → length out < n
+          → TextsFlat edition side s table room out (unshown 22 0 (answer .elements)) tableAfter flat out
+      unfolding shownOutput
+      shows-22 {n} size short =
+          let t : eqb (answer .number) 0 ≡ true = eq-eqb (answer .number) 0 zero-number in
+          let long : n ≡ length (textsIn edition side s) = size ∙ ap length those-texts in
+          let u : ltb (length out) (length (textsIn edition side s)) ≡ true = lt-ltb (length out) (length (textsIn edition side s)) (omega arith) in
+          let told : shown edition side s table room out ≡ unshown 22 0 (answer .elements) = by-list ∙ rw (t, u) in
+          record { answered = sym told; tabled = l .tabled; put = rw told; lined = record { stored = no-lines flat; fits = omega arith; enough = omega arith } }
 
-    -- there are few, and they are short
-    pub listing : {rows : List ℕ} {count headers : ℕ} → Accepting edition s rows count headers → Fine s (wholeStream s) → 4 * rowsNeeded s ≤ length flat
-        → Listing edition s flat (answer .matches)
-    unfolding textsIn
-    listing {count = count} a fine enough =
-        let e = a .judged in
-        let same : matchesIn edition side s ≡ matches side (a .elements) = rw e in
-        let many : length (matches side (a .elements)) ≡ answer .matches = ap length (sym same) ∙ how-many in
-        let few = no-more-than-elements (a .elements) (a .apart) side in
-        let fit = texts-fit edition s fine (a .elements) (a .judge-accepted) (a .apart) (textIn edition s) (text-content edition s (a .judged)) side in
-        let size : length (textsOf (textIn edition s) (recordsFrom flat 0 (answer .matches))) ≡ length (textsOf (textIn edition s) (matches side (a .elements))) =
-        ap length all-texts ∙ ap (λ (ms : List Match). length (textsOf (textIn edition s) ms)) same in
-        record {
-          room = omega (arith, a .counted, a .needed);
-          few = omega (arith, a .counted, a .few);
-          short = omega (arith, a .within-limit);
-        }
+      -- all is put
+      pub shows-all : {n : ℕ} {numbers after : List ℕ} → n ≡ length (textsOf (textIn edition s) (recordsFrom flat 0 lines)) → n ≤ length out
+          → Listing edition s flat lines → length numbers ≡ length flat → PutsTexts (textIn edition s) flat lines out numbers after
+          → TextsFlat edition side s table room out (record { number = 0; place = 0; elements = answer .elements; lines = answer .matches; length = n }) tableAfter numbers after
+      unfolding shownOutput linesIn
+      shows-all {n} {numbers} {after} size room-out few long p =
+          let texts = textsIn edition side s in
+          let in-all : n ≡ length texts = size ∙ ap length those-texts in
+          let room-flat = few .room in
+          let t : eqb (answer .number) 0 ≡ true = eq-eqb (answer .number) 0 zero-number in
+          let u : ltb (length out) (length texts) ≡ false = le-ltb (length out) (length texts) (omega arith) in
+          let told : shown edition side s table room out ≡ record { number = 0; place = 0; elements = answer .elements; lines = answer .matches; length = n } =
+          by-list ∙ rw (t, u, in-all) in
+          let e : 0 + length texts ≡ length texts = omega arith in
+          let form : sets out 0 texts ≡ onto texts out = sets-eq texts out 0 (omega arith) ∙ ap (λ (k : ℕ). texts ++ drop k out) e in
+          let put-all : after ≡ onto texts out = p .put ∙ ap (sets out 0) those-texts ∙ form in
+          let ends : numbers ≡ sets flat (3 * answer .matches) (pasts (textIn edition s) 0 (matchesIn edition side s)) =
+          p .ended ∙ ap (λ (k : ℕ). sets flat (3 * k) (pasts (textIn edition s) 0 (recordsFrom flat 0 k))) all
+          ∙ ap (λ (ms : List Match). sets flat (3 * answer .matches) (pasts (textIn edition s) 0 ms)) all-matches in
+          record {
+            answered = sym told;
+            tabled = l .tabled;
+            put = put-all ∙ rw told;
+            lined = record {
+              stored = lines-all (textIn edition s) flat numbers (answer .matches) (matchesIn edition side s) all-matches how-many (omega arith) ends;
+              fits = omega arith;
+              enough = l .enough;
+            };
+          }
+
+      -- there are few, and they are short
+      pub listing : {rows : List ℕ} {count headers : ℕ} → Accepting edition s rows count headers → Fine s (wholeStream s) → 4 * rowsNeeded s ≤ length flat
+          → Listing edition s flat lines
+      listing {count = count} a fine enough =
+          let e = a .judged in
+          let same : matchesIn edition side s ≡ matches side (a .elements) = rw e in
+          let many : length (matches side (a .elements)) ≡ answer .matches = ap length (sym same) ∙ how-many in
+          let few = no-more-than-elements (a .elements) (a .apart) side in
+          let fit = texts-fit edition s fine (a .elements) (a .judge-accepted) (a .apart) (textIn edition s) (text-content edition s (a .judged)) side in
+          let size : length (textsOf (textIn edition s) (recordsFrom flat 0 lines)) ≡ length (textsOf (textIn edition s) (matches side (a .elements))) =
+          ap (λ (n : ℕ). length (textsOf (textIn edition s) (recordsFrom flat 0 n))) all ∙ ap (λ (ms : List Match). length (textsOf (textIn edition s) ms)) (all-matches ∙ same) in
+          record {
+            room = omega (arith, a .counted, a .needed);
+            few = omega (arith, a .counted, a .few);
+            short = omega (arith, a .within-limit);
+          }
+
+-- an answer by another name
+pub renamed-shown : {edition : Edition} {side : Side} {s table : List ℕ} {room : ℕ} {out : List ℕ} {answer same : Shown} {tableAfter numbers outAfter : List ℕ}
+    → answer ≡ same → TextsFlat edition side s table room out same tableAfter numbers outAfter
+    → TextsFlat edition side s table room out answer tableAfter numbers outAfter
+renamed-shown {edition} {side} {s} {table} {room} {out} {answer} {same} {tableAfter} {numbers} {outAfter} e f =
+    subst (λ (r : Shown). TextsFlat edition side s table room out r tableAfter numbers outAfter) (sym e) f
 
 -- what rules 1 to 15 refuse
 pub shows-ruled : (edition : Edition) (side : Side) (s table flat : List ℕ) (room : ℕ) (out : List ℕ) (number place headers : ℕ) → (number ≡ 0 → ⊥)
