@@ -64,10 +64,10 @@
    29   a letter in blocks is closed before all its octets have come                  0
 
    1 comes first, then the first fault of 2 to 8 in stream order, then the elements in order, 9 to 15 in order within
-   each, then 16, 17, 18, 19 or 20 where the question can give it; 21, 22 and 25 come after 20, 23 and 24 after 15; of a
-   whole reading 22 comes after 19. A refusal leaves the lent table, list, lines and output as they were, except that 19,
-   25 and the 22 of a whole reading leave the finished table. Counts are 0 with a refusal, except that these three keep
-   the element count and the check's header count comes with every answer.
+   each, then 16, 17, 18, 19 or 20 where the question can give it; 21, 22 and 25 come after 20, 23 and 24 after 15; of
+   a whole reading 22 comes after 19. A refusal leaves the lent table, list, lines and output as they were, except that
+   19, 25 and the 22 of a whole reading leave the finished table. Counts are 0 with a refusal, except that these three
+   keep the element count and the check's header count comes with every answer.
 
    odif_make judges entries and no stream. Entries in order, from 0, and within one in this order, it gives 27; 14 for a
    bad identifier or portion, or both with a space between them over 64 octets; 15 for an identifier that an entry
@@ -268,8 +268,8 @@ odif_listed odif_logical(const uint8_t *ODIF_APART stream, size_t stream_len,
 /* The whole reading of the layout side, with one judging: fills the table as odif_layout does; puts the contents of the
    text units of its matches to out, in the list's order, one after another, each as odif_joined copies it; and fills a
    line for each match. Every octet of out up to the length is an octet of a text unit of this stream, and none that was
-   there before shows. lines_len counts numbers, five a line in the order of odif_line, and an incomplete last line is not
-   used; lines and octets past the last one filled stay. It takes time as the stream is long. */
+   there before shows. lines_len counts numbers, five a line in the order of odif_line, and an incomplete last line is
+   not used; lines and octets past the last one filled stay. It takes time as the stream is long. */
 odif_shown odif_layout_text_numbers(const uint8_t *ODIF_APART stream, size_t stream_len,
                                     uint32_t *ODIF_APART table, size_t table_len,
                                     uint32_t *ODIF_APART lines, size_t lines_len,
@@ -345,25 +345,29 @@ static inline odif_shown odif_layout_text(const uint8_t *ODIF_APART stream, size
                                           uint32_t *ODIF_APART table, size_t table_len,
                                           odif_line *ODIF_APART lines, size_t lines_len,
                                           uint8_t *ODIF_APART out, size_t out_len) {
-    return odif_layout_text_numbers(stream, stream_len, table, table_len, (uint32_t *)lines, 5 * lines_len, out, out_len);
+    return odif_layout_text_numbers(stream, stream_len, table, table_len, (uint32_t *)lines, 5 * lines_len,
+        out, out_len);
 }
 static inline odif_shown odif_logical_text(const uint8_t *ODIF_APART stream, size_t stream_len,
                                            uint32_t *ODIF_APART table, size_t table_len,
                                            odif_line *ODIF_APART lines, size_t lines_len,
                                            uint8_t *ODIF_APART out, size_t out_len) {
-    return odif_logical_text_numbers(stream, stream_len, table, table_len, (uint32_t *)lines, 5 * lines_len, out, out_len);
+    return odif_logical_text_numbers(stream, stream_len, table, table_len, (uint32_t *)lines, 5 * lines_len,
+        out, out_len);
 }
 static inline odif_shown odif_layout_text_1993(const uint8_t *ODIF_APART stream, size_t stream_len,
                                                uint32_t *ODIF_APART table, size_t table_len,
                                                odif_line *ODIF_APART lines, size_t lines_len,
                                                uint8_t *ODIF_APART out, size_t out_len) {
-    return odif_layout_text_numbers_1993(stream, stream_len, table, table_len, (uint32_t *)lines, 5 * lines_len, out, out_len);
+    return odif_layout_text_numbers_1993(stream, stream_len, table, table_len, (uint32_t *)lines, 5 * lines_len,
+        out, out_len);
 }
 static inline odif_shown odif_logical_text_1993(const uint8_t *ODIF_APART stream, size_t stream_len,
                                                 uint32_t *ODIF_APART table, size_t table_len,
                                                 odif_line *ODIF_APART lines, size_t lines_len,
                                                 uint8_t *ODIF_APART out, size_t out_len) {
-    return odif_logical_text_numbers_1993(stream, stream_len, table, table_len, (uint32_t *)lines, 5 * lines_len, out, out_len);
+    return odif_logical_text_numbers_1993(stream, stream_len, table, table_len, (uint32_t *)lines, 5 * lines_len,
+        out, out_len);
 }
 
 /* Makes a letter of entries, which lie apart from the output as all that is lent does: an empty profile, and for each
