@@ -15,8 +15,8 @@
    times as long as others of its length.
 
    Their scratch memory is on the stack. Of a small stream, which has up to 512 elements and up to 8,192 items in all, a
-   question takes up to 40 KiB of it, the two lists up to 88 KiB and the two whole readings up to 104 KiB; of any other
-   up to 256 KiB, the lists up to 304 KiB and the whole readings up to 320 KiB. It clears 31 kB of that for a small
+   question takes up to 40 KiB of it, the two lists up to 88 KiB and the two whole readings up to 120 KiB; of any other
+   up to 256 KiB, the lists up to 304 KiB and the whole readings up to 336 KiB. It clears 31 kB of that for a small
    stream and 246 kB for any other, the lists and the whole readings somewhat more. Mind it where threads are started
    with small stacks: 128 KiB are enough for small streams alone.
 
@@ -108,7 +108,7 @@ extern "C" {
 #define ODIF_NO_PARENT     65535   /* the parent's row where there is none */
 #define ODIF_STACK         262144  /* octets of stack: no question but the lists and the whole readings takes more */
 #define ODIF_STACK_LISTS   311296  /* the same for the two lists */
-#define ODIF_STACK_TEXTS   327680  /* and for the two whole readings */
+#define ODIF_STACK_TEXTS   344064  /* and for the two whole readings */
 #define ODIF_STACK_MAKE    131072  /* and for odif_make */
 #define ODIF_MOST_ENTRIES  2047    /* the most entries of a letter that is made */
 #define ODIF_SHORT_LIMIT   65535   /* the most octets of a stream that odif_normal_short takes */
@@ -123,7 +123,7 @@ extern "C" {
 #define ODIF_SMALL_ITEMS       8192
 #define ODIF_STACK_SMALL       40960
 #define ODIF_STACK_SMALL_LISTS 90112
-#define ODIF_STACK_SMALL_TEXTS 106496
+#define ODIF_STACK_SMALL_TEXTS 122880
 
 /* What each number of a table row is. Each pair is first and past; every pair but the element's bounds a value. An
    absent one is 0 and 0. */
