@@ -12,7 +12,9 @@ use Rattle.answers.specs.declared.Reason.{Reason}
 use Rattle.answers.specs.declared.Found.{Found}
 use Rattle.answers.specs.declared.Copied.{Copied}
 use Rattle.answers.specs.declared.Related.{Related}
+use Rattle.answers.specs.declared.Shown.{Shown}
 use Rattle.answers.specs.Related.{ChildrenOutcome}
+use Rattle.answers.specs.Texts.{TextOutcome}
 use Rattle.answers.specs.Short.{ShortOutcome}
 use Rattle.order.specs.declared.Class.{Class}
 use Rattle.orders.specs.declared.Ordered.{Ordered}
@@ -52,3 +54,7 @@ children-determined x y = (x .answered ∙ sym (y .answered), x .tabled ∙ sym 
 
 pub order-determined : (edition : Edition) (class : Class) (s : List ℕ) (a b : Ordered) → a ≡ ordered edition class s → b ≡ ordered edition class s → a ≡ b
 order-determined edition class s a b x y = x ∙ sym y
+
+pub text-determined : {edition : Edition} {side : Side} {s table lines out : List ℕ} {a b : Shown} {t u l m o p : List ℕ}
+    → TextOutcome edition side s table lines out a t l o → TextOutcome edition side s table lines out b u m p → (a ≡ b) × (t ≡ u) × (l ≡ m) × (o ≡ p)
+text-determined x y = (x .answered ∙ sym (y .answered), x .tabled ∙ sym (y .tabled), x .filled ∙ sym (y .filled), x .put ∙ sym (y .put))

@@ -25,6 +25,7 @@ mod family; // family.rt: the children of a row
 mod in_order; // in_order.rt: the order of a letter by an interchange class
 mod made; // made.rt: a letter that is made
 mod mailroom; // mailroom.rt: the normal form of a short stream
+mod whole; // whole.rt: the whole reading of a side
 
 pub use dating::date;
 pub use dating::dated;
@@ -33,6 +34,7 @@ pub use family::children;
 pub use in_order::order;
 pub use made::make;
 pub use mailroom::normal_short;
+pub use whole::text;
 
 // Checks a stream and fills the element table, thirteen numbers a row. The viewer asks this first.
 pub fn check(edition: Edition, stream: &[u8], table: &mut [u32]) -> Checked

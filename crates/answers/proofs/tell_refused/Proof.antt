@@ -51,6 +51,12 @@ enum-told-7 c = search needs
 tell-reason-requires-6 : tie.Need-tell-reason-requires-6
 tell-reason-requires-6 c κs = search needs
 
+enum-told-8 : tie.Need-enum-told-8
+enum-told-8 c = search needs
+
+tell-reason-requires-7 : tie.Need-tell-reason-requires-7
+tell-reason-requires-7 c κs = search needs
+
 returns : tie.Need-returns
 returns c = refused-as _ _ _ (c .before .before .enum-told .given .1) (c .tell-checked .ensures ∙ ap checkTold (c .before .refused-check .ensures))
 
@@ -72,6 +78,9 @@ returns-6 c = refused-as _ _ _ (c .before .enum-told6 .given .1) (c .tell-reason
 returns-7 : tie.Need-returns-7
 returns-7 c = refused-as _ _ _ (c .before .enum-told7 .given .1) (c .tell-reason6 .ensures)
 
+returns-8 : tie.Need-returns-8
+returns-8 c = refused-as _ _ _ (c .before .enum-told8 .given .1) (c .tell-reason7 .ensures)
+
 pub tell-refused-spec : {M : Type 1} → statement M
 tell-refused-spec =
     tie.close
@@ -91,10 +100,13 @@ tell-refused-spec =
     tell-reason-requires-5
     enum-told-7
     tell-reason-requires-6
+    enum-told-8
+    tell-reason-requires-7
     returns
     returns-2
     returns-3
     returns-4
     returns-5
     returns-6
-    returns-7)
+    returns-7
+    returns-8)
