@@ -83,7 +83,7 @@ enum-known-question-6 c = search needs
 
 text-judged-requires : tie.Need-text-judged-requires
 text-judged-requires c κs =
-    let a = c .before .before .before .before .before .before .before .before .before .before .before .before .before .before .before .before in
+    let a = c .before .before .before .before .before .before .before .before .before .before .before .before .before .before .before in
     let room = subst (λ (q : Question). Roomy q (now (a .args .stream)) (length (now (a .args .flat)))) (c .before .before .before .before .question6 .given .1) (a .pre .1 .1) in
     (accepts-walked (a .pre .0), (a .pre .1 .0, room))
 
@@ -157,7 +157,7 @@ same-length-9 c = search needs
 
 returns-8 : tie.Need-returns-8
 returns-8 c =
-    let a = c .before .before .before .before .before .before .before .before .before .before .before .before .before .before .before .before .before .before .before .before .before .before .before .before in
+    let a = c .before .before .before .before .before .before .before .before .before .before .before .before .before .before .before .before .before .before .before .before .before .before .before in
     as-asked (c .before .before .before .before .before .before .before .before .before .before .before .before .question6 .given .1) (c .tell-shown .ensures) (leaves-text (a .args .edition) (now (a .args .stream)) (now (a .args .table)) (now (a .args .flat)) (now (a .args .out)) (c .before .before .before .before .before .before .before .text-judged .ensures))
 
 pub work-spec : {M : Type 1} → statement M
