@@ -123,16 +123,14 @@ fn fed(b: Blocks, block: &[u8]) -> Blocks
     ensures { λ r. ⌜ Sound r × (stateOf r ≡ feed (stateOf b) (now (block .entry))) ⌝ }
 {
     let n = block.len();
-    let mut s = b;
-    let mut i: usize = 0;
+    let first = skim::skim_block(b, block, 0);
+    let mut s = first.state;
+    let mut i = first.to;
     while i < n {
-        let k = skim::skim_block(s, block, i);
-        if n <= k.to {
-            return k.state;
-        }
-        let m = turn::turn(k.state, block, k.to);
-        s = m.state;
-        i = m.to;
+        let m = turn::turn(s, block, i);
+        let k = skim::skim_block(m.state, block, m.to);
+        s = k.state;
+        i = k.to;
     }
     s
 }
