@@ -35,11 +35,6 @@ pub record Accepted (edition : Edition) (s table : List ℕ) : Type 0 where
   pub enough : length elements ≤ rowsLent table
   pub told : checked edition s table ≡ record { number = 0; place = 0; headers = headers; elements = length elements }
 
--- or refuses, by one of 1 to 16
-pub record Refusing (edition : Edition) (s table : List ℕ) : Type 0 where
-  pub some : checked edition s table .number ≡ 0 → ⊥
-  pub high : checked edition s table .number ≤ 16
-
 module _ (edition : Edition) (s table : List ℕ) where
   accepted-if : (l : Letter) → letterIn edition s ≡ l → checkedBy l table .number ≡ 0 → Accepted edition s table
   unfolding checked
