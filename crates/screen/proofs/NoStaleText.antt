@@ -233,11 +233,12 @@ pub no-stale-text : (edition : Edition) (side : Side) → NoStaleText edition si
 no-stale-text edition side = record {
   shows = λ s table lines out answer tableAfter linesAfter outAfter outcome zero-number.
       shows-by edition side s table lines out answer tableAfter linesAfter outAfter outcome zero-number (letterIn edition s) refl;
-  fresh = λ s table lines out t l o answer other tableAfter linesAfter outAfter ta la oa outcome zero-number other-outcome other-zero.
-      (how-long edition side s table lines out answer tableAfter linesAfter outAfter outcome zero-number
-      ∙ sym (how-long edition side s t l o other ta la oa other-outcome other-zero),
-      octets-are edition side s table lines out answer tableAfter linesAfter outAfter outcome zero-number
-      ∙ sym (octets-are edition side s t l o other ta la oa other-outcome other-zero));
+  fresh = λ s table lines out t l o answer other tableAfter linesAfter outAfter ta la oa outcome zero-number other-outcome other-zero. (
+    how-long edition side s table lines out answer tableAfter linesAfter outAfter outcome zero-number
+        ∙ sym (how-long edition side s t l o other ta la oa other-outcome other-zero),
+    octets-are edition side s table lines out answer tableAfter linesAfter outAfter outcome zero-number
+        ∙ sym (octets-are edition side s t l o other ta la oa other-outcome other-zero),
+  );
   refused = λ s table lines out answer tableAfter linesAfter outAfter outcome some-number.
       refused edition side s table lines out answer tableAfter linesAfter outAfter outcome some-number;
   stream-enough = λ s table room out enough. stream-enough edition side s table room out enough;
