@@ -142,7 +142,8 @@ pub record Leaves (edition : Edition) (question : Question) (s table flat out : 
   pub put : outAfter ≡ outLeft edition question s table out
   pub beside : Beside edition question s told flat flatAfter
 
--- a reading list is made as numbers, so there is room for a record of each element, and of a whole reading for the end of each text besides; children are put to the lent list, which has the room that is told
+-- a reading list is made as numbers, so there is room for a record of each element, and of a whole reading for the end of each text besides;
+-- children are put to the lent list, which has the room that is told
 abbrev pub Roomy : Question → (s : List ℕ) → (numbers : ℕ) → Type 0
 Roomy Rules s numbers = Unit {0}
 Roomy Check s numbers = Unit {0}

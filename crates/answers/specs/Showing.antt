@@ -27,7 +27,8 @@ pub record LinesNumbered (edition : Edition) (side : Side) (s : List ℕ) (room 
   pub enough : count ≤ room
 
 -- the whole reading with its lines as numbers
-pub record TextsFlat (edition : Edition) (side : Side) (s table : List ℕ) (room : ℕ) (out : List ℕ) (answer : Shown) (tableAfter numbers outAfter : List ℕ) : Type 0 where
+pub record TextsFlat (edition : Edition) (side : Side) (s table : List ℕ) (room : ℕ) (out : List ℕ) (answer : Shown)
+    (tableAfter numbers outAfter : List ℕ) : Type 0 where
   pub answered : answer ≡ shown edition side s table room out
   pub tabled : tableAfter ≡ listedTable edition side s table room
   pub put : outAfter ≡ shownOutput edition side s table room out

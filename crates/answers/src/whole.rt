@@ -99,7 +99,8 @@ fn put_texts(
     requires { ⌜ JudgedIn edition (now stream) (now rows) count ⌝ }
     requires { ⌜ Listing edition (now stream) (now numbers) lines ⌝ }
     requires { ⌜ length (textsOf (textIn edition (now stream)) (recordsFrom (now numbers) 0 lines)) ≤ length (now out) ⌝ }
-    ensures { λ _. ⌜ PutsTexts (textIn edition (now (stream .entry))) (now (numbers .entry)) lines (now (out .entry)) (now (numbers .exit)) (now (out .exit)) ⌝ }
+    ensures { λ _. ⌜ PutsTexts (textIn edition (now (stream .entry))) (now (numbers .entry)) lines (now (out .entry)) (now (numbers .exit))
+        (now (out .exit)) ⌝ }
 {
     let mut k: usize = 0;
     let mut done: usize = 0;
