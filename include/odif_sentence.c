@@ -28,9 +28,11 @@ static const char *const sentences[] = {
     [23] = "the profile does not have exactly one date of the document, or that is constructed",
     [24] = "the date of the document does not begin with a day as in 1988-06-05",
     [25] = "the list is shorter than the children",
+    [26] = "the elements are not in the order of the class that is asked",
     [27] = "a part of an entry is outside the buffer, or ends before it begins",
     [28] = "a block is past the total that was told",
     [29] = "the letter was closed before all its octets had come",
+    [30] = "the list is shorter than the pages",
 };
 
 const char *odif_sentence(uint32_t number) {

@@ -79,14 +79,18 @@ impl Run {
         let count = self.elements.len();
         let begins = |through: usize| self.front(through + 1).begins(class);
         let fault = self.elements.iter().position(|element| element.first == place);
-        let is_beginning_before = |fault: usize| match count {
-            _ if count <= few => (0..fault).all(begins),
-            _ => fault == 0 || begins(fault - 1),
+        let all_begin = |mut fronts: std::ops::Range<usize>| match count {
+            _ if count <= few => fronts.all(begins),
+            _ => fronts.next_back().is_none_or(begins),
+        };
+        let none_begins = |mut fronts: std::ops::Range<usize>| match count {
+            _ if count <= few => !fronts.any(begins),
+            _ => !fronts.next().is_some_and(begins),
         };
         match (number, fault) {
             (0, Some(0)) => self.is_in_order(class),
-            (26, Some(fault)) => is_beginning_before(fault) && (fault..count.min(fault + few)).all(|at| !begins(at)),
-            (26, None) => place == self.length && is_beginning_before(count) && !self.is_in_order(class),
+            (26, Some(fault)) => all_begin(0..fault) && none_begins(fault..count),
+            (26, None) => place == self.length && all_begin(0..count) && !self.is_in_order(class),
             _ => false,
         }
     }
