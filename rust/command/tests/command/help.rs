@@ -93,7 +93,7 @@ fn misuse_is_told() {
         (&["normal", CLAIM, CUT_SHORT], "several letters need `--into FOLDER`"),
         (&["normal", CLAIM, CLAIM, "--into", "."], "a file name of its own"),
         (&["order"], "<FILE>..."),
-        (&["order", "--class", "C", CLAIM], "Invalid value 'C'"),
+        (&["order", "--class", "C", CLAIM], "'C' isn't a valid value"),
         (&["pages"], "<FILE>..."),
         (&["survey"], "folder is missing"),
         (&["survey", "-"], "not at standard input"),
