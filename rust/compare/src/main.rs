@@ -197,10 +197,10 @@ fn hold_made_at_random(options: &Options) -> impl Fn(&mut Holder) + Sync {
     }
 }
 
-/// As many letters in the order of a class, or nearly so, as there are streams that are generated.
+/// One letter in the order of a class, or nearly so, for each two streams that are generated.
 fn hold_in_order(options: &Options) -> impl Fn(&mut Holder) + Sync {
     let from = options.from.unwrap_or(0);
-    let (seed, past) = (options.seed, from.saturating_add(options.streams));
+    let (seed, past) = (options.seed, from.saturating_add(options.streams.div_ceil(2)));
     let next = AtomicU64::new(from);
     move |holder| {
         loop {

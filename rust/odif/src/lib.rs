@@ -19,8 +19,8 @@
 //! # }
 //! ```
 //!
-//! [`Letter::order`] says whether the elements stand in the order of interchange format class A or B, and [`pm1`] whether
-//! the pages are within the dimensions of PM1.
+//! [`Letter::order`] says whether the elements stand in the order of interchange format class A or B. With the feature `pm1`
+//! the module of that name says whether the pages are within the dimensions of PM1.
 //!
 //! [`Builder`] makes a letter, of texts with an identifier and a portion each.
 //!
@@ -38,6 +38,7 @@ mod edition;
 mod letter;
 mod making;
 mod order;
+#[cfg(feature = "pm1")]
 pub mod pm1;
 pub mod raw;
 mod refusal;

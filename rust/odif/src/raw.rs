@@ -10,6 +10,7 @@ use crate::edition::Edition;
 
 pub mod blocks;
 mod order;
+#[cfg(feature = "pm1")]
 pub mod pm1;
 
 pub use order::{Ordered, order, order_in};

@@ -97,7 +97,7 @@ pub enum Rule {
     OutOfOrder,
     /// 27; only making a letter gives it, and its place is the entry's number
     PartOutside,
-    /// 30; only [`crate::raw::pm1::pages`] gives it
+    /// 30; only `raw::pm1::pages` gives it
     PagesTooShort,
     /// Another number: the library is newer than this crate.
     #[non_exhaustive]
