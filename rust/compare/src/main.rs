@@ -8,7 +8,7 @@ use std::time::Instant;
 use compare::hold::Holder;
 use compare::rng::Rng;
 use compare::tally::{LAST_NUMBER, Origin, Tally};
-use compare::{blocks, examples, limits, making, openssl, order, seeded, short};
+use compare::{blocks, examples, limits, making, openssl, order, pages, seeded, short};
 
 const HELP: &str = "\
 compare [--seed N] [--streams N] [--from N] [--jobs N]
@@ -124,6 +124,7 @@ fn hold_examples() -> Tally {
     let mut holder = Holder::default();
     examples::hold(&mut holder);
     order::hold_vectors(&mut holder);
+    pages::hold_vectors(&mut holder);
     blocks::hold_fixed(&mut holder.tally);
     holder.finish()
 }

@@ -5,9 +5,13 @@ use odif::{Edition, ROW_WIDTH, raw};
 use reader::Reading;
 
 use crate::coding::Item;
+use crate::examples::{lines, octets};
+use crate::hold::Holder;
 use crate::lent::{self, Lent};
 use crate::rng::Rng;
 use crate::tally::{Origin, Question, Tally, hex};
+
+const VECTORS: &str = include_str!("../../../vectors/pages.txt");
 
 /// T.502, table 10: horizontal and vertical, in the order of the print. The first two are essential.
 pub const PRINTED: [[i64; 2]; 8] = [
@@ -143,6 +147,25 @@ impl One<'_> {
         let rows: Vec<usize> = elements.filter(|(_, element)| is_page(element)).map(|(row, _)| row).collect();
         let same = rows.iter().copied().eq(pages.iter().map(|page| page.element));
         self.expect(same, "the rows of pages", || format!("{pages:?}, not {rows:?}"));
+    }
+}
+
+/// Holds the library to the vectors.
+pub fn hold_vectors(holder: &mut Holder) {
+    for fields in lines(VECTORS) {
+        let [name, hex, by_1988, by_1993, pages] = fields[..] else { panic!("a line of five fields: {fields:?}") };
+        let stream = octets(hex);
+        holder.hold(&stream, Origin::Fixed(name.into()), &mut Rng::new(1));
+        for (edition, wanted) in Edition::ALL.into_iter().zip([by_1988, by_1993]) {
+            let (mut table, mut list) = (vec![0; 8 * ROW_WIDTH], vec![raw::pm1::Page::default(); 8]);
+            let answer = raw::pm1::pages_in(edition, &stream, &mut table, &mut list);
+            let given = format!("{} {}", answer.number, answer.place);
+            holder.tally.expect(given == wanted, || format!("{name}, by {edition}: {given}, not {wanted}"));
+            let told = list[..answer.pages as usize].iter().map(|page| format!("{} {}", page.element, page.verdict));
+            let told = told.collect::<Vec<_>>().join(", ");
+            let same = answer.number != 0 || told == pages || told.is_empty() && pages == "-";
+            holder.tally.expect(same, || format!("{name}, by {edition}: {told}, not {pages}"));
+        }
     }
 }
 
