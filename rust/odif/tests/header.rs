@@ -57,6 +57,7 @@ normal 0 23 0 23
 children 0 0 4 2: 1 3
 none 20 0 0 0
 too few 25 0 4 0
+order 0 0 0 0 26 21 26 21 12 2 12 2 26 2 26 2
 ";
     assert_eq!(String::from_utf8_lossy(&output.stdout), wanted);
 }
@@ -104,5 +105,5 @@ fn no_more_stack_than_the_header_says() {
     let output = run("stack", "-std=gnu99", &[]);
     let told = String::from_utf8_lossy(&output.stdout);
     assert!(output.status.success(), "{told}");
-    assert_eq!(told.lines().count(), 16, "{told}");
+    assert_eq!(told.lines().count(), 20, "{told}");
 }
