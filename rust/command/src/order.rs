@@ -8,7 +8,7 @@ use serde::Serialize;
 
 use crate::args::Asked;
 use crate::input::{self, Source};
-use crate::status::{Outcome, Status, tell};
+use crate::status::{Outcome, Status};
 use crate::{explain, show};
 
 const EXAMPLES: &str = "\
@@ -106,23 +106,19 @@ pub fn run(words: &Words) -> Outcome {
     let Asked { files, json } = &words.asked;
     input::each(files, *json, |source| {
         let read = Letter::read_in(source.edition, &source.stream);
-        let orders = read.as_ref().ok().map(Orders::of);
-        let report = match (&read, &orders) {
-            (Ok(letter), Some(orders)) if !json => line(source, letter, orders),
+        let orders = read.as_ref().map(|letter| (letter, Orders::of(letter)));
+        let report = match &orders {
             _ if *json => {
-                let answer = read.as_ref().ok().zip(orders.as_ref()).map(|(letter, orders)| answer(letter, orders));
+                let answer = orders.as_ref().ok().map(|(letter, orders)| answer(letter, orders));
                 explain::answer(source, &read, answer)
             }
-            (Err(refusal), _) => {
-                tell(&explain::refusal(source, refusal));
-                String::new()
-            }
-            _ => String::new(),
+            Ok((letter, orders)) => line(source, letter, orders),
+            Err(refusal) => explain::refusal(source, refusal),
         };
         let mut out = io::stdout().lock();
         out.write_all(report.as_bytes())?;
         out.flush()?;
-        Ok(orders.map_or(Status::Refused, |orders| orders.status(words.class)))
+        Ok(orders.map_or(Status::Refused, |(_, orders)| orders.status(words.class)))
     })
 }
 

@@ -20,7 +20,7 @@ const STYLES: [u8; 2] = [0xA7, 0xA8];
 const PROFILE: [u8; 2] = [0xA0, 0x00];
 
 /// The groups of cases. Each group is made when it is wanted, for some are large.
-pub const GROUPS: [fn() -> Vec<Case>; 42] = [
+pub const GROUPS: [fn() -> Vec<Case>; 43] = [
     stream_length,
     element_count,
     full_tables,
@@ -61,6 +61,7 @@ pub const GROUPS: [fn() -> Vec<Case>; 42] = [
     parents::many,
     pages::bounds,
     pages::numbers,
+    pages::contents,
     pages::places,
     two_faults,
 ];

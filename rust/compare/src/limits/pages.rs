@@ -66,34 +66,41 @@ pub fn numbers() -> Vec<Case> {
     cases
 }
 
-/// What stands in the A4, how many there are and where; which elements are pages.
-pub fn places() -> Vec<Case> {
+/// What stands in the A4, and beside it.
+pub fn contents() -> Vec<Case> {
     let fixed = item(0x80, &[100]);
+    let (both, good) = (fixed.repeat(2), dimensions(&[100], &[100]));
+    let mut cases = Vec::new();
+    let mut add = |name: String, descriptor: Vec<u8>| cases.push(case(name, letter(&[page(&descriptor), page(&good)])));
+    for count in 0..=4 {
+        add(format!("an A4 with {count} items"), item(0xA4, &fixed.repeat(count)));
+        add(format!("{count} A4"), good.repeat(count));
+    }
+    for octet in (0..=0xFF).filter(|octet| octet & 0x1F != 0x1F) {
+        let other = item(octet, if octet & 0x20 == 0 { &[100] } else { &fixed });
+        add(format!("{octet:02X} for the first number"), item(0xA4, &[&other[..], &fixed].concat()));
+        add(format!("{octet:02X} for the second number"), item(0xA4, &[&fixed[..], &other].concat()));
+        add(format!("{octet:02X} after the numbers"), item(0xA4, &[&both[..], &other].concat()));
+        let other = item(octet, if octet & 0x20 == 0 { &[100] } else { &both });
+        add(format!("{octet:02X} for the A4"), other.clone());
+        add(format!("{octet:02X} before the A4"), [&other[..], &good].concat());
+        add(format!("{octet:02X} after the A4"), [&good[..], &other].concat());
+    }
+    add("two A4, the second without items".into(), [good.clone(), item(0xA4, &[])].concat());
+    add("an A4 in an A4".into(), item(0xA4, &good));
+    add("an A4 in an A3".into(), item(0xA3, &good));
+    add("a type above 30 for the A4".into(), [&[0xBF, 0x24, 0x06][..], &both].concat());
+    add("an indefinite A4, and another".into(), [indefinite(0xA4, &both), good.clone()].concat());
+    add("an empty descriptor".into(), vec![]);
+    cases
+}
+
+/// Which elements are pages, with lengths in all forms, and how many there can be.
+pub fn places() -> Vec<Case> {
     let good = dimensions(&[100], &[100]);
     let mut cases = Vec::new();
     let mut add = |name: &str, element: Vec<u8>| cases.push(case(name, letter(&[element, page(&good)])));
-    for count in 0..=4 {
-        add(&format!("an A4 with {count} items"), page(&item(0xA4, &fixed.repeat(count))));
-        add(&format!("{count} A4"), page(&good.repeat(count)));
-    }
-    for octet in (0..=0xFF).filter(|octet| octet & 0x1F != 0x1F) {
-        let value: &[u8] = if octet & 0x20 == 0 { &[100] } else { &fixed };
-        let other = item(octet, value);
-        add(&format!("{octet:02X} for the first number"), page(&item(0xA4, &[other.clone(), fixed.clone()].concat())));
-        add(&format!("{octet:02X} for the second number"), page(&item(0xA4, &[fixed.clone(), other.clone()].concat())));
-        add(&format!("{octet:02X} after the numbers"), page(&item(0xA4, &[&fixed[..], &fixed, &other].concat())));
-        let both = fixed.repeat(2);
-        let inside: &[u8] = if octet & 0x20 == 0 { &[100] } else { &both };
-        add(&format!("{octet:02X} for the A4"), page(&item(octet, inside)));
-        add(&format!("{octet:02X} before the A4"), page(&[item(octet, inside), good.clone()].concat()));
-        add(&format!("{octet:02X} after the A4"), page(&[good.clone(), item(octet, inside)].concat()));
-    }
-    add("two A4, the second without items", page(&[good.clone(), item(0xA4, &[])].concat()));
-    add("an A4 in an A4", page(&item(0xA4, &good)));
-    add("an A4 in an A3", page(&item(0xA3, &good)));
-    add("a type above 30 for the A4", page(&[&[0xBF, 0x24, 0x06][..], &fixed.repeat(2)].concat()));
     add("a page without descriptor", item(0xA2, &item(0x02, &[2])));
-    add("an empty descriptor", page(&[]));
     add("an object without type", item(0xA2, &item(0x31, &good)));
     add("an object without anything", item(0xA2, &[]));
     for form in [Form::Long(1), Form::Long(4), Form::Indefinite] {
@@ -102,7 +109,6 @@ pub fn places() -> Vec<Case> {
         let body = item_in(form, 0x31, &[item(0x41, b"1"), item_in(form, 0xA4, &numbers)].concat());
         add(&format!("lengths as {form:?}"), item_in(form, 0xA2, &[item_in(inner, 0x02, &[2]), body].concat()));
     }
-    add("indefinite, with a second A4 behind", page(&[indefinite(0xA4, &fixed.repeat(2)), good.clone()].concat()));
     for octet in [0xA1, 0xA2, 0xA5, 0xA6] {
         for object_type in 0..=4 {
             let named = [item(0x41, b"1"), good.clone()].concat();
@@ -110,8 +116,7 @@ pub fn places() -> Vec<Case> {
         }
     }
     cases.push(case("no pages", letter(&[typed(0xA2, 3, &good), item(0xA3, &item(0x04, b"text"))])));
-    let many: Vec<_> =
-        (0..odif::MOST_ELEMENTS - 1).map(|at| page(&dimensions(&shortest(at as i64 * 5), &[100]))).collect();
-    cases.push(case("pages to the last element", letter(&many)));
+    let many = (0..odif::MOST_ELEMENTS - 1).map(|at| page(&dimensions(&shortest(at as i64 * 5), &[100])));
+    cases.push(case("pages to the last element", letter(&many.collect::<Vec<_>>())));
     cases
 }
