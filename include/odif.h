@@ -59,12 +59,14 @@
    23   not exactly one date of the document in the profile, or it is constructed     0
    24   the first ten octets of the date name no day                                  0
    25   the list is shorter than the children                                         0
+   26   no run in the order of the asked class begins with the elements through       the element, or the
+        this one; or only text units are missing at the end                           stream's length
    27   a part of an entry is outside the buffer, or ends before it begins            the entry's number
    28   a block is past the total that was told                                       0
    29   a letter in blocks is closed before all its octets have come                  0
 
    1 comes first, then the first fault of 2 to 8 in stream order, then the elements in order, 9 to 15 in order within
-   each, then 16, 17, 18, 19 or 20 where the question can give it; 21, 22 and 25 come after 20, 23 and 24 after 15. A
+   each, then 16, 17, 18, 19 or 20 where the question can give it; 21, 22 and 25 come after 20, 23, 24 and 26 after 15. A
    refusal leaves the lent table, list and output as they were, except that 19 and 25 leave the finished table. Counts
    are 0 with a refusal, except that 19 and 25 keep the element count and the check's header count comes with every
    answer.
@@ -206,6 +208,11 @@ typedef struct {
     uint32_t unread;   /* always 1: what follows the first element is unread */
 } odif_first_dated;
 
+typedef struct {
+    uint32_t number;   /* 0, or the refusal: 1 to 15, 26 */
+    uint32_t place;    /* the refusal's place */
+} odif_ordered;
+
 /* One match: the text unit's identifier is the element's identifier, one space, the portion. All count from 0. */
 typedef struct {
     uint32_t element;  /* the row of the class or object */
@@ -273,6 +280,13 @@ odif_dated odif_date(const uint8_t *stream, size_t stream_len);
    else 7 is given, or what stands there is refused. It takes time as the first element is long, and little stack. */
 odif_first_dated odif_first_date(const uint8_t *stream, size_t stream_len);
 
+/* Says whether the elements stand in the order of interchange format class A or of class B (T.415 of 1993, 7.2 and 7.3),
+   whatever class the profile names: 0 if they do. Else 26 stands at the first element such that no run in the order
+   begins with the elements through it, which can be before the element that one would move, or at the stream's length if
+   only the end is missing. docs/ORDER.md has the two tables. */
+odif_ordered odif_order_a(const uint8_t *stream, size_t stream_len);
+odif_ordered odif_order_b(const uint8_t *stream, size_t stream_len);
+
 /* The same questions by the edition of 1993. */
 odif_checked odif_check_1993(const uint8_t *ODIF_APART stream, size_t stream_len,
                              uint32_t *ODIF_APART table, size_t table_len);
@@ -294,6 +308,8 @@ odif_related odif_children_1993(const uint8_t *ODIF_APART stream, size_t stream_
                                 uint32_t *ODIF_APART list, size_t list_len);
 odif_dated odif_date_1993(const uint8_t *stream, size_t stream_len);
 odif_first_dated odif_first_date_1993(const uint8_t *stream, size_t stream_len);
+odif_ordered odif_order_a_1993(const uint8_t *stream, size_t stream_len);
+odif_ordered odif_order_b_1993(const uint8_t *stream, size_t stream_len);
 
 /* Makes a letter of entries, which lie apart from the output as all that is lent does: an empty profile, and for each
    entry a block with the identifier and that one portion, and a text unit with the text. It is accepted, its layout list
