@@ -8,6 +8,10 @@ use Rattle.elements.specs.declared.Edition.{Edition}
 use Rattle.elements.specs.Judge.{Element}
 use Rattle.letters.specs.Letter.{Letter, letter, refusal}
 use Rattle.reading.specs.declared.Side.{Side}
+use Rattle.order.specs.declared.Class.{Class}
+use Rattle.orders.specs.declared.Ordered.{Ordered}
+use Rattle.orders.specs.Orders.{ordered}
+use Rattle.orders.proofs.Refusing.{ordered-refused}
 use Rattle.answers.specs.declared.Checked.{Checked}
 use Rattle.answers.specs.declared.Listed.{Listed}
 use Rattle.answers.specs.declared.Reason.{Reason}
@@ -16,11 +20,11 @@ use Rattle.answers.specs.declared.Copied.{Copied}
 use Rattle.answers.specs.declared.Related.{Related}
 use Rattle.answers.specs.declared.Told.{Told}
 use Rattle.answers.specs.declared.Question.{Question}
-use Rattle.answers.specs.declared.Question.the-variants.{Rules, Check, Content, Joined, List as Reading, Children}
+use Rattle.answers.specs.declared.Question.the-variants.{Rules, Check, Content, Joined, List as Reading, Children, Order}
 use Rattle.answers.specs.Answers.{letterIn, ruledBy, ruled, CheckOutcome, Fetches, JoinedOutcome}
 use Rattle.answers.specs.Asking.{ListsFlat}
 use Rattle.answers.specs.Related.{Relates, ChildrenOutcome, relatedList, related}
-use Rattle.answers.specs.Questions.{reasonTold, checkTold, locatedTold, copiedTold, listedTold, relatedTold, checkOf, locatedOf, copiedOf, listedOf, relatedOf, refusedTold, Leaves}
+use Rattle.answers.specs.Questions.{reasonTold, checkTold, locatedTold, copiedTold, listedTold, relatedTold, orderedTold, checkOf, locatedOf, copiedOf, listedOf, relatedOf, orderedOf, refusedTold, Leaves}
 use Rattle.answers.proofs.Small.{refusal-small}
 use Rattle.answers.proofs.Checks.{checks-refused}
 use Rattle.answers.proofs.Fetching.{fetches-refused, joins-refused}
@@ -110,6 +114,9 @@ module _ (edition : Edition) (s table flat out : List ℕ) where
       → Leaves edition (Children row room) s table flat out (relatedTold r) after flatAfter out
   leaves-children e = record { answered = ap relatedTold (e .answered); tabled = e .tabled; put = refl; beside = e .filled }
 
+  pub leaves-order : {class : Class} {r : Ordered} → r ≡ ordered edition class s → Leaves edition (Order class) s table flat out (orderedTold r) table flat out
+  leaves-order e = record { answered = ap orderedTold e; tabled = refl; put = refl; beside = tt }
+
   -- whatever is asked, nothing that was lent is touched
   pub leaves-refused : (question : Question) (number place headers : ℕ) → letterIn edition s ≡ refusal number place headers
       → Leaves edition question s table flat out (refusedTold question number place headers) table flat out
@@ -121,6 +128,7 @@ module _ (edition : Edition) (s table flat out : List ℕ) where
       leaves-joined (joins-none edition s element out number place (λ z. omega arith) (joins-refused edition s element number place headers e))
   leaves-refused (Reading side room) number place headers e = leaves-list (lists-refused edition side s table flat room number place headers e)
   leaves-refused (Children row room) number place headers e = leaves-children (relates-refused edition s table row room flat number place headers e)
+  leaves-refused (Order class) number place headers e = leaves-order (sym (ordered-refused edition class s number place headers e))
 
 -- what each question answers, from what its work left
 module _ {edition : Edition} {s table flat out : List ℕ} {told : Told} {tableAfter flatAfter outAfter : List ℕ} where
@@ -139,6 +147,9 @@ module _ {edition : Edition} {s table flat out : List ℕ} {told : Told} {tableA
       let b = l .beside in
       subst (λ (r : Listed). ListsFlat edition side s table room r tableAfter flatAfter) (sym e)
       (record { answered = ap listedOf (l .answered); tabled = l .tabled; stored = b .stored; fits = b .fits; enough = b .enough })
+
+  pub order-left : {class : Class} → Leaves edition (Order class) s table flat out told tableAfter flatAfter outAfter → orderedOf told ≡ ordered edition class s
+  order-left l = ap orderedOf (l .answered)
 
   pub children-left : {row : ℕ} → Leaves edition (Children row (length flat)) s table flat out told tableAfter flatAfter outAfter
       → ChildrenOutcome edition s table row flat (relatedOf told) tableAfter flatAfter

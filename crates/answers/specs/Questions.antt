@@ -10,6 +10,8 @@ use Rattle.elements.specs.declared.Edition.{Edition}
 use Rattle.letters.specs.Lent.{rowsNeeded}
 use Rattle.reading.specs.declared.Side.{Side}
 use Rattle.reading.specs.Records.{records}
+use Rattle.orders.specs.declared.Ordered.{Ordered}
+use Rattle.orders.specs.Orders.{ordered}
 use Rattle.answers.specs.declared.Checked.{Checked}
 use Rattle.answers.specs.declared.Listed.{Listed}
 use Rattle.answers.specs.declared.Reason.{Reason}
@@ -18,7 +20,7 @@ use Rattle.answers.specs.declared.Copied.{Copied}
 use Rattle.answers.specs.declared.Related.{Related}
 use Rattle.answers.specs.declared.Told.{Told}
 use Rattle.answers.specs.declared.Question.{Question}
-use Rattle.answers.specs.declared.Question.the-variants.{Rules, Check, Content, Joined, List as Reading, Children}
+use Rattle.answers.specs.declared.Question.the-variants.{Rules, Check, Content, Joined, List as Reading, Children, Order}
 use Rattle.answers.specs.Answers.{checked, checkedTable, listed, listedTable, matchesIn, ruled, refusedCheck, located, Stands, copied, copiedOutput}
 use Rattle.answers.specs.Related.{related, relatedTable, childrenOnto}
 
@@ -41,6 +43,9 @@ listedTold r = record { number = r .number; place = r .place; headers = 0; eleme
 abbrev pub relatedTold : Related → Told
 relatedTold r = record { number = r .number; place = r .place; headers = 0; elements = r .elements; listed = r .children; length = 0; first = 0; past = 0 }
 
+abbrev pub orderedTold : Ordered → Told
+orderedTold r = record { number = r .number; place = r .place; headers = 0; elements = 0; listed = 0; length = 0; first = 0; past = 0 }
+
 -- and the answer again, of what was told
 abbrev pub checkOf : Told → Checked
 checkOf t = record { number = t .number; place = t .place; headers = t .headers; elements = t .elements }
@@ -57,6 +62,9 @@ listedOf t = record { number = t .number; place = t .place; elements = t .elemen
 abbrev pub relatedOf : Told → Related
 relatedOf t = record { number = t .number; place = t .place; elements = t .elements; children = t .listed }
 
+abbrev pub orderedOf : Told → Ordered
+orderedOf t = record { number = t .number; place = t .place }
+
 -- what is told of a stream, with this table and this buffer lent
 abbrev pub toldTo : Edition → Question → (s table out : List ℕ) → Told
 toldTo edition Rules s table out = reasonTold (ruled edition s)
@@ -65,6 +73,7 @@ toldTo edition (Content element) s table out = locatedTold (located edition s el
 toldTo edition (Joined element) s table out = copiedTold (copied edition s element out)
 toldTo edition (Reading side room) s table out = listedTold (listed edition side s table room)
 toldTo edition (Children row room) s table out = relatedTold (related edition s table row room)
+toldTo edition (Order class) s table out = orderedTold (ordered edition class s)
 
 -- what is told of a stream that rules 1 to 15 refuse: the check alone is told how many headers passed
 abbrev pub refusedTold : Question → (number place headers : ℕ) → Told
@@ -74,6 +83,7 @@ refusedTold (Content element) number place headers = reasonTold (record { number
 refusedTold (Joined element) number place headers = reasonTold (record { number = number; place = place })
 refusedTold (Reading side room) number place headers = reasonTold (record { number = number; place = place })
 refusedTold (Children row room) number place headers = reasonTold (record { number = number; place = place })
+refusedTold (Order class) number place headers = reasonTold (record { number = number; place = place })
 
 -- the table at exit
 abbrev pub tableLeft : Edition → Question → (s table : List ℕ) → List ℕ
@@ -83,6 +93,7 @@ tableLeft edition (Content element) s table = table
 tableLeft edition (Joined element) s table = table
 tableLeft edition (Reading side room) s table = listedTable edition side s table room
 tableLeft edition (Children row room) s table = relatedTable edition s table row room
+tableLeft edition (Order class) s table = table
 
 -- the buffer at exit
 abbrev pub outLeft : Edition → Question → (s out : List ℕ) → List ℕ
@@ -92,6 +103,7 @@ outLeft edition (Content element) s out = out
 outLeft edition (Joined element) s out = copiedOutput edition s element out
 outLeft edition (Reading side room) s out = out
 outLeft edition (Children row room) s out = out
+outLeft edition (Order class) s out = out
 
 -- the reading list as numbers, three a record: as many as are told, all matches if the number is 0
 pub record Numbered (edition : Edition) (side : Side) (s : List ℕ) (room number count : ℕ) (flat : List ℕ) : Type 0 where
@@ -107,6 +119,7 @@ Beside edition (Content element) s told flat flatAfter = Stands edition s elemen
 Beside edition (Joined element) s told flat flatAfter = Unit {0}
 Beside edition (Reading side room) s told flat flatAfter = Numbered edition side s room (told .number) (told .listed) flatAfter
 Beside edition (Children row room) s told flat flatAfter = flatAfter ≡ childrenOnto edition s row (told .number) flat
+Beside edition (Order class) s told flat flatAfter = Unit {0}
 
 -- the contract of the work, and of all that leads to it
 pub record Leaves (edition : Edition) (question : Question) (s table flat out : List ℕ) (told : Told) (tableAfter flatAfter outAfter : List ℕ) : Type 0 where
@@ -123,3 +136,4 @@ Roomy (Content element) s numbers = Unit {0}
 Roomy (Joined element) s numbers = Unit {0}
 Roomy (Reading side room) s numbers = 3 * rowsNeeded s ≤ numbers
 Roomy (Children row room) s numbers = room ≤ numbers
+Roomy (Order class) s numbers = Unit {0}

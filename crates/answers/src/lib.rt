@@ -2,6 +2,8 @@
 // Nothing that was lent to a question is written before all that can refuse it is known.
 use elements::Edition;
 use octets::Outcome;
+use order::Class;
+use orders::Ordered;
 use reading::Side;
 use runs::Run;
 ghost use mathlib.Core.Path.{_≡_};
@@ -14,7 +16,7 @@ ghost use Rattle.letters.specs.Lent.{rowsNeeded};
 ghost use Rattle.letters.specs.Scratch.{Filled};
 ghost use Rattle.answers.specs.Answers.{refusedCheck, CheckOutcome};
 ghost use Rattle.answers.specs.Asking.{ListsFlat};
-ghost use Rattle.answers.specs.Questions.{reasonTold, checkTold, locatedTold, copiedTold, listedTold, relatedTold, listedOf, refusedTold, Leaves, Roomy};
+ghost use Rattle.answers.specs.Questions.{reasonTold, checkTold, locatedTold, copiedTold, listedTold, relatedTold, orderedTold, listedOf, refusedTold, Leaves, Roomy};
 
 mod children; // children.rt: the children of a row
 mod content; // content.rt: the content of one element, as a part or copied
@@ -138,6 +140,7 @@ pub enum Question {
     Joined { element: usize },
     List { side: Side, room: usize },
     Children { row: usize, room: usize },
+    Order { class: Class },
 }
 
 // What the work of any question tells. What the question does not ask for is 0.
@@ -347,6 +350,15 @@ fn tell_related(r: Related) -> Told
     }
 }
 
+fn tell_ordered(r: Ordered) -> Told
+    ensures { λ told. ⌜ told ≡ orderedTold r ⌝ }
+{
+    tell_reason(Reason {
+        number: r.number,
+        place: r.place,
+    })
+}
+
 // The list's answer, of what was told.
 pub fn listed_of(told: Told) -> Listed
     ensures { λ r. ⌜ r ≡ listedOf told ⌝ }
@@ -370,6 +382,7 @@ pub fn tell_refused(question: Question, number: u32, place: u32, headers: u32) -
         Question::Joined { element: _ } => tell_reason(Reason { number, place }),
         Question::List { side: _, room: _ } => tell_reason(Reason { number, place }),
         Question::Children { row: _, room: _ } => tell_reason(Reason { number, place }),
+        Question::Order { class: _ } => tell_reason(Reason { number, place }),
     }
 }
 
@@ -454,6 +467,17 @@ pub fn work(
             count,
             table,
             flat,
+        )),
+        Question::Order { class } => tell_ordered(orders::order_judged(
+            edition,
+            stream,
+            class,
+            rows,
+            head,
+            next,
+            head2,
+            next2,
+            count,
         )),
     }
 }

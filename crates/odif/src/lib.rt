@@ -23,6 +23,11 @@ ghost use Rattle.answers.specs.Dates.{dateOf, DateOutcome};
 ghost use Rattle.answers.specs.FirstDates.{FirstDateOutcome};
 
 mod arriving; // arriving.rt: a letter that arrives in blocks
+mod in_order; // in_order.rt: the order of a letter by an interchange class
+
+pub use in_order::order;
+pub use order::Class;
+pub use orders::Ordered;
 
 // The most octets of a stream that the mailroom box asks about.
 const SHORT_LIMIT: usize = 65535;

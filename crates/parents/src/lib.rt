@@ -56,7 +56,7 @@ fn is_parent_kind(kind: usize, other: usize) -> bool
 }
 
 // Where the last space of s[first..past] stands, or past if it has none.
-fn last_space(s: &[u8], first: usize, past: usize) -> usize
+pub fn last_space(s: &[u8], first: usize, past: usize) -> usize
     requires { ⌜ (first ≤ past) × (past ≤ length (now s)) ⌝ }
     ensures { λ r. ⌜ LastSpace (now (s .entry)) first past r ⌝ }
 {
@@ -71,7 +71,7 @@ fn last_space(s: &[u8], first: usize, past: usize) -> usize
 }
 
 // The class or object whose identifier is s[first..past].
-fn carrier(
+pub fn carrier(
     s: &[u8],
     rows: &[u32],
     head: &[u16],

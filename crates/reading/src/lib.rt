@@ -78,7 +78,7 @@ fn wide(x: u32) -> usize
     x as usize
 }
 
-fn column_of(side: Side) -> usize
+pub fn column_of(side: Side) -> usize
     ensures { λ r. ⌜ r ≡ columnOf side ⌝ }
 {
     match side {
@@ -97,7 +97,7 @@ fn is_either(x: usize, a: usize, b: usize) -> bool
 }
 
 // Whether elements of a kind are read on a side.
-fn is_read(side: Side, kind: usize) -> bool
+pub fn is_read(side: Side, kind: usize) -> bool
     ensures { λ r. ⌜ r ≡ isIn kind (kindsOf side) ⌝ }
 {
     match side {
@@ -107,7 +107,7 @@ fn is_read(side: Side, kind: usize) -> bool
 }
 
 // The bounds of row j at a column.
-fn bounds_at(rows: &[u32], j: usize, column: usize) -> Span
+pub fn bounds_at(rows: &[u32], j: usize, column: usize) -> Span
     requires { ⌜ (column + 1 < rowWidth) × (j * rowWidth + rowWidth ≤ length (now rows)) ⌝ }
     ensures { λ r. ⌜ r ≡ spanAt (now (rows .entry)) column j ⌝ }
 {
@@ -118,14 +118,14 @@ fn bounds_at(rows: &[u32], j: usize, column: usize) -> Span
 }
 
 // Whether bounds are those of a value that is not empty.
-fn is_there(bounds: Span) -> bool
+pub fn is_there(bounds: Span) -> bool
     ensures { λ r. ⌜ r ≡ there bounds ⌝ }
 {
     bounds.first < bounds.past
 }
 
 // The run of the portions of row j.
-fn portions_at(rows: &[u32], j: usize) -> Run
+pub fn portions_at(rows: &[u32], j: usize) -> Run
     requires { ⌜ j * rowWidth + rowWidth ≤ length (now rows) ⌝ }
     ensures { λ r. ⌜ r ≡ portionsAt (now (rows .entry)) j ⌝ }
 {

@@ -6,7 +6,7 @@ use denote.Ref.{now}
 use Rattle.answers.specs.declared.Question.{Question}
 use Rattle.answers.specs.Questions.{Roomy}
 use Rattle.answers.proofs.Judging.{accepts-walked, judged-in, accepted-judged}
-use Rattle.answers.proofs.Working.{as-asked, ruled-letter, leaves-rules, leaves-check, leaves-content, leaves-joined, leaves-list, leaves-children}
+use Rattle.answers.proofs.Working.{as-asked, ruled-letter, leaves-rules, leaves-check, leaves-content, leaves-joined, leaves-list, leaves-children, leaves-order}
 use Rattle.answers.proofs.work.Statement.{statement}
 use Rattle.answers.proofs.work.Tie as tie
 
@@ -67,6 +67,17 @@ children-judged-requires c κs =
 tell-related-requires : tie.Need-tell-related-requires
 tell-related-requires c κs = search needs
 
+enum-known-question-5 : tie.Need-enum-known-question-5
+enum-known-question-5 c = search needs
+
+order-judged-requires : tie.Need-order-judged-requires
+order-judged-requires c κs =
+    let a = c .before .before .before .before .before .before .before .before .before .before .before .before in
+    ((a .args .headers, a .pre .0), a .pre .1 .0)
+
+tell-ordered-requires : tie.Need-tell-ordered-requires
+tell-ordered-requires c κs = search needs
+
 returns : tie.Need-returns
 returns c =
     let a = c .before .before .before .before .before .before .before .before .before .before .before .before in
@@ -118,6 +129,11 @@ returns-6 c =
     let a = c .before .before .before .before .before .before .before .before .before .before .before .before .before .before .before .before .before .before .before .before in
     as-asked (c .before .before .before .before .before .before .before .before .before .question4 .given .1) (c .tell-related .ensures) (leaves-children (a .args .edition) (now (a .args .stream)) (now (a .args .table)) (now (a .args .flat)) (now (a .args .out)) (c .before .before .before .before .before .children-judged .ensures))
 
+returns-7 : tie.Need-returns-7
+returns-7 c =
+    let a = c .before .before .before .before .before .before .before .before .before .before .before .before .before .before in
+    as-asked (c .before .before .before .question5 .given .1) (c .tell-ordered .ensures) (leaves-order (a .args .edition) (now (a .args .stream)) (now (a .args .table)) (now (a .args .flat)) (now (a .args .out)) (c .before .order-judged .ensures))
+
 pub work-spec : {M : Type 1} → statement M
 work-spec =
     tie.close
@@ -139,6 +155,9 @@ work-spec =
     enum-known-question-4
     children-judged-requires
     tell-related-requires
+    enum-known-question-5
+    order-judged-requires
+    tell-ordered-requires
     returns
     same-length
     returns-2
@@ -150,4 +169,5 @@ work-spec =
     returns-5
     same-length-5
     same-length-6
-    returns-6)
+    returns-6
+    returns-7)

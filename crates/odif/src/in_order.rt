@@ -1,0 +1,57 @@
+// The order of a letter by an interchange class. No array is lent: the answer is a number and a place.
+use answers::Question;
+use elements::Edition;
+use order::Class;
+pub use orders::Ordered;
+ghost use mathlib.Core.Path.{_≡_};
+ghost use Rattle.orders.specs.Orders.{ordered};
+
+// Whether a stream is in the order of a class: 0, or one of 1 to 15, or 26 where its elements leave the order. A partner's gateway asks this; what
+// the check accepts stays as it is.
+pub fn order(edition: Edition, stream: &[u8], class: Class) -> Ordered
+    ensures { λ r. ⌜ r ≡ ordered edition class (now (stream .entry)) ⌝ }
+{
+    let mut rows = [0u32; 0];
+    let mut numbers = [0u32; 0];
+    let mut octets = [0u8; 0];
+    let told = scratch::ask(
+        edition,
+        stream,
+        Question::Order { class },
+        &mut rows,
+        &mut numbers,
+        &mut octets,
+    );
+    Ordered {
+        number: told.number,
+        place: told.place,
+    }
+}
+
+#[no_mangle]
+pub extern "C" fn odif_order_a(stream: &[u8]) -> Ordered
+    ensures { λ r. ⌜ r ≡ ordered Edition.Of1988 Class.A (now (stream .entry)) ⌝ }
+{
+    order(Edition::Of1988, stream, Class::A)
+}
+
+#[no_mangle]
+pub extern "C" fn odif_order_b(stream: &[u8]) -> Ordered
+    ensures { λ r. ⌜ r ≡ ordered Edition.Of1988 Class.B (now (stream .entry)) ⌝ }
+{
+    order(Edition::Of1988, stream, Class::B)
+}
+
+#[no_mangle]
+pub extern "C" fn odif_order_a_1993(stream: &[u8]) -> Ordered
+    ensures { λ r. ⌜ r ≡ ordered Edition.Of1993 Class.A (now (stream .entry)) ⌝ }
+{
+    order(Edition::Of1993, stream, Class::A)
+}
+
+#[no_mangle]
+pub extern "C" fn odif_order_b_1993(stream: &[u8]) -> Ordered
+    ensures { λ r. ⌜ r ≡ ordered Edition.Of1993 Class.B (now (stream .entry)) ⌝ }
+{
+    order(Edition::Of1993, stream, Class::B)
+}

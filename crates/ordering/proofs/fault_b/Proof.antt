@@ -1,0 +1,52 @@
+-- `ordering::fault_b` meets its contract: the first element, then the pass. Assumes nothing.
+use mathlib.Core.Path.{_≡_, ap, sym, _∙_}
+use Prim.Native.Nat.{ℕ, _<_}
+use native.Mathlib.Omega.{arith}
+use lib.ListN.{length}
+use borrow.Author.Needs.{needs}
+use Rattle.ordering.specs.Steps.{stateOf, stepOf}
+use Rattle.ordering.proofs.Passing.{first-stops, first-starts, none-fault}
+use Rattle.ordering.proofs.fault_b.Statement.{statement}
+use Rattle.ordering.proofs.fault_b.Tie as tie
+
+positive : (n : ℕ) → (n ≡ 0 → ⊥) → 0 < n
+positive n other = omega arith
+
+returns : tie.Need-returns
+returns c elements ready aside = none-fault elements (ready .counted ∙ c .if1 .taken)
+
+first-step-requires : tie.Need-first-step-requires
+first-step-requires c κs = (c .before .before .before .before .before .pre, positive _ (c .if1 .left))
+
+enum-told : tie.Need-enum-told
+enum-told c = search needs
+
+enum-known-start : tie.Need-enum-known-start
+enum-known-start c = search needs
+
+pass-requires : tie.Need-pass-requires
+pass-requires c κs = (c .before .before .before .before .before .before .before .before .before .pre, positive _ (c .before .before .before .before .if1 .left))
+
+returns-2 : tie.Need-returns-2
+returns-2 c elements ready aside =
+    let some-rows : 0 < length elements = omega (arith, positive _ (c .before .before .before .if1 .left), ready .counted) in
+    first-stops elements aside some-rows (ap stepOf (sym (c .enum-told .given .1)) ∙ c .before .before .first-step .ensures elements ready aside)
+
+returns-3 : tie.Need-returns-3
+returns-3 c elements ready aside =
+    let some-rows : 0 < length elements = omega (arith, positive _ (c .before .before .before .before .before .if1 .left), ready .counted) in
+    let start = c .before .before .start .given in
+    c .pass .ensures elements ready aside
+    ∙ first-starts elements aside some-rows (stateOf (start .0 .0)) (ap stepOf (sym (start .1)) ∙ c .before .before .before .before .first-step .ensures elements ready aside)
+
+pub fault-b-spec : {M : Type 1} → statement M
+fault-b-spec =
+    tie.close
+    (tie.spec
+    returns
+    first-step-requires
+    enum-told
+    enum-known-start
+    pass-requires
+    returns-2
+    returns-3)

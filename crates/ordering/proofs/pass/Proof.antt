@@ -1,0 +1,94 @@
+-- `ordering::pass` meets its contract. The loop's invariant: the answer from the second element is the answer from here. Assumes nothing.
+use mathlib.Core.Path.{_≡_, refl, ap, sym, _∙_}
+use mathlib.Core.List.{List}
+use mathlib.Core.Bool.{Bool, cond}
+use Prim.Native.Nat.{ℕ, _+_, _-_, _≤_, _<_}
+use native.Mathlib.Omega.{arith}
+use borrow.Author.Needs.{needs}
+use borrow.Author.Tests.{eq-eqb, ne-eqb}
+use lib.ListN.{length}
+use Rattle.elements.specs.Judge.{Element}
+use Rattle.reading.specs.Ready.{RowsTell}
+use Rattle.order.specs.Answers.{LimitsAside}
+use Rattle.order.specs.Fault.{Found, in-order, fault}
+use Rattle.ordering.specs.Steps.{stateOf, stepOf}
+use Rattle.ordering.proofs.Passing.{passFrom, pass-stops, pass-goes, pass-ends}
+use Rattle.ordering.proofs.pass.Statement.{statement}
+use Rattle.ordering.proofs.pass.Tie as tie
+
+abbrev Inv-loop : tie.InvT-loop
+Inv-loop s rows head next n state₀ j₀ state j =
+    (1 ≤ j) × (j ≤ n)
+    × ((elements : List Element) → RowsTell s rows n elements → LimitsAside elements → passFrom elements (stateOf state₀) 1 ≡ passFrom elements (stateOf state) j)
+
+abbrev μ-loop : tie.MeasureT-loop
+μ-loop s rows head next n state₀ j₀ state j = n - j
+
+loop-holds : tie.Need-loop-holds Inv-loop μ-loop
+loop-holds c = let some-rows = c .before .before .before .before .pre .1 in (omega arith, omega arith, λ elements ready aside. refl)
+
+step-b-requires : tie.Need-step-b-requires Inv-loop μ-loop
+step-b-requires c κs = (c .before .before .before .before .before .before .pre .0, c .loop-test .taken)
+
+enum-told : tie.Need-enum-told Inv-loop μ-loop
+enum-told c = search needs
+
+returns : tie.Need-returns Inv-loop μ-loop
+returns c elements ready aside =
+    let l = c .before .before .before .before .loop in
+    let below : l .j < length elements = omega (arith, c .before .before .before .loop-test .taken, ready .counted) in
+    sym (l .inv .2 elements ready aside
+    ∙ pass-stops elements (stateOf (l .state)) (l .j) below (ap stepOf (sym (c .enum-told .given .1)) ∙ c .before .before .step-b .ensures elements ready aside))
+
+enum-known-after : tie.Need-enum-known-after Inv-loop μ-loop
+enum-known-after c = search needs
+
+add-j : tie.Need-add-j Inv-loop μ-loop
+add-j c = let known = c .before .before .before .before .before .before .before .before .before .before .pre .0 in omega (arith, c .before .before .before .before .loop-test .taken, known .ready .counted, known .ready .apart .few)
+
+loop-less : tie.Need-loop-less Inv-loop μ-loop
+loop-less c = omega (arith, c .before .before .before .before .loop-test .taken)
+
+loop-again : tie.Need-loop-again Inv-loop μ-loop
+loop-again c =
+    let l = c .before .before .before .before .before .loop in
+    let under = c .before .before .before .before .loop-test .taken in (
+      omega arith,
+      omega arith,
+      λ elements ready aside.
+          let below : l .j < length elements = omega (arith, under, ready .counted) in
+          l .inv .2 elements ready aside
+          ∙ pass-goes elements (stateOf (l .state)) (l .j) (stateOf (c .before .after .given .0 .0)) below
+          (ap stepOf (sym (c .before .after .given .1)) ∙ c .before .before .before .step-b .ensures elements ready aside),
+    )
+
+returns-2 : tie.Need-returns-2 Inv-loop μ-loop
+returns-2 c elements ready aside =
+    let l = c .before .before .before .loop in
+    let all : l .j ≡ length elements = omega (arith, c .before .before .loop-test .left, l .inv .1, ready .counted) in
+    sym (l .inv .2 elements ready aside ∙ pass-ends elements (stateOf (l .state)) (l .j) all
+    ∙ ap (λ (b : Bool). cond b in-order (fault (l .j))) (eq-eqb (l .state .left) 0 (c .if1 .taken)))
+
+returns-3 : tie.Need-returns-3 Inv-loop μ-loop
+returns-3 c elements ready aside =
+    let l = c .before .before .before .loop in
+    let all : l .j ≡ length elements = omega (arith, c .before .before .loop-test .left, l .inv .1, ready .counted) in
+    sym (l .inv .2 elements ready aside ∙ pass-ends elements (stateOf (l .state)) (l .j) all
+    ∙ ap (λ (b : Bool). cond b in-order (fault (l .j))) (ne-eqb (l .state .left) 0 (c .if1 .left)) ∙ ap fault (all ∙ ready .counted))
+
+pub pass-spec : {M : Type 1} → statement M
+pass-spec =
+    tie.close
+    (tie.spec
+    Inv-loop
+    μ-loop
+    loop-holds
+    step-b-requires
+    enum-told
+    returns
+    enum-known-after
+    add-j
+    loop-less
+    loop-again
+    returns-2
+    returns-3)

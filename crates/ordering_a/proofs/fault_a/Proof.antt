@@ -1,0 +1,31 @@
+-- `ordering_a::fault_a` meets its contract: the first is the profile, and then the pass. Assumes nothing.
+use mathlib.Core.Path.{_∙_}
+use Prim.Native.Nat.{_<_}
+use native.Mathlib.Omega.{arith}
+use mathlib.Core.Logic.{inl, inr}
+use Rattle.owners.proofs.Telling.{kind-told}
+use Rattle.ordering_a.proofs.Passing.{no-profile}
+use borrow.Author.Needs.{needs}
+use Rattle.ordering_a.proofs.fault_a.Statement.{statement}
+use Rattle.ordering_a.proofs.fault_a.Tie as tie
+
+returns : tie.Need-returns
+returns c = λ elements ready aside. no-profile elements aside (inl (ready .counted ∙ c .if1 .taken))
+
+kind-at-requires : tie.Need-kind-at-requires
+kind-at-requires c κs = search needs
+
+returns-2 : tie.Need-returns-2
+returns-2 c =
+    let start = c .before .before .before .before .before .before .before in
+    let l : 0 < start .args .n = omega arith in
+    λ elements ready aside. no-profile elements aside (inr (λ e. c .if2 .taken (c .before .kind-at .ensures ∙ kind-told ready 0 l ∙ e)))
+
+pass-requires : tie.Need-pass-requires
+pass-requires c κs = search needs
+
+returns-3 : tie.Need-returns-3
+returns-3 c = search needs
+
+pub fault-a-spec : {M : Type 1} → statement M
+fault-a-spec = tie.close (tie.spec returns kind-at-requires returns-2 pass-requires returns-3)

@@ -1,0 +1,85 @@
+-- `ordering_a::pass` meets its contract: the rows are taken in turn. The measure is how many are left. Assumes nothing.
+use mathlib.Core.Path.{sym, _∙_, subst}
+use Prim.Native.Nat.{_-_}
+use native.Mathlib.Omega.{arith}
+use Rattle.ordering_a.specs.Pass.{StepAt}
+use borrow.Author.Needs.{needs}
+use Rattle.turns.proofs.Reaching.{few-rows}
+use Rattle.ordering_a.proofs.Stepping.{told-of, Walking, walking-first, walking-more, walking-stops, walking-ends, walking-whole}
+use Rattle.ordering_a.proofs.pass.Statement.{statement}
+use Rattle.ordering_a.proofs.pass.Tie as tie
+
+abbrev Inv-loop : tie.InvT-loop
+Inv-loop s rows head next n w₀ k₀ w k = Walking s rows n k w
+
+abbrev μ-loop : tie.MeasureT-loop
+μ-loop s rows head next n w₀ k₀ w k = n - k
+
+first-walk-requires : tie.Need-first-walk-requires Inv-loop μ-loop
+first-walk-requires c κs = search needs
+
+loop-holds : tie.Need-loop-holds Inv-loop μ-loop
+loop-holds c = let start = c .before .before .before .before .before in rw (c .first-walk .ensures) (walking-first (told-of (start .pre .0)) (start .pre .1 .0) (start .pre .1 .1))
+
+look-requires : tie.Need-look-requires Inv-loop μ-loop
+look-requires c κs = let start = c .before .before .before .before .before .before .before in (start .pre .0, omega arith)
+
+look-requires-2 : tie.Need-look-requires-2 Inv-loop μ-loop
+look-requires-2 c κs = let start = c .before .before .before .before .before .before .before .before in (start .pre .0, omega arith)
+
+take-row-requires : tie.Need-take-row-requires Inv-loop μ-loop
+take-row-requires c κs = let start = c .before .before .before .before .before .before .before .before .before in ((told-of (start .pre .0), omega arith), (c .before .before .before .loop .inv .bounds, (c .before .look .ensures, c .look2 .ensures)))
+
+enum-told : tie.Need-enum-told Inv-loop μ-loop
+enum-told c = search needs
+
+returns : tie.Need-returns Inv-loop μ-loop
+returns c =
+    let start = c .before .before .before .before .before .before .before .before .before .before .before .before in
+    let at = c .before .before .before .before .before .before .loop in
+    walking-stops (at .inv) (subst (StepAt (start .args .s .now) (start .args .rows .now) (start .args .n) (at .k) (at .w)) (c .enum-told .given .1) (c .before .before .take-row .ensures))
+
+enum-known-after : tie.Need-enum-known-after Inv-loop μ-loop
+enum-known-after c = search needs
+
+add-k : tie.Need-add-k Inv-loop μ-loop
+add-k c = let start = c .before .before .before .before .before .before .before .before .before .before .before .before .before in omega (arith, few-rows (told-of (start .pre .0)))
+
+loop-less : tie.Need-loop-less Inv-loop μ-loop
+loop-less c = omega arith
+
+loop-again : tie.Need-loop-again Inv-loop μ-loop
+loop-again c =
+    let start = c .before .before .before .before .before .before .before .before .before .before .before .before .before in
+    let at = c .before .before .before .before .before .before .before .loop in
+    walking-more (at .inv) (omega arith) (subst (StepAt (start .args .s .now) (start .args .rows .now) (start .args .n) (at .k) (at .w)) (c .before .after .given .1) (c .before .before .before .take-row .ensures))
+
+is-waiting-requires : tie.Need-is-waiting-requires Inv-loop μ-loop
+is-waiting-requires c κs = search needs
+
+returns-2 : tie.Need-returns-2 Inv-loop μ-loop
+returns-2 c = let at = c .before .before .before .loop in walking-ends (at .inv) (omega arith) (sym (c .before .is-waiting .ensures) ∙ c .if1 .taken)
+
+returns-3 : tie.Need-returns-3 Inv-loop μ-loop
+returns-3 c = let at = c .before .before .before .loop in walking-whole (at .inv) (omega arith) (sym (c .before .is-waiting .ensures) ∙ c .if1 .left)
+
+pub pass-spec : {M : Type 1} → statement M
+pass-spec =
+    tie.close
+    (tie.spec
+    Inv-loop
+    μ-loop
+    first-walk-requires
+    loop-holds
+    look-requires
+    look-requires-2
+    take-row-requires
+    enum-told
+    returns
+    enum-known-after
+    add-k
+    loop-less
+    loop-again
+    is-waiting-requires
+    returns-2
+    returns-3)

@@ -1,0 +1,49 @@
+-- `ordering_a::see` meets its contract: number by number. Assumes nothing.
+use Rattle.ordering_a.specs.Pass.{sightFor}
+use Rattle.owners.proofs.Telling.{meetable}
+use Rattle.turns.proofs.Reaching.{row-inside}
+use borrow.Author.Needs.{needs}
+use Rattle.ordering_a.proofs.see.Statement.{statement}
+use Rattle.ordering_a.proofs.see.Tie as tie
+
+own-for-requires : tie.Need-own-for-requires
+own-for-requires c κs = search needs
+
+kind-for-requires : tie.Need-kind-for-requires
+kind-for-requires c κs = search needs
+
+kind-at-requires : tie.Need-kind-at-requires
+kind-at-requires c κs = let start = c .before .before .before .before in row-inside (start .pre .0) (start .args .k) (start .pre .1)
+
+is-named-requires : tie.Need-is-named-requires
+is-named-requires c κs = let start = c .before .before .before .before .before in row-inside (start .pre .0) (start .args .k) (start .pre .1)
+
+portions-of-requires : tie.Need-portions-of-requires
+portions-of-requires c κs = let start = c .before .before .before .before .before .before in (row-inside (start .pre .0) (start .args .k) (start .pre .1), meetable (start .pre .0 .ready) (start .args .k) (start .pre .1))
+
+count-kinds-requires : tie.Need-count-kinds-requires
+count-kinds-requires c κs = search needs
+
+count-kinds-requires-2 : tie.Need-count-kinds-requires-2
+count-kinds-requires-2 c κs = search needs
+
+has-turn-requires : tie.Need-has-turn-requires
+has-turn-requires c κs = search needs
+
+returns : tie.Need-returns
+unfolding sightFor
+returns c = rw (c .has-turn .ensures, c .before .before .before .before .before .before .before .before .before .own-for .ensures, c .before .before .before .before .before .before .before .before .kind-for .ensures, c .before .before .before .before .before .before .before .kind-at .ensures, c .before .before .before .before .before .before .is-named .ensures, c .before .before .before .before .before .portions-of .ensures, c .before .before .before .count-kinds .ensures, c .before .before .count-kinds2 .ensures)
+
+pub see-spec : {M : Type 1} → statement M
+see-spec =
+    tie.close
+    (tie.spec
+    own-for-requires
+    kind-for-requires
+    kind-at-requires
+    is-named-requires
+    portions-of-requires
+    count-kinds-requires
+    count-kinds-requires-2
+    has-turn-requires
+    returns)

@@ -1,0 +1,2 @@
+-- Pass: what the pass sees, keeps and answers.
+pub mod Pass

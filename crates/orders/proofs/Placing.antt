@@ -1,0 +1,95 @@
+-- The scratch that the judge filled is what the passes need; and a row has its element's place. So what a pass finds is what the definition says.
+-- Assumes nothing.
+use mathlib.Core.Path.{_≡_, refl, ap, sym, _∙_}
+use mathlib.Core.Bool.{true, false, cond}
+use mathlib.Core.Option.{some}
+use mathlib.Core.List.{List, []}
+use Prim.Native.Nat.{ℕ, zero, suc, _*_, _<_, _≤_}
+use native.Mathlib.Omega.{arith}
+use lib.Dec.{ltb}
+use lib.ListN.{length, getElem?}
+use borrow.Author.Tests.{ltb-true}
+use borrow.Table.Steps.{cases}
+use Rattle.octets.specs.declared.Outcome.the-variants.{Ended}
+use Rattle.octets.specs.Walk.{Items, none, item, walkOf}
+use Rattle.tree.specs.Tree.{treeOf}
+use Rattle.index.specs.Rows.{rowWidth}
+use Rattle.index.specs.Columns.{wholeColumn, firstAt}
+use Rattle.elements.specs.declared.Edition.{Edition}
+use Rattle.elements.specs.declared.Row.{Row}
+use Rattle.elements.specs.Judge.{Element, judge}
+use Rattle.elements.specs.Rows.{rowOf, rowsOf, placeOf}
+use Rattle.judging.proofs.Lists.{at-below}
+use Rattle.judging.proofs.Rows.{first-at}
+use Rattle.letters.specs.Letter.{Letter, itemsOfStream, letter, letterOf}
+use Rattle.letters.specs.Scratch.{Filled}
+use Rattle.letters.proofs.Table.{filled-row}
+use Rattle.reading.proofs.Scratch.{filled-ready}
+use Rattle.order.specs.declared.Class.{Class}
+use Rattle.order.specs.declared.Fault.{Fault}
+use Rattle.order.specs.declared.Fault.the-variants.{Nowhere, At}
+use Rattle.order.specs.Answers.{LimitsAside}
+use Rattle.order.specs.Fault.{Found, faultOf}
+use Rattle.order.specs.Question.{outOfOrder, octetAt, byFound, byLetter, orderIn}
+use Rattle.order.specs.Coded.{classOf, foundOf, FaultIn}
+use Rattle.order.proofs.Accepted.{judged-aside}
+use Rattle.owners.specs.Owner.{Known}
+use Rattle.orders.specs.declared.Ordered.{Ordered}
+use Rattle.orders.specs.Orders.{given, ordered, faultPlace}
+
+-- the row of an item begins where the item does
+row-place : (edition : Edition) (s : List ℕ) (items : Items) (k : ℕ) (row : Row) → getElem? (rowsOf edition s items) k ≡ some row → row .whole .first ≡ placeOf k items
+unfolding rowsOf rowOf placeOf
+row-place edition s none k row e = let z : _≡_ {A = ℕ} 0 1 = cc in absurd (omega arith)
+row-place edition s (item at octet first past inside after) zero row e = ap whole-first (sym (row-is e))
+  where
+    whole-first : Row → ℕ
+    whole-first r = r .whole .first
+
+    row-is : {r : Row} → some r ≡ some row → r ≡ row
+    row-is f = cc
+row-place edition s (item at octet first past inside after) (suc k) row e = row-place edition s after k row e
+
+module _ {edition : Edition} {s rows head next head2 next2 : List ℕ} {count : ℕ} (filled : Filled edition s rows head next head2 next2 count) where
+  pub known : Known s rows head next count
+  known = record {
+    elements = filled .elements;
+    ready = filled-ready filled;
+    identifiers = filled .holds .indexes .identifiers;
+    logicals = filled .holds .indexes .logicals;
+    indexed = filled .holds .indexes .by-identifier;
+  }
+
+  place-at : (k : ℕ) → k < count → firstAt rows wholeColumn k ≡ placeOf k (itemsOfStream s)
+  place-at k below =
+      let (e, there) = at-below (filled .elements) k (omega (arith, filled .holds .counted)) in
+      let own = filled-row filled k e there in
+      first-at (filled .holds) k (own .row) (own .stands) wholeColumn (omega arith) ∙ row-place edition s (itemsOfStream s) k (own .row) (own .stands)
+
+  module _ {headers : ℕ} (walked : walkOf s ≡ Ended (length s) headers) (class : Class) where
+    is-letter : letterOf edition s ≡ letter headers (filled .elements)
+    unfolding letterOf
+    is-letter = rw (walked, filled .judged)
+
+    by-fault : (found : Fault) → FaultIn (classOf class) s rows count found → given (byFound s (filled .elements) (foundOf found)) ≡ ordered edition class s
+    unfolding ordered orderIn
+    by-fault found f =
+        let aside = judged-aside edition (treeOf s) (filled .elements) (filled .judged) in
+        sym (ap (λ (l : Letter). given (byLetter (classOf class) s l)) is-letter
+        ∙ ap (λ (x : Found). given (byFound s (filled .elements) x)) (sym (f (filled .elements) (filled-ready filled) aside)))
+
+    -- nothing was found
+    pub none-found : (found : Fault) → FaultIn (classOf class) s rows count found → found ≡ Nowhere → record { number = 0; place = 0 } ≡ ordered edition class s
+    none-found found f e = ap (λ (x : Fault). given (byFound s (filled .elements) (foundOf x))) (sym e) ∙ by-fault found f
+
+    -- a fault was found at a row, or past them
+    pub fault-found : (found : Fault) (k : ℕ) → FaultIn (classOf class) s rows count found → found ≡ At k → faultPlace s rows count k ≡ ordered edition class s
+    fault-found found k f e =
+        ap (λ (p : ℕ). record { number = outOfOrder; place = p }) same-octet
+        ∙ ap (λ (x : Fault). given (byFound s (filled .elements) (foundOf x))) (sym e) ∙ by-fault found f
+      where
+        by-count : cond (ltb k count) (firstAt rows wholeColumn k) (length s) ≡ cond (ltb k count) (placeOf k (itemsOfStream s)) (length s)
+        by-count = cases (ltb k count) (λ t. rw (t, place-at k (ltb-true k count t))) (λ t. rw t)
+
+        same-octet : cond (ltb k count) (firstAt rows wholeColumn k) (length s) ≡ octetAt s (filled .elements) k
+        same-octet = by-count ∙ ap (λ (n : ℕ). cond (ltb k n) (placeOf k (itemsOfStream s)) (length s)) (sym (filled .holds .counted))

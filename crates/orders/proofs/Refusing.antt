@@ -1,0 +1,15 @@
+-- A stream that rules 1 to 15 refuse is answered so. Assumes nothing.
+use mathlib.Core.Path.{_≡_, ap}
+use mathlib.Core.List.{List}
+use Prim.Native.Nat.{ℕ}
+use Rattle.elements.specs.declared.Edition.{Edition}
+use Rattle.letters.specs.Letter.{Letter, refusal, letterOf}
+use Rattle.order.specs.declared.Class.{Class}
+use Rattle.order.specs.Question.{byLetter, orderIn}
+use Rattle.order.specs.Coded.{classOf}
+use Rattle.orders.specs.Orders.{given, ordered}
+
+pub ordered-refused : (edition : Edition) (class : Class) (s : List ℕ) (number place headers : ℕ) → letterOf edition s ≡ refusal number place headers
+    → ordered edition class s ≡ record { number = number; place = place }
+unfolding ordered orderIn
+ordered-refused edition class s number place headers e = ap (λ (l : Letter). given (byLetter (classOf class) s l)) e

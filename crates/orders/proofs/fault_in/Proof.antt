@@ -1,0 +1,32 @@
+-- `orders::fault_in` meets its contract: the pass of the class. Assumes nothing.
+use mathlib.Core.Path.{sym, subst}
+use borrow.Author.Needs.{needs}
+use Rattle.order.specs.declared.Class.{Class}
+use Rattle.order.specs.Coded.{classOf, FaultIn}
+use Rattle.orders.proofs.fault_in.Statement.{statement}
+use Rattle.orders.proofs.fault_in.Tie as tie
+
+enum-told : tie.Need-enum-told
+enum-told c = search needs
+
+fault-a-requires : tie.Need-fault-a-requires
+fault-a-requires c κs = search needs
+
+enum-told-2 : tie.Need-enum-told-2
+enum-told-2 c = search needs
+
+fault-b-requires : tie.Need-fault-b-requires
+fault-b-requires c κs = search needs
+
+returns : tie.Need-returns
+returns c =
+    let a = c .before .before .before .before .before .before .before .args in
+    subst (λ (class : Class). FaultIn (classOf class) (a .s .now) (a .rows .now) (a .n) (c .fault-a .result)) (sym (c .before .enum-told .given .1)) (c .fault-a .ensures)
+
+returns-2 : tie.Need-returns-2
+returns-2 c =
+    let a = c .before .before .before .before .before .before .before .args in
+    subst (λ (class : Class). FaultIn (classOf class) (a .s .now) (a .rows .now) (a .n) (c .fault-b .result)) (sym (c .before .enum-told2 .given .1)) (c .fault-b .ensures)
+
+pub fault-in-spec : {M : Type 1} → statement M
+fault-in-spec = tie.close (tie.spec enum-told fault-a-requires enum-told-2 fault-b-requires returns returns-2)

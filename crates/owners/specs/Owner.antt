@@ -1,0 +1,61 @@
+-- Which portion of which element a text unit answers, by the rows and the index that are there: the unit's record of a side, found from the unit.
+-- W-207. Definitions only: assumes nothing.
+use Prim.Native.Nat.{ℕ, suc, _≤_}
+use mathlib.Core.Path.{_≡_}
+use mathlib.Core.Bool.{true, cond}
+use mathlib.Core.List.{List, [], _∷_}
+use lib.ListN.{length}
+use lib.Seq.{slice}
+use Rattle.headers.specs.Head.{isIn}
+use Rattle.names.specs.Names.{same}
+use Rattle.runs.specs.Runs.{treeIn, Fine}
+use Rattle.portions.specs.Portions.{mostPortions, allPortions, values}
+use Rattle.index.specs.Columns.{identifierColumn, logicalColumn, kindAt, Bounded}
+use Rattle.ordered.specs.Ordered.{Filed}
+use Rattle.elements.specs.Judge.{Element}
+use Rattle.reading.specs.declared.Match.{Match}
+use Rattle.reading.specs.declared.Side.{Side}
+use Rattle.reading.specs.Match.{kindsOf, matches}
+use Rattle.reading.specs.Ready.{portionsAt, RowsTell}
+use Rattle.order.specs.Answers.{_∈_}
+use Rattle.owners.specs.declared.Owner.{Owner}
+use Rattle.owners.specs.declared.Owner.the-variants.{Nobody, Of}
+
+abbrev pub made : (element portion unit : ℕ) → Match
+made e p u = record { element = e; portion = p; unit = u }
+
+-- the record of a unit on a side: there is one with this element and this portion, or there is none
+abbrev pub OwnerIs : Side → List Element → (unit : ℕ) → Owner → Type 0
+OwnerIs side elements unit (Of element portion) = made element portion unit ∈ matches side elements
+OwnerIs side elements unit Nobody = (element portion : ℕ) → made element portion unit ∈ matches side elements → ⊥
+
+-- of whatever elements the rows tell
+abbrev pub OwnerAt : Side → (s rows : List ℕ) → (n unit : ℕ) → Owner → Type 0
+OwnerAt side s rows n unit owner = (elements : List Element) → RowsTell s rows n elements → OwnerIs side elements unit owner
+
+-- what is known when owners are looked up: the rows of an accepted letter, and the index of its identifiers
+pub record Known (s rows head next : List ℕ) (n : ℕ) : Type 0 where
+  pub elements : List Element
+  pub ready : RowsTell s rows n elements
+  pub identifiers : Bounded s rows identifierColumn n
+  pub logicals : Bounded s rows logicalColumn n
+  pub indexed : Filed s rows identifierColumn head next n
+
+-- a row's portions
+abbrev pub listedAt : (s rows : List ℕ) → (j : ℕ) → List (List ℕ)
+listedAt s rows j = values (treeIn s (portionsAt rows j))
+
+-- the portions of a row can be met: they are no other items, and at most 64
+pub record Meetable (s rows : List ℕ) (j : ℕ) : Type 0 where
+  pub fine : Fine s (portionsAt rows j)
+  pub only-portions : allPortions (treeIn s (portionsAt rows j)) ≡ true
+  pub few : length (listedAt s rows j) ≤ mostPortions
+
+-- the first of these portions, from number n on, that has these octets
+unfoldable pub ownerAmong : (row n : ℕ) → (portions : List (List ℕ)) → (bytes : List ℕ) → Owner
+ownerAmong row n [] bytes = Nobody
+ownerAmong row n (portion ∷ portions) bytes = cond (same portion bytes) (Of row n) (ownerAmong row (suc n) portions bytes)
+
+-- the same of a row that has the name before the last space, if it is of the side
+abbrev pub ownerBy : Side → (s rows : List ℕ) → (row first past : ℕ) → Owner
+ownerBy side s rows row first past = cond (isIn (kindAt rows row) (kindsOf side)) (ownerAmong row 0 (listedAt s rows row) (slice first past s)) Nobody

@@ -1,0 +1,142 @@
+// Which portion of which element a text unit answers: what its identifier says, looked up by the index that is there. And what else the order
+// rules look at. Nothing is stored: each is asked of the rows when it is wanted.
+use index::IDENTIFIER;
+use index::ROW_WIDTH;
+use index::RowFound;
+use reading::Side;
+use runs::Met;
+ghost use mathlib.Core.Path.{_≡_};
+ghost use Prim.Native.Nat.{_+_, _*_, _<_, _≤_};
+ghost use lib.ListN.{length};
+ghost use lib.Seq.{slice};
+ghost use Rattle.index.specs.Rows.{rowWidth};
+ghost use Rattle.index.specs.Columns.{identifierColumn, kindAt};
+ghost use Rattle.reading.specs.Ready.{spanAt, there};
+ghost use Rattle.owners.specs.Owner.{OwnerAt, Known, Meetable, ownerAmong, listedAt, ownerBy};
+
+// The kind of a text unit.
+const TEXT_UNIT: usize = 3;
+
+// The element whose portion a text unit answers, and the place of that portion, both from 0.
+pub enum Owner {
+    Nobody,
+    Of { row: usize, portion: usize },
+}
+
+fn wide(x: u32) -> usize
+    ensures { λ r. ⌜ r ≡ x ⌝ }
+{
+    x as usize
+}
+
+// The kind of row j.
+pub fn kind_at(rows: &[u32], j: usize) -> usize
+    requires { ⌜ j * rowWidth + rowWidth ≤ length (now rows) ⌝ }
+    ensures { λ r. ⌜ r ≡ kindAt (now (rows .entry)) j ⌝ }
+{
+    wide(rows[j * ROW_WIDTH])
+}
+
+// Whether the element of row j has an identifier.
+pub fn is_named(rows: &[u32], j: usize) -> bool
+    requires { ⌜ j * rowWidth + rowWidth ≤ length (now rows) ⌝ }
+    ensures { λ r. ⌜ r ≡ there (spanAt (now (rows .entry)) identifierColumn j) ⌝ }
+{
+    reading::is_there(reading::bounds_at(rows, j, IDENTIFIER))
+}
+
+// How many portions the element of row j lists.
+pub fn portions_of(s: &[u8], rows: &[u32], j: usize) -> usize
+    requires { ⌜ j * rowWidth + rowWidth ≤ length (now rows) ⌝ }
+    requires { ⌜ Meetable (now s) (now rows) j ⌝ }
+    ensures { λ r. ⌜ r ≡ length (listedAt (now (s .entry)) (now (rows .entry)) j) ⌝ }
+{
+    let mut left = reading::portions_at(rows, j);
+    let mut count: usize = 0;
+    loop {
+        match runs::meet(s, left) {
+            Met::End => return count,
+            Met::Item {
+                octet: _,
+                first: _,
+                past: _,
+                inner: _,
+                rest,
+            } => {
+                count += 1;
+                left = rest;
+            }
+        }
+    }
+}
+
+// The portion of a row that has the octets s[first..past].
+fn portion_with(s: &[u8], rows: &[u32], row: usize, first: usize, past: usize) -> Owner
+    requires { ⌜ row * rowWidth + rowWidth ≤ length (now rows) ⌝ }
+    requires { ⌜ Meetable (now s) (now rows) row ⌝ }
+    requires { ⌜ (first ≤ past) × (past ≤ length (now s)) ⌝ }
+    ensures { λ r. ⌜ r ≡ ownerAmong row 0 (listedAt (now (s .entry)) (now (rows .entry)) row) (slice first past (now (s .entry))) ⌝ }
+{
+    let mut left = reading::portions_at(rows, row);
+    let mut portion: usize = 0;
+    loop {
+        match runs::meet(s, left) {
+            Met::End => return Owner::Nobody,
+            Met::Item {
+                octet: _,
+                first: from,
+                past: to,
+                inner: _,
+                rest,
+            } => {
+                if names::is_same(s, from, to, first, past) {
+                    return Owner::Of { row, portion };
+                }
+                portion += 1;
+                left = rest;
+            }
+        }
+    }
+}
+
+// The same of a row that has the unit's name before its last space, if it is of the side.
+fn owner_by(s: &[u8], rows: &[u32], side: Side, row: usize, first: usize, past: usize) -> Owner
+    requires { ⌜ row * rowWidth + rowWidth ≤ length (now rows) ⌝ }
+    requires { ⌜ Meetable (now s) (now rows) row ⌝ }
+    requires { ⌜ (first ≤ past) × (past ≤ length (now s)) ⌝ }
+    ensures { λ r. ⌜ r ≡ ownerBy side (now (s .entry)) (now (rows .entry)) row first past ⌝ }
+{
+    if !reading::is_read(side, kind_at(rows, row)) {
+        return Owner::Nobody;
+    }
+    portion_with(s, rows, row, first, past)
+}
+
+// Whose portion row u answers on a side, and which. A row that is no text unit answers none. The unit's identifier of the side is cut at its last
+// space; what stands before it is looked up among classes and objects, what stands after it among the portions of the one that has that name.
+pub fn owner_of(
+    s: &[u8],
+    rows: &[u32],
+    head: &[u16],
+    next: &[u16],
+    n: usize,
+    side: Side,
+    u: usize,
+) -> Owner
+    requires { ⌜ Known (now s) (now rows) (now head) (now next) n ⌝ }
+    requires { ⌜ u < n ⌝ }
+    ensures { λ r. ⌜ OwnerAt side (now (s .entry)) (now (rows .entry)) n u r ⌝ }
+{
+    if kind_at(rows, u) != TEXT_UNIT {
+        return Owner::Nobody;
+    }
+    let name = reading::bounds_at(rows, u, reading::column_of(side));
+    let cut = parents::last_space(s, name.first, name.past);
+    if cut == name.past {
+        return Owner::Nobody;
+    }
+    match parents::carrier(s, rows, head, next, n, name.first, cut) {
+        RowFound::Nothing => Owner::Nobody,
+        RowFound::At(row) => owner_by(s, rows, side, row, cut + 1, name.past),
+    }
+}

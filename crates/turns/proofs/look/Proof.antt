@@ -1,0 +1,31 @@
+-- `turns::look` meets its contract: what the owner tells is so. Assumes nothing.
+use mathlib.Core.Path.{sym, subst}
+use Prim.Native.Nat.{_≤_}
+use Rattle.turns.specs.declared.Own.{Own}
+use Rattle.turns.specs.Turns.{OwnIs}
+use Rattle.turns.proofs.Owning.{own-is, row-inside, row-low}
+use borrow.Author.Needs.{needs}
+use Rattle.turns.proofs.look.Statement.{statement}
+use Rattle.turns.proofs.look.Tie as tie
+
+owner-of-requires : tie.Need-owner-of-requires
+owner-of-requires c κs = search needs
+
+own-of-requires : tie.Need-own-of-requires
+own-of-requires c κs =
+    let start = c .before .before .before .before .before in
+    let known = start .pre .0 in
+    (row-inside (known .ready) (start .args .side) (start .args .u) (start .pre .1) (c .owner-of .result) (c .owner-of .ensures (known .elements) (known .ready)), known .identifiers .in-table)
+
+returns : tie.Need-returns
+returns c =
+    let start = c .before .before .before .before .before .before in
+    let a = start .args in
+    record {
+      is = λ elements ready. subst (OwnIs (a .side) elements (a .n) (a .u)) (sym (c .own-of .ensures))
+          (own-is ready (a .side) (a .u) (start .pre .1) (c .before .owner-of .result) (c .before .owner-of .ensures elements ready));
+      in-rows = subst (λ (o : Own). o .row ≤ a .u) (sym (c .own-of .ensures)) (row-low (a .rows .now) (a .n) (a .u) (c .before .owner-of .result));
+    }
+
+pub look-spec : {M : Type 1} → statement M
+look-spec = tie.close (tie.spec owner-of-requires own-of-requires returns)
