@@ -1,0 +1,116 @@
+-- What is promised of the PM1 desk holds: the pages are listed for each element of the tree, and the tree alone decides. Assumes nothing.
+use mathlib.Core.Path.{_≡_, refl, ap, sym, _∙_}
+use mathlib.Core.Logic.{_↔_}
+use mathlib.Core.Bool.{Bool, true, false, cond}
+use mathlib.Core.List.{List, [], _∷_, map, List·Memᴰ}
+use mathlib.Core.Option.{some}
+use Prim.Native.Nat.{ℕ, zero, suc, _+_, _≤_, _<_}
+use native.Mathlib.Omega.{arith}
+use lib.Dec.{eqb}
+use lib.ListN.{length, getElem?, length-map}
+use borrow.Author.Tests.{ne-eqb}
+use Rattle.tree.specs.Tree.{Tree, treeOf}
+use Rattle.normal.specs.Normal.{normalForm}
+use Rattle.elements.specs.declared.Edition.{Edition}
+use Rattle.elements.specs.Judge.{Element}
+use Rattle.reading.specs.Match.{forEach, only}
+use Rattle.reading.proofs.Lists.{Sorted, Once, sorted-once}
+use Rattle.reading.proofs.Each.{only-in, only-out, only-sorted, From, each-out, each-in, each-sorted, each-few}
+use Rattle.answers.proofs.Letters.{letter-found}
+use Rattle.demands.specs.Refusals.{TopItem, topItems, saysIn}
+use Rattle.demands.specs.SameLetter.{IsAccepted}
+use Rattle.demands.proofs.Refusals.{accepted-elements}
+use Rattle.demands.proofs.Demand2.{normal-tree}
+use Rattle.dimensions.specs.Dimensions.{verdictOf}
+use Rattle.pm1.specs.declared.Page.{Page}
+use Rattle.pm1.specs.declared.Listed.{Listed}
+use Rattle.pm1.specs.Pages.{isPage, pageOf, pagesOf, pagesIn}
+use Rattle.pm1.specs.Answers.{listed, listedList, PagesOutcome}
+use Rattle.pm1.proofs.Records.{only-few}
+use Rattle.desk.specs.Promises.{OfPage, Desk}
+
+abbrev Before : Page → Page → Type 0
+Before p q = p .element < q .element
+
+module _ (edition : Edition) where
+  abbrev test : TopItem → Bool
+  test item = isPage (saysIn edition item .kind) (saysIn edition item .object)
+
+  abbrev recordOf : ℕ → TopItem → Page
+  recordOf j item = record { element = j; verdict = verdictOf (item .run) }
+
+  -- a record that is listed
+  out : (s : List ℕ) (p : Page) → List·Memᴰ p (pagesIn edition s) → OfPage edition s p
+  out s p m =
+      let f = each-out (pageOf edition) 0 (topItems (treeOf s)) p m in
+      let o = only-out (test (f .here)) (recordOf (0 + f .place) (f .here)) p (f .from) in
+      let z : 0 + f .place ≡ f .place = omega arith in
+      let e : p .element ≡ f .place = ap (λ (q : Page). q .element) (o .1) ∙ z in
+      record {
+        item = f .here;
+        there = ap (getElem? (topItems (treeOf s))) e ∙ f .at;
+        page = o .0;
+        verdict-is = ap (λ (q : Page). q .verdict) (o .1);
+      }
+
+  same-record : (p : Page) (item : TopItem) → p .verdict ≡ verdictOf (item .run) → p ≡ recordOf (0 + p .element) item
+  same-record p item v =
+      let z : 0 + p .element ≡ p .element = omega arith in
+      ap (λ (n : ℕ). record { element = p .element; verdict = n }) v ∙ ap (λ (k : ℕ). recordOf k item) (sym z)
+
+  -- and a page that is there
+  into : (s : List ℕ) (p : Page) → OfPage edition s p → List·Memᴰ p (pagesIn edition s)
+  into s p o =
+      let e = same-record p (o .item) (o .verdict-is) in
+      each-in (pageOf edition) 0 (topItems (treeOf s)) p (p .element) (o .item) (o .there)
+      (rw (← e) (only-in (test (o .item)) (recordOf (0 + p .element) (o .item)) (o .page)))
+
+  sorted : (s : List ℕ) → Sorted Before (pagesIn edition s)
+  sorted s =
+      each-sorted (pageOf edition) Before (λ n item. only-sorted Before (test item) (recordOf n item)) across 0 (topItems (treeOf s))
+    where
+      across : (n k : ℕ) (x z : TopItem) (y w : Page) → n < k → List·Memᴰ y (pageOf edition n x) → List·Memᴰ w (pageOf edition k z) → Before y w
+      across n k x z y w l a b =
+          let p = ap (λ (q : Page). q .element) (only-out (test x) (recordOf n x) y a .1) in
+          let q = ap (λ (r : Page). r .element) (only-out (test z) (recordOf k z) w b .1) in
+          omega arith
+
+  said-at : (tops : List TopItem) (j : ℕ) (top : TopItem) → getElem? tops j ≡ some top → getElem? (map (saysIn edition) tops) j ≡ some (saysIn edition top)
+  said-at [] j top e = let z : _≡_ {A = ℕ} 0 1 = cc in absurd (omega arith)
+  said-at (x ∷ tops) zero top e = let p : x ≡ top = cc in ap (λ (y : TopItem). some (saysIn edition y)) p
+  said-at (x ∷ tops) (suc j) top e = said-at tops j top e
+
+  all-said : (s : List ℕ) (a : IsAccepted edition s) → a .elements ≡ map (saysIn edition) (topItems (treeOf s))
+  all-said s a = accepted-elements edition (treeOf s) (a .elements) (letter-found edition s (a .headers) (a .elements) (a .judged) .judged)
+
+  said : (s : List ℕ) (a : IsAccepted edition s) (p : Page) → OfPage edition s p
+      → (e : Element) × (getElem? (a .elements) (p .element) ≡ some e) × (isPage (e .kind) (e .object) ≡ true)
+  said s a p o =
+      (saysIn edition (o .item), ap (λ (es : List Element). getElem? es (p .element)) (all-said s a) ∙ said-at (topItems (treeOf s)) (p .element) (o .item) (o .there), o .page)
+
+  few : (s : List ℕ) (a : IsAccepted edition s) → length (pagesIn edition s) ≤ length (a .elements)
+  few s a =
+      let most = each-few (pageOf edition) (λ n item. only-few (test item) (recordOf n item)) 0 (topItems (treeOf s)) in
+      let size : length (a .elements) ≡ length (topItems (treeOf s)) = ap length (all-said s a) ∙ length-map (topItems (treeOf s)) (saysIn edition) in
+      omega arith
+
+  untouched : {s table after : List ℕ} {list listAfter : List Page} {a : Listed} → PagesOutcome edition s table list a after listAfter
+      → (a .number ≡ 0 → ⊥) → listAfter ≡ list
+  unfolding listedList
+  untouched {s} {table} {after} {list} {listAfter} {a} o some =
+      let n : eqb (listed edition s table (length list) .number) 0 ≡ false = ap (λ (x : Listed). eqb (x .number) 0) (sym (o .answered)) ∙ ne-eqb (a .number) 0 some in
+      o .filled ∙ rw n
+
+  pub pm1-desk : Desk edition
+  pm1-desk =
+      record {
+        exactly = λ s p. (out s p, into s p);
+        in-order = sorted;
+        once = λ s. sorted-once Before (λ p l. omega arith) (pagesIn edition s) (sorted s);
+        said = said;
+        few = few;
+        same-tree = λ s r e. ap (pagesOf edition) e;
+        normal = λ s a. ap (pagesOf edition) (normal-tree edition s (a .headers) (a .elements) (a .judged));
+        determined = λ x y. (x .answered ∙ sym (y .answered), x .tabled ∙ sym (y .tabled), x .filled ∙ sym (y .filled));
+        untouched = untouched;
+      }

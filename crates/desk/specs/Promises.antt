@@ -1,0 +1,52 @@
+-- What is promised of the PM1 desk (W-210): for a partner who wants to know what a list of verdicts means. `pm1-desk` (proofs/Promises) is a value of the
+-- record below. Definitions only: assumes nothing.
+use mathlib.Core.Path.{_≡_}
+use mathlib.Core.Logic.{_↔_}
+use mathlib.Core.Bool.{true}
+use mathlib.Core.List.{List, List·Memᴰ}
+use mathlib.Core.Option.{some}
+use Prim.Native.Nat.{ℕ, _≤_, _<_}
+use lib.ListN.{length, getElem?}
+use Rattle.tree.specs.Tree.{treeOf}
+use Rattle.normal.specs.Normal.{normalForm}
+use Rattle.elements.specs.declared.Edition.{Edition}
+use Rattle.elements.specs.Judge.{Element}
+use Rattle.reading.proofs.Lists.{Sorted, Once}
+use Rattle.demands.specs.Refusals.{TopItem, topItems, saysIn}
+use Rattle.demands.specs.SameLetter.{IsAccepted}
+use Rattle.measures.specs.Verdicts.{within, essentialPairs, nonEssentialPairs}
+use Rattle.dimensions.specs.Dimensions.{verdictOf}
+use Rattle.pm1.specs.declared.Page.{Page}
+use Rattle.pm1.specs.declared.Listed.{Listed}
+use Rattle.pm1.specs.Pages.{isPage, pagesIn}
+use Rattle.pm1.specs.Answers.{PagesOutcome}
+
+-- a record is of a page or a page class of the stream, with the verdict that the definition gives its items
+pub record OfPage (edition : Edition) (s : List ℕ) (p : Page) : Type 0 where
+  pub item : TopItem
+  pub there : getElem? (topItems (treeOf s)) (p .element) ≡ some item
+  pub page : isPage (saysIn edition item .kind) (saysIn edition item .object) ≡ true
+  pub verdict-is : p .verdict ≡ verdictOf (item .run)
+
+pub record Desk (edition : Edition) : Type 0 where
+  -- the list has exactly the pages, each with its verdict,
+  pub exactly : (s : List ℕ) (p : Page) → List·Memᴰ p (pagesIn edition s) ↔ OfPage edition s p
+  -- in stream order, and none twice
+  pub in-order : (s : List ℕ) → Sorted (λ (p q : Page). p .element < q .element) (pagesIn edition s)
+  pub once : (s : List ℕ) → Once (pagesIn edition s)
+  -- of a letter the pages are elements that say they are one, and there are no more than elements: so long a list never meets 30
+  pub said : (s : List ℕ) (a : IsAccepted edition s) (p : Page) → OfPage edition s p
+      → (e : Element) × (getElem? (a .elements) (p .element) ≡ some e) × (isPage (e .kind) (e .object) ≡ true)
+  pub few : (s : List ℕ) (a : IsAccepted edition s) → length (pagesIn edition s) ≤ length (a .elements)
+  -- the verdicts do not depend on length octets: two streams with one tree have the same, and so has the normal form
+  pub same-tree : (s r : List ℕ) → treeOf s ≡ treeOf r → pagesIn edition s ≡ pagesIn edition r
+  pub normal : (s : List ℕ) → IsAccepted edition s → pagesIn edition (normalForm s) ≡ pagesIn edition s
+  -- two outcomes of the contract are equal, and what is refused leaves the list as it was
+  pub determined : {s table tableA tableB : List ℕ} {list listA listB : List Page} {a b : Listed} → PagesOutcome edition s table list a tableA listA
+      → PagesOutcome edition s table list b tableB listB → (a ≡ b) × (tableA ≡ tableB) × (listA ≡ listB)
+  pub untouched : {s table after : List ℕ} {list listAfter : List Page} {a : Listed} → PagesOutcome edition s table list a after listAfter
+      → (a .number ≡ 0 → ⊥) → listAfter ≡ list
+
+-- "every essential pair is within a non-essential one": what is within the one table is within the other
+abbrev pub EssentialWithin : Type 0
+EssentialWithin = (h v : ℕ) → within h v essentialPairs ≡ true → within h v nonEssentialPairs ≡ true

@@ -1,0 +1,75 @@
+-- `measures::integer_of` meets its contract: no integer, one that is not under 0, and one that is. Assumes nothing.
+use mathlib.Core.Path.{_≡_, refl, sym, ap, _∙_}
+use mathlib.Core.Bool.{Bool, true, false}
+use native.Mathlib.Omega.{arith}
+use borrow.Author.Tests.{le-leb, lt-leb, eq-eqb, ne-eqb, not-true, not-false}
+use Prim.Native.Nat.{ℕ, _≤_, _<_}
+use lib.ListN.{length, getD}
+use Rattle.measures.specs.Integers.{isInteger}
+use Rattle.measures.proofs.Octets.{octets-bounded, no-integer, not-under, under-zero}
+use borrow.Author.Needs.{needs}
+use Rattle.measures.proofs.integer_of.Statement.{statement}
+use Rattle.measures.proofs.integer_of.Tie as tie
+use Rattle.measures.proofs.integer_of.Reads as reads
+use Rattle.measures.proofs.integer_of.Lts as lts
+use Rattle.measures.proofs.big_endian.Reads as big-endian-reads
+use Rattle.measures.proofs.is_integer.Reads as is-integer-reads
+use Rattle.measures.proofs.power.Reads as power-reads
+use Rattle.measures.proofs.wide.Reads as wide-reads
+
+is-integer-requires : tie.Need-is-integer-requires
+is-integer-requires c κs = search needs
+
+returns : tie.Need-returns
+returns c =
+    let v = c .before .before .before .args .v .now in
+    no-integer v (sym (c .before .is-integer .ensures) ∙ not-true _ (c .if1 .taken))
+
+big-endian-requires : tie.Need-big-endian-requires
+big-endian-requires c κs =
+    let v = c .before .before .before .args .v .now in
+    octets-bounded v (sym (c .before .is-integer .ensures) ∙ not-false _ (c .if1 .left)) .1
+
+shared-slice-read-wide : tie.Need-shared-slice-read-wide
+shared-slice-read-wide c =
+    let v = c .before .before .before .before .before .args .v .now in
+    omega (arith, octets-bounded v (sym (c .before .before .before .is-integer .ensures) ∙ not-false _ (c .before .before .if1 .left)) .0)
+
+wide-requires : tie.Need-wide-requires
+wide-requires c κs = search needs
+
+returns-2 : tie.Need-returns-2
+returns-2 c =
+    let v = c .before .before .before .before .before .before .before .args .v .now in
+    let e : isInteger v ≡ true = sym (c .before .before .before .before .before .is-integer .ensures) ∙ not-false _ (c .before .before .before .before .if1 .left) in
+    not-under v e _ (c .before .before .before .big-endian .ensures .0) (omega (arith, c .before .wide .ensures))
+
+power-requires : tie.Need-power-requires
+power-requires c κs =
+    let v = c .before .before .before .before .before .before .before .args .v .now in
+    octets-bounded v (sym (c .before .before .before .before .before .is-integer .ensures) ∙ not-false _ (c .before .before .before .before .if1 .left))
+
+sub-t9 : tie.Need-sub-t9
+sub-t9 c =
+    let v = c .before .before .before .before .before .before .before .before .args .v .now in
+    omega (arith, c .power .ensures, c .before .before .before .before .big-endian .ensures .1)
+
+returns-3 : tie.Need-returns-3
+returns-3 c =
+    let v = c .before .before .before .before .before .before .before .before .args .v .now in
+    let e : isInteger v ≡ true = sym (c .before .before .before .before .before .before .is-integer .ensures) ∙ not-false _ (c .before .before .before .before .before .if1 .left) in
+    under-zero v e _ (c .before .before .before .before .big-endian .ensures .0) (omega (arith, c .before .before .wide .ensures)) _ (c .power .ensures)
+
+pub integer-of-spec : {M : Type 1} → statement M
+integer-of-spec =
+    tie.close
+    (tie.spec
+    is-integer-requires
+    returns
+    big-endian-requires
+    shared-slice-read-wide
+    wide-requires
+    returns-2
+    power-requires
+    sub-t9
+    returns-3)
