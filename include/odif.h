@@ -59,8 +59,8 @@
    23   not exactly one date of the document in the profile, or it is constructed     0
    24   the first ten octets of the date name no day                                  0
    25   the list is shorter than the children                                         0
-   26   no run in the order of the asked class begins with the elements through       the element, or the
-        this one; or only text units are missing at the end                           stream's length
+   26   the elements through this one begin no stream in the asked order; or          the element, or the
+        only the end is missing                                                       stream's length
    27   a part of an entry is outside the buffer, or ends before it begins            the entry's number
    28   a block is past the total that was told                                       0
    29   a letter in blocks is closed before all its octets have come                  0
@@ -272,6 +272,13 @@ odif_related odif_children(const uint8_t *ODIF_APART stream, size_t stream_len, 
                            uint32_t *ODIF_APART table, size_t table_len,
                            uint32_t *ODIF_APART list, size_t list_len);
 
+/* Whether the elements stand in the order of interchange class A (7.2 of T.415 of 1993) or of class B (7.3), whatever
+   class the profile names. In class A text units stand in two groups, after all classes and after all objects; in class
+   B right after the class or object that lists their portions. In both every portion has its unit in the end. odif_check
+   accepts either order, and neither. Nothing but the stream is lent. */
+odif_ordered odif_order_a(const uint8_t *stream, size_t stream_len);
+odif_ordered odif_order_b(const uint8_t *stream, size_t stream_len);
+
 /* Finds the date of the document. */
 odif_dated odif_date(const uint8_t *stream, size_t stream_len);
 
@@ -279,13 +286,6 @@ odif_dated odif_date(const uint8_t *stream, size_t stream_len);
    it is read. Of a letter it is what odif_date finds. The front of a stream is enough, if the first element is whole in it;
    else 7 is given, or what stands there is refused. It takes time as the first element is long, and little stack. */
 odif_first_dated odif_first_date(const uint8_t *stream, size_t stream_len);
-
-/* Says whether the elements stand in the order of interchange format class A or of class B (T.415 of 1993, 7.2 and 7.3),
-   whatever class the profile names: 0 if they do. Else 26 stands at the first element such that no run in the order
-   begins with the elements through it, which can be before the element that one would move, or at the stream's length if
-   only the end is missing. docs/ORDER.md has the two tables. */
-odif_ordered odif_order_a(const uint8_t *stream, size_t stream_len);
-odif_ordered odif_order_b(const uint8_t *stream, size_t stream_len);
 
 /* The same questions by the edition of 1993. */
 odif_checked odif_check_1993(const uint8_t *ODIF_APART stream, size_t stream_len,
@@ -306,10 +306,10 @@ odif_copied odif_joined_1993(const uint8_t *ODIF_APART stream, size_t stream_len
 odif_related odif_children_1993(const uint8_t *ODIF_APART stream, size_t stream_len, uint32_t row,
                                 uint32_t *ODIF_APART table, size_t table_len,
                                 uint32_t *ODIF_APART list, size_t list_len);
-odif_dated odif_date_1993(const uint8_t *stream, size_t stream_len);
-odif_first_dated odif_first_date_1993(const uint8_t *stream, size_t stream_len);
 odif_ordered odif_order_a_1993(const uint8_t *stream, size_t stream_len);
 odif_ordered odif_order_b_1993(const uint8_t *stream, size_t stream_len);
+odif_dated odif_date_1993(const uint8_t *stream, size_t stream_len);
+odif_first_dated odif_first_date_1993(const uint8_t *stream, size_t stream_len);
 
 /* Makes a letter of entries, which lie apart from the output as all that is lent does: an empty profile, and for each
    entry a block with the identifier and that one portion, and a text unit with the text. It is accepted, its layout list

@@ -14,6 +14,9 @@ use Rattle.answers.specs.declared.Copied.{Copied}
 use Rattle.answers.specs.declared.Related.{Related}
 use Rattle.answers.specs.Related.{ChildrenOutcome}
 use Rattle.answers.specs.Short.{ShortOutcome}
+use Rattle.order.specs.declared.Class.{Class}
+use Rattle.orders.specs.declared.Ordered.{Ordered}
+use Rattle.orders.specs.Orders.{ordered}
 use Rattle.answers.specs.Answers.{CheckOutcome, NormalOutcome, ListOutcome, fetched, whyNot, Fetches, JoinedOutcome}
 
 pub check-determined : {edition : Edition} {s table : List ℕ} {a b : Checked} {t u : List ℕ} → CheckOutcome edition s table a t → CheckOutcome edition s table b u → (a ≡ b) × (t ≡ u)
@@ -46,3 +49,6 @@ joined-determined x y = (x .answered ∙ sym (y .answered), x .put ∙ sym (y .p
 pub children-determined : {edition : Edition} {s table : List ℕ} {row : ℕ} {list : List ℕ} {a b : Related} {t u m n : List ℕ}
     → ChildrenOutcome edition s table row list a t m → ChildrenOutcome edition s table row list b u n → (a ≡ b) × (t ≡ u) × (m ≡ n)
 children-determined x y = (x .answered ∙ sym (y .answered), x .tabled ∙ sym (y .tabled), x .filled ∙ sym (y .filled))
+
+pub order-determined : (edition : Edition) (class : Class) (s : List ℕ) (a b : Ordered) → a ≡ ordered edition class s → b ≡ ordered edition class s → a ≡ b
+order-determined edition class s a b x y = x ∙ sym y

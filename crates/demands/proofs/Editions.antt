@@ -33,6 +33,8 @@ use Rattle.fronts.specs.First.{walkFirst}
 use Rattle.answers.specs.Answers.{letterIn, rowsIn, checked, checkedTable, written, writtenOutput, listed, listedTable, listedList, fetched, located, joinedIn, copied, copiedOutput, ruled}
 use Rattle.answers.specs.Related.{related, relatedTable, relatedList}
 use Rattle.answers.specs.Short.{writtenShort, writtenShortOutput}
+use Rattle.order.specs.Question.{orderIn}
+use Rattle.orders.specs.Orders.{ordered}
 use Rattle.answers.specs.Dates.{dateOf, dated}
 use Rattle.answers.specs.FirstDates.{firstTree, firstRule, ruledAlone, firstRuled, firstDateOf, firstDated}
 use Rattle.answers.proofs.Letters.{refused-element, letter-found}
@@ -257,7 +259,7 @@ module _ (s : List ℕ) (same : letterIn Of1993 s ≡ letterIn Of1988 s) where
       }
 
   same-answers : SameAnswers s
-  unfolding checked written writtenOutput writtenShort writtenShortOutput listed listedList fetched joinedIn copied copiedOutput related relatedList ruled dateOf dated
+  unfolding checked written writtenOutput writtenShort writtenShortOutput listed listedList fetched joinedIn copied copiedOutput related relatedList ruled dateOf dated ordered orderIn
   same-answers =
       let tables = by-letter (letterIn Of1988 s) refl in
       record {
@@ -279,6 +281,7 @@ module _ (s : List ℕ) (same : letterIn Of1993 s ≡ letterIn Of1988 s) where
         children-rows = λ table row list. rw same;
         date = rw same;
         date-bounds = rw same;
+        order = λ class. rw same;
       }
 
 -- rules 10 and 11 of a first element that is read alike

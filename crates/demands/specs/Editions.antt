@@ -21,6 +21,8 @@ use Rattle.answers.specs.Answers.{letterIn, rowsIn, checked, checkedTable, writ
 use Rattle.answers.specs.Answers.{copied, copiedOutput}
 use Rattle.answers.specs.Related.{related, relatedTable, relatedList}
 use Rattle.answers.specs.Short.{writtenShort, writtenShortOutput}
+use Rattle.order.specs.declared.Class.{Class}
+use Rattle.orders.specs.Orders.{ordered}
 use Rattle.answers.specs.Dates.{dateOf, dated}
 use Rattle.answers.specs.FirstDates.{firstTree, firstDateOf, firstDated}
 use Rattle.demands.specs.Refusals.{TopItem, topItems, Refuses}
@@ -57,6 +59,7 @@ pub record SameAnswers (s : List ℕ) : Type 0 where
   pub children-rows : (table : List ℕ) (row : ℕ) (list : List ℕ) → relatedList Of1993 s table row list ≡ relatedList Of1988 s table row list
   pub date : dateOf Of1993 s ≡ dateOf Of1988 s
   pub date-bounds : dated Of1993 s ≡ dated Of1988 s
+  pub order : (class : Class) → ordered Of1993 class s ≡ ordered Of1988 class s
 
 -- a letter of both: the same elements, rows and matches
 pub record SameLetterIn (s : List ℕ) (headers : ℕ) (elements : List Element) : Type 0 where

@@ -1,0 +1,42 @@
+-- What is promised of the order of a letter beside the rules (W-207): the answer comes after 15, and takes nothing from what the check accepts.
+-- What it is to be in order is in crate order (specs/ClassA, ClassB, Begins). Definitions only: assumes nothing.
+use Prim.Native.Nat.{ℕ}
+use mathlib.Core.Path.{_≡_}
+use mathlib.Core.List.{List}
+use Rattle.elements.specs.declared.Edition.{Edition}
+use Rattle.elements.specs.declared.Edition.the-variants.{Of1988}
+use Rattle.elements.specs.Judge.{Element}
+use Rattle.letters.specs.Letter.{letter}
+use Rattle.order.specs.declared.Class.{Class}
+use Rattle.order.specs.declared.Class.the-variants.{A, B}
+use Rattle.order.specs.Question.{Answered}
+use Rattle.order.specs.Coded.{classOf}
+use Rattle.orders.specs.Orders.{ordered}
+use Rattle.answers.specs.Answers.{letterIn}
+
+-- rules 1 to 15 accept a stream
+pub record Accepted (edition : Edition) (s : List ℕ) : Type 0 where
+  pub headers : ℕ
+  pub elements : List Element
+  pub judged : letterIn edition s ≡ letter headers elements
+
+pub record OrderOf (edition : Edition) (class : Class) (s : List ℕ) : Type 0 where
+  -- 0 exactly if in order; 26 "at the first element such that the elements through it begin no run", "after 15"
+  pub answered : Answered edition (classOf class) s
+  -- 0 and 26 are answered of what the rules accept, and of nothing else
+  pub in-order : ordered edition class s .number ≡ 0 → Accepted edition s
+  pub out-of-order : ordered edition class s .number ≡ 26 → Accepted edition s
+
+-- a stream that the rules accept and that is answered so by class A and by class B
+pub record Answers (a b : ℕ) : Type 0 where
+  pub stream : List ℕ
+  pub accepted : Accepted Of1988 stream
+  pub by-a : ordered Of1988 A stream .number ≡ a
+  pub by-b : ordered Of1988 B stream .number ≡ b
+
+-- "The check accepts both orders and neither."
+pub record AnyOrder : Type 0 where
+  pub both : Answers 0 0
+  pub a-alone : Answers 0 26
+  pub b-alone : Answers 26 0
+  pub neither : Answers 26 26
