@@ -1,5 +1,5 @@
 -- What is promised of the PM1 desk holds: the pages are listed for each element of the tree, and the tree alone decides. Assumes nothing.
-use mathlib.Core.Path.{_≡_, refl, ap, sym, _∙_}
+use mathlib.Core.Path.{_≡_, refl, ap, sym, _∙_, subst}
 use mathlib.Core.Logic.{_↔_}
 use mathlib.Core.Bool.{Bool, true, false, cond}
 use mathlib.Core.List.{List, [], _∷_, map, List·Memᴰ}
@@ -63,7 +63,8 @@ module _ (edition : Edition) where
   into s p o =
       let e = same-record p (o .item) (o .verdict-is) in
       each-in (pageOf edition) 0 (topItems (treeOf s)) p (p .element) (o .item) (o .there)
-      (rw (← e) (only-in (test (o .item)) (recordOf (0 + p .element) (o .item)) (o .page)))
+      (subst (λ (q : Page). List·Memᴰ q (only (test (o .item)) (recordOf (0 + p .element) (o .item)))) (sym e)
+      (only-in (test (o .item)) (recordOf (0 + p .element) (o .item)) (o .page)))
 
   sorted : (s : List ℕ) → Sorted Before (pagesIn edition s)
   sorted s =
@@ -97,8 +98,8 @@ module _ (edition : Edition) where
   untouched : {s table after : List ℕ} {list listAfter : List Page} {a : Listed} → PagesOutcome edition s table list a after listAfter
       → (a .number ≡ 0 → ⊥) → listAfter ≡ list
   unfolding listedList
-  untouched {s} {table} {after} {list} {listAfter} {a} o some =
-      let n : eqb (listed edition s table (length list) .number) 0 ≡ false = ap (λ (x : Listed). eqb (x .number) 0) (sym (o .answered)) ∙ ne-eqb (a .number) 0 some in
+  untouched {s} {table} {after} {list} {listAfter} {a} o refused =
+      let n : eqb (listed edition s table (length list) .number) 0 ≡ false = ap (λ (x : Listed). eqb (x .number) 0) (sym (o .answered)) ∙ ne-eqb (a .number) 0 refused in
       o .filled ∙ rw n
 
   pub pm1-desk : Desk edition

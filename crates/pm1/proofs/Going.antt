@@ -71,6 +71,8 @@ module _ {s table flat₀ flat : List ℕ} {left : Run} {element count : ℕ} (r
   pub going-none : itemsOf s left ≡ none → (records flat count ≡ pagesAt s table 0 (itemsOf s (wholeStream s))) × (count ≤ 4096) × (2 * count ≤ length flat)
   unfolding pagesAt
   going-none e =
-      let no-more : pagesAt s table element (itemsOf s left) ≡ [] = ap (pagesAt s table element) e in
-      (sym (append-nil (records flat count)) ∙ ap (λ (l : List Page). records flat count ++ l) (sym no-more) ∙ g .goes-on,
-       omega (arith, g .passed, g .fewer, ready .few), omega (arith, g .passed, g .fewer, g .kept, ready .room))
+      let no-more : pagesAt s table element (itemsOf s left) ≡ [] = ap (pagesAt s table element) e in (
+        sym (append-nil (records flat count)) ∙ ap (λ (l : List Page). records flat count ++ l) (sym no-more) ∙ g .goes-on,
+        omega (arith, g .passed, g .fewer, ready .few),
+        omega (arith, g .passed, g .fewer, g .kept, ready .room),
+      )

@@ -8,8 +8,7 @@ use lib.Dec.{eqb}
 use lib.ListN.{length, getD}
 use Rattle.octets.specs.Walk.{Items, none, item}
 use Rattle.tree.specs.Tree.{Tree, plain}
-use Rattle.runs.specs.declared.Run.{Run}
-use Rattle.runs.specs.Runs.{itemsOf, treeIn, wholeStream, tops, Fine}
+use Rattle.runs.specs.Runs.{itemsOf, wholeStream, tops, Fine}
 use Rattle.elements.specs.declared.Edition.{Edition}
 use Rattle.reading.specs.Match.{only}
 use Rattle.answers.specs.Table.{tableWidth}
@@ -34,6 +33,10 @@ pageAt table j run = only (isPage (kindAt table j) (objectAt table j)) (record {
 unfoldable pub pagesAt : (s table : List ℕ) → (j : ℕ) → Items → List Page
 pagesAt s table j none = []
 pagesAt s table j (item at octet first past inside after) = pageAt table j (plain s inside) ++ pagesAt s table (suc j) after
+
+-- the pages of a whole stream
+abbrev pub pagesBy : (s table : List ℕ) → List Page
+pagesBy s table = pagesAt s table 0 (itemsOf s (wholeStream s))
 
 -- the record k of a list of numbers
 abbrev pub recordAt : List ℕ → (k : ℕ) → Page

@@ -1,18 +1,18 @@
 // The PM1 desk: a question over the reader, which pages of a letter are within PM1. It asks `odif::check`, and goes through the elements by
-// `runs::meet`; nothing else of the reader's is used.
-pub use odif::Edition;
+// `runs::meet`.
 use answers::TABLE_WIDTH;
+pub use odif::Edition;
 use runs::Met;
 use runs::Run;
 ghost use mathlib.Core.Path.{_≡_};
 ghost use mathlib.Core.List.{_++_};
 ghost use Prim.Native.Nat.{_+_, _*_, _<_, _≤_};
 ghost use lib.ListN.{length, set, drop};
-ghost use Rattle.runs.specs.Runs.{itemsOf, treeIn, wholeStream, Fine};
+ghost use Rattle.runs.specs.Runs.{treeIn, Fine};
 ghost use Rattle.answers.specs.Table.{tableWidth};
 ghost use Rattle.pm1.specs.Pages.{isPage};
 ghost use Rattle.pm1.specs.Answers.{PagesOutcome};
-ghost use Rattle.pm1.specs.Flat.{kindAt, objectAt, pageAt, pagesAt, recordAt, records, Puts, Ready, ListsFlat};
+ghost use Rattle.pm1.specs.Flat.{kindAt, objectAt, pageAt, pagesBy, recordAt, records, Puts, Ready, ListsFlat};
 
 const LIST_TOO_SHORT: u32 = 30;
 
@@ -89,8 +89,7 @@ fn put_element(
 // Puts the records of all pages, by the finished table of a stream that was walked.
 fn put_pages(stream: &[u8], table: &[u32], flat: &mut [u32]) -> usize
     requires { ⌜ Ready (now stream) (now table) (now flat) ⌝ }
-    ensures { λ r. ⌜ (records (now (flat .exit)) r ≡ pagesAt (now (stream .entry)) (now (table .entry)) 0 (itemsOf (now (stream .entry)) (wholeStream (now (stream .entry)))))
-        × (r ≤ 4096) × (2 * r ≤ length (now (flat .exit))) ⌝ }
+    ensures { λ r. ⌜ (records (now (flat .exit)) r ≡ pagesBy (now (stream .entry)) (now (table .entry))) × (r ≤ 4096) × (2 * r ≤ length (now (flat .exit))) ⌝ }
 {
     let mut left = runs::whole_stream(stream);
     let mut element: usize = 0;
