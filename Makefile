@@ -16,7 +16,7 @@ version := $(shell sed -n 's/^\#define ODIF_VERSION  *"\(.*\)"/\1/p' include/odi
 # before 1.0.0 the second number changes with what callers are compiled against
 series  := $(shell echo $(version) | cut -d. -f1,2)
 proved  := target/staticlib/libodif.a
-# the same with the PM1 desk, over which the command is built
+# the PM1 desk
 desk    := target/staticlib/libpm1.a
 out     := target/install
 to      := $(DESTDIR)$(PREFIX)
@@ -42,9 +42,8 @@ $(out)/libodif.a: $(proved) $(out)/odif_sentence.o
 	cp $(proved) $@
 	$(AR) rs $@ $(out)/odif_sentence.o
 
-$(out)/libpm1.a: $(desk) $(out)/odif_sentence.o
+$(out)/libpm1.a: $(desk) | $(out)
 	cp $(desk) $@
-	$(AR) rs $@ $(out)/odif_sentence.o
 
 $(out)/libodif.so: $(proved) $(out)/odif_sentence.o
 	$(CC) -shared -Wl,-soname,libodif.so.$(series) -Wl,-z,defs -Wl,-z,text -Wl,-z,relro -Wl,-z,now \
@@ -58,7 +57,7 @@ $(out)/odif.pc: packaging/odif.pc.in | $(out)
 # rust/packages makes the crates ready that the command uses, and cargo knows what has changed; the command writes its own
 # manual page and completions
 .PHONY: $(out)/odif
-$(out)/odif: $(desk) | $(out)
+$(out)/odif: $(proved) $(desk) | $(out)
 	cd rust && ./packages && cargo build --release --locked --workspace --bin odif
 	cp rust/target/release/odif $@
 	$@ man > $@.1

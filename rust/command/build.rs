@@ -7,8 +7,8 @@ use std::process::Command;
 fn main() {
     let here = PathBuf::from(env::var_os("CARGO_MANIFEST_DIR").expect("cargo sets it"));
     let library = match env::var_os("ODIF_LIB_DIR") {
-        Some(folder) => PathBuf::from(folder).join("libpm1.a"),
-        None => here.join("../../target/staticlib/libpm1.a"),
+        Some(folder) => PathBuf::from(folder).join("libodif.a"),
+        None => here.join("../../target/staticlib/libodif.a"),
     };
     println!("cargo::rerun-if-changed=build.rs");
     println!("cargo::rerun-if-env-changed=ODIF_LIB_DIR");

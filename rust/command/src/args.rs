@@ -27,7 +27,7 @@ const SIGPIPE: u8 = 13;
 /// What `--version` tells: which library this is, and what proved it.
 const VERSION: &str = concat!(
     env!("CARGO_PKG_VERSION"),
-    "\nlibrary   libpm1.a, sha256 ",
+    "\nlibrary   libodif.a, sha256 ",
     env!("ODIF_LIBRARY"),
     "\ncommit    ",
     env!("ODIF_COMMIT"),

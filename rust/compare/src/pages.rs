@@ -11,7 +11,7 @@ use crate::lent::{self, Lent};
 use crate::rng::Rng;
 use crate::tally::{Origin, Question, Tally, hex};
 
-const VECTORS: &str = include_str!("../../../vectors/pages.txt");
+const VECTORS: &str = include_str!("../../../vectors/pm1.txt");
 
 /// T.502, table 10: horizontal and vertical, in the order of the print. The first two are essential.
 pub const PRINTED: [[i64; 2]; 8] = [
@@ -153,17 +153,17 @@ impl One<'_> {
 /// Holds the library to the vectors.
 pub fn hold_vectors(holder: &mut Holder) {
     for fields in lines(VECTORS) {
-        let [name, hex, by_1988, by_1993, pages] = fields[..] else { panic!("a line of five fields: {fields:?}") };
+        let [name, hex, wanted, pages] = fields[..] else { panic!("a line of four fields: {fields:?}") };
         let stream = octets(hex);
         holder.hold(&stream, Origin::Fixed(name.into()), &mut Rng::new(1));
-        for (edition, wanted) in Edition::ALL.into_iter().zip([by_1988, by_1993]) {
-            let (mut table, mut list) = (vec![0; 8 * ROW_WIDTH], vec![raw::pm1::Page::default(); 8]);
+        for edition in Edition::ALL {
+            let (mut table, mut list) = (vec![0; 16 * ROW_WIDTH], vec![raw::pm1::Page::default(); 16]);
             let answer = raw::pm1::pages_in(edition, &stream, &mut table, &mut list);
-            let given = format!("{} {}", answer.number, answer.place);
+            let given = format!("{} {} {} {}", answer.number, answer.place, answer.elements, answer.pages);
             holder.tally.expect(given == wanted, || format!("{name}, by {edition}: {given}, not {wanted}"));
-            let told = list[..answer.pages as usize].iter().map(|page| format!("{} {}", page.element, page.verdict));
-            let told = told.collect::<Vec<_>>().join(", ");
-            let same = answer.number != 0 || told == pages || told.is_empty() && pages == "-";
+            let told = list[..answer.pages as usize].iter().map(|page| format!("{}:{}", page.element, page.verdict));
+            let told = told.collect::<Vec<_>>().join(" ");
+            let same = told == pages || told.is_empty() && pages == "-";
             holder.tally.expect(same, || format!("{name}, by {edition}: {told}, not {pages}"));
         }
     }

@@ -192,7 +192,7 @@ impl Rule {
             Rule::NoSoleDate => "the profile does not have exactly one date of the document, or that is constructed",
             Rule::NoSuchDay => "the date of the document does not begin with a day as in 1988-06-05",
             Rule::ChildrenTooShort => "the list is shorter than the children",
-            Rule::OutOfOrder => "the elements are not in the order of the class that is asked",
+            Rule::OutOfOrder => "the elements are not in the order that was asked",
             Rule::PartOutside => "a part of an entry is outside the buffer, or ends before it begins",
             Rule::PagesTooShort => "the list is shorter than the pages",
             Rule::Unknown(_) => "a rule that is newer than this program",

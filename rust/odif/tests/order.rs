@@ -39,7 +39,7 @@ fn a_refusal_by_26_in_words() {
     let stream = octets("A000 A2080201043103410131 A7054503352030");
     let refusal = odif::order(Class::A, &stream).unwrap_err();
     assert_eq!((refusal.rule, refusal.place), (Rule::OutOfOrder, 12));
-    let words = "number 26 at 12: the elements are not in the order of the class that is asked";
+    let words = "number 26 at 12: the elements are not in the order that was asked";
     assert_eq!(refusal.to_string(), words);
     assert_eq!(raw::order(Class::B, &stream), raw::Ordered { number: 26, place: 12 });
     assert_eq!(raw::order(Class::B, &[]), raw::Ordered { number: 11, place: 0 });

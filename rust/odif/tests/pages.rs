@@ -1,8 +1,5 @@
 //! The PM1 desk.
 
-use std::path::Path;
-use std::process::Command;
-
 use odif::pm1::{self, Verdict};
 use odif::{Edition, Letter, ROW_WIDTH, Rule, raw};
 
@@ -52,18 +49,4 @@ fn refusals_and_what_they_leave() {
     let whole = raw::pm1::pages(PAGES, &mut table, &mut list);
     assert_eq!(whole, raw::pm1::Listed { number: 0, place: 0, elements: 7, pages: 5 });
     assert_eq!(list[1], raw::pm1::Page { element: 2, verdict: 2 });
-}
-
-#[test]
-fn a_c_program_over_the_header() {
-    let folder = Path::new(env!("CARGO_MANIFEST_DIR"));
-    let program = Path::new(env!("CARGO_TARGET_TMPDIR")).join("pm1");
-    let mut cc = Command::new("cc");
-    cc.args(["-std=c99", "-Wall", "-Wextra", "-pedantic", "-Werror", "-I"]).arg(folder.join("../../include"));
-    cc.arg(folder.join("tests/pm1.c")).arg(env!("ODIF_ARCHIVE")).arg("-o").arg(&program);
-    let compiled = cc.output().expect("a C compiler");
-    assert!(compiled.status.success(), "{}", String::from_utf8_lossy(&compiled.stderr));
-    let output = Command::new(&program).output().unwrap();
-    let wanted = "0 0 5 3: 1 1 2 2 4 4\n0 0 5 3: 1 1 2 2 4 4\n30 0 5 0:\n16 0 0 0:\n11 0 0 0:\n5 30\n";
-    assert_eq!(String::from_utf8_lossy(&output.stdout), wanted);
 }

@@ -48,9 +48,9 @@ fn the_version() {
     let lines: Vec<&str> = run.text().lines().collect();
     assert_eq!((lines.len(), lines[0]), (4, concat!("odif ", env!("CARGO_PKG_VERSION"))));
     let library = std::env::var_os("ODIF_LIB_DIR").map_or_else(|| repository().join("target/staticlib"), PathBuf::from);
-    let hash = Command::new("sha256sum").arg(library.join("libpm1.a")).output().unwrap().stdout;
+    let hash = Command::new("sha256sum").arg(library.join("libodif.a")).output().unwrap().stdout;
     let hash = String::from_utf8(hash).unwrap();
-    assert_eq!(lines[1], format!("library   libpm1.a, sha256 {}", hash.split(' ').next().unwrap()));
+    assert_eq!(lines[1], format!("library   libodif.a, sha256 {}", hash.split(' ').next().unwrap()));
     assert!(lines[2].starts_with("commit    ") && lines[3].starts_with("toolchain "), "{}", run.text());
     assert_eq!(odif(&["-V"]).text().lines().count(), 1);
 }
