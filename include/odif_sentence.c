@@ -32,6 +32,7 @@ static const char *const sentences[] = {
     [27] = "a part of an entry is outside the buffer, or ends before it begins",
     [28] = "a block is past the total that was told",
     [29] = "the letter was closed before all its octets had come",
+    [30] = "the list is shorter than the pages",
 };
 
 const char *odif_sentence(uint32_t number) {

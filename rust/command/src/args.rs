@@ -8,7 +8,7 @@ use clap::{Args, CommandFactory, Parser, Subcommand, ValueEnum};
 use odif::{Edition, Letter, Match, Side};
 
 use crate::status::{Failure, Outcome, Status, tell};
-use crate::{check, date, export, list, make, man, normal, outline, same, survey, text, tree};
+use crate::{check, date, export, list, make, man, normal, order, outline, pages, same, survey, text, tree};
 
 const EXAMPLES: &str = "\
 Examples:
@@ -51,6 +51,8 @@ enum Command {
     Tree(tree::Words),
     List(list::Words),
     Outline(outline::Words),
+    Order(order::Words),
+    Pages(pages::Words),
     Normal(normal::Words),
     Make(make::Words),
     Survey(survey::Words),
@@ -186,6 +188,8 @@ fn dispatch(command: Command) -> Outcome {
         Command::Tree(words) => tree::run(&words),
         Command::List(words) => list::run(&words),
         Command::Outline(words) => outline::run(&words),
+        Command::Order(words) => order::run(&words),
+        Command::Pages(words) => pages::run(&words),
         Command::Normal(words) => normal::run(&words),
         Command::Make(words) => make::run(&words),
         Command::Survey(words) => survey::run(&words),

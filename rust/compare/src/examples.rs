@@ -30,7 +30,7 @@ pub fn listed() -> impl Iterator<Item = (&'static str, Vec<u8>, &'static str)> {
 }
 
 /// The lines of a table whose fields stand between semicolons.
-fn lines(table: &str) -> impl Iterator<Item = Vec<&str>> {
+pub fn lines(table: &str) -> impl Iterator<Item = Vec<&str>> {
     table.lines().filter(|line| !line.starts_with('#')).map(|line| line.split(';').map(str::trim).collect())
 }
 

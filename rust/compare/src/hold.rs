@@ -9,6 +9,8 @@ use crate::dates;
 use crate::editions::{self, to_reader};
 use crate::lent::{self, Lent};
 use crate::openssl::Batch;
+use crate::order;
+use crate::pages;
 use crate::rng::Rng;
 use crate::tally::{Origin, Question, Tally, hex};
 
@@ -57,6 +59,8 @@ impl Holder {
         one.ask_children(rng);
         one.expect(before == stream, "the stream itself", || "it was written to".into());
         dates::hold(edition, stream, reading, origin, one.tally, rng);
+        order::hold(edition, stream, reading, origin, one.tally);
+        pages::hold(edition, stream, reading, origin, one.tally, rng);
         if reading.refusal().is_none() {
             one.ask_round_trip(rng);
             one.ask_binding(rng);
@@ -326,6 +330,10 @@ impl One<'_> {
         self.expect(written.number == 0 && again == out, "the normal form's own", || hex(&again));
         let (mine, normal) = (dates::told(self.edition, self.stream), dates::told(self.edition, &out));
         self.expect(mine == normal, "the normal form's date", || format!("{normal:?}, not {mine:?}"));
+        let (mine, normal) = (order::told(self.edition, self.stream), order::told(self.edition, &out));
+        self.expect(mine == normal, "the normal form's order", || format!("{normal:?}, not {mine:?}"));
+        let (mine, normal) = (pages::told(self.edition, self.stream), pages::told(self.edition, &out));
+        self.expect(mine == normal, "the normal form's pages", || format!("{normal:?}, not {mine:?}"));
         let (mine, normal) = (answers_of(self.edition, self.stream), answers_of(self.edition, &out));
         self.expect(mine == normal, "the normal form's answers", || format!("{normal:?}, not {mine:?}"));
         for element in self.elements(rng) {

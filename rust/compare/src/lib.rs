@@ -17,6 +17,8 @@ pub mod letters;
 pub mod limits;
 pub mod making;
 pub mod openssl;
+pub mod order;
+pub mod pages;
 pub mod rng;
 pub mod seeded;
 pub mod short;

@@ -1,6 +1,8 @@
 //! Every limit of document 01 from both sides, and every small choice that it and the edition of 1993 leave.
 
 mod dates;
+mod orders;
+mod pages;
 mod parents;
 mod pieces;
 mod protected;
@@ -19,7 +21,7 @@ const STYLES: [u8; 2] = [0xA7, 0xA8];
 const PROFILE: [u8; 2] = [0xA0, 0x00];
 
 /// The groups of cases. Each group is made when it is wanted, for some are large.
-pub const GROUPS: [fn() -> Vec<Case>; 39] = [
+pub const GROUPS: [fn() -> Vec<Case>; 46] = [
     stream_length,
     element_count,
     full_tables,
@@ -58,6 +60,13 @@ pub const GROUPS: [fn() -> Vec<Case>; 39] = [
     name_spaces,
     parents::places,
     parents::many,
+    orders::short_runs,
+    orders::long_names,
+    orders::many,
+    pages::bounds,
+    pages::numbers,
+    pages::contents,
+    pages::places,
     two_faults,
 ];
 

@@ -8,15 +8,15 @@ use std::time::Instant;
 use compare::hold::Holder;
 use compare::rng::Rng;
 use compare::tally::{LAST_NUMBER, Origin, Tally};
-use compare::{blocks, examples, limits, making, openssl, seeded, short};
+use compare::{blocks, examples, limits, making, openssl, order, pages, seeded, short};
 
 const HELP: &str = "\
 compare [--seed N] [--streams N] [--from N] [--jobs N]
 
 Holds the proved library against the independent reader, by the editions of 1988 and of
 1993: document 01's examples, X.209's and Annex D, every limit from both sides, all short
-streams, and generated letters, good, damaged and noise; and made letters, which are read
-again. Its last line is `N passed, M failed`.
+streams, and generated letters, good, damaged and noise; letters in the order of class A or
+B, and nearly so; and made letters, which are read again. Its last line is `N passed, M failed`.
 
   --seed N     the generated streams of this seed (1)
   --streams N  so many of them (100000); with more it runs longer
@@ -61,6 +61,7 @@ fn main() -> ExitCode {
         part("made letters", &mut total, hold_made);
     }
     part("made at random", &mut total, || in_threads(options.jobs, hold_made_at_random(&options)));
+    part("in order", &mut total, || in_threads(options.jobs, hold_in_order(&options)));
     part("generated", &mut total, || in_threads(options.jobs, hold_generated(&options)));
     report(&mut total, options.from.is_none());
     if total.failed == 0 { ExitCode::SUCCESS } else { ExitCode::FAILURE }
@@ -122,6 +123,8 @@ fn in_threads(jobs: usize, work: impl Fn(&mut Holder) + Sync) -> Tally {
 fn hold_examples() -> Tally {
     let mut holder = Holder::default();
     examples::hold(&mut holder);
+    order::hold_vectors(&mut holder);
+    pages::hold_vectors(&mut holder);
     blocks::hold_fixed(&mut holder.tally);
     holder.finish()
 }
@@ -191,6 +194,22 @@ fn hold_made_at_random(options: &Options) -> impl Fn(&mut Holder) + Sync {
                 return;
             }
             making::hold_seeded(seed, number, &mut met, &mut holder.tally);
+        }
+    }
+}
+
+/// One letter in the order of a class, or nearly so, for each two streams that are generated.
+fn hold_in_order(options: &Options) -> impl Fn(&mut Holder) + Sync {
+    let from = options.from.unwrap_or(0);
+    let (seed, past) = (options.seed, from.saturating_add(options.streams.div_ceil(2)));
+    let next = AtomicU64::new(from);
+    move |holder| {
+        loop {
+            let number = next.fetch_add(1, Ordering::Relaxed);
+            if number >= past {
+                return;
+            }
+            order::hold_seeded(seed, number, holder);
         }
     }
 }

@@ -19,6 +19,9 @@
 //! # }
 //! ```
 //!
+//! [`Letter::order`] says whether the elements stand in the order of interchange format class A or B. With the feature `pm1`
+//! the module of that name says whether the pages are within the dimensions of PM1.
+//!
 //! [`Builder`] makes a letter, of texts with an identifier and a portion each.
 //!
 //! Letters are read by the edition of 1988. [`Letter::read_in`], and the other functions with `_in` at the end of their
@@ -34,6 +37,9 @@ mod date;
 mod edition;
 mod letter;
 mod making;
+mod order;
+#[cfg(feature = "pm1")]
+pub mod pm1;
 pub mod raw;
 mod refusal;
 
@@ -43,6 +49,7 @@ pub use edition::Edition;
 pub use letter::{Checked, Element, Kind, Letter, Match, Side, check, check_in, content, content_in};
 pub use letter::{normal_form, normal_form_in, short_normal_form, short_normal_form_in};
 pub use making::Builder;
+pub use order::{Class, order, order_in};
 pub use refusal::{Refusal, Rule};
 
 /// The most octets of a stream, and of a normal form.

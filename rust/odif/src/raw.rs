@@ -3,12 +3,17 @@
 //! nothing; the one without it is that of 1988.
 //!
 //! Nothing here fails: an answer's number says whether it is a refusal. The crate's other modules are easier to use.
-//! This file and `raw/blocks.rs` are the only ones with `unsafe` in them.
+//! This file and those of `raw/` are the only ones with `unsafe` in them.
 #![allow(unsafe_code)]
 
 use crate::edition::Edition;
 
 pub mod blocks;
+mod order;
+#[cfg(feature = "pm1")]
+pub mod pm1;
+
+pub use order::{Ordered, order, order_in};
 
 /// The answer of [`check`].
 #[repr(C)]
@@ -143,6 +148,8 @@ macro_rules! twins {
         }
     };
 }
+
+use twins;
 
 #[rustfmt::skip]
 twins! {

@@ -93,8 +93,12 @@ pub enum Rule {
     NoSuchDay,
     /// 25; only [`crate::raw::children`] gives it
     ChildrenTooShort,
+    /// 26; only the order of a class gives it
+    OutOfOrder,
     /// 27; only making a letter gives it, and its place is the entry's number
     PartOutside,
+    /// 30; only `raw::pm1::pages` gives it
+    PagesTooShort,
     /// Another number: the library is newer than this crate.
     #[non_exhaustive]
     Unknown(u32),
@@ -102,7 +106,7 @@ pub enum Rule {
 
 impl Rule {
     /// Every rule that this crate knows, in the order of the numbers.
-    pub const ALL: [Rule; 26] = [
+    pub const ALL: [Rule; 28] = [
         Rule::StreamTooLong,
         Rule::MisplacedZero,
         Rule::TooDeep,
@@ -128,12 +132,14 @@ impl Rule {
         Rule::NoSoleDate,
         Rule::NoSuchDay,
         Rule::ChildrenTooShort,
+        Rule::OutOfOrder,
         Rule::PartOutside,
+        Rule::PagesTooShort,
     ];
 
     /// Their numbers.
     const NUMBERS: [u32; Rule::ALL.len()] =
-        [1, 2, 3, 4, 5, 6, 7, 8, 9, 10, 11, 12, 13, 14, 15, 16, 17, 18, 19, 20, 21, 22, 23, 24, 25, 27];
+        [1, 2, 3, 4, 5, 6, 7, 8, 9, 10, 11, 12, 13, 14, 15, 16, 17, 18, 19, 20, 21, 22, 23, 24, 25, 26, 27, 30];
 
     /// The number of the rule.
     pub fn number(self) -> u32 {
@@ -186,7 +192,9 @@ impl Rule {
             Rule::NoSoleDate => "the profile does not have exactly one date of the document, or that is constructed",
             Rule::NoSuchDay => "the date of the document does not begin with a day as in 1988-06-05",
             Rule::ChildrenTooShort => "the list is shorter than the children",
+            Rule::OutOfOrder => "the elements are not in the order that was asked",
             Rule::PartOutside => "a part of an entry is outside the buffer, or ends before it begins",
+            Rule::PagesTooShort => "the list is shorter than the pages",
             Rule::Unknown(_) => "a rule that is newer than this program",
         }
     }
@@ -204,18 +212,18 @@ mod tests {
 
     #[test]
     fn numbers_and_rules_agree() {
-        for (number, rule) in (1..26).chain([27]).zip(Rule::ALL) {
+        for (number, rule) in (1..28).chain([30]).zip(Rule::ALL) {
             assert_eq!((rule.number(), Rule::from_number(number)), (number, Some(rule)));
             assert_eq!(Refusal::unless_accepted(number, 7), Err(Refusal { rule, place: 7 }));
         }
-        assert_eq!(Rule::ALL.last().map(|rule| rule.number()), Some(27));
+        assert_eq!(Rule::ALL.last().map(|rule| rule.number()), Some(30));
         assert_eq!(Refusal::unless_accepted(0, 0), Ok(()));
     }
 
     /// The library of today gives no such number, so this is asked of what reads its answers.
     #[test]
     fn a_number_of_a_newer_library_is_a_refusal_too() {
-        for number in [26, 255, u32::MAX] {
+        for number in [31, 255, u32::MAX] {
             let refusal = Refusal::unless_accepted(number, 5).unwrap_err();
             assert_eq!((refusal.number(), refusal.place), (number, 5));
             assert_eq!(refusal.to_string(), format!("number {number} at 5: a rule that is newer than this program"));

@@ -48,10 +48,26 @@ static void print_1993(void) {
 static const uint8_t page[] =
     "\xA0\x00" "\xA2\x07\x31\x05\x41\x03" "1 0" "\xA2\x05\x31\x03\x41\x01" "1" "\xA2\x07\x31\x05\x41\x03" "1 1";
 
+/* What is answered about the order of the letter, of it without its unit, and of the letter of 1993 by both editions. */
+static void print_order(void) {
+    odif_ordered answers[] = {
+        odif_order_a(letter, sizeof letter - 1),           odif_order_b(letter, sizeof letter - 1),
+        odif_order_a(letter, 21),                          odif_order_b(letter, 21),
+        odif_order_a(letter_1993, sizeof letter_1993 - 1), odif_order_b(letter_1993, sizeof letter_1993 - 1),
+        odif_order_a_1993(letter_1993, sizeof letter_1993 - 1),
+        odif_order_b_1993(letter_1993, sizeof letter_1993 - 1),
+    };
+    printf("order");
+    for (size_t i = 0; i < sizeof answers / sizeof *answers; i++)
+        printf(" %" PRIu32 " %" PRIu32, answers[i].number, answers[i].place);
+    printf("\n");
+}
+
 typedef char sizes_are_as_they_should_be[
     sizeof(odif_checked) == 16 && sizeof(odif_written) == 12 && sizeof(odif_listed) == 16 && sizeof(odif_found) == 16
     && sizeof(odif_copied) == 12 && sizeof(odif_match) == 12 && sizeof(odif_dated) == 28
-    && sizeof(odif_first_dated) == 32 && sizeof(odif_entry) == 24 && sizeof(odif_related) == 16 ? 1 : -1];
+    && sizeof(odif_first_dated) == 32 && sizeof(odif_entry) == 24 && sizeof(odif_related) == 16
+    && sizeof(odif_ordered) == 8 ? 1 : -1];
 
 int main(void) {
     size_t length = sizeof letter - 1;
@@ -116,5 +132,6 @@ int main(void) {
     related = odif_children(page, sizeof page - 1, 2, rows, 4 * ODIF_ROW_WIDTH, children, 1);
     printf("too few %" PRIu32 " %" PRIu32 " %" PRIu32 " %" PRIu32 "\n", related.number, related.place, related.elements,
            related.children);
+    print_order();
     return 0;
 }

@@ -57,13 +57,14 @@ normal 0 23 0 23
 children 0 0 4 2: 1 3
 none 20 0 0 0
 too few 25 0 4 0
+order 0 0 0 0 26 21 26 21 12 2 12 2 26 2 26 2
 ";
     assert_eq!(String::from_utf8_lossy(&output.stdout), wanted);
 }
 
 #[test]
 fn the_sentences_and_the_version_are_those_of_this_crate() {
-    let numbers = std::iter::once(0).chain(Rule::ALL.map(Rule::number)).chain([26]);
+    let numbers = std::iter::once(0).chain(Rule::ALL.map(Rule::number)).chain([31]);
     let output = run("sentences", "-std=c99", &numbers.map(|number| number.to_string()).collect::<Vec<_>>());
     let text = String::from_utf8(output.stdout).unwrap();
     let mut lines = text.lines();
@@ -104,5 +105,5 @@ fn no_more_stack_than_the_header_says() {
     let output = run("stack", "-std=gnu99", &[]);
     let told = String::from_utf8_lossy(&output.stdout);
     assert!(output.status.success(), "{told}");
-    assert_eq!(told.lines().count(), 16, "{told}");
+    assert_eq!(told.lines().count(), 20, "{told}");
 }

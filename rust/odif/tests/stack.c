@@ -46,6 +46,11 @@ static void ask_children(void) {
     odif_children(stream, length, 0, table, sizeof table / sizeof *table, children, ODIF_MOST_ELEMENTS);
 }
 
+static void ask_order_a(void) { odif_order_a(stream, length); }
+static void ask_order_b(void) { odif_order_b(stream, length); }
+static void ask_order_a_1993(void) { odif_order_a_1993(stream, length); }
+static void ask_order_b_1993(void) { odif_order_b_1993(stream, length); }
+
 static const struct {
     const char *name;
     void (*ask)(void);
@@ -67,6 +72,10 @@ static const struct {
     {"content, 1993", ask_content_1993, ODIF_STACK_SMALL, ODIF_STACK},
     {"joined content, 1993", ask_joined_1993, ODIF_STACK_SMALL, ODIF_STACK},
     {"children", ask_children, ODIF_STACK_SMALL, ODIF_STACK},
+    {"order of class A", ask_order_a, ODIF_STACK_SMALL, ODIF_STACK},
+    {"order of class B", ask_order_b, ODIF_STACK_SMALL, ODIF_STACK},
+    {"order of class A, 1993", ask_order_a_1993, ODIF_STACK_SMALL, ODIF_STACK},
+    {"order of class B, 1993", ask_order_b_1993, ODIF_STACK_SMALL, ODIF_STACK},
 };
 
 static size_t stack_of(void (*ask)(void)) {

@@ -10,6 +10,8 @@ use crate::items::Tree;
 use crate::letter::{self, Letter};
 use crate::matches;
 use crate::normal;
+use crate::order::{self, Order, Ordered};
+use crate::pages::{self, Page, Paged};
 use crate::parents;
 use crate::refusal::Refusal;
 
@@ -244,6 +246,37 @@ impl<'a> Reading<'a> {
             }
             None => Related { number: 25, elements, ..Related::default() },
         }
+    }
+
+    /// Is the stream in the order of a class?
+    pub fn order(&self, order: Order) -> Ordered {
+        match &self.letter {
+            Ok(letter) => order::of_letter(self.stream, letter, order),
+            Err(refusal) => (*refusal).into(),
+        }
+    }
+
+    /// Fills the table and the list of the pages, each with the verdict of PM1.
+    pub fn pages(&self, table: &mut [u32], list: &mut [Page]) -> Paged {
+        let letter = match self.rows_for(table.len()) {
+            Ok(letter) => letter,
+            Err((number, place)) => return Paged { number, place, ..Paged::default() },
+        };
+        fill(table, self.stream, letter);
+        let elements = letter.rows.len() as u32;
+        let pages = self.page_list();
+        match list.get_mut(..pages.len()) {
+            Some(room) => {
+                room.copy_from_slice(&pages);
+                Paged { elements, pages: pages.len() as u32, ..Paged::default() }
+            }
+            None => Paged { number: 30, elements, ..Paged::default() },
+        }
+    }
+
+    /// The pages with their verdicts; none where the stream is refused.
+    pub fn page_list(&self) -> Vec<Page> {
+        self.letter.as_ref().map_or(Vec::new(), |letter| pages::of_letter(self.stream, &self.tree, letter))
     }
 
     /// How many children a row has; none where the stream is refused or has no such row.

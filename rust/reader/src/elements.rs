@@ -13,8 +13,8 @@ const MOST_PORTIONS: usize = 64;
 /// What a row has as its object type where there is none.
 const NO_OBJECT_TYPE: u32 = 255;
 
-/// The octets of the items that document 01 names, and those of 1993.
-mod octet {
+/// The octets of the items that document 01 names, those of 1993, and those that T.502 speaks of.
+pub(crate) mod octet {
     pub const OBJECT_TYPE: u8 = 0x02;
     pub const SEALED_INFORMATION: u8 = 0x03;
     pub const CONTENT: u8 = 0x04;
@@ -29,6 +29,8 @@ mod octet {
     pub const PROTECTED_PART_IDENTIFIER: u8 = 0x47;
     pub const UNIT_LOGICAL_IDENTIFIER: u8 = 0x84;
     pub const PORTIONS: u8 = 0xA1;
+    pub const DIMENSIONS: u8 = 0xA4;
+    pub const FIXED_DIMENSION: u8 = 0x80;
 }
 
 /// The kinds of element: the number bits of its octet.

@@ -27,6 +27,8 @@ mod matches;
 mod names;
 mod normal;
 mod octets;
+mod order;
+mod pages;
 mod parents;
 mod refusal;
 
@@ -36,6 +38,8 @@ pub use edition::Edition;
 pub use items::{Item, Tree};
 pub use making::{ENTRY_WIDTH, make};
 pub use octets::{Class, DEEPEST, Length};
+pub use order::{Order, Ordered};
+pub use pages::{Page, Paged, Verdict};
 pub use parents::NO_PARENT;
 pub use refusal::{Refusal, Why};
 

@@ -14,7 +14,7 @@ use std::time::Instant;
 use clap::Args;
 
 use self::csv::Csv;
-use self::record::{COLUMNS, Record, Verdict};
+use self::record::{Columns, Record, Verdict};
 use self::tally::Tally;
 use crate::files::{Places, at_least_one};
 use crate::pool::Pool;
@@ -27,6 +27,7 @@ Examples:
   odif survey archive
   odif survey archive --csv archive.csv --jobs 8
   odif survey archive --only 7,12 --list | head
+  odif survey archive --order --pages --csv -
   find archive -newer last.csv -type f | odif survey --files-from - --csv new.csv
   odif survey --merge host1.csv host2.csv
 
@@ -61,11 +62,25 @@ pub struct Words {
     /// The result as one JSON object
     #[arg(long)]
     json: bool,
+    #[command(flatten)]
+    more: More,
+}
+
+/// What is asked of accepted letters besides.
+#[derive(Args)]
+struct More {
+    /// Say in the order of which class the letters are, in the report and in a column of the CSV
+    #[arg(long)]
+    order: bool,
+    /// Say what the PM1 desk says of their pages, in the same places
+    #[arg(long)]
+    pages: bool,
 }
 
 pub fn run(words: &Words) -> Outcome {
     let begun = Instant::now();
-    let mut report = Report { words, tally: Tally::new(words.first), csv: None };
+    let columns = Columns { order: words.more.order, pages: words.more.pages };
+    let mut report = Report { words, tally: Tally::new(words.first), csv: None, columns };
     if words.merge.is_empty() {
         survey(words, &mut report)?;
     } else {
@@ -87,10 +102,18 @@ struct Report<'a> {
     words: &'a Words,
     tally: Tally,
     csv: Option<Csv>,
+    columns: Columns,
 }
 
 impl Report<'_> {
-    fn add(&mut self, record: &Record) -> Result<(), Failure> {
+    /// Begins the CSV file, if there is to be one.
+    fn begin(&mut self) -> Result<(), Failure> {
+        self.csv = self.words.csv.as_deref().map(|file| Csv::create(file, &self.columns.names())).transpose()?;
+        Ok(())
+    }
+
+    fn add(&mut self, record: Record) -> Result<(), Failure> {
+        let record = &record.with(self.columns);
         let only = &self.words.only;
         let is_named = record.number.is_some_and(|number| only.contains(&number));
         if !only.is_empty() && !is_named {
@@ -107,17 +130,18 @@ impl Report<'_> {
 fn survey(words: &Words, report: &mut Report<'_>) -> Result<(), Failure> {
     let pool = Pool::new(words.places.jobs)?;
     let entries = words.places.list(words.csv.as_slice())?;
-    report.csv = words.csv.as_deref().map(|file| Csv::create(file, &COLUMNS)).transpose()?;
+    report.begin()?;
     let progress = Progress::over(entries.len());
     let cut = |done: usize| {
         let of = format!("after {} of {} files", show::grouped(done), show::grouped(entries.len()));
         words.csv.as_deref().map_or(of.clone(), |csv| of + &fate(csv))
     };
-    let work = |entry: &_| Record::of(entry, words.places.hex, words.places.by.edition());
+    let columns = report.columns;
+    let work = |entry: &_| Record::of(entry, words.places.hex, words.places.by.edition(), columns);
     let take_up = |_: &_, record: Record| {
         progress.add(1);
         progress.say(|| format!(", {} refused, {} unreadable", report.tally.refused(), report.tally.unreadable()));
-        report.add(&record)
+        report.add(record)
     };
     pool.in_order(&entries, work, take_up, cut)
 }
@@ -131,14 +155,21 @@ fn fate(csv: &Path) -> String {
     }
 }
 
-/// Takes up the records of earlier surveys.
+/// Takes up the records of earlier surveys, with the columns that any of them has.
 fn merge(words: &Words, report: &mut Report<'_>) -> Result<(), Failure> {
-    report.csv = words.csv.as_deref().map(|file| Csv::create(file, &COLUMNS)).transpose()?;
+    let mut surveys = Vec::new();
     for file in &words.merge {
         let unfit = |error: &dyn std::fmt::Display| Failure::File(format!("{}: {error}", show::name(file.as_os_str())));
         let mut lines = ::csv::Reader::from_reader(File::open(file).map_err(|error| unfit(&error))?);
+        let columns = Columns::of(lines.headers().map_err(|error| unfit(&error))?.iter());
+        report.columns = report.columns.or(columns);
+        surveys.push((file, lines));
+    }
+    report.begin()?;
+    for (file, lines) in &mut surveys {
+        let unfit = |error: &dyn std::fmt::Display| Failure::File(format!("{}: {error}", show::name(file.as_os_str())));
         for record in lines.deserialize() {
-            report.add(&record.map_err(|error: ::csv::Error| unfit(&error))?)?;
+            report.add(record.map_err(|error: ::csv::Error| unfit(&error))?)?;
         }
     }
     Ok(())

@@ -3,13 +3,13 @@
 use std::path::Path;
 
 use odif::Edition;
-use serde::{Deserialize, Serialize};
+use serde::{Deserialize, Deserializer, Serialize};
 
-use crate::date;
 use crate::faults::Fault;
 use crate::files::Entry;
 use crate::input;
 use crate::names::Name;
+use crate::{date, order, pages};
 
 #[derive(Clone, Copy, Debug, Default, PartialEq, Eq, Serialize, Deserialize)]
 #[serde(rename_all = "lowercase")]
@@ -20,8 +20,8 @@ pub enum Verdict {
     Unreadable,
 }
 
-/// The names of the columns.
-pub const COLUMNS: [&str; 14] = [
+/// The names of the columns that are always there, and of those that are asked for. The latter stand before the last one.
+const COLUMNS: [&str; 14] = [
     "file",
     "outcome",
     "number",
@@ -37,6 +37,34 @@ pub const COLUMNS: [&str; 14] = [
     "date",
     "file_octets",
 ];
+const ORDER: &str = "order";
+const PAGES: &str = "pages";
+
+/// Which of the columns that are asked for are there.
+#[derive(Clone, Copy, Default)]
+pub struct Columns {
+    pub order: bool,
+    pub pages: bool,
+}
+
+impl Columns {
+    /// Those of a line of names.
+    pub fn of<'a>(mut names: impl Iterator<Item = &'a str> + Clone) -> Columns {
+        Columns { order: names.clone().any(|name| name == ORDER), pages: names.any(|name| name == PAGES) }
+    }
+
+    /// Those of either.
+    pub fn or(self, other: Columns) -> Columns {
+        Columns { order: self.order || other.order, pages: self.pages || other.pages }
+    }
+
+    /// The names of all columns.
+    pub fn names(self) -> Vec<&'static str> {
+        let asked = [(self.order, ORDER), (self.pages, PAGES)].into_iter().filter(|(is_there, _)| *is_there);
+        let (last, always) = COLUMNS.split_last().expect("some columns");
+        always.iter().copied().chain(asked.map(|(_, name)| name)).chain([*last]).collect()
+    }
+}
 
 /// One file. The fields are the columns, in their order.
 #[derive(Default, Serialize, Deserialize)]
@@ -61,13 +89,31 @@ pub struct Record {
     /// The date of the document by its first element, whether or not the rest is accepted.
     #[serde(default)]
     pub date: String,
+    /// In which order a letter is, where that is asked: both, A, B or neither.
+    #[serde(default, deserialize_with = "there", skip_serializing_if = "Option::is_none")]
+    pub order: Option<String>,
+    /// How many pages have which verdict of the PM1 desk, where that is asked.
+    #[serde(default, deserialize_with = "there", skip_serializing_if = "Option::is_none")]
+    pub pages: Option<String>,
     /// The file's name in hexadecimal, where it is no UTF-8.
     pub file_octets: String,
 }
 
+/// A column that is there, if empty.
+fn there<'de, D: Deserializer<'de>>(field: D) -> Result<Option<String>, D::Error> {
+    String::deserialize(field).map(Some)
+}
+
 impl Record {
+    /// The same with these columns, empty where nothing was asked.
+    pub fn with(mut self, columns: Columns) -> Record {
+        self.order = columns.order.then(|| self.order.unwrap_or_default());
+        self.pages = columns.pages.then(|| self.pages.unwrap_or_default());
+        self
+    }
+
     /// Judges a file.
-    pub fn of(entry: &Entry, hex: bool, edition: Edition) -> Record {
+    pub fn of(entry: &Entry, hex: bool, edition: Edition, columns: Columns) -> Record {
         let unreadable = |reason| Record { reason, ..Record::new(&entry.path, Verdict::Unreadable) };
         if let Some(trouble) = &entry.trouble {
             return unreadable(trouble.clone());
@@ -93,6 +139,8 @@ impl Record {
             octets: stream.size,
             headers: Some(checked.headers),
             date: date::column(edition, &stream.octets),
+            order: columns.order.then(|| order::column(edition, &stream.octets)),
+            pages: columns.pages.then(|| pages::column(edition, &stream.octets)),
             ..verdict
         }
     }

@@ -20,6 +20,20 @@ pub struct Tally {
     accepted: usize,
     refused: BTreeMap<u32, BTreeMap<Cause, Group>>,
     unreadable: Group,
+    /// How many letters are in which order, and how many pages have which verdict, where that was asked.
+    orders: Option<BTreeMap<String, usize>>,
+    pages: Option<BTreeMap<String, usize>>,
+}
+
+/// Adds the counts of a column such as `2 essential, 1 outside`; a word without a number counts once.
+fn add_column(counts: &mut Option<BTreeMap<String, usize>>, column: Option<&str>) {
+    let Some(column) = column else { return };
+    let counts = counts.get_or_insert_default();
+    for part in column.split(", ").filter(|part| !part.is_empty()) {
+        let counted = part.split_once(' ').and_then(|(count, word)| Some((count.parse().ok()?, word)));
+        let (count, word) = counted.unwrap_or((1, part));
+        *counts.entry(word.into()).or_insert(0) += count;
+    }
 }
 
 /// What files with one fault have in common.
@@ -102,11 +116,13 @@ fn a_second(files: usize, elapsed: Duration) -> usize {
 impl Tally {
     /// Nothing yet; so many files of each kind will be named.
     pub fn new(named: usize) -> Self {
-        Tally { named, accepted: 0, refused: BTreeMap::new(), unreadable: Group::default() }
+        Tally { named, accepted: 0, refused: BTreeMap::new(), unreadable: Group::default(), orders: None, pages: None }
     }
 
     /// Counts a file.
     pub fn add(&mut self, record: &Record) {
+        add_column(&mut self.orders, record.order.as_deref());
+        add_column(&mut self.pages, record.pages.as_deref());
         match record.outcome {
             Verdict::Accepted => self.accepted += 1,
             Verdict::Unreadable => self.unreadable.add(self.named, record),
@@ -166,6 +182,13 @@ impl Tally {
         }
         text += &format!("{} unreadable\n", show::grouped(self.unreadable()));
         self.unreadable.push_text(&mut text, "    ");
+        for (what, counts) in [("letters by order", &self.orders), ("pages by PM1", &self.pages)] {
+            if let Some(counts) = counts {
+                let counts = counts.iter().map(|(word, count)| format!("{} {word}", show::grouped(*count)));
+                let counts = counts.collect::<Vec<_>>().join(", ");
+                text += &format!("{what}: {}\n", if counts.is_empty() { "none" } else { &counts });
+            }
+        }
         text
     }
 
@@ -195,6 +218,10 @@ impl Tally {
             unreadable: usize,
             numbers: Vec<Number<'a>>,
             unreadable_files: &'a [Remark],
+            #[serde(skip_serializing_if = "Option::is_none")]
+            orders: &'a Option<BTreeMap<String, usize>>,
+            #[serde(skip_serializing_if = "Option::is_none")]
+            pages: &'a Option<BTreeMap<String, usize>>,
         }
         let numbers = self.refused.iter().map(|(&number, causes)| {
             let faults = sorted(causes).into_iter().map(|(cause, group)| Fault { cause, group }).collect();
@@ -209,6 +236,8 @@ impl Tally {
             unreadable: self.unreadable(),
             numbers: numbers.collect(),
             unreadable_files: &self.unreadable.first,
+            orders: &self.orders,
+            pages: &self.pages,
         };
         explain::json(&report) + "\n"
     }

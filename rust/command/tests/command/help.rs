@@ -10,9 +10,21 @@ fn the_overview_names_every_subcommand() {
     for words in [&["--help"][..], &["-h"], &["help"]] {
         let run = odif(words);
         assert_eq!(run.status, 0);
-        for name in
-            ["check", "text", "tree", "normal", "make", "list", "survey", "same", "export", "Examples:", "Exit status:"]
-        {
+        for name in [
+            "check",
+            "text",
+            "tree",
+            "normal",
+            "make",
+            "list",
+            "order",
+            "pages",
+            "survey",
+            "same",
+            "export",
+            "Examples:",
+            "Exit status:",
+        ] {
             assert!(run.text().contains(name), "{name}");
         }
     }
@@ -20,7 +32,7 @@ fn the_overview_names_every_subcommand() {
 
 #[test]
 fn every_subcommand_has_help_with_examples() {
-    for name in ["check", "text", "tree", "normal", "make", "list", "survey", "same", "export"] {
+    for name in ["check", "text", "tree", "normal", "make", "list", "order", "pages", "survey", "same", "export"] {
         for words in [[name, "--help"], ["help", name]] {
             let run = odif(&words);
             assert_eq!(run.status, 0);
@@ -52,7 +64,14 @@ fn completions_and_a_manual_page() {
     assert_eq!(odif(&["completions", "none"]).status, 2);
     let run = odif(&["man"]);
     assert!(run.text().starts_with(".TH ODIF 1\n.SH NAME\nodif \\- Reads letters"), "{}", run.text());
-    for part in [".SH odif survey\n", ".B \\-\\-files\\-from FILE\n", ".SH odif export\n", "Exit status: 0 all were"] {
+    for part in [
+        ".SH odif survey\n",
+        ".B \\-\\-files\\-from FILE\n",
+        ".SH odif export\n",
+        ".SH odif order\n",
+        ".SH odif pages\n",
+        "Exit status: 0 all were",
+    ] {
         assert!(run.text().contains(part), "{part}");
     }
     let odd = run.text().lines().filter(|line| line.starts_with('.'));
@@ -73,6 +92,9 @@ fn misuse_is_told() {
         (&["normal", CLAIM, "-o"], "requires a value"),
         (&["normal", CLAIM, CUT_SHORT], "several letters need `--into FOLDER`"),
         (&["normal", CLAIM, CLAIM, "--into", "."], "a file name of its own"),
+        (&["order"], "<FILE>..."),
+        (&["order", "--class", "C", CLAIM], "'C' isn't a valid value"),
+        (&["pages"], "<FILE>..."),
         (&["survey"], "folder is missing"),
         (&["survey", "-"], "not at standard input"),
         (&["survey", "--jobs", "0", "samples"], "a number from 1"),
