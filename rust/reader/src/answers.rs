@@ -13,6 +13,8 @@ use crate::normal;
 use crate::parents;
 use crate::refusal::Refusal;
 
+pub mod text;
+
 /// One side of a letter.
 #[derive(Clone, Copy, Debug, PartialEq, Eq)]
 pub enum Side {
