@@ -11,6 +11,7 @@ use crate::lent::{self, Lent};
 use crate::openssl::Batch;
 use crate::rng::Rng;
 use crate::tally::{Origin, Question, Tally, hex};
+use crate::text;
 
 /// Compares streams and keeps count.
 #[derive(Default)]
@@ -57,6 +58,8 @@ impl Holder {
         one.ask_children(rng);
         one.expect(before == stream, "the stream itself", || "it was written to".into());
         dates::hold(edition, stream, reading, origin, one.tally, rng);
+        text::hold(edition, stream, reading, origin, &mut self.tally, rng);
+        let mut one = One { edition, stream, reading, origin, tally: &mut self.tally };
         if reading.refusal().is_none() {
             one.ask_round_trip(rng);
             one.ask_binding(rng);
@@ -326,6 +329,8 @@ impl One<'_> {
         self.expect(written.number == 0 && again == out, "the normal form's own", || hex(&again));
         let (mine, normal) = (dates::told(self.edition, self.stream), dates::told(self.edition, &out));
         self.expect(mine == normal, "the normal form's date", || format!("{normal:?}, not {mine:?}"));
+        let (mine, normal) = (text::told(self.edition, self.stream), text::told(self.edition, &out));
+        self.expect(mine == normal, "the normal form's text", || format!("{normal:?}, not {mine:?}"));
         let (mine, normal) = (answers_of(self.edition, self.stream), answers_of(self.edition, &out));
         self.expect(mine == normal, "the normal form's answers", || format!("{normal:?}, not {mine:?}"));
         for element in self.elements(rng) {
@@ -335,8 +340,7 @@ impl One<'_> {
         }
     }
 
-    /// The crate's letter, which asks the library about a unit alone, has the contents that the library gives for the
-    /// whole stream.
+    /// The crate's letter has the contents and the children that the library gives.
     fn ask_binding(&mut self, rng: &mut Rng) {
         let Ok(letter) = odif::Letter::read_in(self.edition, self.stream) else {
             return self.expect(false, "the crate's letter", || "it is refused".into());

@@ -26,12 +26,16 @@ pub enum Question {
     Content,
     /// `odif_joined`
     Joined,
+    /// `odif_layout_text`
+    LayoutText,
+    /// `odif_logical_text`
+    LogicalText,
 }
 
 impl Question {
-    const ALL: [Question; 7] = {
+    const ALL: [Question; 9] = {
         use Question::*;
-        [Check, Layout, Logical, Normal, NormalShort, Content, Joined]
+        [Check, Layout, Logical, Normal, NormalShort, Content, Joined, LayoutText, LogicalText]
     };
 
     /// The refusals above 15 that it can give; those up to 15 are every question's.
@@ -43,6 +47,7 @@ impl Question {
             Question::NormalShort => &[18],
             Question::Content => &[20, 21],
             Question::Joined => &[20, 22],
+            Question::LayoutText | Question::LogicalText => &[16, 19, 22],
         }
     }
 }

@@ -19,7 +19,7 @@ const FRAME: usize = 32;
 /// # fn main() -> Result<(), odif::Refusal> {
 /// let stream = odif::Builder::new().entry("1 0 0", "0", "Dear Sir,\n").entry("1 0 1", "0", b"caf\xC2e\n").make()?;
 /// let letter = odif::Letter::read(&stream)?;
-/// assert_eq!(letter.text(odif::Side::Layout)?.concat(), b"Dear Sir,\ncaf\xC2e\n");
+/// assert_eq!(letter.text(odif::Side::Layout)?.octets(), b"Dear Sir,\ncaf\xC2e\n");
 /// # Ok(())
 /// # }
 /// ```

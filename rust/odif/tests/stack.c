@@ -12,6 +12,7 @@ static uint8_t stream[ODIF_STREAM_LIMIT], out[ODIF_STREAM_LIMIT], stack[1 << 20]
 static uint32_t table[ODIF_ROW_WIDTH * ODIF_MOST_ELEMENTS];
 static odif_match list[ODIF_MOST_ELEMENTS];
 static uint32_t children[ODIF_MOST_ELEMENTS];
+static odif_line lines[ODIF_MOST_ELEMENTS];
 static size_t length;
 static uint8_t names[4 * ODIF_MOST_ENTRIES];
 static odif_entry entries[ODIF_MOST_ENTRIES];
@@ -45,6 +46,20 @@ static void ask_joined_1993(void) { odif_joined_1993(stream, length, 1, out, siz
 static void ask_children(void) {
     odif_children(stream, length, 0, table, sizeof table / sizeof *table, children, ODIF_MOST_ELEMENTS);
 }
+static void ask_layout_text(void) {
+    odif_layout_text(stream, length, table, sizeof table / sizeof *table, lines, ODIF_MOST_ELEMENTS, out, sizeof out);
+}
+static void ask_logical_text(void) {
+    odif_logical_text(stream, length, table, sizeof table / sizeof *table, lines, ODIF_MOST_ELEMENTS, out, sizeof out);
+}
+static void ask_layout_text_1993(void) {
+    odif_layout_text_1993(stream, length, table, sizeof table / sizeof *table, lines, ODIF_MOST_ELEMENTS, out,
+                          sizeof out);
+}
+static void ask_logical_text_1993(void) {
+    odif_logical_text_1993(stream, length, table, sizeof table / sizeof *table, lines, ODIF_MOST_ELEMENTS, out,
+                           sizeof out);
+}
 
 static const struct {
     const char *name;
@@ -67,6 +82,10 @@ static const struct {
     {"content, 1993", ask_content_1993, ODIF_STACK_SMALL, ODIF_STACK},
     {"joined content, 1993", ask_joined_1993, ODIF_STACK_SMALL, ODIF_STACK},
     {"children", ask_children, ODIF_STACK_SMALL, ODIF_STACK},
+    {"layout text", ask_layout_text, ODIF_STACK_SMALL_LISTS, ODIF_STACK_LISTS},
+    {"logical text", ask_logical_text, ODIF_STACK_SMALL_LISTS, ODIF_STACK_LISTS},
+    {"layout text, 1993", ask_layout_text_1993, ODIF_STACK_SMALL_LISTS, ODIF_STACK_LISTS},
+    {"logical text, 1993", ask_logical_text_1993, ODIF_STACK_SMALL_LISTS, ODIF_STACK_LISTS},
 };
 
 static size_t stack_of(void (*ask)(void)) {
