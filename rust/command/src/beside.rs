@@ -31,23 +31,23 @@ impl Beside {
     pub fn create(path: &Path) -> Result<Beside, Failure> {
         // Most files are new; then there is nothing to ask about what stands there.
         if fs::symlink_metadata(path).is_err_and(|error| error.kind() == io::ErrorKind::NotFound) {
-            return Beside::beside(path.into(), new_permissions());
+            return Beside::apart(path.into(), new_permissions());
         }
         // The file that a link leads to is written, and the link stays.
         let path = fs::canonicalize(path).unwrap_or_else(|_| path.into());
         match fs::metadata(&path) {
-            Ok(about) if about.is_file() => Beside::beside(path, about.permissions()),
+            Ok(about) if about.is_file() => Beside::apart(path, about.permissions()),
             Ok(about) => match File::options().write(true).open(&path) {
                 Ok(file) => {
                     Ok(Beside { path, out: Out::Through(BufWriter::new(file)), permissions: about.permissions() })
                 }
                 Err(error) => Err(failure(&path, &error)),
             },
-            Err(_) => Beside::beside(path, new_permissions()),
+            Err(_) => Beside::apart(path, new_permissions()),
         }
     }
 
-    fn beside(path: PathBuf, permissions: Permissions) -> Result<Beside, Failure> {
+    fn apart(path: PathBuf, permissions: Permissions) -> Result<Beside, Failure> {
         match NamedTempFile::new_in(folder(&path)) {
             Ok(file) => Ok(Beside { path, out: Out::Beside(BufWriter::new(file)), permissions }),
             Err(error) => Err(failure(&path, &error)),

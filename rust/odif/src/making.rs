@@ -97,7 +97,7 @@ mod tests {
         }
         let stream = builder.make().unwrap();
         let letter = Letter::read(&stream).unwrap();
-        assert_eq!(letter.text(Side::Layout).unwrap(), texts);
+        assert_eq!(letter.text(Side::Layout).unwrap().units().collect::<Vec<_>>(), texts);
         assert!(letter.reading_list(Side::Logical).unwrap().is_empty());
     }
 
