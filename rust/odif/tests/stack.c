@@ -46,6 +46,12 @@ static void ask_joined_1993(void) { odif_joined_1993(stream, length, 1, out, siz
 static void ask_children(void) {
     odif_children(stream, length, 0, table, sizeof table / sizeof *table, children, ODIF_MOST_ELEMENTS);
 }
+static void ask_children_1993(void) {
+    odif_children_1993(stream, length, 0, table, sizeof table / sizeof *table, children, ODIF_MOST_ELEMENTS);
+}
+static void ask_date(void) { odif_date(stream, length); }
+static void ask_date_1993(void) { odif_date_1993(stream, length); }
+static void ask_first_date(void) { odif_first_date(stream, length); }
 static void ask_layout_text(void) {
     odif_layout_text(stream, length, table, sizeof table / sizeof *table, lines, ODIF_MOST_ELEMENTS, out, sizeof out);
 }
@@ -82,6 +88,10 @@ static const struct {
     {"content, 1993", ask_content_1993, ODIF_STACK_SMALL, ODIF_STACK},
     {"joined content, 1993", ask_joined_1993, ODIF_STACK_SMALL, ODIF_STACK},
     {"children", ask_children, ODIF_STACK_SMALL, ODIF_STACK},
+    {"children, 1993", ask_children_1993, ODIF_STACK_SMALL, ODIF_STACK},
+    {"date", ask_date, ODIF_STACK_SMALL, ODIF_STACK},
+    {"date, 1993", ask_date_1993, ODIF_STACK_SMALL, ODIF_STACK},
+    {"first date", ask_first_date, ODIF_STACK_SMALL, ODIF_STACK_SMALL},
     {"layout text", ask_layout_text, ODIF_STACK_SMALL_LISTS, ODIF_STACK_LISTS},
     {"logical text", ask_logical_text, ODIF_STACK_SMALL_LISTS, ODIF_STACK_LISTS},
     {"layout text, 1993", ask_layout_text_1993, ODIF_STACK_SMALL_LISTS, ODIF_STACK_LISTS},
@@ -119,6 +129,21 @@ static void make_levels(void) {
     }
 }
 
+/* So many elements: a block with its text unit, the content of which is in pieces down to the deepest level. */
+static void make_text(size_t count) {
+    static const char block[] = "\xA2\x0A\x31\x08\x41\x01" "1\xA1\x03\x12\x01" "0";
+    static const char unit[] = "\xA3\x80\x31\x05\x40\x03" "1 0";
+    make_elements(count - 2);
+    memcpy(stream + length, block, sizeof block - 1);
+    length += sizeof block - 1;
+    memcpy(stream + length, unit, sizeof unit - 1);
+    length += sizeof unit - 1;
+    for (size_t level = 2; level < 16; level++, length += 2) memcpy(stream + length, "\x24\x80", 2);
+    memcpy(stream + length, "\x04\x01x", 3);
+    memset(stream + length + 3, 0, 30);
+    length += 33;
+}
+
 /* A profile with so many items in it. */
 static void make_items(size_t count) {
     size_t inside = 2 * (count - 1);
@@ -146,6 +171,7 @@ static int make_small(int input) {
     else if (input == 2) make_elements(ODIF_SMALL_ELEMENTS);
     else if (input == 3) make_levels();
     else if (input == 4) make_items(ODIF_SMALL_ITEMS);
+    else if (input == 5) make_text(3);
     else return 0;
     return 1;
 }
@@ -156,6 +182,7 @@ static int make_large(int input) {
     if (input == 0) make_elements(ODIF_SMALL_ELEMENTS + 1);
     else if (input == 1) make_elements(ODIF_MOST_ELEMENTS);
     else if (input == 2) make_items(ODIF_SMALL_ITEMS + 1);
+    else if (input == 3) make_text(ODIF_SMALL_ELEMENTS + 1);
     else return 0;
     return 1;
 }
