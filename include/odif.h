@@ -9,16 +9,16 @@
    wrong octets. A length of 0 may come with a null pointer.
 
    Every question judges the whole stream anew, so each costs what odif_check costs, and the contents of n text units
-   cost n checks. Where that is too much, ask about each unit alone: the octets A0 00 and behind them the unit, from
-   ODIF_FIRST to ODIF_PAST of its row, are a letter no longer than the one it stands in, and the content of its element
-   1 is the same. odif_normal measures an item before it writes it, so one at level 16 is passed over 16 times. A check
+   asked for one by one cost n checks. odif_layout_text and odif_logical_text hand over all texts of a side with one.
+   odif_normal measures an item before it writes it, so one at level 16 is passed over 16 times. A check
    takes time as the stream is long, some 3 ns an octet, whoever chose the names: a letter made to be slow takes some ten
    times as long as others of its length.
 
    Their scratch memory is on the stack. Of a small stream, which has up to 512 elements and up to 8,192 items in all, a
-   question takes up to 40 KiB of it, the two lists up to 88 KiB; of any other up to 256 KiB, the lists up to 304 KiB. It
-   clears 31 kB of that for a small stream and 246 kB for any other, the lists somewhat more. Mind it where threads are
-   started with small stacks: 128 KiB are enough for small streams alone.
+   question takes up to 40 KiB of it, the two lists up to 88 KiB and the two whole readings up to 104 KiB; of any other
+   up to 256 KiB, the lists up to 304 KiB and the whole readings up to 320 KiB. It clears 31 kB of that for a small
+   stream and 246 kB for any other, the lists and the whole readings somewhat more. Mind it where threads are started
+   with small stacks: 128 KiB are enough for small streams alone.
 
    A question reads by the edition of 1988, and its twin with _1993 at its end by that of 1993. The octet rules are the
    same. In 1993 a text unit may have no content, or content in tiles, and there are four elements more, the protected
@@ -51,11 +51,11 @@
    16   the table has fewer rows than there are elements                              0
    17   the normal form is over 1,048,576 octets                                      0
    18   the output is shorter than the normal form                                    0
-   19   the list is shorter than the matches                                          0
+   19   the list is shorter than the matches, or the lines are fewer                  0
    20   the asked element is no text unit or does not exist; or no such row           0
    21   a part is asked of content in pieces or tiles, which is no one part           0
         of the stream
-   22   the output is shorter than the joined content                                 0
+   22   the output is shorter than the joined content, or than all texts of the side  0
    23   not exactly one date of the document in the profile, or it is constructed     0
    24   the first ten octets of the date name no day                                  0
    25   the list is shorter than the children                                         0
@@ -64,10 +64,10 @@
    29   a letter in blocks is closed before all its octets have come                  0
 
    1 comes first, then the first fault of 2 to 8 in stream order, then the elements in order, 9 to 15 in order within
-   each, then 16, 17, 18, 19 or 20 where the question can give it; 21, 22 and 25 come after 20, 23 and 24 after 15. A
-   refusal leaves the lent table, list and output as they were, except that 19 and 25 leave the finished table. Counts
-   are 0 with a refusal, except that 19 and 25 keep the element count and the check's header count comes with every
-   answer.
+   each, then 16, 17, 18, 19 or 20 where the question can give it; 21, 22 and 25 come after 20, 23 and 24 after 15; of a
+   whole reading 22 comes after 19. A refusal leaves the lent table, list, lines and output as they were, except that 19,
+   25 and the 22 of a whole reading leave the finished table. Counts are 0 with a refusal, except that these three keep
+   the element count and the check's header count comes with every answer.
 
    odif_make judges entries and no stream. Entries in order, from 0, and within one in this order, it gives 27; 14 for a
    bad identifier or portion, or both with a space between them over 64 octets; 15 for an identifier that an entry
@@ -106,21 +106,24 @@ extern "C" {
 #define ODIF_MOST_ELEMENTS 4096    /* so many rows are always enough */
 #define ODIF_ROW_WIDTH     13      /* the numbers of a row */
 #define ODIF_NO_PARENT     65535   /* the parent's row where there is none */
-#define ODIF_STACK         262144  /* octets of stack: no question but the lists takes more */
+#define ODIF_STACK         262144  /* octets of stack: no question but the lists and the whole readings takes more */
 #define ODIF_STACK_LISTS   311296  /* the same for the two lists */
+#define ODIF_STACK_TEXTS   327680  /* and for the two whole readings */
 #define ODIF_STACK_MAKE    131072  /* and for odif_make */
 #define ODIF_MOST_ENTRIES  2047    /* the most entries of a letter that is made */
 #define ODIF_SHORT_LIMIT   65535   /* the most octets of a stream that odif_normal_short takes */
 
 /* How much to lend. A side has no more matches than the letter has text units, nor than portions are listed on that
-   side: a list of as many records as there are text units never meets 19. An output as long as the stream never meets
-   18 of odif_normal_short. */
+   side: a list of as many records, or as many lines, as there are text units never meets 19. An output as long as the
+   stream never meets 18 of odif_normal_short, nor 22 of a whole reading: a text unit stands once on a side, so all its
+   texts are no longer than the stream. */
 
 /* A small stream has no more elements and no more items than this; then less stack is enough. */
 #define ODIF_SMALL_ELEMENTS    512
 #define ODIF_SMALL_ITEMS       8192
 #define ODIF_STACK_SMALL       40960
 #define ODIF_STACK_SMALL_LISTS 90112
+#define ODIF_STACK_SMALL_TEXTS 106496
 
 /* What each number of a table row is. Each pair is first and past; every pair but the element's bounds a value. An
    absent one is 0 and 0. */
@@ -213,6 +216,23 @@ typedef struct {
     uint32_t unit;     /* the row of the text unit */
 } odif_match;
 
+typedef struct {
+    uint32_t number;   /* 0, or the refusal: 1 to 16, 19, 22 */
+    uint32_t place;    /* the refusal's place */
+    uint32_t elements; /* the rows filled, also with 19 and 22 */
+    uint32_t lines;    /* the lines filled */
+    uint32_t length;   /* the octets written */
+} odif_shown;
+
+/* One line of a whole reading: a match, and its text. All count from 0. */
+typedef struct {
+    uint32_t element;  /* as in odif_match */
+    uint32_t portion;
+    uint32_t unit;
+    uint32_t first;    /* the text is out[first] to out[past - 1] */
+    uint32_t past;     /* where the next line's text begins */
+} odif_line;
+
 /* One entry of a letter that is made: where its identifier, its portion and its text stand in the buffer. Each is from
    first to past - 1; parts may overlap one another. */
 typedef struct {
@@ -244,6 +264,22 @@ odif_listed odif_layout(const uint8_t *ODIF_APART stream, size_t stream_len,
 odif_listed odif_logical(const uint8_t *ODIF_APART stream, size_t stream_len,
                          uint32_t *ODIF_APART table, size_t table_len,
                          odif_match *ODIF_APART list, size_t list_len);
+
+/* The whole reading of the layout side, with one judging: fills the table as odif_layout does; puts the contents of the
+   text units of its matches to out, in the list's order, one after another, each as odif_joined copies it; and fills a
+   line for each match. Every octet of out up to the length is an octet of a text unit of this stream, and none that was
+   there before shows. lines_len counts numbers, five a line in the order of odif_line, and an incomplete last line is not
+   used; lines and octets past the last one filled stay. It takes time as the stream is long. */
+odif_shown odif_layout_text_numbers(const uint8_t *ODIF_APART stream, size_t stream_len,
+                                    uint32_t *ODIF_APART table, size_t table_len,
+                                    uint32_t *ODIF_APART lines, size_t lines_len,
+                                    uint8_t *ODIF_APART out, size_t out_len);
+
+/* The same for the logical side. */
+odif_shown odif_logical_text_numbers(const uint8_t *ODIF_APART stream, size_t stream_len,
+                                     uint32_t *ODIF_APART table, size_t table_len,
+                                     uint32_t *ODIF_APART lines, size_t lines_len,
+                                     uint8_t *ODIF_APART out, size_t out_len);
 
 /* Writes the normal form of a stream of at most 65,535 octets, for machines with little memory: 1 is given where the
    stream is longer, and never 17. There the normal form is never longer than the stream. */
@@ -294,6 +330,41 @@ odif_related odif_children_1993(const uint8_t *ODIF_APART stream, size_t stream_
                                 uint32_t *ODIF_APART list, size_t list_len);
 odif_dated odif_date_1993(const uint8_t *stream, size_t stream_len);
 odif_first_dated odif_first_date_1993(const uint8_t *stream, size_t stream_len);
+
+odif_shown odif_layout_text_numbers_1993(const uint8_t *ODIF_APART stream, size_t stream_len,
+                                         uint32_t *ODIF_APART table, size_t table_len,
+                                         uint32_t *ODIF_APART lines, size_t lines_len,
+                                         uint8_t *ODIF_APART out, size_t out_len);
+odif_shown odif_logical_text_numbers_1993(const uint8_t *ODIF_APART stream, size_t stream_len,
+                                          uint32_t *ODIF_APART table, size_t table_len,
+                                          uint32_t *ODIF_APART lines, size_t lines_len,
+                                          uint8_t *ODIF_APART out, size_t out_len);
+
+/* The whole readings with so many lines. */
+static inline odif_shown odif_layout_text(const uint8_t *ODIF_APART stream, size_t stream_len,
+                                          uint32_t *ODIF_APART table, size_t table_len,
+                                          odif_line *ODIF_APART lines, size_t lines_len,
+                                          uint8_t *ODIF_APART out, size_t out_len) {
+    return odif_layout_text_numbers(stream, stream_len, table, table_len, (uint32_t *)lines, 5 * lines_len, out, out_len);
+}
+static inline odif_shown odif_logical_text(const uint8_t *ODIF_APART stream, size_t stream_len,
+                                           uint32_t *ODIF_APART table, size_t table_len,
+                                           odif_line *ODIF_APART lines, size_t lines_len,
+                                           uint8_t *ODIF_APART out, size_t out_len) {
+    return odif_logical_text_numbers(stream, stream_len, table, table_len, (uint32_t *)lines, 5 * lines_len, out, out_len);
+}
+static inline odif_shown odif_layout_text_1993(const uint8_t *ODIF_APART stream, size_t stream_len,
+                                               uint32_t *ODIF_APART table, size_t table_len,
+                                               odif_line *ODIF_APART lines, size_t lines_len,
+                                               uint8_t *ODIF_APART out, size_t out_len) {
+    return odif_layout_text_numbers_1993(stream, stream_len, table, table_len, (uint32_t *)lines, 5 * lines_len, out, out_len);
+}
+static inline odif_shown odif_logical_text_1993(const uint8_t *ODIF_APART stream, size_t stream_len,
+                                                uint32_t *ODIF_APART table, size_t table_len,
+                                                odif_line *ODIF_APART lines, size_t lines_len,
+                                                uint8_t *ODIF_APART out, size_t out_len) {
+    return odif_logical_text_numbers_1993(stream, stream_len, table, table_len, (uint32_t *)lines, 5 * lines_len, out, out_len);
+}
 
 /* Makes a letter of entries, which lie apart from the output as all that is lent does: an empty profile, and for each
    entry a block with the identifier and that one portion, and a text unit with the text. It is accepted, its layout list

@@ -2,7 +2,7 @@
 -- Checks, Fetching, Copying, Listing: what the check, the fetch, the copy and the list say, case by case. Working: what the work of any leaves.
 -- Dating: the date of a letter. FirstDating: the date by the first element alone.
 -- Checks, Fetching, Copying, Listing: what the check, the fetch, the copy and the list say, case by case. Tabling: the lent table while it is
--- filled, and what it tells of parents. Relating: the children of a row. Working: what the work of any leaves.
+-- filled, and what it tells of parents. Relating: the children of a row. Showing: the whole reading. Working: what the work of any leaves.
 pub mod Small
 pub mod Letters
 pub mod Judging
@@ -12,6 +12,7 @@ pub mod Copying
 pub mod Listing
 pub mod Tabling
 pub mod Relating
+pub mod Showing
 pub mod Working
 pub mod Dating
 pub mod FirstDating

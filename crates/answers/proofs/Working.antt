@@ -14,19 +14,23 @@ use Rattle.answers.specs.declared.Reason.{Reason}
 use Rattle.answers.specs.declared.Found.{Found}
 use Rattle.answers.specs.declared.Copied.{Copied}
 use Rattle.answers.specs.declared.Related.{Related}
+use Rattle.answers.specs.declared.Shown.{Shown}
 use Rattle.answers.specs.declared.Told.{Told}
 use Rattle.answers.specs.declared.Question.{Question}
-use Rattle.answers.specs.declared.Question.the-variants.{Rules, Check, Content, Joined, List as Reading, Children}
+use Rattle.answers.specs.declared.Question.the-variants.{Rules, Check, Content, Joined, List as Reading, Children, Text}
 use Rattle.answers.specs.Answers.{letterIn, ruledBy, ruled, CheckOutcome, Fetches, JoinedOutcome}
 use Rattle.answers.specs.Asking.{ListsFlat}
 use Rattle.answers.specs.Related.{Relates, ChildrenOutcome, relatedList, related}
 use Rattle.answers.specs.Questions.{reasonTold, checkTold, locatedTold, copiedTold, listedTold, relatedTold, checkOf, locatedOf, copiedOf, listedOf, relatedOf, refusedTold, Leaves}
+use Rattle.answers.specs.Questions.{shownTold, shownOf}
+use Rattle.answers.specs.Showing.{TextsFlat}
 use Rattle.answers.proofs.Small.{refusal-small}
 use Rattle.answers.proofs.Checks.{checks-refused}
 use Rattle.answers.proofs.Fetching.{fetches-refused, joins-refused}
 use Rattle.answers.proofs.Copying.{joins-none}
 use Rattle.answers.proofs.Listing.{lists-refused}
 use Rattle.answers.proofs.Relating.{relates-refused}
+use Rattle.answers.proofs.Showing.{shows-ruled}
 
 -- a stream that is refused by one of rules 1 to 15
 pub ruled-refused : (edition : Edition) (s : List ℕ) {number place headers : ℕ} → letterIn edition s ≡ refusal number place headers
@@ -110,6 +114,10 @@ module _ (edition : Edition) (s table flat out : List ℕ) where
       → Leaves edition (Children row room) s table flat out (relatedTold r) after flatAfter out
   leaves-children e = record { answered = ap relatedTold (e .answered); tabled = e .tabled; put = refl; beside = e .filled }
 
+  pub leaves-text : {side : Side} {room : ℕ} {r : Shown} {after flatAfter outAfter : List ℕ} → TextsFlat edition side s table room out r after flatAfter outAfter
+      → Leaves edition (Text side room) s table flat out (shownTold r) after flatAfter outAfter
+  leaves-text e = record { answered = ap shownTold (e .answered); tabled = e .tabled; put = e .put; beside = e .lined }
+
   -- whatever is asked, nothing that was lent is touched
   pub leaves-refused : (question : Question) (number place headers : ℕ) → letterIn edition s ≡ refusal number place headers
       → Leaves edition question s table flat out (refusedTold question number place headers) table flat out
@@ -121,6 +129,9 @@ module _ (edition : Edition) (s table flat out : List ℕ) where
       leaves-joined (joins-none edition s element out number place (λ z. omega arith) (joins-refused edition s element number place headers e))
   leaves-refused (Reading side room) number place headers e = leaves-list (lists-refused edition side s table flat room number place headers e)
   leaves-refused (Children row room) number place headers e = leaves-children (relates-refused edition s table row room flat number place headers e)
+  leaves-refused (Text side room) number place headers e =
+      let low = refusal-small edition s number place headers e .low in
+      leaves-text (shows-ruled edition side s table flat room out number place headers (λ z. omega arith) e)
 
 -- what each question answers, from what its work left
 module _ {edition : Edition} {s table flat out : List ℕ} {told : Told} {tableAfter flatAfter outAfter : List ℕ} where
@@ -146,3 +157,9 @@ module _ {edition : Edition} {s table flat out : List ℕ} {told : Told} {tableA
   children-left {row} l =
       let told-is : told .number ≡ related edition s table row (length flat) .number = ap (λ (t : Told). t .number) (l .answered) in
       record { answered = ap relatedOf (l .answered); tabled = l .tabled; filled = l .beside ∙ rw told-is }
+
+  pub text-told : {side : Side} {room : ℕ} {answer : Shown} → answer ≡ shownOf told → Leaves edition (Text side room) s table flat out told tableAfter flatAfter outAfter
+      → TextsFlat edition side s table room out answer tableAfter flatAfter outAfter
+  text-told {side} {room} e l =
+      subst (λ (r : Shown). TextsFlat edition side s table room out r tableAfter flatAfter outAfter) (sym e)
+      (record { answered = ap shownOf (l .answered); tabled = l .tabled; put = l .put; lined = l .beside })

@@ -1,12 +1,14 @@
 -- Table: the lent table. Answers: what each question answers. Related: the children of a row. Short: the mailroom's normal form question.
 -- Dates: the date of the document. FirstDates: the same by the first element alone. Dating: what their work learns. Asking: what the work
--- behind the others learns. Questions: what the work of any of these leaves.
+-- behind the others learns. Texts: the whole reading; Showing: what its work learns. Questions: what the work of any of these leaves.
 pub mod Table
 pub mod Answers
 pub mod Related
+pub mod Texts
 pub mod Short
 pub mod Dates
 pub mod FirstDates
 pub mod Dating
 pub mod Asking
+pub mod Showing
 pub mod Questions

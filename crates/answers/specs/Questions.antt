@@ -16,11 +16,14 @@ use Rattle.answers.specs.declared.Reason.{Reason}
 use Rattle.answers.specs.declared.Found.{Found}
 use Rattle.answers.specs.declared.Copied.{Copied}
 use Rattle.answers.specs.declared.Related.{Related}
+use Rattle.answers.specs.declared.Shown.{Shown}
 use Rattle.answers.specs.declared.Told.{Told}
 use Rattle.answers.specs.declared.Question.{Question}
-use Rattle.answers.specs.declared.Question.the-variants.{Rules, Check, Content, Joined, List as Reading, Children}
+use Rattle.answers.specs.declared.Question.the-variants.{Rules, Check, Content, Joined, List as Reading, Children, Text}
 use Rattle.answers.specs.Answers.{checked, checkedTable, listed, listedTable, matchesIn, ruled, refusedCheck, located, Stands, copied, copiedOutput}
 use Rattle.answers.specs.Related.{related, relatedTable, childrenOnto}
+use Rattle.answers.specs.Texts.{shown, shownOutput}
+use Rattle.answers.specs.Showing.{LinesNumbered}
 
 -- each answer in the one form in which the work tells it: what a question does not ask for is 0
 abbrev pub reasonTold : Reason → Told
@@ -41,6 +44,9 @@ listedTold r = record { number = r .number; place = r .place; headers = 0; eleme
 abbrev pub relatedTold : Related → Told
 relatedTold r = record { number = r .number; place = r .place; headers = 0; elements = r .elements; listed = r .children; length = 0; first = 0; past = 0 }
 
+abbrev pub shownTold : Shown → Told
+shownTold r = record { number = r .number; place = r .place; headers = 0; elements = r .elements; listed = r .lines; length = r .length; first = 0; past = 0 }
+
 -- and the answer again, of what was told
 abbrev pub checkOf : Told → Checked
 checkOf t = record { number = t .number; place = t .place; headers = t .headers; elements = t .elements }
@@ -57,6 +63,9 @@ listedOf t = record { number = t .number; place = t .place; elements = t .elemen
 abbrev pub relatedOf : Told → Related
 relatedOf t = record { number = t .number; place = t .place; elements = t .elements; children = t .listed }
 
+abbrev pub shownOf : Told → Shown
+shownOf t = record { number = t .number; place = t .place; elements = t .elements; lines = t .listed; length = t .length }
+
 -- what is told of a stream, with this table and this buffer lent
 abbrev pub toldTo : Edition → Question → (s table out : List ℕ) → Told
 toldTo edition Rules s table out = reasonTold (ruled edition s)
@@ -65,6 +74,7 @@ toldTo edition (Content element) s table out = locatedTold (located edition s el
 toldTo edition (Joined element) s table out = copiedTold (copied edition s element out)
 toldTo edition (Reading side room) s table out = listedTold (listed edition side s table room)
 toldTo edition (Children row room) s table out = relatedTold (related edition s table row room)
+toldTo edition (Text side room) s table out = shownTold (shown edition side s table room out)
 
 -- what is told of a stream that rules 1 to 15 refuse: the check alone is told how many headers passed
 abbrev pub refusedTold : Question → (number place headers : ℕ) → Told
@@ -74,6 +84,7 @@ refusedTold (Content element) number place headers = reasonTold (record { number
 refusedTold (Joined element) number place headers = reasonTold (record { number = number; place = place })
 refusedTold (Reading side room) number place headers = reasonTold (record { number = number; place = place })
 refusedTold (Children row room) number place headers = reasonTold (record { number = number; place = place })
+refusedTold (Text side room) number place headers = reasonTold (record { number = number; place = place })
 
 -- the table at exit
 abbrev pub tableLeft : Edition → Question → (s table : List ℕ) → List ℕ
@@ -83,15 +94,17 @@ tableLeft edition (Content element) s table = table
 tableLeft edition (Joined element) s table = table
 tableLeft edition (Reading side room) s table = listedTable edition side s table room
 tableLeft edition (Children row room) s table = relatedTable edition s table row room
+tableLeft edition (Text side room) s table = listedTable edition side s table room
 
 -- the buffer at exit
-abbrev pub outLeft : Edition → Question → (s out : List ℕ) → List ℕ
-outLeft edition Rules s out = out
-outLeft edition Check s out = out
-outLeft edition (Content element) s out = out
-outLeft edition (Joined element) s out = copiedOutput edition s element out
-outLeft edition (Reading side room) s out = out
-outLeft edition (Children row room) s out = out
+abbrev pub outLeft : Edition → Question → (s table out : List ℕ) → List ℕ
+outLeft edition Rules s table out = out
+outLeft edition Check s table out = out
+outLeft edition (Content element) s table out = out
+outLeft edition (Joined element) s table out = copiedOutput edition s element out
+outLeft edition (Reading side room) s table out = out
+outLeft edition (Children row room) s table out = out
+outLeft edition (Text side room) s table out = shownOutput edition side s table room out
 
 -- the reading list as numbers, three a record: as many as are told, all matches if the number is 0
 pub record Numbered (edition : Edition) (side : Side) (s : List ℕ) (room number count : ℕ) (flat : List ℕ) : Type 0 where
@@ -99,7 +112,7 @@ pub record Numbered (edition : Edition) (side : Side) (s : List ℕ) (room numbe
   pub fits : 3 * count ≤ length flat
   pub enough : count ≤ room
 
--- what else a question leaves: of a list, its numbers; of the children, the lent list itself
+-- what else a question leaves: of a list and of a whole reading, its numbers; of the children, the lent list itself
 abbrev pub Beside : Edition → Question → (s : List ℕ) → Told → (flat flatAfter : List ℕ) → Type 0
 Beside edition Rules s told flat flatAfter = Unit {0}
 Beside edition Check s told flat flatAfter = Unit {0}
@@ -107,15 +120,16 @@ Beside edition (Content element) s told flat flatAfter = Stands edition s elemen
 Beside edition (Joined element) s told flat flatAfter = Unit {0}
 Beside edition (Reading side room) s told flat flatAfter = Numbered edition side s room (told .number) (told .listed) flatAfter
 Beside edition (Children row room) s told flat flatAfter = flatAfter ≡ childrenOnto edition s row (told .number) flat
+Beside edition (Text side room) s told flat flatAfter = LinesNumbered edition side s room (told .number) (told .listed) flatAfter
 
 -- the contract of the work, and of all that leads to it
 pub record Leaves (edition : Edition) (question : Question) (s table flat out : List ℕ) (told : Told) (tableAfter flatAfter outAfter : List ℕ) : Type 0 where
   pub answered : told ≡ toldTo edition question s table out
   pub tabled : tableAfter ≡ tableLeft edition question s table
-  pub put : outAfter ≡ outLeft edition question s out
+  pub put : outAfter ≡ outLeft edition question s table out
   pub beside : Beside edition question s told flat flatAfter
 
--- a reading list is made as numbers, so there is room for a record of each element; children are put to the lent list, which has the room that is told
+-- a reading list is made as numbers, so there is room for a record of each element, and of a whole reading for the end of each text besides; children are put to the lent list, which has the room that is told
 abbrev pub Roomy : Question → (s : List ℕ) → (numbers : ℕ) → Type 0
 Roomy Rules s numbers = Unit {0}
 Roomy Check s numbers = Unit {0}
@@ -123,3 +137,4 @@ Roomy (Content element) s numbers = Unit {0}
 Roomy (Joined element) s numbers = Unit {0}
 Roomy (Reading side room) s numbers = 3 * rowsNeeded s ≤ numbers
 Roomy (Children row room) s numbers = room ≤ numbers
+Roomy (Text side room) s numbers = 4 * rowsNeeded s ≤ numbers

@@ -38,7 +38,7 @@ fn content_at(edition: Edition, stream: &[u8], rows: &[u32], element: usize) -> 
 }
 
 // The content of an element: 20, or where it stands.
-fn fetch_judged(
+pub fn fetch_judged(
     edition: Edition,
     stream: &[u8],
     element: usize,

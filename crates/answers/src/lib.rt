@@ -15,12 +15,14 @@ ghost use Rattle.letters.specs.Scratch.{Filled};
 ghost use Rattle.answers.specs.Answers.{refusedCheck, CheckOutcome};
 ghost use Rattle.answers.specs.Asking.{ListsFlat};
 ghost use Rattle.answers.specs.Questions.{reasonTold, checkTold, locatedTold, copiedTold, listedTold, relatedTold, listedOf, refusedTold, Leaves, Roomy};
+ghost use Rattle.answers.specs.Questions.{shownTold, shownOf};
 
 mod children; // children.rt: the children of a row
 mod content; // content.rt: the content of one element, as a part or copied
 mod date; // date.rt: the date of the document
 mod first_date; // first_date.rt: the same by the first element alone
 mod table; // table.rt: the lent table
+mod whole; // whole.rt: the whole reading of a side
 
 use children::children_judged;
 use content::join_judged;
@@ -29,6 +31,7 @@ pub use date::date_of_letter;
 pub use date::refused_date;
 pub use first_date::date_of_first;
 pub use table::TABLE_WIDTH;
+use whole::text_judged;
 
 // The numbers of refusals that come after rules 1 to 15, those of the questions themselves; 17 and 18 are crate normal's.
 const TOO_FEW_ROWS: u32 = 16;
@@ -130,6 +133,16 @@ pub struct Related {
     pub children: u32,
 }
 
+// What is answered of the whole reading of a side.
+#[repr(C)]
+pub struct Shown {
+    pub number: u32,
+    pub place: u32,
+    pub elements: u32,
+    pub lines: u32,
+    pub length: u32,
+}
+
 // A question that is put to a stream. Those that want a list say how many records or rows it has room for.
 pub enum Question {
     Rules,
@@ -138,6 +151,7 @@ pub enum Question {
     Joined { element: usize },
     List { side: Side, room: usize },
     Children { row: usize, room: usize },
+    Text { side: Side, room: usize },
 }
 
 // What the work of any question tells. What the question does not ask for is 0.
@@ -347,6 +361,34 @@ fn tell_related(r: Related) -> Told
     }
 }
 
+fn tell_shown(r: Shown) -> Told
+    ensures { λ told. ⌜ told ≡ shownTold r ⌝ }
+{
+    Told {
+        number: r.number,
+        place: r.place,
+        headers: 0,
+        elements: r.elements,
+        listed: r.lines,
+        length: r.length,
+        first: 0,
+        past: 0,
+    }
+}
+
+// The whole reading's answer, of what was told.
+pub fn shown_of(told: Told) -> Shown
+    ensures { λ r. ⌜ r ≡ shownOf told ⌝ }
+{
+    Shown {
+        number: told.number,
+        place: told.place,
+        elements: told.elements,
+        lines: told.listed,
+        length: told.length,
+    }
+}
+
 // The list's answer, of what was told.
 pub fn listed_of(told: Told) -> Listed
     ensures { λ r. ⌜ r ≡ listedOf told ⌝ }
@@ -370,6 +412,7 @@ pub fn tell_refused(question: Question, number: u32, place: u32, headers: u32) -
         Question::Joined { element: _ } => tell_reason(Reason { number, place }),
         Question::List { side: _, room: _ } => tell_reason(Reason { number, place }),
         Question::Children { row: _, room: _ } => tell_reason(Reason { number, place }),
+        Question::Text { side: _, room: _ } => tell_reason(Reason { number, place }),
     }
 }
 
@@ -454,6 +497,21 @@ pub fn work(
             count,
             table,
             flat,
+        )),
+        Question::Text { side, room } => tell_shown(text_judged(
+            edition,
+            stream,
+            side,
+            room,
+            rows,
+            head,
+            next,
+            head2,
+            next2,
+            count,
+            table,
+            flat,
+            out,
         )),
     }
 }

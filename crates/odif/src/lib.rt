@@ -23,6 +23,9 @@ ghost use Rattle.answers.specs.Dates.{dateOf, DateOutcome};
 ghost use Rattle.answers.specs.FirstDates.{FirstDateOutcome};
 
 mod arriving; // arriving.rt: a letter that arrives in blocks
+mod whole; // whole.rt: the whole reading of a side
+
+pub use whole::text;
 
 // The most octets of a stream that the mailroom box asks about.
 const SHORT_LIMIT: usize = 65535;

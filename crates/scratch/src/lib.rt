@@ -15,9 +15,12 @@ ghost use Rattle.answers.specs.Questions.{Leaves, Roomy};
 
 mod frames; // frames.rt: the arrays of either size
 mod list; // list.rt: the reading list of a side
+mod whole; // whole.rt: the whole reading of a side
 
 pub use list::list_few;
 pub use list::list_many;
+pub use whole::text_few;
+pub use whole::text_many;
 
 // Scratch for so many elements is soon cleared, and most letters have no more.
 const FEW: usize = 512;

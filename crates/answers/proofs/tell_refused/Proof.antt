@@ -45,6 +45,12 @@ enum-told-6 c = search needs
 tell-reason-requires-5 : tie.Need-tell-reason-requires-5
 tell-reason-requires-5 c κs = search needs
 
+enum-told-7 : tie.Need-enum-told-7
+enum-told-7 c = search needs
+
+tell-reason-requires-6 : tie.Need-tell-reason-requires-6
+tell-reason-requires-6 c κs = search needs
+
 returns : tie.Need-returns
 returns c = refused-as _ _ _ (c .before .before .enum-told .given .1) (c .tell-checked .ensures ∙ ap checkTold (c .before .refused-check .ensures))
 
@@ -63,6 +69,9 @@ returns-5 c = refused-as _ _ _ (c .before .enum-told5 .given .1) (c .tell-reason
 returns-6 : tie.Need-returns-6
 returns-6 c = refused-as _ _ _ (c .before .enum-told6 .given .1) (c .tell-reason5 .ensures)
 
+returns-7 : tie.Need-returns-7
+returns-7 c = refused-as _ _ _ (c .before .enum-told7 .given .1) (c .tell-reason6 .ensures)
+
 pub tell-refused-spec : {M : Type 1} → statement M
 tell-refused-spec =
     tie.close
@@ -80,9 +89,12 @@ tell-refused-spec =
     tell-reason-requires-4
     enum-told-6
     tell-reason-requires-5
+    enum-told-7
+    tell-reason-requires-6
     returns
     returns-2
     returns-3
     returns-4
     returns-5
-    returns-6)
+    returns-6
+    returns-7)

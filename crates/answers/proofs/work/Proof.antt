@@ -6,7 +6,7 @@ use denote.Ref.{now}
 use Rattle.answers.specs.declared.Question.{Question}
 use Rattle.answers.specs.Questions.{Roomy}
 use Rattle.answers.proofs.Judging.{accepts-walked, judged-in, accepted-judged}
-use Rattle.answers.proofs.Working.{as-asked, ruled-letter, leaves-rules, leaves-check, leaves-content, leaves-joined, leaves-list, leaves-children}
+use Rattle.answers.proofs.Working.{as-asked, ruled-letter, leaves-rules, leaves-check, leaves-content, leaves-joined, leaves-list, leaves-children, leaves-text}
 use Rattle.answers.proofs.work.Statement.{statement}
 use Rattle.answers.proofs.work.Tie as tie
 
@@ -67,6 +67,18 @@ children-judged-requires c κs =
 tell-related-requires : tie.Need-tell-related-requires
 tell-related-requires c κs = search needs
 
+enum-known-question-5 : tie.Need-enum-known-question-5
+enum-known-question-5 c = search needs
+
+text-judged-requires : tie.Need-text-judged-requires
+text-judged-requires c κs =
+    let a = c .before .before .before .before .before .before .before .before .before .before .before .before .before .before .before in
+    let room = subst (λ (q : Question). Roomy q (now (a .args .stream)) (length (now (a .args .flat)))) (c .before .before .before .before .question5 .given .1) (a .pre .1 .1) in
+    (accepts-walked (a .pre .0), (a .pre .1 .0, room))
+
+tell-shown-requires : tie.Need-tell-shown-requires
+tell-shown-requires c κs = search needs
+
 returns : tie.Need-returns
 returns c =
     let a = c .before .before .before .before .before .before .before .before .before .before .before .before in
@@ -118,6 +130,20 @@ returns-6 c =
     let a = c .before .before .before .before .before .before .before .before .before .before .before .before .before .before .before .before .before .before .before .before in
     as-asked (c .before .before .before .before .before .before .before .before .before .question4 .given .1) (c .tell-related .ensures) (leaves-children (a .args .edition) (now (a .args .stream)) (now (a .args .table)) (now (a .args .flat)) (now (a .args .out)) (c .before .before .before .before .before .children-judged .ensures))
 
+same-length-7 : tie.Need-same-length-7
+same-length-7 c = search needs
+
+same-length-8 : tie.Need-same-length-8
+same-length-8 c = search needs
+
+same-length-9 : tie.Need-same-length-9
+same-length-9 c = search needs
+
+returns-7 : tie.Need-returns-7
+returns-7 c =
+    let a = c .before .before .before .before .before .before .before .before .before .before .before .before .before .before .before .before .before .before .before .before .before .before .before in
+    as-asked (c .before .before .before .before .before .before .before .before .before .before .before .before .question5 .given .1) (c .tell-shown .ensures) (leaves-text (a .args .edition) (now (a .args .stream)) (now (a .args .table)) (now (a .args .flat)) (now (a .args .out)) (c .before .before .before .before .before .before .before .text-judged .ensures))
+
 pub work-spec : {M : Type 1} → statement M
 work-spec =
     tie.close
@@ -139,6 +165,9 @@ work-spec =
     enum-known-question-4
     children-judged-requires
     tell-related-requires
+    enum-known-question-5
+    text-judged-requires
+    tell-shown-requires
     returns
     same-length
     returns-2
@@ -150,4 +179,8 @@ work-spec =
     returns-5
     same-length-5
     same-length-6
-    returns-6)
+    returns-6
+    same-length-7
+    same-length-8
+    same-length-9
+    returns-7)

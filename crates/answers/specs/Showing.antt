@@ -1,0 +1,34 @@
+-- What the work behind the whole reading learns: its lines are numbers in scratch yet. Definitions only: assumes nothing.
+use mathlib.Core.Path.{_≡_}
+use Prim.Native.Nat.{ℕ, _*_, _≤_}
+use mathlib.Core.Bool.{cond}
+use mathlib.Core.List.{List, []}
+use lib.Dec.{eqb}
+use lib.ListN.{length, drop}
+use Rattle.octets.specs.Walk.{streamLimit}
+use Rattle.elements.specs.declared.Edition.{Edition}
+use Rattle.reading.specs.declared.Side.{Side}
+use Rattle.texts.specs.Texts.{textsOf, lineNumbers}
+use Rattle.texts.specs.Flat.{recordsFrom, linesLeft}
+use Rattle.answers.specs.declared.Shown.{Shown}
+use Rattle.answers.specs.Answers.{listedTable}
+use Rattle.answers.specs.Texts.{textIn, linesIn, shown, shownOutput}
+
+-- there are so many matches in the numbers, and their texts are no longer than a stream may be
+pub record Listing (edition : Edition) (s numbers : List ℕ) (count : ℕ) : Type 0 where
+  pub room : 4 * count ≤ length numbers
+  pub few : count ≤ 4096
+  pub short : length (textsOf (textIn edition s) (recordsFrom numbers 0 count)) ≤ streamLimit
+
+-- the lines as numbers: as many as are told, all if the number is 0
+pub record LinesNumbered (edition : Edition) (side : Side) (s : List ℕ) (room number count : ℕ) (numbers : List ℕ) : Type 0 where
+  pub stored : linesLeft numbers count 0 count 0 ≡ cond (eqb number 0) (lineNumbers (linesIn edition side s)) []
+  pub fits : 4 * count ≤ length numbers
+  pub enough : count ≤ room
+
+-- the whole reading with its lines as numbers
+pub record TextsFlat (edition : Edition) (side : Side) (s table : List ℕ) (room : ℕ) (out : List ℕ) (answer : Shown) (tableAfter numbers outAfter : List ℕ) : Type 0 where
+  pub answered : answer ≡ shown edition side s table room out
+  pub tabled : tableAfter ≡ listedTable edition side s table room
+  pub put : outAfter ≡ shownOutput edition side s table room out
+  pub lined : LinesNumbered edition side s room (answer .number) (answer .lines) numbers

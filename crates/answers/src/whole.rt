@@ -1,0 +1,168 @@
+// The whole reading of a side of a letter: the texts of its matches, one after another, and where each ends. They are measured before any is written.
+use super::COPY_TOO_SHORT;
+use super::ContentFound;
+use super::Shown;
+use super::content::fetch_judged;
+use super::list_judged;
+use elements::Edition;
+use reading::Side;
+ghost use mathlib.Core.Path.{_≡_};
+ghost use mathlib.Core.List.{_++_};
+ghost use Prim.Native.Nat.{_*_, _≤_};
+ghost use lib.ListN.{length, drop};
+ghost use Rattle.tree.specs.Tree.{treeOf};
+ghost use Rattle.tree.specs.Accepts.{Accepts};
+ghost use Rattle.letters.specs.Lent.{rowsNeeded};
+ghost use Rattle.letters.specs.Scratch.{Filled};
+ghost use Rattle.texts.specs.Texts.{textsOf};
+ghost use Rattle.texts.specs.Flat.{recordsFrom, PutsTexts};
+ghost use Rattle.answers.specs.Asking.{JudgedIn};
+ghost use Rattle.answers.specs.Texts.{textIn, unshown};
+ghost use Rattle.answers.specs.Showing.{Listing, TextsFlat};
+
+fn wide(x: u32) -> usize
+    ensures { λ r. ⌜ r ≡ x ⌝ }
+{
+    x as usize
+}
+
+// How many octets the text of a unit has.
+fn text_length(edition: Edition, stream: &[u8], rows: &[u32], count: usize, unit: usize) -> usize
+    requires { ⌜ Accepts (now stream) (treeOf (now stream)) ⌝ }
+    requires { ⌜ JudgedIn edition (now stream) (now rows) count ⌝ }
+    ensures { λ r. ⌜ r ≡ length (textIn edition (now (stream .entry)) unit) ⌝ }
+{
+    match fetch_judged(edition, stream, unit, rows, count) {
+        ContentFound::Content { first, past } => past - first,
+        ContentFound::Pieces { run } => pieces::joined_length(stream, run),
+        ContentFound::NoUnit => 0,
+    }
+}
+
+// Puts the text of a unit to the start of the output, and says how many octets it has. Output past it stays.
+fn put_text(
+    edition: Edition,
+    stream: &[u8],
+    rows: &[u32],
+    count: usize,
+    unit: usize,
+    out: &mut [u8],
+) -> usize
+    requires { ⌜ Accepts (now stream) (treeOf (now stream)) ⌝ }
+    requires { ⌜ JudgedIn edition (now stream) (now rows) count ⌝ }
+    requires { ⌜ length (textIn edition (now stream) unit) ≤ length (now out) ⌝ }
+    ensures { λ r. ⌜ r ≡ length (textIn edition (now (stream .entry)) unit) ⌝ }
+    ensures { λ r. ⌜ now (out .exit) ≡ textIn edition (now (stream .entry)) unit ++ drop r (now (out .entry)) ⌝ }
+{
+    match fetch_judged(edition, stream, unit, rows, count) {
+        ContentFound::Content { first, past } => bytes::copy(&stream[first..past], out),
+        ContentFound::Pieces { run } => pieces::put_joined(stream, run, out),
+        ContentFound::NoUnit => 0,
+    }
+}
+
+// How many octets the texts of the first matches have in all. A match is three numbers, of which the last is its unit.
+fn measure(
+    edition: Edition,
+    stream: &[u8],
+    rows: &[u32],
+    count: usize,
+    numbers: &[u32],
+    lines: usize,
+) -> usize
+    requires { ⌜ Accepts (now stream) (treeOf (now stream)) ⌝ }
+    requires { ⌜ JudgedIn edition (now stream) (now rows) count ⌝ }
+    requires { ⌜ Listing edition (now stream) (now numbers) lines ⌝ }
+    ensures { λ r. ⌜ r ≡ length (textsOf (textIn edition (now (stream .entry))) (recordsFrom (now (numbers .entry)) 0 lines)) ⌝ }
+{
+    let mut k: usize = 0;
+    let mut total: usize = 0;
+    while k < lines {
+        let unit = wide(numbers[3 * k + 2]);
+        total = total + text_length(edition, stream, rows, count, unit);
+        k += 1;
+    }
+    total
+}
+
+// Puts the texts of the first matches one after another, and after the matches where each text ends.
+fn put_texts(
+    edition: Edition,
+    stream: &[u8],
+    rows: &[u32],
+    count: usize,
+    numbers: &mut [u32],
+    lines: usize,
+    out: &mut [u8],
+)
+    requires { ⌜ Accepts (now stream) (treeOf (now stream)) ⌝ }
+    requires { ⌜ JudgedIn edition (now stream) (now rows) count ⌝ }
+    requires { ⌜ Listing edition (now stream) (now numbers) lines ⌝ }
+    requires { ⌜ length (textsOf (textIn edition (now stream)) (recordsFrom (now numbers) 0 lines)) ≤ length (now out) ⌝ }
+    ensures { λ _. ⌜ PutsTexts (textIn edition (now (stream .entry))) (now (numbers .entry)) lines (now (out .entry)) (now (numbers .exit)) (now (out .exit)) ⌝ }
+{
+    let mut k: usize = 0;
+    let mut done: usize = 0;
+    while k < lines {
+        let unit = wide(numbers[3 * k + 2]);
+        done = done + put_text(edition, stream, rows, count, unit, &mut out[done..]);
+        numbers[3 * lines + k] = done as u32;
+        k += 1;
+    }
+}
+
+// What is answered where a whole reading is refused.
+fn refuse(number: u32, place: u32, elements: u32) -> Shown
+    ensures { λ r. ⌜ r ≡ unshown number place elements ⌝ }
+{
+    Shown {
+        number,
+        place,
+        elements,
+        lines: 0,
+        length: 0,
+    }
+}
+
+// The whole reading of a side of a letter, its lines as numbers: the list, with 16 and 19; then 22, before any text is written.
+pub fn text_judged(
+    edition: Edition,
+    stream: &[u8],
+    side: Side,
+    room: usize,
+    rows: &[u32],
+    head: &[u16],
+    next: &[u16],
+    head2: &[u16],
+    next2: &[u16],
+    count: usize,
+    table: &mut [u32],
+    numbers: &mut [u32],
+    out: &mut [u8],
+) -> Shown
+    requires { ⌜ Accepts (now stream) (treeOf (now stream)) ⌝ }
+    requires { ⌜ Filled edition (now stream) (now rows) (now head) (now next) (now head2) (now next2) count ⌝ }
+    requires { ⌜ 4 * rowsNeeded (now stream) ≤ length (now numbers) ⌝ }
+    ensures { λ r. ⌜ TextsFlat edition side (now (stream .entry)) (now (table .entry)) room (now (out .entry)) r (now (table .exit)) (now (numbers .exit))
+        (now (out .exit)) ⌝ }
+{
+    let listed = list_judged(
+        edition, stream, side, room, rows, head, next, head2, next2, count, table, numbers,
+    );
+    if listed.number != 0 {
+        return refuse(listed.number, listed.place, listed.elements);
+    }
+    let lines = wide(listed.matches);
+    let length = measure(edition, stream, rows, count, numbers, lines);
+    if out.len() < length {
+        return refuse(COPY_TOO_SHORT, 0, listed.elements);
+    }
+    put_texts(edition, stream, rows, count, numbers, lines, out);
+    Shown {
+        number: 0,
+        place: 0,
+        elements: listed.elements,
+        lines: listed.matches,
+        length: length as u32,
+    }
+}
