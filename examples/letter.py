@@ -8,7 +8,7 @@ import ctypes.util
 import os
 import sys
 
-STREAM_LIMIT, MOST_ELEMENTS, ROW_WIDTH = 1_048_576, 4_096, 13
+STREAM_LIMIT, MOST_ELEMENTS, ROW_WIDTH, LINE_WIDTH = 1_048_576, 4_096, 13, 5
 
 
 def answer(name, *fields):
@@ -23,7 +23,7 @@ Shown = answer("Shown", "number", "place", "elements", "lines", "length")
 def library():
     """The library, with what its functions take and return."""
     odif = ctypes.CDLL(os.environ.get("ODIF_LIBRARY") or ctypes.util.find_library("odif") or "libodif.so")
-    for side in odif.odif_layout_text, odif.odif_logical_text:
+    for side in odif.odif_layout_text_numbers, odif.odif_logical_text_numbers:
         side.restype, side.argtypes = Shown, [ctypes.c_char_p, ctypes.c_size_t] + 3 * [ctypes.c_void_p, ctypes.c_size_t]
     odif.odif_sentence.restype, odif.odif_sentence.argtypes = ctypes.c_char_p, [ctypes.c_uint32]
     return odif
@@ -39,10 +39,10 @@ class Refused(Exception):
 
 
 def contents(odif, ask, stream):
-    """The contents of the units of a side in reading order, by `odif_layout_text` or `odif_logical_text`."""
+    """The contents of the units of a side in reading order, by `odif_layout_text_numbers` or `odif_logical_text_numbers`."""
     table, lines = (ctypes.c_uint32 * (ROW_WIDTH * MOST_ELEMENTS))(), (Line * MOST_ELEMENTS)()
     out = ctypes.create_string_buffer(len(stream))
-    shown = ask(stream, len(stream), table, len(table), lines, len(lines), out, len(out))
+    shown = ask(stream, len(stream), table, len(table), lines, LINE_WIDTH * len(lines), out, len(out))
     if shown.number:
         raise Refused(odif, shown.number, shown.place)
     text = out.raw[: shown.length]
@@ -54,7 +54,8 @@ def main():
         odif = library()
         with open(sys.argv[1], "rb") if len(sys.argv) > 1 else sys.stdin.buffer as file:
             stream = file.read(STREAM_LIMIT + 1)
-        for text in contents(odif, odif.odif_layout_text, stream) or contents(odif, odif.odif_logical_text, stream):
+        sides = odif.odif_layout_text_numbers, odif.odif_logical_text_numbers
+        for text in contents(odif, sides[0], stream) or contents(odif, sides[1], stream):
             sys.stdout.buffer.write(text if text.endswith(b"\n") else text + b"\n")
         sys.stdout.buffer.flush()
     except Refused as refused:

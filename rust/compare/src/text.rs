@@ -1,6 +1,7 @@
 //! The whole reading of a side: what the library and the reader answer, with the same memory lent, exact, one short and
 //! longer; and what it has to do with the list, the contents and the crate's own text.
 
+use odif::raw::LINE_WIDTH;
 use odif::{Edition, MOST_ELEMENTS, ROW_WIDTH, raw};
 use reader::{Reading, Side};
 
@@ -13,7 +14,7 @@ pub fn hold(edition: Edition, stream: &[u8], reading: &Reading<'_>, origin: &Ori
     for side in [Side::Layout, Side::Logical] {
         let mut one = One { edition, side, stream, reading, origin, tally };
         let (lines, text) = reading.whole_text(side);
-        for lengths in lengths(reading.element_count() * ROW_WIDTH, lines.len(), text.len(), rng) {
+        for lengths in lengths(reading.element_count() * ROW_WIDTH, lines.len() * LINE_WIDTH, text.len(), rng) {
             one.ask(lengths);
         }
         if reading.refusal().is_none() {
@@ -23,38 +24,34 @@ pub fn hold(edition: Edition, stream: &[u8], reading: &Reading<'_>, origin: &Ori
     }
 }
 
-/// How much to lend.
+/// How many numbers and octets to lend.
 #[derive(Clone, Copy, Debug)]
 struct Lengths {
-    numbers: usize,
-    records: usize,
-    octets: usize,
+    table: usize,
+    lines: usize,
+    out: usize,
 }
 
-/// All exact; one number, record or octet short; and each of them longer, or anything up to that.
-fn lengths(numbers: usize, records: usize, octets: usize, rng: &mut Rng) -> Vec<Lengths> {
-    let exact = Lengths { numbers, records, octets };
+/// All exact; one number or octet short; a whole line short; and each of them longer, or anything up to that.
+fn lengths(table: usize, lines: usize, out: usize, rng: &mut Rng) -> Vec<Lengths> {
+    let exact = Lengths { table, lines, out };
     let longer = Lengths {
-        numbers: numbers + rng.between(1, 2 * ROW_WIDTH),
-        records: records + rng.between(1, 4),
-        octets: octets + rng.between(1, 9),
+        table: table + rng.between(1, 2 * ROW_WIDTH),
+        lines: lines + rng.between(1, 3 * LINE_WIDTH),
+        out: out + rng.between(1, 9),
     };
     let mut all = vec![exact, longer];
-    if numbers > 0 {
-        all.push(Lengths { numbers: numbers - 1, ..longer });
-        all.push(Lengths {
-            numbers: rng.below(numbers),
-            records: rng.below(records + 1),
-            octets: rng.below(octets + 1),
-        });
+    if table > 0 {
+        all.push(Lengths { table: table - 1, ..longer });
+        all.push(Lengths { table: rng.below(table), lines: rng.below(lines + 1), out: rng.below(out + 1) });
     }
-    if records > 0 {
-        all.push(Lengths { records: records - 1, ..longer });
-        all.push(Lengths { records: records - 1, octets: octets.saturating_sub(1), ..exact });
+    if lines > 0 {
+        all.push(Lengths { lines: lines - 1, ..longer });
+        all.push(Lengths { lines: lines - LINE_WIDTH, out: out.saturating_sub(1), ..exact });
     }
-    if octets > 0 {
-        all.push(Lengths { octets: octets - 1, ..exact });
-        all.push(Lengths { octets: rng.below(octets), ..longer });
+    if out > 0 {
+        all.push(Lengths { out: out - 1, ..exact });
+        all.push(Lengths { out: rng.below(out), ..longer });
     }
     all
 }
@@ -77,39 +74,46 @@ impl One<'_> {
     }
 
     fn ask(&mut self, lengths: Lengths) {
-        let table_before = Lent::new(lengths.numbers, lent::numbers);
-        let lines_before = Lent::new(lengths.records, pattern_line);
-        let out_before = Lent::new(lengths.octets, lent::octets);
+        let table_before = Lent::new(lengths.table, lent::numbers);
+        let lines_before = Lent::new(lengths.lines, lent::numbers);
+        let out_before = Lent::new(lengths.out, lent::octets);
         let (mut our_table, mut their_table) = (table_before.clone(), table_before.clone());
+        let (mut our_lines, mut their_lines) = (lines_before.clone(), lines_of_numbers(lines_before.cells()));
         let (mut our_out, mut their_out) = (out_before.clone(), out_before.clone());
-        let mut our_lines = lines_before.clone();
-        let mut their_lines = Lent::new(lengths.records, |place| line_of_reader(pattern_line(place)));
-        let answer = ask(self.edition, self.side, self.stream, our_table.lend(), our_lines.lend(), our_out.lend());
-        let wanted = self.reading.text(self.side, their_table.lend(), their_lines.lend(), their_out.lend());
-        let asked = match self.side {
-            Side::Layout => Question::LayoutText,
-            Side::Logical => Question::LogicalText,
+        let (table, lines, out) = (our_table.lend(), our_lines.lend(), our_out.lend());
+        let answer = match self.side {
+            Side::Layout => raw::layout_text_numbers_in(self.edition, self.stream, table, lines, out),
+            Side::Logical => raw::logical_text_numbers_in(self.edition, self.stream, table, lines, out),
         };
-        self.tally.meet(answer.number);
-        self.tally.meet_in(self.edition, asked, answer.number);
+        let wanted = self.reading.text(self.side, their_table.lend(), &mut their_lines, their_out.lend());
+        self.meet(answer.number);
         let question = format!("with {lengths:?}");
         let same = [answer.number, answer.place, answer.elements, answer.lines, answer.length]
             == [wanted.number, wanted.place, wanted.elements, wanted.lines, wanted.length];
         self.expect(same, &question, || format!("{answer:?}, not {wanted:?}"));
         self.expect(our_table == their_table, &question, || "the tables differ".into());
-        let same =
-            our_lines.cells().iter().zip(their_lines.cells()).all(|(ours, theirs)| line_of_reader(*ours) == *theirs);
-        self.expect(same, &question, || format!("{:?}, not {:?}", our_lines.cells(), their_lines.cells()));
+        let lines = lines_of_numbers(our_lines.cells());
+        self.expect(lines == their_lines, &question, || format!("{lines:?}, not {their_lines:?}"));
         self.expect(our_out == their_out, &question, || {
             format!("{}, not {}", hex(our_out.cells()), hex(their_out.cells()))
         });
         let used = answer.elements as usize * ROW_WIDTH;
         self.expect(our_table.is_untouched_past(used, &table_before), &question, || "written past the rows".into());
-        let used = answer.lines as usize;
+        let used = answer.lines as usize * LINE_WIDTH;
         self.expect(our_lines.is_untouched_past(used, &lines_before), &question, || "written past the lines".into());
         let used = answer.length as usize;
         self.expect(our_out.is_untouched_past(used, &out_before), &question, || "written past the text".into());
         self.expect(used <= self.stream.len(), &question, || "the text is longer than the stream".into());
+    }
+
+    /// Counts what the library gave.
+    fn meet(&mut self, number: u32) {
+        let question = match self.side {
+            Side::Layout => Question::LayoutText,
+            Side::Logical => Question::LogicalText,
+        };
+        self.tally.meet(number);
+        self.tally.meet_in(self.edition, question, number);
     }
 
     /// The lines are the matches of the list in its order, they meet end to end, each has the joined content of its unit,
@@ -194,14 +198,16 @@ pub fn told(edition: Edition, stream: &[u8]) -> [(raw::Shown, Vec<raw::Line>, Ve
     })
 }
 
-fn pattern_line(place: usize) -> raw::Line {
-    let number = lent::numbers(place);
-    raw::Line { element: number, portion: number ^ 1, unit: number ^ 2, first: number ^ 3, past: number ^ 4 }
-}
-
-fn line_of_reader(line: raw::Line) -> reader::Line {
-    let raw::Line { element, portion, unit, first, past } = line;
-    reader::Line { element, portion, unit, first, past }
+/// The whole lines that some numbers are.
+fn lines_of_numbers(numbers: &[u32]) -> Vec<reader::Line> {
+    let line = |line: &[u32]| reader::Line {
+        element: line[0],
+        portion: line[1],
+        unit: line[2],
+        first: line[3],
+        past: line[4],
+    };
+    numbers.chunks_exact(LINE_WIDTH).map(line).collect()
 }
 
 fn line_of_crate(line: &odif::Line) -> reader::Line {

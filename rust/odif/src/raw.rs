@@ -6,6 +6,8 @@
 //! This file and `raw/blocks.rs` are the only ones with `unsafe` in them.
 #![allow(unsafe_code)]
 
+use std::slice;
+
 use crate::edition::Edition;
 
 pub mod blocks;
@@ -164,6 +166,8 @@ pub struct Line {
     pub past: u32,
 }
 
+const _: () = assert!(size_of::<Line>() == LINE_WIDTH * size_of::<u32>() && align_of::<Line>() == align_of::<u32>());
+
 /// Declares the questions of the C header, each by its name of 1988 and by that of 1993.
 macro_rules! twins {
     ($($of_1988:ident $of_1993:ident($($name:ident: $lent:ty),*) -> $answer:ty;)*) => {
@@ -194,12 +198,12 @@ twins! {
     odif_children odif_children_1993(
         stream: *const u8, stream_len: usize, row: u32, table: *mut u32, table_len: usize, list: *mut u32, list_len: usize
     ) -> Related;
-    odif_layout_text odif_layout_text_1993(
-        stream: *const u8, stream_len: usize, table: *mut u32, table_len: usize, lines: *mut Line, lines_len: usize,
+    odif_layout_text_numbers odif_layout_text_numbers_1993(
+        stream: *const u8, stream_len: usize, table: *mut u32, table_len: usize, lines: *mut u32, lines_len: usize,
         out: *mut u8, out_len: usize
     ) -> Shown;
-    odif_logical_text odif_logical_text_1993(
-        stream: *const u8, stream_len: usize, table: *mut u32, table_len: usize, lines: *mut Line, lines_len: usize,
+    odif_logical_text_numbers odif_logical_text_numbers_1993(
+        stream: *const u8, stream_len: usize, table: *mut u32, table_len: usize, lines: *mut u32, lines_len: usize,
         out: *mut u8, out_len: usize
     ) -> Shown;
     odif_date odif_date_1993(stream: *const u8, stream_len: usize) -> Dated;
@@ -381,13 +385,7 @@ pub fn logical_text(stream: &[u8], table: &mut [u32], lines: &mut [Line], out: &
 
 /// The same as [`layout_text`], by an edition.
 pub fn layout_text_in(edition: Edition, stream: &[u8], table: &mut [u32], lines: &mut [Line], out: &mut [u8]) -> Shown {
-    let ask = match edition {
-        Edition::Of1988 => odif_layout_text,
-        Edition::Of1993 => odif_layout_text_1993,
-    };
-    let (numbers, most) = (table.as_mut_ptr(), table.len());
-    let (records, count) = (lines.as_mut_ptr(), lines.len());
-    unsafe { ask(stream.as_ptr(), stream.len(), numbers, most, records, count, out.as_mut_ptr(), out.len()) }
+    layout_text_numbers_in(edition, stream, table, numbers_of(lines), out)
 }
 
 /// The same as [`logical_text`], by an edition.
@@ -398,11 +396,48 @@ pub fn logical_text_in(
     lines: &mut [Line],
     out: &mut [u8],
 ) -> Shown {
+    logical_text_numbers_in(edition, stream, table, numbers_of(lines), out)
+}
+
+/// The same as [`layout_text_in`], with the lines as numbers, those of a [`Line`] each; an incomplete last line is not used.
+pub fn layout_text_numbers_in(
+    edition: Edition,
+    stream: &[u8],
+    table: &mut [u32],
+    lines: &mut [u32],
+    out: &mut [u8],
+) -> Shown {
     let ask = match edition {
-        Edition::Of1988 => odif_logical_text,
-        Edition::Of1993 => odif_logical_text_1993,
+        Edition::Of1988 => odif_layout_text_numbers,
+        Edition::Of1993 => odif_layout_text_numbers_1993,
     };
-    let (numbers, most) = (table.as_mut_ptr(), table.len());
-    let (records, count) = (lines.as_mut_ptr(), lines.len());
-    unsafe { ask(stream.as_ptr(), stream.len(), numbers, most, records, count, out.as_mut_ptr(), out.len()) }
+    let (rows, row_numbers) = (table.as_mut_ptr(), table.len());
+    let (records, line_numbers) = (lines.as_mut_ptr(), lines.len());
+    unsafe { ask(stream.as_ptr(), stream.len(), rows, row_numbers, records, line_numbers, out.as_mut_ptr(), out.len()) }
+}
+
+/// The same as [`logical_text_in`], with the lines as numbers.
+pub fn logical_text_numbers_in(
+    edition: Edition,
+    stream: &[u8],
+    table: &mut [u32],
+    lines: &mut [u32],
+    out: &mut [u8],
+) -> Shown {
+    let ask = match edition {
+        Edition::Of1988 => odif_logical_text_numbers,
+        Edition::Of1993 => odif_logical_text_numbers_1993,
+    };
+    let (rows, row_numbers) = (table.as_mut_ptr(), table.len());
+    let (records, line_numbers) = (lines.as_mut_ptr(), lines.len());
+    unsafe { ask(stream.as_ptr(), stream.len(), rows, row_numbers, records, line_numbers, out.as_mut_ptr(), out.len()) }
+}
+
+/// The numbers of a [`Line`].
+pub const LINE_WIDTH: usize = 5;
+
+/// Lines as the numbers that they are.
+fn numbers_of(lines: &mut [Line]) -> &mut [u32] {
+    // SAFETY: a line is its five numbers and nothing else, in their order, and any numbers are a line.
+    unsafe { slice::from_raw_parts_mut(lines.as_mut_ptr().cast(), LINE_WIDTH * lines.len()) }
 }

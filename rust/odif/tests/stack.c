@@ -92,10 +92,10 @@ static const struct {
     {"date", ask_date, ODIF_STACK_SMALL, ODIF_STACK},
     {"date, 1993", ask_date_1993, ODIF_STACK_SMALL, ODIF_STACK},
     {"first date", ask_first_date, ODIF_STACK_SMALL, ODIF_STACK_SMALL},
-    {"layout text", ask_layout_text, ODIF_STACK_SMALL_LISTS, ODIF_STACK_LISTS},
-    {"logical text", ask_logical_text, ODIF_STACK_SMALL_LISTS, ODIF_STACK_LISTS},
-    {"layout text, 1993", ask_layout_text_1993, ODIF_STACK_SMALL_LISTS, ODIF_STACK_LISTS},
-    {"logical text, 1993", ask_logical_text_1993, ODIF_STACK_SMALL_LISTS, ODIF_STACK_LISTS},
+    {"layout text", ask_layout_text, ODIF_STACK_SMALL_TEXTS, ODIF_STACK_TEXTS},
+    {"logical text", ask_logical_text, ODIF_STACK_SMALL_TEXTS, ODIF_STACK_TEXTS},
+    {"layout text, 1993", ask_layout_text_1993, ODIF_STACK_SMALL_TEXTS, ODIF_STACK_TEXTS},
+    {"logical text, 1993", ask_logical_text_1993, ODIF_STACK_SMALL_TEXTS, ODIF_STACK_TEXTS},
 };
 
 static size_t stack_of(void (*ask)(void)) {
