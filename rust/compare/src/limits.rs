@@ -4,6 +4,7 @@ mod dates;
 mod parents;
 mod pieces;
 mod protected;
+mod texts;
 mod types;
 
 use odif::{MOST_ELEMENTS, SHORT_LIMIT, STREAM_LIMIT};
@@ -19,7 +20,7 @@ const STYLES: [u8; 2] = [0xA7, 0xA8];
 const PROFILE: [u8; 2] = [0xA0, 0x00];
 
 /// The groups of cases. Each group is made when it is wanted, for some are large.
-pub const GROUPS: [fn() -> Vec<Case>; 39] = [
+pub const GROUPS: [fn() -> Vec<Case>; 42] = [
     stream_length,
     element_count,
     full_tables,
@@ -58,6 +59,9 @@ pub const GROUPS: [fn() -> Vec<Case>; 39] = [
     name_spaces,
     parents::places,
     parents::many,
+    texts::orders,
+    texts::most,
+    texts::long,
     two_faults,
 ];
 
