@@ -147,7 +147,18 @@ pub fn text_judged(
         (now (out .exit)) ⌝ }
 {
     let listed = list_judged(
-        edition, stream, side, room, rows, head, next, head2, next2, count, table, numbers,
+        edition,
+        stream,
+        side,
+        room,
+        rows,
+        head,
+        next,
+        head2,
+        next2,
+        count,
+        table,
+        numbers,
     );
     if listed.number != 0 {
         return refuse(listed.number, listed.place, listed.elements);

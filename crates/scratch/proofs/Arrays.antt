@@ -1,19 +1,21 @@
 -- Arrays of zeros are the scratch that the judge asks for. Assumes nothing.
 use mathlib.Core.Path.{_≡_, ap, _∙_}
 use mathlib.Core.List.{List}
-use Prim.Native.Nat.{ℕ, _+_, _-_, _*_, _<_, _≤_}
+use Prim.Native.Nat.{ℕ, _+_, _-_, _*_, _/_, _<_, _≤_}
 use native.Mathlib.Omega.{arith}
 use lib.ListN.{length, replicate, length-replicate, getD-replicate}
 use Rattle.names.specs.Hash.{hashes}
 use Rattle.index.specs.Rows.{rowWidth}
 use Rattle.index.specs.Index.{Empty}
 use Rattle.ordered.specs.Ordered.{markOf}
+use Rattle.octets.specs.declared.Outcome.{Outcome}
 use Rattle.octets.specs.declared.Outcome.the-variants.{Ended}
 use Rattle.octets.specs.Walk.{streamLimit, walkOf}
 use Rattle.runs.specs.Runs.{wholeStream, Fine}
 use Rattle.runs.proofs.Laws.{stream-fine, stream-within, stream-count, count-top}
 use Rattle.letters.specs.Letter.{itemsOfStream}
 use Rattle.letters.specs.Lent.{rowsNeeded, Lent}
+use Rattle.answers.specs.Asking.{Sized}
 
 zeros : (n : ℕ) → length (replicate {A = ℕ} n 0) ≡ n
 zeros n = length-replicate n 0
@@ -49,6 +51,10 @@ pub walked-lent : (s : List ℕ) (at headers : ℕ) → walkOf s ≡ Ended at he
     × Lent s (replicate rows 0) (replicate heads 0) (replicate links 0) (replicate heads 0) (replicate links 0) (replicate 128 0)
 walked-lent s at headers w rows heads links needed room some few =
     ((stream-fine s at headers w, stream-within s at headers w), lent s rows heads links needed room some few)
+
+-- an array of four numbers an element is enough for the lines of a whole reading
+pub sized-array : (n most : ℕ) → 4 * most ≤ n → {s : List ℕ} {walked : Outcome} → Sized s walked most → Sized s walked (length (replicate {A = ℕ} n 0) / 4)
+sized-array n most room sized = record { outcome = sized .outcome; enough = omega (arith, sized .enough, zeros n) }
 
 -- a walk that ended came to the stream's end
 pub walked-whole : (s : List ℕ) (at headers : ℕ) → walkOf s ≡ Ended at headers → walkOf s ≡ Ended (length s) headers
