@@ -12,7 +12,9 @@ use Rattle.answers.specs.declared.Reason.{Reason}
 use Rattle.answers.specs.declared.Found.{Found}
 use Rattle.answers.specs.declared.Copied.{Copied}
 use Rattle.answers.specs.declared.Related.{Related}
+use Rattle.answers.specs.declared.Shown.{Shown}
 use Rattle.answers.specs.Related.{ChildrenOutcome}
+use Rattle.answers.specs.Texts.{TextOutcome}
 use Rattle.answers.specs.Short.{ShortOutcome}
 use Rattle.answers.specs.Answers.{CheckOutcome, NormalOutcome, ListOutcome, fetched, whyNot, Fetches, JoinedOutcome}
 
@@ -46,3 +48,7 @@ joined-determined x y = (x .answered ∙ sym (y .answered), x .put ∙ sym (y .p
 pub children-determined : {edition : Edition} {s table : List ℕ} {row : ℕ} {list : List ℕ} {a b : Related} {t u m n : List ℕ}
     → ChildrenOutcome edition s table row list a t m → ChildrenOutcome edition s table row list b u n → (a ≡ b) × (t ≡ u) × (m ≡ n)
 children-determined x y = (x .answered ∙ sym (y .answered), x .tabled ∙ sym (y .tabled), x .filled ∙ sym (y .filled))
+
+pub text-determined : {edition : Edition} {side : Side} {s table lines out : List ℕ} {a b : Shown} {t u l m o p : List ℕ}
+    → TextOutcome edition side s table lines out a t l o → TextOutcome edition side s table lines out b u m p → (a ≡ b) × (t ≡ u) × (l ≡ m) × (o ≡ p)
+text-determined x y = (x .answered ∙ sym (y .answered), x .tabled ∙ sym (y .tabled), x .filled ∙ sym (y .filled), x .put ∙ sym (y .put))

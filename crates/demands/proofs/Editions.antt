@@ -32,6 +32,7 @@ use Rattle.judging.proofs.Lists.{below-length}
 use Rattle.fronts.specs.First.{walkFirst}
 use Rattle.answers.specs.Answers.{letterIn, rowsIn, checked, checkedTable, written, writtenOutput, listed, listedTable, listedList, fetched, located, joinedIn, copied, copiedOutput, ruled}
 use Rattle.answers.specs.Related.{related, relatedTable, relatedList}
+use Rattle.answers.specs.Texts.{textsIn, linesIn, shown, shownLines, shownOutput}
 use Rattle.answers.specs.Short.{writtenShort, writtenShortOutput}
 use Rattle.answers.specs.Dates.{dateOf, dated}
 use Rattle.answers.specs.FirstDates.{firstTree, firstRule, ruledAlone, firstRuled, firstDateOf, firstDated}
@@ -257,7 +258,7 @@ module _ (s : List ℕ) (same : letterIn Of1993 s ≡ letterIn Of1988 s) where
       }
 
   same-answers : SameAnswers s
-  unfolding checked written writtenOutput writtenShort writtenShortOutput listed listedList fetched joinedIn copied copiedOutput related relatedList ruled dateOf dated
+  unfolding checked written writtenOutput writtenShort writtenShortOutput listed listedList fetched joinedIn copied copiedOutput related relatedList textsIn linesIn shown shownLines shownOutput ruled dateOf dated
   same-answers =
       let tables = by-letter (letterIn Of1988 s) refl in
       record {
@@ -277,6 +278,9 @@ module _ (s : List ℕ) (same : letterIn Of1993 s ≡ letterIn Of1988 s) where
         children = λ table row room. rw same;
         children-table = tables .children-table;
         children-rows = λ table row list. rw same;
+        text = λ side table room out. rw same;
+        text-lines = λ side table lines out. rw same;
+        text-output = λ side table room out. rw same;
         date = rw same;
         date-bounds = rw same;
       }

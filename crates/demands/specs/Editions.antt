@@ -20,6 +20,7 @@ use Rattle.reading.specs.declared.Side.{Side}
 use Rattle.answers.specs.Answers.{letterIn, rowsIn, checked, checkedTable, written, writtenOutput, listed, listedTable, matchesIn, listedList, fetched, located}
 use Rattle.answers.specs.Answers.{copied, copiedOutput}
 use Rattle.answers.specs.Related.{related, relatedTable, relatedList}
+use Rattle.answers.specs.Texts.{shown, shownLines, shownOutput}
 use Rattle.answers.specs.Short.{writtenShort, writtenShortOutput}
 use Rattle.answers.specs.Dates.{dateOf, dated}
 use Rattle.answers.specs.FirstDates.{firstTree, firstDateOf, firstDated}
@@ -55,6 +56,9 @@ pub record SameAnswers (s : List ℕ) : Type 0 where
   pub children : (table : List ℕ) (row room : ℕ) → related Of1993 s table row room ≡ related Of1988 s table row room
   pub children-table : (table : List ℕ) (row room : ℕ) → relatedTable Of1993 s table row room ≡ relatedTable Of1988 s table row room
   pub children-rows : (table : List ℕ) (row : ℕ) (list : List ℕ) → relatedList Of1993 s table row list ≡ relatedList Of1988 s table row list
+  pub text : (side : Side) (table : List ℕ) (room : ℕ) (out : List ℕ) → shown Of1993 side s table room out ≡ shown Of1988 side s table room out
+  pub text-lines : (side : Side) (table lines out : List ℕ) → shownLines Of1993 side s table lines out ≡ shownLines Of1988 side s table lines out
+  pub text-output : (side : Side) (table : List ℕ) (room : ℕ) (out : List ℕ) → shownOutput Of1993 side s table room out ≡ shownOutput Of1988 side s table room out
   pub date : dateOf Of1993 s ≡ dateOf Of1988 s
   pub date-bounds : dated Of1993 s ≡ dated Of1988 s
 

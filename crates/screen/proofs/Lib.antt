@@ -1,0 +1,4 @@
+-- Places: where a line and its text stand among all. NoStaleText: a value of what is promised. Wrong: wrong programs that it rules out.
+pub mod Places
+pub mod NoStaleText
+pub mod Wrong

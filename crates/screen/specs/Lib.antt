@@ -1,0 +1,2 @@
+-- NoStaleText: what is promised of the whole reading.
+pub mod NoStaleText

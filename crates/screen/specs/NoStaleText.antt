@@ -1,0 +1,64 @@
+-- No stale text: the demand that the product began with, said for the whole screen. Whatever octets came, and whatever was in the output before, what is
+-- shown is the text of this letter: line by line in reading order, each line under its own block, and nothing else. Definitions only: assumes nothing.
+use mathlib.Core.Path.{_≡_}
+use mathlib.Core.List.{List}
+use mathlib.Core.Option.{some}
+use Prim.Native.Nat.{ℕ, _+_, _*_, _≤_}
+use lib.ListN.{length, take, drop, getElem?}
+use lib.Seq.{slice}
+use Rattle.elements.specs.declared.Edition.{Edition}
+use Rattle.elements.specs.Judge.{joinedContent, Element}
+use Rattle.letters.specs.Letter.{letter}
+use Rattle.reading.specs.declared.Match.{Match}
+use Rattle.reading.specs.declared.Side.{Side}
+use Rattle.reading.specs.Match.{IsMatch}
+use Rattle.texts.specs.Texts.{Line, lineWidth, lineCells}
+use Rattle.answers.specs.declared.Shown.{Shown}
+use Rattle.answers.specs.Answers.{letterIn, matchesIn}
+use Rattle.answers.specs.Texts.{linesLent, textsIn, shown, TextOutcome}
+
+-- line k shows the match m: its five numbers stand in the lent lines, m is a match of this letter, and the octets from first to past of the output are the
+-- content of m's own text unit
+pub record ShowsMatch (edition : Edition) (side : Side) (s : List ℕ) (elements : List Element) (answer : Shown) (linesAfter outAfter : List ℕ) (k : ℕ) (m : Match) : Type 0 where
+  pub line : Line
+  pub stands : slice (lineWidth * k) (lineWidth * k + lineWidth) linesAfter ≡ lineCells line
+  pub element : line .element ≡ m .element
+  pub portion : line .portion ≡ m .portion
+  pub unit : line .unit ≡ m .unit
+  pub is-match : IsMatch side elements m
+  pub order : line .first ≤ line .past
+  pub inside : line .past ≤ answer .length
+  pub text : slice (line .first) (line .past) outAfter ≡ joinedContent (is-match .unit .content)
+
+-- of a reading that was answered
+pub record OnScreen (edition : Edition) (side : Side) (s lines out : List ℕ) (answer : Shown) (linesAfter outAfter : List ℕ) : Type 0 where
+  pub headers : ℕ
+  pub elements : List Element
+  pub is-letter : letterIn edition s ≡ letter headers elements
+  -- a line for each match of the side, in the list's order
+  pub all-lines : answer .lines ≡ length (matchesIn edition side s)
+  pub each-line : (k : ℕ) (m : Match) → getElem? (matchesIn edition side s) k ≡ some m → ShowsMatch edition side s elements answer linesAfter outAfter k m
+  -- the octets up to the length are the texts of these units one after another, and no others: they are told by the stream alone
+  pub all-octets : take (answer .length) outAfter ≡ textsIn edition side s
+  pub no-longer : answer .length ≤ length s
+  -- "octets and records past the counts stay"
+  pub past-octets : drop (answer .length) outAfter ≡ drop (answer .length) out
+  pub past-lines : drop (lineWidth * answer .lines) linesAfter ≡ drop (lineWidth * answer .lines) lines
+
+-- what any program does that meets the contract of the question
+pub record NoStaleText (edition : Edition) (side : Side) : Type 0 where
+  pub shows : (s table lines out : List ℕ) (answer : Shown) (tableAfter linesAfter outAfter : List ℕ)
+      → TextOutcome edition side s table lines out answer tableAfter linesAfter outAfter → answer .number ≡ 0
+      → OnScreen edition side s lines out answer linesAfter outAfter
+  -- what was in the output before does not show, nor in the table or the lines: two readings of one stream show the same
+  pub fresh : (s table lines out other-table other-lines other-out : List ℕ) (answer other : Shown)
+      (tableAfter linesAfter outAfter other-tableAfter other-linesAfter other-outAfter : List ℕ)
+      → TextOutcome edition side s table lines out answer tableAfter linesAfter outAfter → answer .number ≡ 0
+      → TextOutcome edition side s other-table other-lines other-out other other-tableAfter other-linesAfter other-outAfter → other .number ≡ 0
+      → (answer .length ≡ other .length) × (take (answer .length) outAfter ≡ take (other .length) other-outAfter)
+  -- a refusal leaves lines and output as they were
+  pub refused : (s table lines out : List ℕ) (answer : Shown) (tableAfter linesAfter outAfter : List ℕ)
+      → TextOutcome edition side s table lines out answer tableAfter linesAfter outAfter → (answer .number ≡ 0 → ⊥)
+      → (linesAfter ≡ lines) × (outAfter ≡ out)
+  -- "so that a caller knows what to lend": an output as long as the stream is never too short
+  pub stream-enough : (s table : List ℕ) (room : ℕ) (out : List ℕ) → length s ≤ length out → shown edition side s table room out .number ≡ 22 → ⊥
