@@ -15,8 +15,8 @@
    times as long as others of its length.
 
    Their scratch memory is on the stack. Of a small stream, which has up to 512 elements and up to 8,192 items in all, a
-   question takes up to 40 KiB of it, the two lists up to 88 KiB and the two whole readings up to 104 KiB; of any other
-   up to 256 KiB, the lists up to 304 KiB and the whole readings up to 320 KiB. It clears 31 kB of that for a small
+   question takes up to 40 KiB of it, the two lists up to 88 KiB and the two whole readings up to 120 KiB; of any other
+   up to 256 KiB, the lists up to 304 KiB and the whole readings up to 336 KiB. It clears 31 kB of that for a small
    stream and 246 kB for any other, the lists and the whole readings somewhat more. Mind it where threads are started
    with small stacks: 128 KiB are enough for small streams alone.
 
@@ -64,10 +64,10 @@
    29   a letter in blocks is closed before all its octets have come                  0
 
    1 comes first, then the first fault of 2 to 8 in stream order, then the elements in order, 9 to 15 in order within
-   each, then 16, 17, 18, 19 or 20 where the question can give it; 21, 22 and 25 come after 20, 23 and 24 after 15; of a
-   whole reading 22 comes after 19. A refusal leaves the lent table, list, lines and output as they were, except that 19,
-   25 and the 22 of a whole reading leave the finished table. Counts are 0 with a refusal, except that these three keep
-   the element count and the check's header count comes with every answer.
+   each, then 16, 17, 18, 19 or 20 where the question can give it; 21, 22 and 25 come after 20, 23 and 24 after 15; of
+   a whole reading 22 comes after 19. A refusal leaves the lent table, list, lines and output as they were, except that
+   19, 25 and the 22 of a whole reading leave the finished table. Counts are 0 with a refusal, except that these three
+   keep the element count and the check's header count comes with every answer.
 
    odif_make judges entries and no stream. Entries in order, from 0, and within one in this order, it gives 27; 14 for a
    bad identifier or portion, or both with a space between them over 64 octets; 15 for an identifier that an entry
@@ -108,7 +108,7 @@ extern "C" {
 #define ODIF_NO_PARENT     65535   /* the parent's row where there is none */
 #define ODIF_STACK         262144  /* octets of stack: no question but the lists and the whole readings takes more */
 #define ODIF_STACK_LISTS   311296  /* the same for the two lists */
-#define ODIF_STACK_TEXTS   327680  /* and for the two whole readings */
+#define ODIF_STACK_TEXTS   344064  /* and for the two whole readings */
 #define ODIF_STACK_MAKE    131072  /* and for odif_make */
 #define ODIF_MOST_ENTRIES  2047    /* the most entries of a letter that is made */
 #define ODIF_SHORT_LIMIT   65535   /* the most octets of a stream that odif_normal_short takes */
@@ -123,7 +123,7 @@ extern "C" {
 #define ODIF_SMALL_ITEMS       8192
 #define ODIF_STACK_SMALL       40960
 #define ODIF_STACK_SMALL_LISTS 90112
-#define ODIF_STACK_SMALL_TEXTS 106496
+#define ODIF_STACK_SMALL_TEXTS 122880
 
 /* What each number of a table row is. Each pair is first and past; every pair but the element's bounds a value. An
    absent one is 0 and 0. */
@@ -268,8 +268,8 @@ odif_listed odif_logical(const uint8_t *ODIF_APART stream, size_t stream_len,
 /* The whole reading of the layout side, with one judging: fills the table as odif_layout does; puts the contents of the
    text units of its matches to out, in the list's order, one after another, each as odif_joined copies it; and fills a
    line for each match. Every octet of out up to the length is an octet of a text unit of this stream, and none that was
-   there before shows. lines_len counts numbers, five a line in the order of odif_line, and an incomplete last line is not
-   used; lines and octets past the last one filled stay. It takes time as the stream is long. */
+   there before shows. lines_len counts numbers, five a line in the order of odif_line, and an incomplete last line is
+   not used; lines and octets past the last one filled stay. It takes time as the stream is long. */
 odif_shown odif_layout_text_numbers(const uint8_t *ODIF_APART stream, size_t stream_len,
                                     uint32_t *ODIF_APART table, size_t table_len,
                                     uint32_t *ODIF_APART lines, size_t lines_len,
@@ -345,25 +345,29 @@ static inline odif_shown odif_layout_text(const uint8_t *ODIF_APART stream, size
                                           uint32_t *ODIF_APART table, size_t table_len,
                                           odif_line *ODIF_APART lines, size_t lines_len,
                                           uint8_t *ODIF_APART out, size_t out_len) {
-    return odif_layout_text_numbers(stream, stream_len, table, table_len, (uint32_t *)lines, 5 * lines_len, out, out_len);
+    return odif_layout_text_numbers(stream, stream_len, table, table_len, (uint32_t *)lines, 5 * lines_len,
+        out, out_len);
 }
 static inline odif_shown odif_logical_text(const uint8_t *ODIF_APART stream, size_t stream_len,
                                            uint32_t *ODIF_APART table, size_t table_len,
                                            odif_line *ODIF_APART lines, size_t lines_len,
                                            uint8_t *ODIF_APART out, size_t out_len) {
-    return odif_logical_text_numbers(stream, stream_len, table, table_len, (uint32_t *)lines, 5 * lines_len, out, out_len);
+    return odif_logical_text_numbers(stream, stream_len, table, table_len, (uint32_t *)lines, 5 * lines_len,
+        out, out_len);
 }
 static inline odif_shown odif_layout_text_1993(const uint8_t *ODIF_APART stream, size_t stream_len,
                                                uint32_t *ODIF_APART table, size_t table_len,
                                                odif_line *ODIF_APART lines, size_t lines_len,
                                                uint8_t *ODIF_APART out, size_t out_len) {
-    return odif_layout_text_numbers_1993(stream, stream_len, table, table_len, (uint32_t *)lines, 5 * lines_len, out, out_len);
+    return odif_layout_text_numbers_1993(stream, stream_len, table, table_len, (uint32_t *)lines, 5 * lines_len,
+        out, out_len);
 }
 static inline odif_shown odif_logical_text_1993(const uint8_t *ODIF_APART stream, size_t stream_len,
                                                 uint32_t *ODIF_APART table, size_t table_len,
                                                 odif_line *ODIF_APART lines, size_t lines_len,
                                                 uint8_t *ODIF_APART out, size_t out_len) {
-    return odif_logical_text_numbers_1993(stream, stream_len, table, table_len, (uint32_t *)lines, 5 * lines_len, out, out_len);
+    return odif_logical_text_numbers_1993(stream, stream_len, table, table_len, (uint32_t *)lines, 5 * lines_len,
+        out, out_len);
 }
 
 /* Makes a letter of entries, which lie apart from the output as all that is lent does: an empty profile, and for each

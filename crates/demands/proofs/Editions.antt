@@ -4,7 +4,7 @@ use mathlib.Core.Path.{_≡_, refl, sym, ap, ap₂, _∙_, subst}
 use mathlib.Core.Bool.{Bool, true, false, cond, not, xor, _&&_, _||_, true≢false, false≢true}
 use mathlib.Core.List.{List, [], _∷_, _++_, map}
 use mathlib.Core.Option.{some}
-use Prim.Native.Nat.{ℕ, zero, suc, _%_, _<_}
+use Prim.Native.Nat.{ℕ, zero, suc, _+_, _%_, _<_}
 use native.Mathlib.Omega.{arith}
 use lib.Dec.{eqb, leb}
 use lib.ListN.{length, take, getElem?}
@@ -27,12 +27,15 @@ use Rattle.elements.specs.Shape.{Contents, profile, protected, entry, Shape, no
 use Rattle.elements.specs.Judge.{noneOf, bodyOf, contentOf, Element, elementOf, mostElements, profileOctet, refusalOf, Judged, accepted, refused, judgeOne, judgeFrom, judge}
 use Rattle.elements.specs.Rows.{bodyIn, contentOctet, rowOf, rowsOf, placeOf}
 use Rattle.letters.specs.Letter.{Letter, letter, refusal, itemsOfStream, afterWalk, byWalk, letterOf}
+use Rattle.reading.specs.declared.Match.{Match}
 use Rattle.reading.specs.declared.Side.{Side}
 use Rattle.judging.proofs.Lists.{below-length}
 use Rattle.fronts.specs.First.{walkFirst}
+use Rattle.answers.specs.Answers.{fetchedBy, allOf, matchesBy, matchesIn}
 use Rattle.answers.specs.Answers.{letterIn, rowsIn, checked, checkedTable, written, writtenOutput, listed, listedTable, listedList, fetched, located, joinedIn, copied, copiedOutput, ruled}
 use Rattle.answers.specs.Related.{related, relatedTable, relatedList}
-use Rattle.answers.specs.Texts.{textsIn, linesIn, shown, shownLines, shownOutput}
+use Rattle.texts.specs.Texts.{textsOf, Line, lineOf, linesFrom}
+use Rattle.answers.specs.Texts.{textIn, textsIn, linesIn, shown, shownLines, shownOutput}
 use Rattle.answers.specs.Short.{writtenShort, writtenShortOutput}
 use Rattle.answers.specs.Dates.{dateOf, dated}
 use Rattle.answers.specs.FirstDates.{firstTree, firstRule, ruledAlone, firstRuled, firstDateOf, firstDated}
@@ -257,8 +260,34 @@ module _ (s : List ℕ) (same : letterIn Of1993 s ≡ letterIn Of1988 s) where
         children-table = λ table row room. sym (relates-refused Of1993 s table row room [] number place headers f .tabled) ∙ relates-refused Of1988 s table row room [] number place headers e .tabled;
       }
 
+  -- the texts, and their lines
+  text-alike : (u : ℕ) → textIn Of1993 s u ≡ textIn Of1988 s u
+  unfolding joinedIn
+  text-alike u = ap (λ (l : Letter). fetchedBy allOf l u .part) same
+
+  some-texts : (ms : List Match) → textsOf (textIn Of1993 s) ms ≡ textsOf (textIn Of1988 s) ms
+  unfolding textsOf
+  some-texts [] = refl
+  some-texts (m ∷ ms) = ap₂ (λ (a b : List ℕ). a ++ b) (text-alike (m .unit)) (some-texts ms)
+
+  some-lines : (first : ℕ) (ms : List Match) → linesFrom (textIn Of1993 s) first ms ≡ linesFrom (textIn Of1988 s) first ms
+  unfolding linesFrom
+  some-lines first [] = refl
+  some-lines first (m ∷ ms) =
+      let e : lineOf (textIn Of1993 s) first m ≡ lineOf (textIn Of1988 s) first m =
+      ap (λ (l : List ℕ). record { element = m .element; portion = m .portion; unit = m .unit; first = first; past = first + length l }) (text-alike (m .unit)) in
+      ap₂ (λ (l : Line) (ls : List Line). l ∷ ls) e (some-lines (lineOf (textIn Of1993 s) first m .past) ms ∙ ap (λ (l : Line). linesFrom (textIn Of1988 s) (l .past) ms) e)
+
+  texts-alike : (side : Side) → textsIn Of1993 side s ≡ textsIn Of1988 side s
+  unfolding textsIn
+  texts-alike side = some-texts (matchesIn Of1993 side s) ∙ ap (λ (l : Letter). textsOf (textIn Of1988 s) (matchesBy side l)) same
+
+  lines-alike : (side : Side) → linesIn Of1993 side s ≡ linesIn Of1988 side s
+  unfolding linesIn
+  lines-alike side = some-lines 0 (matchesIn Of1993 side s) ∙ ap (λ (l : Letter). linesFrom (textIn Of1988 s) 0 (matchesBy side l)) same
+
   same-answers : SameAnswers s
-  unfolding checked written writtenOutput writtenShort writtenShortOutput listed listedList fetched joinedIn copied copiedOutput related relatedList textsIn linesIn shown shownLines shownOutput ruled dateOf dated
+  unfolding checked written writtenOutput writtenShort writtenShortOutput listed listedList fetched joinedIn copied copiedOutput related relatedList shown shownLines shownOutput ruled dateOf dated
   same-answers =
       let tables = by-letter (letterIn Of1988 s) refl in
       record {
@@ -278,9 +307,9 @@ module _ (s : List ℕ) (same : letterIn Of1993 s ≡ letterIn Of1988 s) where
         children = λ table row room. rw same;
         children-table = tables .children-table;
         children-rows = λ table row list. rw same;
-        text = λ side table room out. rw same;
-        text-lines = λ side table lines out. rw same;
-        text-output = λ side table room out. rw same;
+        text = λ side table room out. rw (same, texts-alike side);
+        text-lines = λ side table lines out. rw (same, texts-alike side, lines-alike side);
+        text-output = λ side table room out. rw (same, texts-alike side);
         date = rw same;
         date-bounds = rw same;
       }

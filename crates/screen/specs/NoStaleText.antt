@@ -19,7 +19,8 @@ use Rattle.answers.specs.Texts.{linesLent, textsIn, shown, TextOutcome}
 
 -- line k shows the match m: its five numbers stand in the lent lines, m is a match of this letter, and the octets from first to past of the output are the
 -- content of m's own text unit
-pub record ShowsMatch (edition : Edition) (side : Side) (s : List ℕ) (elements : List Element) (answer : Shown) (linesAfter outAfter : List ℕ) (k : ℕ) (m : Match) : Type 0 where
+pub record ShowsMatch (edition : Edition) (side : Side) (s : List ℕ) (elements : List Element) (answer : Shown) (linesAfter outAfter : List ℕ) (k : ℕ)
+    (m : Match) : Type 0 where
   pub line : Line
   pub stands : slice (lineWidth * k) (lineWidth * k + lineWidth) linesAfter ≡ lineCells line
   pub element : line .element ≡ m .element
