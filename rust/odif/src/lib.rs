@@ -27,8 +27,8 @@
 //! Letters are read by the edition of 1988. [`Letter::read_in`], and the other functions with `_in` at the end of their
 //! names, take the [`Edition`] too: letters of 1993 have protected parts, and text units without content or with tiles.
 //!
-//! A question takes up to 320 KiB of the calling thread's stack, of a small letter (up to 512 elements and 8,192 items) up
-//! to 104 KiB, and any number of threads may ask at once.
+//! A question takes up to 336 KiB of the calling thread's stack, of a small letter (up to 512 elements and 8,192 items) up
+//! to 120 KiB, and any number of threads may ask at once.
 //!
 //! [`raw`] has the functions of the C header as they stand, for callers who lend their own memory.
 
