@@ -3,8 +3,8 @@
    The two that are compared are measured in turn, ROUNDS times each or for a second, in processor time, and the best of
    each counts. A line for each file: its octets, the time of the library's check in microseconds, then ratios, the
    library's time over the other's. With `check` that is one, over the plain reader's check; with `all` the layout list,
-   the logical list, the normal form and the content follow, and the check over OpenSSL's walk, if it is compiled
-   WITH_OPENSSL. Before it measures, it holds the answers of both to each other, and ends with 1 where they differ. */
+   the logical list, the normal form and the content follow, then the whole text of a side over the library's own check,
+   and the check over OpenSSL's walk, if it is compiled WITH_OPENSSL. Before it measures, it holds the answers of both to each other, and ends with 1 where they differ. */
 #define _POSIX_C_SOURCE 199309L
 #include <stdio.h>
 #include <stdlib.h>
@@ -21,8 +21,10 @@
 static uint8_t stream[ODIF_STREAM_LIMIT + 1], out[ODIF_STREAM_LIMIT], plain_out[ODIF_STREAM_LIMIT];
 static uint32_t table[NUMBERS], plain_table[NUMBERS], plain_matches[3 * ODIF_MOST_ELEMENTS];
 static odif_match matches[ODIF_MOST_ELEMENTS];
+static odif_line lines[ODIF_MOST_ELEMENTS];
 static size_t length;
 static uint32_t asked; /* the first text unit */
+static int by_logical; /* whether the text is that of the logical side, where the layout side has none */
 
 /* ---- OpenSSL's walk: every header by ASN1_get_object, and no rule judged. It gives how many there are. */
 
@@ -55,6 +57,12 @@ static uint32_t layout(void) { return odif_layout(stream, length, table, NUMBERS
 static uint32_t logical(void) { return odif_logical(stream, length, table, NUMBERS, matches, ODIF_MOST_ELEMENTS).matches; }
 static uint32_t normal(void) { return odif_normal(stream, length, out, sizeof out).length; }
 static uint32_t content(void) { return odif_content(stream, length, asked).past; }
+static odif_shown show(void) {
+    if (by_logical)
+        return odif_logical_text(stream, length, table, NUMBERS, lines, ODIF_MOST_ELEMENTS, out, sizeof out);
+    return odif_layout_text(stream, length, table, NUMBERS, lines, ODIF_MOST_ELEMENTS, out, sizeof out);
+}
+static uint32_t text(void) { return show().lines; }
 
 static uint32_t their_check(void) { return plain_check(stream, length, plain_table, NUMBERS).elements; }
 static uint32_t their_list(plain_side side) {
@@ -70,7 +78,7 @@ static const struct {
     question ours, theirs;
 } pairs[] = {
     {check, their_check},   {layout, their_layout},   {logical, their_logical},
-    {normal, their_normal}, {content, their_content},
+    {normal, their_normal}, {content, their_content}, {text, check},
 #ifdef WITH_OPENSSL
     {check, openssl_walk},
 #endif
@@ -98,6 +106,8 @@ static const char *difference(int all) {
     if (logical() != their_logical() || lists_differ(logical())) return "logical list";
     if (normal() != their_normal() || memcmp(out, plain_out, normal())) return "normal form";
     if (content() != their_content()) return "content";
+    by_logical = layout() == 0 && logical() > 0;
+    if (text() != (by_logical ? logical() : layout())) return "text";
 #ifdef WITH_OPENSSL
     if (a.number == 0 && openssl_walk() != a.headers) return "OpenSSL's walk";
 #endif

@@ -4,7 +4,6 @@
 #include <iostream>
 #include <stdexcept>
 #include <string>
-#include <utility>
 #include <vector>
 #include "odif.h"
 
@@ -19,37 +18,19 @@ struct Refused : std::runtime_error {
           number(number), place(place) {}
 };
 
-// A letter, judged when it is made. It owns its stream, so no two parts that it lends overlap.
-class Letter {
-public:
-    explicit Letter(Octets octets) : stream(std::move(octets)), table(ODIF_ROW_WIDTH * ODIF_MOST_ELEMENTS) {
-        odif_checked checked = odif_check(stream.data(), stream.size(), table.data(), table.size());
-        if (checked.number != 0) throw Refused(checked.number, checked.place);
-    }
+// The text of a side: the contents of its units in reading order, and where each of them stands there.
+struct Text {
+    Octets octets;
+    std::vector<odif_line> lines;
 
-    std::vector<odif_match> layout() { return list(odif_layout); }
-    std::vector<odif_match> logical() { return list(odif_logical); }
-
-    Octets content(std::uint32_t unit) const {
-        std::size_t row = std::size_t{ODIF_ROW_WIDTH} * unit;
-        Octets text(table.at(row + ODIF_CONTENT_PAST) - table.at(row + ODIF_CONTENT_FIRST));
-        odif_copied copied = odif_joined(stream.data(), stream.size(), unit, text.data(), text.size());
-        if (copied.number != 0) throw Refused(copied.number, copied.place);
-        text.resize(copied.length);
-        return text;
-    }
-
-private:
-    Octets stream;
-    std::vector<std::uint32_t> table;
-
-    std::vector<odif_match> list(decltype(odif_layout) ask) {
-        std::vector<odif_match> matches(ODIF_MOST_ELEMENTS);
-        odif_listed listed =
-            ask(stream.data(), stream.size(), table.data(), table.size(), matches.data(), matches.size());
-        if (listed.number != 0) throw Refused(listed.number, listed.place);
-        matches.resize(listed.matches);
-        return matches;
+    // Asks odif_layout_text or odif_logical_text, which judge the stream once. No two parts that are lent overlap.
+    Text(decltype(odif_layout_text) ask, const Octets &stream) : octets(stream.size()), lines(ODIF_MOST_ELEMENTS) {
+        std::vector<std::uint32_t> table(ODIF_ROW_WIDTH * ODIF_MOST_ELEMENTS);
+        odif_shown shown = ask(stream.data(), stream.size(), table.data(), table.size(), lines.data(), lines.size(),
+                               octets.data(), octets.size());
+        if (shown.number != 0) throw Refused(shown.number, shown.place);
+        lines.resize(shown.lines);
+        octets.resize(shown.length);
     }
 };
 
@@ -61,13 +42,12 @@ int main() {
         return 2;
     }
     try {
-        Letter letter(std::move(stream));
-        std::vector<odif_match> matches = letter.layout();
-        if (matches.empty()) matches = letter.logical();
-        for (const odif_match &match : matches) {
-            Octets text = letter.content(match.unit);
-            if (text.empty() || text.back() != '\n') text.push_back('\n');
-            std::cout.write(reinterpret_cast<const char *>(text.data()), static_cast<std::streamsize>(text.size()));
+        Text text(odif_layout_text, stream);
+        if (text.lines.empty()) text = Text(odif_logical_text, stream);
+        for (const odif_line &line : text.lines) {
+            std::string content(text.octets.begin() + line.first, text.octets.begin() + line.past);
+            if (content.empty() || content.back() != '\n') content.push_back('\n');
+            std::cout << content;
         }
     } catch (const Refused &refused) {
         std::cerr << refused.what() << '\n';

@@ -8,7 +8,7 @@ import ctypes.util
 import os
 import sys
 
-STREAM_LIMIT, MOST_ELEMENTS, ROW_WIDTH = 1_048_576, 4_096, 13
+STREAM_LIMIT, MOST_ELEMENTS, ROW_WIDTH, LINE_WIDTH = 1_048_576, 4_096, 13, 5
 
 
 def answer(name, *fields):
@@ -16,19 +16,15 @@ def answer(name, *fields):
     return type(name, (ctypes.Structure,), {"_fields_": [(field, ctypes.c_uint32) for field in fields]})
 
 
-Match = answer("Match", "element", "portion", "unit")
-Listed = answer("Listed", "number", "place", "elements", "matches")
-Copied = answer("Copied", "number", "place", "length")
+Line = answer("Line", "element", "portion", "unit", "first", "past")
+Shown = answer("Shown", "number", "place", "elements", "lines", "length")
 
 
 def library():
     """The library, with what its functions take and return."""
     odif = ctypes.CDLL(os.environ.get("ODIF_LIBRARY") or ctypes.util.find_library("odif") or "libodif.so")
-    octets, size = ctypes.c_char_p, ctypes.c_size_t
-    for side in odif.odif_layout, odif.odif_logical:
-        side.restype, side.argtypes = Listed, [octets, size, ctypes.c_void_p, size, ctypes.c_void_p, size]
-    odif.odif_joined.restype = Copied
-    odif.odif_joined.argtypes = [octets, size, ctypes.c_uint32, ctypes.c_void_p, size]
+    for side in odif.odif_layout_text_numbers, odif.odif_logical_text_numbers:
+        side.restype, side.argtypes = Shown, [ctypes.c_char_p, ctypes.c_size_t] + 3 * [ctypes.c_void_p, ctypes.c_size_t]
     odif.odif_sentence.restype, odif.odif_sentence.argtypes = ctypes.c_char_p, [ctypes.c_uint32]
     return odif
 
@@ -42,22 +38,15 @@ class Refused(Exception):
         self.number, self.place = number, place
 
 
-def reading_list(odif, ask, stream):
-    """The matches of a side, by `odif_layout` or `odif_logical`."""
-    table, matches = (ctypes.c_uint32 * (ROW_WIDTH * MOST_ELEMENTS))(), (Match * MOST_ELEMENTS)()
-    listed = ask(stream, len(stream), table, len(table), matches, len(matches))
-    if listed.number:
-        raise Refused(odif, listed.number, listed.place)
-    return matches[: listed.matches]
-
-
-def content(odif, stream, unit):
-    """The content of a text unit, its pieces joined."""
-    text = ctypes.create_string_buffer(len(stream))
-    copied = odif.odif_joined(stream, len(stream), unit, text, len(text))
-    if copied.number:
-        raise Refused(odif, copied.number, copied.place)
-    return text.raw[: copied.length]
+def contents(odif, ask, stream):
+    """The contents of the units of a side in reading order, by `odif_layout_text_numbers` or `odif_logical_text_numbers`."""
+    table, lines = (ctypes.c_uint32 * (ROW_WIDTH * MOST_ELEMENTS))(), (Line * MOST_ELEMENTS)()
+    out = ctypes.create_string_buffer(len(stream))
+    shown = ask(stream, len(stream), table, len(table), lines, LINE_WIDTH * len(lines), out, len(out))
+    if shown.number:
+        raise Refused(odif, shown.number, shown.place)
+    text = out.raw[: shown.length]
+    return [text[line.first : line.past] for line in lines[: shown.lines]]
 
 
 def main():
@@ -65,9 +54,8 @@ def main():
         odif = library()
         with open(sys.argv[1], "rb") if len(sys.argv) > 1 else sys.stdin.buffer as file:
             stream = file.read(STREAM_LIMIT + 1)
-        matches = reading_list(odif, odif.odif_layout, stream) or reading_list(odif, odif.odif_logical, stream)
-        for match in matches:
-            text = content(odif, stream, match.unit)
+        sides = odif.odif_layout_text_numbers, odif.odif_logical_text_numbers
+        for text in contents(odif, sides[0], stream) or contents(odif, sides[1], stream):
             sys.stdout.buffer.write(text if text.endswith(b"\n") else text + b"\n")
         sys.stdout.buffer.flush()
     except Refused as refused:

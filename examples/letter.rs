@@ -7,7 +7,7 @@ use std::io::{self, Read, Write};
 use std::path::{Path, PathBuf};
 use std::process::ExitCode;
 
-use odif::{Letter, Side};
+use odif::Side;
 
 fn main() -> ExitCode {
     let file = PathBuf::from(env::args_os().nth(1).unwrap_or("/dev/stdin".into()));
@@ -35,14 +35,13 @@ fn read(file: &Path) -> io::Result<Vec<u8>> {
 
 /// The text of the layout side, or, where there is none, of the logical side. Each unit ends its line.
 fn text(stream: &[u8]) -> Result<Vec<u8>, odif::Refusal> {
-    let letter = Letter::read(stream)?;
-    let mut units = letter.text(Side::Layout)?;
-    if units.is_empty() {
-        units = letter.text(Side::Logical)?;
+    let mut whole = odif::text(stream, Side::Layout)?;
+    if whole.lines().is_empty() {
+        whole = odif::text(stream, Side::Logical)?;
     }
     let mut text = Vec::new();
-    for unit in units {
-        text.extend_from_slice(&unit);
+    for unit in whole.units() {
+        text.extend_from_slice(unit);
         if !unit.ends_with(b"\n") {
             text.push(b'\n');
         }

@@ -5,7 +5,7 @@ use std::io;
 use std::process::ExitCode;
 
 use clap::{Args, CommandFactory, Parser, Subcommand, ValueEnum};
-use odif::{Edition, Letter, Match, Side};
+use odif::{Edition, Refusal, Side, Text};
 
 use crate::status::{Failure, Outcome, Status, tell};
 use crate::{check, date, export, list, make, man, normal, order, outline, pages, same, survey, text, tree};
@@ -143,22 +143,20 @@ impl Sides {
         }
     }
 
-    /// The side to read of this letter.
-    pub fn of(&self, letter: &Letter<'_>) -> Side {
-        self.list(letter).0
-    }
-
-    /// The same, and its reading list.
-    pub fn list(&self, letter: &Letter<'_>) -> (Side, Vec<Match>) {
-        let list = |side| (side, letter.reading_list(side).unwrap_or_default());
+    /// The side to read of this stream, and its text.
+    pub fn text(&self, edition: Edition, stream: &[u8]) -> Result<(Side, Text), Refusal> {
+        let text = |side| odif::text_in(edition, stream, side).map(|text| (side, text));
         match self.side {
-            _ if self.logical => list(Side::Logical),
-            Which::Layout => list(Side::Layout),
-            Which::Logical => list(Side::Logical),
+            _ if self.logical => text(Side::Logical),
+            Which::Layout => text(Side::Layout),
+            Which::Logical => text(Side::Logical),
             Which::Auto => {
-                let layout = list(Side::Layout);
-                let other = || Some(list(Side::Logical)).filter(|(_, list)| !list.is_empty());
-                if layout.1.is_empty() { other().unwrap_or(layout) } else { layout }
+                let layout = text(Side::Layout)?;
+                if !layout.1.lines().is_empty() {
+                    return Ok(layout);
+                }
+                let logical = text(Side::Logical)?;
+                Ok(if logical.1.lines().is_empty() { layout } else { logical })
             }
         }
     }

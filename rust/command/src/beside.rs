@@ -16,6 +16,8 @@ use crate::status::Failure;
 pub struct Beside {
     path: PathBuf,
     out: Out,
+    /// What the file may be used for: as that which it replaces, or as a new file.
+    permissions: Permissions,
 }
 
 enum Out {
@@ -27,15 +29,29 @@ enum Out {
 impl Beside {
     /// Begins a file for this place.
     pub fn create(path: &Path) -> Result<Beside, Failure> {
+        // Most files are new; then there is nothing to ask about what stands there.
+        if fs::symlink_metadata(path).is_err_and(|error| error.kind() == io::ErrorKind::NotFound) {
+            return Beside::apart(path.into(), new_permissions());
+        }
         // The file that a link leads to is written, and the link stays.
         let path = fs::canonicalize(path).unwrap_or_else(|_| path.into());
-        let out = match fs::metadata(&path) {
-            Ok(about) if !about.is_file() => {
-                File::options().write(true).open(&path).map(BufWriter::new).map(Out::Through)
-            }
-            _ => NamedTempFile::new_in(folder(&path)).map(BufWriter::new).map(Out::Beside),
-        };
-        out.map(|out| Beside { out, path: path.clone() }).map_err(|error| failure(&path, &error))
+        match fs::metadata(&path) {
+            Ok(about) if about.is_file() => Beside::apart(path, about.permissions()),
+            Ok(about) => match File::options().write(true).open(&path) {
+                Ok(file) => {
+                    Ok(Beside { path, out: Out::Through(BufWriter::new(file)), permissions: about.permissions() })
+                }
+                Err(error) => Err(failure(&path, &error)),
+            },
+            Err(_) => Beside::apart(path, new_permissions()),
+        }
+    }
+
+    fn apart(path: PathBuf, permissions: Permissions) -> Result<Beside, Failure> {
+        match NamedTempFile::new_in(folder(&path)) {
+            Ok(file) => Ok(Beside { path, out: Out::Beside(BufWriter::new(file)), permissions }),
+            Err(error) => Err(failure(&path, &error)),
+        }
     }
 
     /// Puts the finished file in its place, and on the disk.
@@ -44,12 +60,13 @@ impl Beside {
     }
 
     fn end(self, sync: bool) -> Result<(), Failure> {
-        let Beside { path, out } = self;
+        let Beside { path, out, permissions } = self;
         let done = match out {
             Out::Through(mut out) => out.flush(),
-            Out::Beside(out) => {
-                out.into_inner().map_err(|error| error.into_error()).and_then(|file| put(file, &path, sync))
-            }
+            Out::Beside(out) => out
+                .into_inner()
+                .map_err(|error| error.into_error())
+                .and_then(|file| put(file, &path, permissions, sync)),
         };
         done.map_err(|error| failure(&path, &error))
     }
@@ -95,8 +112,8 @@ pub fn failure(path: &Path, error: &io::Error) -> Failure {
     Failure::File(format!("{}: {error}", show::name(path.as_os_str())))
 }
 
-fn put(file: NamedTempFile, path: &Path, sync: bool) -> io::Result<()> {
-    file.as_file().set_permissions(permissions(path))?;
+fn put(file: NamedTempFile, path: &Path, permissions: Permissions, sync: bool) -> io::Result<()> {
+    file.as_file().set_permissions(permissions)?;
     if sync {
         file.as_file().sync_all()?;
     }
@@ -104,8 +121,8 @@ fn put(file: NamedTempFile, path: &Path, sync: bool) -> io::Result<()> {
     if sync { File::open(folder(path))?.sync_all() } else { Ok(()) }
 }
 
-/// Those of the file that is replaced, or those that a new file gets.
-fn permissions(path: &Path) -> Permissions {
+/// Those that a new file gets.
+fn new_permissions() -> Permissions {
     // The mask can be asked for only by setting it, so that is done once.
     static MASK: OnceLock<u32> = OnceLock::new();
     let mask = MASK.get_or_init(|| {
@@ -113,7 +130,7 @@ fn permissions(path: &Path) -> Permissions {
         umask(mask);
         mask.bits()
     });
-    fs::metadata(path).map_or_else(|_| Permissions::from_mode(0o666 & !mask), |about| about.permissions())
+    Permissions::from_mode(0o666 & !mask)
 }
 
 fn folder(path: &Path) -> &Path {

@@ -78,7 +78,7 @@ fn counts(source: &Source<'_>, read: &Result<Letter<'_>, Refusal>) -> Counts {
         Ok(letter) => {
             let (headers, elements) = (letter.headers(), letter.elements().len());
             let date = letter.date().ok().map(|date| date.to_string());
-            Counts { octets, headers, elements, protected_parts: protected::count(letter), date }
+            Counts { octets, headers, elements, protected_parts: protected::count(letter.elements()), date }
         }
         Err(_) => {
             let headers = odif::check_in(source.edition, &source.stream).headers;
@@ -90,7 +90,7 @@ fn counts(source: &Source<'_>, read: &Result<Letter<'_>, Refusal>) -> Counts {
 fn accepted(source: &Source<'_>, letter: &Letter<'_>) -> String {
     let counts = [(letter.elements().len(), "element"), (letter.headers(), "item"), (source.stream.len(), "octet")];
     let counts = counts.map(|(count, noun)| show::counted(count, noun)).join(", ");
-    let parts = protected::words(letter);
+    let parts = protected::words(letter.elements());
     let parts = if parts.is_empty() { parts } else { format!("; {parts}") };
     format!("{}: accepted, {counts}{}{parts}\n", source.shown, date::behind(letter))
 }

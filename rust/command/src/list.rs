@@ -1,10 +1,9 @@
 //! `odif list`
 
-use std::borrow::Cow;
 use std::io::{self, BufWriter, Write};
 
 use clap::Args;
-use odif::{Letter, Match, Side};
+use odif::{Letter, Side};
 use serde::{Serialize, Serializer};
 
 use crate::args::{Asked, Sides};
@@ -59,6 +58,9 @@ struct Line {
     past: usize,
     /// The content, escaped as `odif text --escape` does, and line ends too.
     content: String,
+    /// Its beginning, for people.
+    #[serde(skip)]
+    beginning: String,
 }
 
 pub fn run(words: &Words) -> Outcome {
@@ -74,10 +76,10 @@ pub fn run(words: &Words) -> Outcome {
             Ok(letter) => {
                 let Listed { side, matches: lines, .. } = listed(letter, &words.sides);
                 input::heading(&mut out, &words.asked.files, source)?;
-                write_lines(&mut out, letter, &lines)?;
+                write_lines(&mut out, &lines)?;
                 out.flush()?;
-                note_units_left_out(source, letter, side, lines.len());
-                protected::note(source, letter);
+                note_units_left_out(source, letter.elements(), side, lines.len());
+                protected::note(source, letter.elements());
             }
             Err(refusal) => tell(&explain::refusal(source, refusal)),
         }
@@ -90,39 +92,39 @@ fn in_words<S: Serializer>(side: &Side, out: S) -> Result<S::Ok, S::Error> {
 }
 
 fn listed(letter: &Letter<'_>, sides: &Sides) -> Listed {
-    let (side, list) = sides.list(letter);
-    let matches = list.iter().map(|found| line(letter, side, found)).collect();
+    let (side, text) = sides.text(letter.edition(), letter.stream()).expect("the text of an accepted letter");
+    let matches = text.lines().iter().map(|found| line(letter, side, found, text.content(found))).collect();
     Listed { side, elements: letter.elements().len(), matches }
 }
 
-fn line(letter: &Letter<'_>, side: Side, found: &Match) -> Line {
+fn line(letter: &Letter<'_>, side: Side, found: &odif::Line, content: &[u8]) -> Line {
     let identifier = match side {
         Side::Layout => letter.identifier(found.unit),
         Side::Logical => letter.logical_identifier(found.unit),
     };
     let place = letter.elements()[found.unit].content.clone().unwrap_or_default();
-    let content = letter.content(found.unit).unwrap_or_default();
     Line {
         element: found.element,
         portion: found.portion,
         unit: found.unit,
         identifier: show::escaped(identifier.unwrap_or_default()),
         octets: content.len(),
-        in_pieces: matches!(content, Cow::Owned(_)),
+        // A piece has a header, so the value that holds pieces is longer than they are.
+        in_pieces: content.len() < place.len(),
         first: place.start,
         past: place.end,
-        content: show::escaped(&content),
+        content: show::escaped(content),
+        beginning: show::beginning(content, SHOWN),
     }
 }
 
-fn write_lines(out: &mut impl Write, letter: &Letter<'_>, lines: &[Line]) -> io::Result<()> {
+fn write_lines(out: &mut impl Write, lines: &[Line]) -> io::Result<()> {
     let width = lines.iter().map(|line| line.identifier.len()).max().unwrap_or(0).max("identifier".len());
     writeln!(out, "element portion  unit  octets  {:width$}  content", "identifier")?;
     for line in lines {
-        let content = letter.content(line.unit).unwrap_or_default();
-        let Line { element, portion, unit, identifier, octets, .. } = line;
-        let text = format!("{element:7} {portion:7} {unit:5} {octets:7}  {identifier:width$}  ");
-        writeln!(out, "{}", (text + &show::beginning(&content, SHOWN)).trim_end())?;
+        let Line { element, portion, unit, identifier, octets, beginning, .. } = line;
+        let text = format!("{element:7} {portion:7} {unit:5} {octets:7}  {identifier:width$}  {beginning}");
+        writeln!(out, "{}", text.trim_end())?;
     }
     Ok(())
 }

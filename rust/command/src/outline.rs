@@ -3,7 +3,7 @@
 use std::io::{self, BufWriter, Write};
 
 use clap::Args;
-use odif::{Element, Kind, Letter, Side};
+use odif::{Element, Kind, Letter, Side, Text};
 use serde::Serialize;
 
 use crate::args::{Asked, Sides};
@@ -68,15 +68,15 @@ pub fn run(words: &Words) -> Outcome {
         match &read {
             _ if words.asked.json => {
                 let shown = read.as_ref().ok().map(|letter| {
-                    let side = words.sides.of(letter);
-                    Shown { side: side.to_string(), outline: outline(letter, side) }
+                    let (side, outline) = outline(letter, &words.sides);
+                    Shown { side: side.to_string(), outline }
                 });
                 out.write_all(explain::answer(source, &read, shown).as_bytes())?;
                 out.flush()?;
             }
             Ok(letter) => {
                 input::heading(&mut out, &words.asked.files, source)?;
-                for line in outline(letter, words.sides.of(letter)) {
+                for line in outline(letter, &words.sides).1 {
                     write_line(&mut out, &line)?;
                 }
                 out.flush()?;
@@ -94,10 +94,11 @@ fn write_line(out: &mut impl Write, line: &Line) -> io::Result<()> {
     writeln!(out, "{}", (front + beginning).trim_end())
 }
 
-/// The classes and objects of a side, each before its children.
-fn outline(letter: &Letter<'_>, side: Side) -> Vec<Line> {
+/// The side that is asked for, and its classes and objects, each before its children.
+fn outline(letter: &Letter<'_>, sides: &Sides) -> (Side, Vec<Line>) {
     let elements = letter.elements();
-    let texts = texts(letter, side);
+    let (side, text) = sides.text(letter.edition(), letter.stream()).expect("the text of an accepted letter");
+    let texts = texts(elements.len(), &text);
     let mut children = vec![Vec::new(); elements.len()];
     let mut left = Vec::new();
     for (number, element) in elements.iter().enumerate().filter(|(_, element)| side_of(element) == Some(side)) {
@@ -113,7 +114,7 @@ fn outline(letter: &Letter<'_>, side: Side) -> Vec<Line> {
         lines.push(line(letter, side, depth, number, &texts[number]));
         left.extend(children[number].iter().rev().map(|&child| (depth + 1, child)));
     }
-    lines
+    (side, lines)
 }
 
 fn line(letter: &Letter<'_>, side: Side, depth: usize, number: usize, text: &[u8]) -> Line {
@@ -135,10 +136,10 @@ fn line(letter: &Letter<'_>, side: Side, depth: usize, number: usize, text: &[u8
 }
 
 /// The text of each element: the contents of its matches, in the order of its portions.
-fn texts(letter: &Letter<'_>, side: Side) -> Vec<Vec<u8>> {
-    let mut texts = vec![Vec::new(); letter.elements().len()];
-    for found in letter.reading_list(side).unwrap_or_default() {
-        texts[found.element].extend_from_slice(&letter.content(found.unit).unwrap_or_default());
+fn texts(elements: usize, text: &Text) -> Vec<Vec<u8>> {
+    let mut texts = vec![Vec::new(); elements];
+    for line in text.lines() {
+        texts[line.element].extend_from_slice(text.content(line));
     }
     texts
 }

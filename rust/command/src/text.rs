@@ -3,7 +3,7 @@
 use std::io::{self, BufWriter, IsTerminal, Write};
 
 use clap::Args;
-use odif::{Edition, Kind, Letter, Match, Side};
+use odif::{Edition, Element, Kind, Refusal, Side};
 use reader::{Item, Reading};
 
 use crate::args::{Files, Sides};
@@ -64,23 +64,24 @@ pub struct Text {
     /// How many text units the letter has, and how many of them the text has.
     pub units: usize,
     pub shown: usize,
+    /// The same as the library gave it.
+    whole: odif::Text,
 }
 
 impl How {
     /// The text of a letter.
-    pub fn text(&self, letter: &Letter<'_>) -> Text {
-        let (side, list) = self.sides.list(letter);
-        let units = letter.elements().iter().filter(|element| element.kind == Kind::TextUnit).count();
-        let octets = in_blocks(letter, &list);
+    pub fn text(&self, edition: Edition, stream: &[u8]) -> Result<Text, Refusal> {
+        let (side, whole) = self.sides.text(edition, stream)?;
+        let octets = in_blocks(&whole);
         let octets = match self.utf8 {
             None => octets,
             Some(Charset::Auto) => {
-                let set = declared(letter.stream()).unwrap_or(Charset::Auto);
+                let set = declared(stream).unwrap_or(Charset::Auto);
                 charset::to_utf8(&octets, set).into_bytes()
             }
             Some(set) => charset::to_utf8(&octets, set).into_bytes(),
         };
-        Text { octets, side, units, shown: list.len() }
+        Ok(Text { octets, side, units: units(whole.elements()), shown: whole.lines().len(), whole })
     }
 
     /// The same in words, to tell one way from another.
@@ -106,42 +107,32 @@ fn declared(stream: &[u8]) -> Option<Charset> {
 pub fn run(words: &Words) -> Outcome {
     let escape = words.escape || !words.raw && words.how.utf8.is_none() && io::stdout().is_terminal();
     input::each(&words.files, false, |source| {
-        let letter = match Letter::read_in(source.edition, &source.stream) {
-            Ok(letter) => letter,
+        let Text { octets, side, shown, whole, .. } = match words.how.text(source.edition, &source.stream) {
+            Ok(text) => text,
             Err(refusal) => {
                 tell(&explain::refusal(source, &refusal));
                 return Ok(Status::Refused);
             }
         };
-        let Text { octets, side, shown, .. } = words.how.text(&letter);
         let mut out = BufWriter::new(io::stdout().lock());
         if words.raw {
-            out.write_all(&joined(&letter, &letter.reading_list(side).unwrap_or_default()))?;
+            out.write_all(whole.octets())?;
         } else {
             input::heading(&mut out, &words.files, source)?;
             out.write_all(&if escape { show::escaped_lines(&octets).into_bytes() } else { octets })?;
         }
         out.flush()?;
-        let all = note_units_left_out(source, &letter, side, shown);
-        protected::note(source, &letter);
+        let all = note_units_left_out(source, whole.elements(), side, shown);
+        protected::note(source, whole.elements());
         Ok(if all || !words.strict { Status::Accepted } else { Status::Refused })
     })
 }
 
-/// The contents of the matches, one after another.
-fn joined(letter: &Letter<'_>, list: &[Match]) -> Vec<u8> {
-    let mut text = Vec::new();
-    for found in list {
-        text.extend_from_slice(&letter.content(found.unit).unwrap_or_default());
-    }
-    text
-}
-
-/// The contents of the matches, each block ending a line.
-fn in_blocks(letter: &Letter<'_>, list: &[Match]) -> Vec<u8> {
-    let mut text = Vec::new();
-    for block in list.chunk_by(|one, other| one.element == other.element) {
-        text.extend(joined(letter, block));
+/// A text with each block ending a line.
+fn in_blocks(whole: &odif::Text) -> Vec<u8> {
+    let mut text = Vec::with_capacity(whole.octets().len() + whole.lines().len());
+    for block in whole.lines().chunk_by(|one, other| one.element == other.element) {
+        block.iter().for_each(|line| text.extend_from_slice(whole.content(line)));
         if text.last().is_some_and(|&last| last != b'\n') {
             text.push(b'\n');
         }
@@ -149,10 +140,15 @@ fn in_blocks(letter: &Letter<'_>, list: &[Match]) -> Vec<u8> {
     text
 }
 
+/// How many text units there are.
+fn units(elements: &[Element]) -> usize {
+    elements.iter().filter(|element| element.kind == Kind::TextUnit).count()
+}
+
 /// Tells on standard error of text units that stand nowhere in the reading order, and of the other side if it has some.
 /// Gives back whether there are none.
-pub fn note_units_left_out(source: &Source<'_>, letter: &Letter<'_>, side: Side, shown: usize) -> bool {
-    let units = letter.elements().iter().filter(|element| element.kind == Kind::TextUnit).count();
+pub fn note_units_left_out(source: &Source<'_>, elements: &[Element], side: Side, shown: usize) -> bool {
+    let units = units(elements);
     if shown == units {
         return true;
     }
@@ -161,7 +157,7 @@ pub fn note_units_left_out(source: &Source<'_>, letter: &Letter<'_>, side: Side,
         Side::Layout => Side::Logical,
         Side::Logical => Side::Layout,
     };
-    let there = letter.reading_list(other).map_or(0, |list| list.len());
+    let there = odif::text_in(source.edition, &source.stream, other).map_or(0, |text| text.lines().len());
     let hint =
         if there > 0 { format!("; with --side {other} there are {}", show::grouped(there)) } else { String::new() };
     let (name, units) = (&source.shown, show::grouped(units));

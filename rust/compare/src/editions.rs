@@ -6,6 +6,7 @@ use odif::{Edition, MOST_ELEMENTS, ROW_WIDTH, raw};
 use reader::{Item, Reading};
 
 use crate::tally::{Origin, Tally, hex};
+use crate::text;
 
 /// The reader's word for an edition.
 pub fn to_reader(edition: Edition) -> reader::Edition {
@@ -46,6 +47,7 @@ struct Answers {
     lists: [(raw::Listed, Vec<raw::Match>); 2],
     normal: (raw::Written, Vec<u8>),
     short: (raw::Written, Vec<u8>),
+    texts: [(raw::Shown, Vec<raw::Line>, Vec<u8>); 2],
     contents: Vec<(raw::Found, raw::Copied, Vec<u8>)>,
 }
 
@@ -72,7 +74,8 @@ impl Answers {
         });
         let contents = contents.collect();
         table.truncate(check.elements as usize * ROW_WIDTH);
-        Answers { check, rows: table, lists: [layout, logical], normal, short, contents }
+        let texts = text::told(edition, stream);
+        Answers { check, rows: table, lists: [layout, logical], normal, short, texts, contents }
     }
 }
 

@@ -12,10 +12,11 @@ const DOCUMENT_01: &str = include_str!("../../../vectors/document-01.txt");
 const EDITIONS: &str = include_str!("../../../vectors/editions-more.txt");
 const TYPES: &str = include_str!("../../../vectors/types.txt");
 const X209: &str = include_str!("../../../vectors/x209.txt");
-const LISTED: [(&str, &str, &str); 3] = [
+const LISTED: [(&str, &str, &str); 4] = [
     ("the lister's example", include_str!("../../../vectors/lister.hex"), include_str!("../../../vectors/lister.out")),
     ("annex D, 1", include_str!("../../../vectors/annex-d-1.hex"), include_str!("../../../vectors/annex-d-1.out")),
     ("annex D, 2", include_str!("../../../vectors/annex-d-2.hex"), include_str!("../../../vectors/annex-d-2.out")),
+    ("a letter with a date", include_str!("../../../vectors/dated.hex"), include_str!("../../../vectors/dated.out")),
 ];
 
 /// Octets from pairs of hexadecimal digits; white space is left out.

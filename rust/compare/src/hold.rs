@@ -13,6 +13,7 @@ use crate::order;
 use crate::pages;
 use crate::rng::Rng;
 use crate::tally::{Origin, Question, Tally, hex};
+use crate::text;
 
 /// Compares streams and keeps count.
 #[derive(Default)]
@@ -61,6 +62,8 @@ impl Holder {
         dates::hold(edition, stream, reading, origin, one.tally, rng);
         order::hold(edition, stream, reading, origin, one.tally);
         pages::hold(edition, stream, reading, origin, one.tally, rng);
+        text::hold(edition, stream, reading, origin, &mut self.tally, rng);
+        let mut one = One { edition, stream, reading, origin, tally: &mut self.tally };
         if reading.refusal().is_none() {
             one.ask_round_trip(rng);
             one.ask_binding(rng);
@@ -330,6 +333,8 @@ impl One<'_> {
         self.expect(written.number == 0 && again == out, "the normal form's own", || hex(&again));
         let (mine, normal) = (dates::told(self.edition, self.stream), dates::told(self.edition, &out));
         self.expect(mine == normal, "the normal form's date", || format!("{normal:?}, not {mine:?}"));
+        let (mine, normal) = (text::told(self.edition, self.stream), text::told(self.edition, &out));
+        self.expect(mine == normal, "the normal form's text", || format!("{normal:?}, not {mine:?}"));
         let (mine, normal) = (order::told(self.edition, self.stream), order::told(self.edition, &out));
         self.expect(mine == normal, "the normal form's order", || format!("{normal:?}, not {mine:?}"));
         let (mine, normal) = (pages::told(self.edition, self.stream), pages::told(self.edition, &out));
@@ -343,8 +348,7 @@ impl One<'_> {
         }
     }
 
-    /// The crate's letter, which asks the library about a unit alone, has the contents that the library gives for the
-    /// whole stream.
+    /// The crate's letter has the contents and the children that the library gives.
     fn ask_binding(&mut self, rng: &mut Rng) {
         let Ok(letter) = odif::Letter::read_in(self.edition, self.stream) else {
             return self.expect(false, "the crate's letter", || "it is refused".into());

@@ -23,3 +23,4 @@ pub mod rng;
 pub mod seeded;
 pub mod short;
 pub mod tally;
+pub mod text;

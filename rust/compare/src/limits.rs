@@ -6,6 +6,7 @@ mod pages;
 mod parents;
 mod pieces;
 mod protected;
+mod texts;
 mod types;
 
 use odif::{MOST_ELEMENTS, SHORT_LIMIT, STREAM_LIMIT};
@@ -21,7 +22,7 @@ const STYLES: [u8; 2] = [0xA7, 0xA8];
 const PROFILE: [u8; 2] = [0xA0, 0x00];
 
 /// The groups of cases. Each group is made when it is wanted, for some are large.
-pub const GROUPS: [fn() -> Vec<Case>; 46] = [
+pub const GROUPS: [fn() -> Vec<Case>; 49] = [
     stream_length,
     element_count,
     full_tables,
@@ -60,6 +61,9 @@ pub const GROUPS: [fn() -> Vec<Case>; 46] = [
     name_spaces,
     parents::places,
     parents::many,
+    texts::orders,
+    texts::most,
+    texts::long,
     orders::short_runs,
     orders::long_names,
     orders::many,

@@ -28,6 +28,10 @@ pub enum Question {
     Content,
     /// `odif_joined`
     Joined,
+    /// `odif_layout_text`
+    LayoutText,
+    /// `odif_logical_text`
+    LogicalText,
     /// `odif_order_a`
     OrderA,
     /// `odif_order_b`
@@ -37,9 +41,9 @@ pub enum Question {
 }
 
 impl Question {
-    const ALL: [Question; 10] = {
+    const ALL: [Question; 12] = {
         use Question::*;
-        [Check, Layout, Logical, Normal, NormalShort, Content, Joined, OrderA, OrderB, Pages]
+        [Check, Layout, Logical, Normal, NormalShort, Content, Joined, LayoutText, LogicalText, OrderA, OrderB, Pages]
     };
 
     /// The refusals above 15 that it can give; those up to 15 are every question's.
@@ -51,6 +55,7 @@ impl Question {
             Question::NormalShort => &[18],
             Question::Content => &[20, 21],
             Question::Joined => &[20, 22],
+            Question::LayoutText | Question::LogicalText => &[16, 19, 22],
             Question::OrderA | Question::OrderB => &[26],
             Question::Pages => &[16, 30],
         }

@@ -131,6 +131,11 @@ pub struct Element {
 }
 
 impl Element {
+    /// The first so many rows of a table.
+    pub(crate) fn of_table(table: &[u32], count: usize) -> Vec<Self> {
+        table.chunks_exact(ROW_WIDTH).take(count).map(Element::from_row).collect()
+    }
+
     fn from_row(row: &[u32]) -> Self {
         let range = |at: usize| row[at] as usize..row[at + 1] as usize;
         let value = |at: usize| (row[at + 1] != 0).then(|| range(at));
@@ -185,8 +190,8 @@ fn check_with_table(edition: Edition, stream: &[u8], table: &mut [u32]) -> Check
     Checked { headers: answer.headers as usize, verdict }
 }
 
-/// Fetches the content of a text unit: a part of the stream, or, where it was saved in pieces, those joined in order. For
-/// many units of one letter [`Letter::content`] is quicker: it does not check the whole stream again.
+/// Fetches the content of a text unit: a part of the stream, or, where it was saved in pieces, those joined in order. It
+/// judges the whole stream; for all units of a side [`text`](crate::text()) does so once.
 pub fn content(stream: &[u8], element: usize) -> Result<Cow<'_, [u8]>, Refusal> {
     content_in(Edition::Of1988, stream, element)
 }
@@ -242,12 +247,13 @@ pub fn short_normal_form_in(edition: Edition, stream: &[u8]) -> Result<Vec<u8>, 
     Ok(out)
 }
 
-/// The shortest profile, and with it the shortest letter.
-const EMPTY_PROFILE: [u8; 2] = [0xA0, 0x00];
+/// No accepted stream of this length has more elements: one has at least two octets.
+pub(crate) fn most_elements(stream: &[u8]) -> usize {
+    (stream.len() / 2).min(MOST_ELEMENTS)
+}
 
-/// A table that is long enough for any accepted stream of this length: an element has at least two octets.
 fn new_table(stream: &[u8]) -> Vec<u32> {
-    vec![0; (stream.len() / 2).min(MOST_ELEMENTS) * ROW_WIDTH]
+    vec![0; most_elements(stream) * ROW_WIDTH]
 }
 
 /// An accepted letter: the caller's stream with its table.
@@ -270,7 +276,7 @@ impl<'a> Letter<'a> {
         let mut table = new_table(stream);
         let checked = check_with_table(edition, stream, &mut table);
         let count = checked.verdict?;
-        let elements = table.chunks_exact(ROW_WIDTH).take(count).map(Element::from_row).collect();
+        let elements = Element::of_table(&table, count);
         Ok(Letter { edition, stream, headers: checked.headers, elements })
     }
 
@@ -296,16 +302,10 @@ impl<'a> Letter<'a> {
 
     /// The content of a text unit: a part of the caller's own stream, or, where it was saved in pieces or tiles, those
     /// joined in order. It is empty where the unit has none. `None` where the element is no text unit or does not exist.
+    /// The library judges the whole stream for each; [`Letter::text`] asks once for all units of a side.
     pub fn content(&self, element: usize) -> Option<Cow<'a, [u8]>> {
-        let unit = self.elements.get(element).filter(|element| element.kind == Kind::TextUnit)?;
-        let part = &self.stream[unit.content.clone().unwrap_or_default()];
-        // The unit alone behind an empty profile is a letter too, no longer than this one, and its content is the same.
-        // So the library says how it was saved, and no other element is looked at again.
-        let alone = [&EMPTY_PROFILE, &self.stream[unit.place.clone()]].concat();
-        match content_in(self.edition, &alone, 1).expect("a unit of an accepted letter") {
-            Cow::Borrowed(_) => Some(Cow::Borrowed(part)),
-            Cow::Owned(joined) => Some(Cow::Owned(joined)),
-        }
+        self.elements.get(element).filter(|element| element.kind == Kind::TextUnit)?;
+        content_in(self.edition, self.stream, element).ok()
     }
 
     /// The identifier of an element; of a text unit the layout identifier.
@@ -349,12 +349,6 @@ impl<'a> Letter<'a> {
         let answer = raw::children_in(self.edition, self.stream, row, &mut table, &mut list);
         list.truncate(answer.children as usize);
         (answer.number == 0).then(|| list.into_iter().map(|child| child as usize).collect())
-    }
-
-    /// The text of a side: the content of each unit of its reading list, in that order.
-    pub fn text(&self, side: Side) -> Result<Vec<Cow<'a, [u8]>>, Refusal> {
-        let list = self.reading_list(side)?;
-        Ok(list.into_iter().filter_map(|found| self.content(found.unit)).collect())
     }
 
     /// Makes the normal form.

@@ -1,9 +1,10 @@
 //! A safe binding of the proved reader of ODIF letters.
 //!
-//! [`Letter::read`] checks a stream and keeps its table; the letter then gives its elements, the reading list and the text
-//! of either side, the content of its text units, the tree of its objects, and its normal form. Content is a part of the caller's own stream, or, where it
-//! was saved in pieces, those joined. What is refused comes back as a [`Refusal`], with the rule, its number, a sentence
-//! and the place.
+//! [`Letter::read`] checks a stream and keeps its table; the letter then gives its elements, the reading list and the
+//! [`Text`] of either side, the content of single text units, the tree of its objects, and its normal form. The content of
+//! a unit is a part of the caller's own stream, or, where it was saved in pieces, those joined. What is refused comes back as
+//! a [`Refusal`], with the rule, its number, a sentence and the place. Where the text alone is wanted, [`text()`] is enough:
+//! the stream is judged once.
 //!
 //! ```
 //! # fn main() -> Result<(), odif::Refusal> {
@@ -11,10 +12,12 @@
 //!     \xA2\x11\x02\x01\x04\x31\x0C\x41\x051 0 2\xA1\x03\x12\x010\
 //!     \xA3\x0F\x31\x09\x40\x071 0 2 0\x04\x02Hi";
 //! let letter = odif::Letter::read(stream)?;
-//! assert_eq!(letter.text(odif::Side::Layout)?.concat(), b"Hi");
-//! for found in letter.reading_list(odif::Side::Layout)? {
-//!     assert_eq!(letter.content(found.unit).as_deref(), Some(&b"Hi"[..]));
+//! let text = letter.text(odif::Side::Layout)?;
+//! for line in text.lines() {
+//!     assert_eq!((line.element, line.portion, line.unit), (1, 0, 2));
+//!     assert_eq!(text.content(line), b"Hi");
 //! }
+//! assert_eq!(text.octets(), b"Hi");
 //! # Ok(())
 //! # }
 //! ```
@@ -27,8 +30,8 @@
 //! Letters are read by the edition of 1988. [`Letter::read_in`], and the other functions with `_in` at the end of their
 //! names, take the [`Edition`] too: letters of 1993 have protected parts, and text units without content or with tiles.
 //!
-//! A question takes up to 304 KiB of the calling thread's stack, of a small letter (up to 512 elements and 8,192 items) up
-//! to 88 KiB, and any number of threads may ask at once.
+//! A question takes up to 336 KiB of the calling thread's stack, of a small letter (up to 512 elements and 8,192 items) up
+//! to 120 KiB, and any number of threads may ask at once.
 //!
 //! [`raw`] has the functions of the C header as they stand, for callers who lend their own memory.
 
@@ -42,6 +45,7 @@ mod order;
 pub mod pm1;
 pub mod raw;
 mod refusal;
+mod text;
 
 pub use blocks::{Blocks, ClosedEarly, PastTotal, Walked};
 pub use date::{Date, FirstDate, first_date, first_date_in};
@@ -51,6 +55,7 @@ pub use letter::{normal_form, normal_form_in, short_normal_form, short_normal_fo
 pub use making::Builder;
 pub use order::{Class, order, order_in};
 pub use refusal::{Refusal, Rule};
+pub use text::{Line, Text, text, text_in};
 
 /// The most octets of a stream, and of a normal form.
 pub const STREAM_LIMIT: usize = 1_048_576;

@@ -19,7 +19,7 @@ const FRAME: usize = 32;
 /// # fn main() -> Result<(), odif::Refusal> {
 /// let stream = odif::Builder::new().entry("1 0 0", "0", "Dear Sir,\n").entry("1 0 1", "0", b"caf\xC2e\n").make()?;
 /// let letter = odif::Letter::read(&stream)?;
-/// assert_eq!(letter.text(odif::Side::Layout)?.concat(), b"Dear Sir,\ncaf\xC2e\n");
+/// assert_eq!(letter.text(odif::Side::Layout)?.octets(), b"Dear Sir,\ncaf\xC2e\n");
 /// # Ok(())
 /// # }
 /// ```
@@ -97,7 +97,7 @@ mod tests {
         }
         let stream = builder.make().unwrap();
         let letter = Letter::read(&stream).unwrap();
-        assert_eq!(letter.text(Side::Layout).unwrap(), texts);
+        assert_eq!(letter.text(Side::Layout).unwrap().units().collect::<Vec<_>>(), texts);
         assert!(letter.reading_list(Side::Logical).unwrap().is_empty());
     }
 

@@ -6,6 +6,8 @@
 //! This file and those of `raw/` are the only ones with `unsafe` in them.
 #![allow(unsafe_code)]
 
+use std::slice;
+
 use crate::edition::Edition;
 
 pub mod blocks;
@@ -137,6 +139,40 @@ pub struct Match {
     pub unit: u32,
 }
 
+/// The answer of [`layout_text`] and [`logical_text`].
+#[repr(C)]
+#[derive(Clone, Copy, Debug, Default, PartialEq, Eq)]
+pub struct Shown {
+    /// 0, or the number of the refusal.
+    pub number: u32,
+    /// The place of the refusal.
+    pub place: u32,
+    /// The rows filled, also with 19 and 22.
+    pub elements: u32,
+    /// The records filled.
+    pub lines: u32,
+    /// The octets written.
+    pub length: u32,
+}
+
+/// One line of a text: a match, and where its unit's content stands in the output.
+#[repr(C)]
+#[derive(Clone, Copy, Debug, Default, PartialEq, Eq)]
+pub struct Line {
+    /// The row of the class or object.
+    pub element: u32,
+    /// The portion's place in it.
+    pub portion: u32,
+    /// The row of the text unit.
+    pub unit: u32,
+    /// Where the unit's content begins in the output.
+    pub first: u32,
+    /// Past it.
+    pub past: u32,
+}
+
+const _: () = assert!(size_of::<Line>() == LINE_WIDTH * size_of::<u32>() && align_of::<Line>() == align_of::<u32>());
+
 /// Declares the questions of the C header, each by its name of 1988 and by that of 1993.
 macro_rules! twins {
     ($($of_1988:ident $of_1993:ident($($name:ident: $lent:ty),*) -> $answer:ty;)*) => {
@@ -169,6 +205,14 @@ twins! {
     odif_children odif_children_1993(
         stream: *const u8, stream_len: usize, row: u32, table: *mut u32, table_len: usize, list: *mut u32, list_len: usize
     ) -> Related;
+    odif_layout_text_numbers odif_layout_text_numbers_1993(
+        stream: *const u8, stream_len: usize, table: *mut u32, table_len: usize, lines: *mut u32, lines_len: usize,
+        out: *mut u8, out_len: usize
+    ) -> Shown;
+    odif_logical_text_numbers odif_logical_text_numbers_1993(
+        stream: *const u8, stream_len: usize, table: *mut u32, table_len: usize, lines: *mut u32, lines_len: usize,
+        out: *mut u8, out_len: usize
+    ) -> Shown;
     odif_date odif_date_1993(stream: *const u8, stream_len: usize) -> Dated;
     odif_first_date odif_first_date_1993(stream: *const u8, stream_len: usize) -> FirstDated;
 }
@@ -333,4 +377,74 @@ pub fn children_in(edition: Edition, stream: &[u8], row: u32, table: &mut [u32],
     };
     let (numbers, most) = (table.as_mut_ptr(), table.len());
     unsafe { ask(stream.as_ptr(), stream.len(), row, numbers, most, list.as_mut_ptr(), list.len()) }
+}
+
+/// Fills the table, and puts the text of the layout side into the output and its lines: of each match of the list, in that
+/// order, the joined content of its unit. An output as long as the stream is always enough.
+pub fn layout_text(stream: &[u8], table: &mut [u32], lines: &mut [Line], out: &mut [u8]) -> Shown {
+    layout_text_in(Edition::Of1988, stream, table, lines, out)
+}
+
+/// The same of the logical side.
+pub fn logical_text(stream: &[u8], table: &mut [u32], lines: &mut [Line], out: &mut [u8]) -> Shown {
+    logical_text_in(Edition::Of1988, stream, table, lines, out)
+}
+
+/// The same as [`layout_text`], by an edition.
+pub fn layout_text_in(edition: Edition, stream: &[u8], table: &mut [u32], lines: &mut [Line], out: &mut [u8]) -> Shown {
+    layout_text_numbers_in(edition, stream, table, numbers_of(lines), out)
+}
+
+/// The same as [`logical_text`], by an edition.
+pub fn logical_text_in(
+    edition: Edition,
+    stream: &[u8],
+    table: &mut [u32],
+    lines: &mut [Line],
+    out: &mut [u8],
+) -> Shown {
+    logical_text_numbers_in(edition, stream, table, numbers_of(lines), out)
+}
+
+/// The same as [`layout_text_in`], with the lines as numbers, those of a [`Line`] each; an incomplete last line is not used.
+pub fn layout_text_numbers_in(
+    edition: Edition,
+    stream: &[u8],
+    table: &mut [u32],
+    lines: &mut [u32],
+    out: &mut [u8],
+) -> Shown {
+    let ask = match edition {
+        Edition::Of1988 => odif_layout_text_numbers,
+        Edition::Of1993 => odif_layout_text_numbers_1993,
+    };
+    let (rows, row_numbers) = (table.as_mut_ptr(), table.len());
+    let (records, line_numbers) = (lines.as_mut_ptr(), lines.len());
+    unsafe { ask(stream.as_ptr(), stream.len(), rows, row_numbers, records, line_numbers, out.as_mut_ptr(), out.len()) }
+}
+
+/// The same as [`logical_text_in`], with the lines as numbers.
+pub fn logical_text_numbers_in(
+    edition: Edition,
+    stream: &[u8],
+    table: &mut [u32],
+    lines: &mut [u32],
+    out: &mut [u8],
+) -> Shown {
+    let ask = match edition {
+        Edition::Of1988 => odif_logical_text_numbers,
+        Edition::Of1993 => odif_logical_text_numbers_1993,
+    };
+    let (rows, row_numbers) = (table.as_mut_ptr(), table.len());
+    let (records, line_numbers) = (lines.as_mut_ptr(), lines.len());
+    unsafe { ask(stream.as_ptr(), stream.len(), rows, row_numbers, records, line_numbers, out.as_mut_ptr(), out.len()) }
+}
+
+/// The numbers of a [`Line`].
+pub const LINE_WIDTH: usize = 5;
+
+/// Lines as the numbers that they are.
+fn numbers_of(lines: &mut [Line]) -> &mut [u32] {
+    // SAFETY: a line is its five numbers and nothing else, in their order, and any numbers are a line.
+    unsafe { slice::from_raw_parts_mut(lines.as_mut_ptr().cast(), LINE_WIDTH * lines.len()) }
 }

@@ -118,8 +118,34 @@ fn the_text_of_a_side() {
     ]
     .concat();
     let letter = Letter::read(&stream).unwrap();
-    assert_eq!(letter.text(Side::Layout).unwrap(), [&b"Hello "[..], b"world"]);
-    assert!(letter.text(Side::Logical).unwrap().is_empty());
+    let text = letter.text(Side::Layout).unwrap();
+    assert_eq!(text.octets(), b"Hello world");
+    assert_eq!(text.units().collect::<Vec<_>>(), [&b"Hello "[..], b"world"]);
+    let lines: Vec<_> = text.lines().iter().map(|line| (line.element, line.portion, line.unit, &line.place)).collect();
+    assert_eq!(lines, [(4, 0, 2, &(0..6)), (5, 0, 1, &(6..11))]);
+    assert_eq!(text.elements(), letter.elements());
+    assert_eq!(odif::text(&stream, Side::Layout).as_ref(), Ok(&text));
+    let logical = letter.text(Side::Logical).unwrap();
+    assert!(logical.lines().is_empty() && logical.octets().is_empty());
+    assert_eq!(told(odif::text(&stream[1..], Side::Layout)), told(Letter::read(&stream[1..])));
+}
+
+#[test]
+fn the_question_behind_text() {
+    let (mut table, mut lines, mut out) = ([9; 3 * odif::ROW_WIDTH], [raw::Line::default(); 2], *b"....");
+    let counts = |shown: raw::Shown| [shown.number, shown.place, shown.elements, shown.lines, shown.length];
+    let shown = raw::layout_text(LETTER, &mut table, &mut lines, &mut out);
+    assert_eq!(counts(shown), [0, 0, 3, 1, 2]);
+    assert_eq!(lines, [raw::Line { element: 1, portion: 0, unit: 2, first: 0, past: 2 }, raw::Line::default()]);
+    assert_eq!((&out, table[0]), (b"Hi..", 0));
+    for (rows, records, octets, wanted) in [(2, 1, 2, [16, 0]), (3, 0, 2, [19, 3]), (3, 1, 1, [22, 3])] {
+        let (mut table, mut lines, mut out) = ([9; 3 * odif::ROW_WIDTH], [raw::Line::default(); 1], *b"..");
+        let table = &mut table[..rows * odif::ROW_WIDTH];
+        let shown = raw::layout_text(LETTER, table, &mut lines[..records], &mut out[..octets]);
+        assert_eq!(counts(shown), [wanted[0], 0, wanted[1], 0, 0]);
+        assert_eq!((table[0] == 0, lines[0], &out), (wanted[1] == 3, raw::Line::default(), b".."));
+    }
+    assert_eq!(counts(raw::logical_text(LETTER, &mut table, &mut [], &mut [])), [0, 0, 3, 0, 0]);
 }
 
 #[test]

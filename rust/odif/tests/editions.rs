@@ -49,7 +49,7 @@ fn contents_of_1993() {
     let letter = read();
     assert_eq!(letter.content(TILED).as_deref(), Some(&b"Hi"[..]));
     assert_eq!(letter.content(WITHOUT_CONTENT), Some(Cow::Borrowed(&[][..])));
-    assert_eq!(letter.text(Side::Layout).unwrap(), [&b"Hi"[..], b""]);
+    assert_eq!(letter.text(Side::Layout).unwrap().units().collect::<Vec<_>>(), [&b"Hi"[..], b""]);
     assert_eq!(odif::content_in(Edition::Of1993, OF_1993, TILED).as_deref(), Ok(&b"Hi"[..]));
     assert_eq!(odif::content_in(Edition::Of1993, OF_1993, WITHOUT_CONTENT).as_deref(), Ok(&b""[..]));
     for element in [0, 1, SEALED, ENCIPHERED, 6, usize::MAX] {

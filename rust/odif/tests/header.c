@@ -44,6 +44,30 @@ static void print_1993(void) {
            brief.length);
 }
 
+static void print_shown(const char *name, odif_shown shown) {
+    printf("%s %" PRIu32 " %" PRIu32 " %" PRIu32 " %" PRIu32 " %" PRIu32, name, shown.number, shown.place, shown.elements,
+           shown.lines, shown.length);
+}
+
+/* The text of both sides, too few lines and too short an output, and the twins of 1993. */
+static void print_texts(void) {
+    size_t length = sizeof letter - 1, numbers = 4 * ODIF_ROW_WIDTH;
+    uint32_t table[4 * ODIF_ROW_WIDTH];
+    odif_line line;
+    uint8_t out[] = "....";
+    print_shown("layout text", odif_layout_text(letter, length, table, numbers, &line, 1, out, 4));
+    printf(": %" PRIu32 " %" PRIu32 " %" PRIu32 " %" PRIu32 " %" PRIu32 " %s\n", line.element, line.portion, line.unit,
+           line.first, line.past, (const char *)out);
+    print_shown("logical text", odif_logical_text(letter, length, table, numbers, NULL, 0, NULL, 0));
+    print_shown("\ntoo few lines", odif_layout_text(letter, length, table, numbers, NULL, 0, out, 4));
+    print_shown("\ntoo short a text", odif_layout_text(letter, length, table, numbers, &line, 1, out, 1));
+    length = sizeof letter_1993 - 1;
+    odif_shown layout = odif_layout_text_1993(letter_1993, length, table, numbers, NULL, 0, NULL, 0);
+    odif_shown logical = odif_logical_text_1993(letter_1993, length, table, numbers, NULL, 0, NULL, 0);
+    printf("\ntext 1993 %" PRIu32 " %" PRIu32 " %" PRIu32 " %" PRIu32 " %" PRIu32 " %" PRIu32 "\n", layout.number,
+           layout.elements, layout.lines, logical.number, logical.elements, logical.lines);
+}
+
 /* A page after the first of its frames. */
 static const uint8_t page[] =
     "\xA0\x00" "\xA2\x07\x31\x05\x41\x03" "1 0" "\xA2\x05\x31\x03\x41\x01" "1" "\xA2\x07\x31\x05\x41\x03" "1 1";
@@ -66,8 +90,8 @@ static void print_order(void) {
 typedef char sizes_are_as_they_should_be[
     sizeof(odif_checked) == 16 && sizeof(odif_written) == 12 && sizeof(odif_listed) == 16 && sizeof(odif_found) == 16
     && sizeof(odif_copied) == 12 && sizeof(odif_match) == 12 && sizeof(odif_dated) == 28
-    && sizeof(odif_first_dated) == 32 && sizeof(odif_entry) == 24 && sizeof(odif_related) == 16
-    && sizeof(odif_ordered) == 8 ? 1 : -1];
+    && sizeof(odif_first_dated) == 32 && sizeof(odif_line) == 20 && sizeof(odif_shown) == 20 && sizeof(odif_entry) == 24
+    && sizeof(odif_related) == 16 && sizeof(odif_ordered) == 8 ? 1 : -1];
 
 int main(void) {
     size_t length = sizeof letter - 1;
@@ -122,6 +146,7 @@ int main(void) {
     printf("short %" PRIu32 " %" PRIu32 " %" PRIu32 " %" PRIu32 "\n", checked.number, checked.place, checked.headers,
            checked.elements);
     print_1993();
+    print_texts();
     uint32_t rows[4 * ODIF_ROW_WIDTH], children[2];
     odif_related related = odif_children(page, sizeof page - 1, 2, rows, 4 * ODIF_ROW_WIDTH, children, 2);
     printf("children %" PRIu32 " %" PRIu32 " %" PRIu32 " %" PRIu32 ": %" PRIu32 " %" PRIu32 "\n", related.number,

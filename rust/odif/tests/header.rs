@@ -54,6 +54,11 @@ lists 0 4 0 4
 20 0 0 20 0
 20 0 0 20 0
 normal 0 23 0 23
+layout text 0 0 3 1 2: 1 0 2 0 2 Hi..
+logical text 0 0 3 0 0
+too few lines 19 0 3 0 0
+too short a text 22 0 3 0 0
+text 1993 0 4 0 0 4 0
 children 0 0 4 2: 1 3
 none 20 0 0 0
 too few 25 0 4 0
@@ -105,5 +110,5 @@ fn no_more_stack_than_the_header_says() {
     let output = run("stack", "-std=gnu99", &[]);
     let told = String::from_utf8_lossy(&output.stdout);
     assert!(output.status.success(), "{told}");
-    assert_eq!(told.lines().count(), 20, "{told}");
+    assert_eq!(told.lines().count(), 28, "{told}");
 }

@@ -12,6 +12,7 @@ static uint8_t stream[ODIF_STREAM_LIMIT], out[ODIF_STREAM_LIMIT], stack[1 << 20]
 static uint32_t table[ODIF_ROW_WIDTH * ODIF_MOST_ELEMENTS];
 static odif_match list[ODIF_MOST_ELEMENTS];
 static uint32_t children[ODIF_MOST_ELEMENTS];
+static odif_line lines[ODIF_MOST_ELEMENTS];
 static size_t length;
 static uint8_t names[4 * ODIF_MOST_ENTRIES];
 static odif_entry entries[ODIF_MOST_ENTRIES];
@@ -45,6 +46,26 @@ static void ask_joined_1993(void) { odif_joined_1993(stream, length, 1, out, siz
 static void ask_children(void) {
     odif_children(stream, length, 0, table, sizeof table / sizeof *table, children, ODIF_MOST_ELEMENTS);
 }
+static void ask_children_1993(void) {
+    odif_children_1993(stream, length, 0, table, sizeof table / sizeof *table, children, ODIF_MOST_ELEMENTS);
+}
+static void ask_date(void) { odif_date(stream, length); }
+static void ask_date_1993(void) { odif_date_1993(stream, length); }
+static void ask_first_date(void) { odif_first_date(stream, length); }
+static void ask_layout_text(void) {
+    odif_layout_text(stream, length, table, sizeof table / sizeof *table, lines, ODIF_MOST_ELEMENTS, out, sizeof out);
+}
+static void ask_logical_text(void) {
+    odif_logical_text(stream, length, table, sizeof table / sizeof *table, lines, ODIF_MOST_ELEMENTS, out, sizeof out);
+}
+static void ask_layout_text_1993(void) {
+    odif_layout_text_1993(stream, length, table, sizeof table / sizeof *table, lines, ODIF_MOST_ELEMENTS, out,
+                          sizeof out);
+}
+static void ask_logical_text_1993(void) {
+    odif_logical_text_1993(stream, length, table, sizeof table / sizeof *table, lines, ODIF_MOST_ELEMENTS, out,
+                           sizeof out);
+}
 
 static void ask_order_a(void) { odif_order_a(stream, length); }
 static void ask_order_b(void) { odif_order_b(stream, length); }
@@ -72,6 +93,14 @@ static const struct {
     {"content, 1993", ask_content_1993, ODIF_STACK_SMALL, ODIF_STACK},
     {"joined content, 1993", ask_joined_1993, ODIF_STACK_SMALL, ODIF_STACK},
     {"children", ask_children, ODIF_STACK_SMALL, ODIF_STACK},
+    {"children, 1993", ask_children_1993, ODIF_STACK_SMALL, ODIF_STACK},
+    {"date", ask_date, ODIF_STACK_SMALL, ODIF_STACK},
+    {"date, 1993", ask_date_1993, ODIF_STACK_SMALL, ODIF_STACK},
+    {"first date", ask_first_date, ODIF_STACK_SMALL, ODIF_STACK_SMALL},
+    {"layout text", ask_layout_text, ODIF_STACK_SMALL_TEXTS, ODIF_STACK_TEXTS},
+    {"logical text", ask_logical_text, ODIF_STACK_SMALL_TEXTS, ODIF_STACK_TEXTS},
+    {"layout text, 1993", ask_layout_text_1993, ODIF_STACK_SMALL_TEXTS, ODIF_STACK_TEXTS},
+    {"logical text, 1993", ask_logical_text_1993, ODIF_STACK_SMALL_TEXTS, ODIF_STACK_TEXTS},
     {"order of class A", ask_order_a, ODIF_STACK_SMALL, ODIF_STACK},
     {"order of class B", ask_order_b, ODIF_STACK_SMALL, ODIF_STACK},
     {"order of class A, 1993", ask_order_a_1993, ODIF_STACK_SMALL, ODIF_STACK},
@@ -109,6 +138,21 @@ static void make_levels(void) {
     }
 }
 
+/* So many elements: a block with its text unit, the content of which is in pieces down to the deepest level. */
+static void make_text(size_t count) {
+    static const char block[] = "\xA2\x0A\x31\x08\x41\x01" "1\xA1\x03\x12\x01" "0";
+    static const char unit[] = "\xA3\x80\x31\x05\x40\x03" "1 0";
+    make_elements(count - 2);
+    memcpy(stream + length, block, sizeof block - 1);
+    length += sizeof block - 1;
+    memcpy(stream + length, unit, sizeof unit - 1);
+    length += sizeof unit - 1;
+    for (size_t level = 2; level < 16; level++, length += 2) memcpy(stream + length, "\x24\x80", 2);
+    memcpy(stream + length, "\x04\x01x", 3);
+    memset(stream + length + 3, 0, 30);
+    length += 33;
+}
+
 /* A profile with so many items in it. */
 static void make_items(size_t count) {
     size_t inside = 2 * (count - 1);
@@ -136,6 +180,7 @@ static int make_small(int input) {
     else if (input == 2) make_elements(ODIF_SMALL_ELEMENTS);
     else if (input == 3) make_levels();
     else if (input == 4) make_items(ODIF_SMALL_ITEMS);
+    else if (input == 5) make_text(3);
     else return 0;
     return 1;
 }
@@ -146,6 +191,7 @@ static int make_large(int input) {
     if (input == 0) make_elements(ODIF_SMALL_ELEMENTS + 1);
     else if (input == 1) make_elements(ODIF_MOST_ELEMENTS);
     else if (input == 2) make_items(ODIF_SMALL_ITEMS + 1);
+    else if (input == 3) make_text(ODIF_SMALL_ELEMENTS + 1);
     else return 0;
     return 1;
 }

@@ -15,6 +15,8 @@ use crate::pages::{self, Page, Paged};
 use crate::parents;
 use crate::refusal::Refusal;
 
+pub mod text;
+
 /// One side of a letter.
 #[derive(Clone, Copy, Debug, PartialEq, Eq)]
 pub enum Side {

@@ -7,7 +7,6 @@ use std::io::{self, Write};
 use std::path::{Path, PathBuf};
 
 use clap::Args;
-use odif::Letter;
 use sha2::{Digest, Sha256};
 
 use self::manifest::{COLUMNS, Journal, Line};
@@ -156,8 +155,8 @@ fn export(words: &Words, entry: &Entry, file: &Path, line: Line) -> Result<Line,
         Ok(stream) => stream,
         Err(error) => return Ok(unreadable(error.to_string())),
     };
-    let letter = match Letter::read_in(words.by.edition(), &stream.octets) {
-        Ok(letter) => letter,
+    let Text { octets, side, units, shown, .. } = match words.how.text(words.by.edition(), &stream.octets) {
+        Ok(text) => text,
         Err(refusal) => {
             // The text of what stood there before is not that of this file.
             let _ = fs::remove_file(&target);
@@ -166,8 +165,7 @@ fn export(words: &Words, entry: &Entry, file: &Path, line: Line) -> Result<Line,
             return Ok(Line { outcome: "refused".into(), number, place, reason, ..line });
         }
     };
-    let Text { octets, side, units, shown } = words.how.text(&letter);
-    if let Some(folder) = target.parent() {
+    if let Some(folder) = target.parent().filter(|folder| !folder.is_dir()) {
         fs::create_dir_all(folder).map_err(|error| beside::failure(folder, &error))?;
     }
     beside::write_unsynced(&target, &octets)?;
@@ -180,7 +178,7 @@ fn export(words: &Words, entry: &Entry, file: &Path, line: Line) -> Result<Line,
         left_out: Some(units - shown),
         text_octets: Some(octets.len() as u64),
         text_sha256: show::hex(&Sha256::digest(&octets)).to_lowercase(),
-        date: date::column(letter.edition(), letter.stream()),
+        date: date::column(words.by.edition(), &stream.octets),
         ..line
     })
 }

@@ -2,7 +2,7 @@
 
 use std::fs;
 
-use super::support::{CLAIM, Scratch, assert_unreadable_json, odif, odif_with};
+use super::support::{CLAIM, Scratch, WITH_DATE, assert_unreadable_json, odif, odif_with};
 
 /// A letter with the date 1988-06-05 and a time.
 const DATED: &[u8] = b"\xA0\x16\xA3\x14\xA0\x12\x80\x101988-06-05T09:30\xA2\x00";
@@ -50,6 +50,7 @@ fn json() {
          \"value\":\"1988-06-05T09:30\",\"unread\":false}}\n"
     );
     assert_eq!(odif(&["date", "--json", &dated]).text(), wanted);
+    assert_eq!(odif(&["date", WITH_DATE]).text(), format!("{WITH_DATE}: 1991-04-08\n"));
     let first = odif(&["date", "--json", "--first", &dated]);
     assert_eq!(first.text(), wanted.replace("\"unread\":false", "\"unread\":true"));
     let run = odif(&["date", "--json", CLAIM]);

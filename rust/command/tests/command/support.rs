@@ -8,6 +8,7 @@ use std::path::{Path, PathBuf};
 use std::process::{Command, Stdio};
 
 pub const CLAIM: &str = "samples/letters/claim.odif";
+pub const WITH_DATE: &str = "samples/letters/dated.odif";
 pub const IN_PIECES: &str = "samples/letters/in-pieces.odif";
 pub const CUT_SHORT: &str = "samples/letters/cut-short.odif";
 

@@ -155,7 +155,7 @@ fn of_openssl(line: &str) -> Option<Told> {
 /// Each line of openssl's is one of the tree's, in the same order, with all that it tells; the tree has no others.
 #[test]
 fn as_telling_as_openssl() {
-    for letter in ["claim", "in-pieces", "annex-d-1", "annex-d-2"] {
+    for letter in ["claim", "dated", "in-pieces", "annex-d-1", "annex-d-2"] {
         let file = repository().join(format!("samples/letters/{letter}.odif"));
         let theirs = Command::new("openssl").args(["asn1parse", "-inform", "DER", "-in"]).arg(&file).output().unwrap();
         let theirs = String::from_utf8_lossy(&theirs.stdout).into_owned();

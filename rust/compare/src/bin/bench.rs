@@ -23,14 +23,16 @@ enum Question {
     Logical,
     Normal,
     Content,
+    Text,
 }
 
-const QUESTIONS: [(Question, &str); 5] = [
+const QUESTIONS: [(Question, &str); 6] = [
     (Question::Check, "check"),
     (Question::Layout, "layout list"),
     (Question::Logical, "logical list"),
     (Question::Normal, "normal form"),
     (Question::Content, "content"),
+    (Question::Text, "layout text"),
 ];
 
 /// Memory to lend to either of them.
@@ -38,6 +40,8 @@ struct Memory {
     table: Vec<u32>,
     list: Vec<raw::Match>,
     reader_list: Vec<reader::Match>,
+    lines: Vec<raw::Line>,
+    reader_lines: Vec<reader::Line>,
     out: Vec<u8>,
 }
 
@@ -48,6 +52,8 @@ fn main() {
         table: vec![0; MOST_ELEMENTS * ROW_WIDTH],
         list: vec![raw::Match::default(); MOST_ELEMENTS],
         reader_list: vec![reader::Match::default(); MOST_ELEMENTS],
+        lines: vec![raw::Line::default(); MOST_ELEMENTS],
+        reader_lines: vec![reader::Line::default(); MOST_ELEMENTS],
         out: vec![0; STREAM_LIMIT],
     };
     let names = QUESTIONS.map(|(_, name)| name).join(" | ");
@@ -100,6 +106,7 @@ fn ask_library(input: &Input, question: Question, memory: &mut Memory) -> u32 {
         Question::Logical => raw::logical(stream, &mut memory.table, &mut memory.list).matches,
         Question::Normal => raw::normal(stream, &mut memory.out).length,
         Question::Content => raw::content(stream, input.asked).past,
+        Question::Text => raw::layout_text(stream, &mut memory.table, &mut memory.lines, &mut memory.out).length,
     }
 }
 
@@ -111,6 +118,9 @@ fn ask_reader(input: &Input, question: Question, memory: &mut Memory) -> u32 {
         Question::Logical => reading.list(Side::Logical, &mut memory.table, &mut memory.reader_list).matches,
         Question::Normal => reading.normal(&mut memory.out).length,
         Question::Content => reading.content(input.asked).past,
+        Question::Text => {
+            reading.text(Side::Layout, &mut memory.table, &mut memory.reader_lines, &mut memory.out).length
+        }
     }
 }
 
