@@ -16,7 +16,8 @@ ghost use Rattle.letters.specs.Lent.{rowsNeeded};
 ghost use Rattle.letters.specs.Scratch.{Filled};
 ghost use Rattle.answers.specs.Answers.{refusedCheck, CheckOutcome};
 ghost use Rattle.answers.specs.Asking.{ListsFlat};
-ghost use Rattle.answers.specs.Questions.{reasonTold, checkTold, locatedTold, copiedTold, listedTold, relatedTold, orderedTold, listedOf, refusedTold, Leaves, Roomy};
+ghost use Rattle.answers.specs.Questions.{reasonTold, checkTold, locatedTold, copiedTold, listedTold, relatedTold, orderedTold};
+ghost use Rattle.answers.specs.Questions.{listedOf, refusedTold, Leaves, Roomy};
 ghost use Rattle.answers.specs.Questions.{shownTold, shownOf};
 
 mod children; // children.rt: the children of a row
@@ -448,8 +449,8 @@ pub fn work(
     requires { ⌜ walkOf (now stream) ≡ Outcome.Ended (length (now stream)) headers ⌝ }
     requires { ⌜ Filled edition (now stream) (now rows) (now head) (now next) (now head2) (now next2) count ⌝ }
     requires { ⌜ Roomy question (now stream) (length (now flat)) ⌝ }
-    ensures { λ r. ⌜ Leaves edition question (now (stream .entry)) (now (table .entry)) (now (flat .entry)) (now (out .entry)) r (now (table .exit)) (now (flat .exit))
-        (now (out .exit)) ⌝ }
+    ensures { λ r. ⌜ Leaves edition question (now (stream .entry)) (now (table .entry)) (now (flat .entry)) (now (out .entry)) r (now (table .exit))
+        (now (flat .exit)) (now (out .exit)) ⌝ }
 {
     match question {
         Question::Rules => tell_reason(Reason {

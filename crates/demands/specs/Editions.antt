@@ -60,7 +60,8 @@ pub record SameAnswers (s : List ℕ) : Type 0 where
   pub children-rows : (table : List ℕ) (row : ℕ) (list : List ℕ) → relatedList Of1993 s table row list ≡ relatedList Of1988 s table row list
   pub text : (side : Side) (table : List ℕ) (room : ℕ) (out : List ℕ) → shown Of1993 side s table room out ≡ shown Of1988 side s table room out
   pub text-lines : (side : Side) (table lines out : List ℕ) → shownLines Of1993 side s table lines out ≡ shownLines Of1988 side s table lines out
-  pub text-output : (side : Side) (table : List ℕ) (room : ℕ) (out : List ℕ) → shownOutput Of1993 side s table room out ≡ shownOutput Of1988 side s table room out
+  pub text-output : (side : Side) (table : List ℕ) (room : ℕ) (out : List ℕ)
+      → shownOutput Of1993 side s table room out ≡ shownOutput Of1988 side s table room out
   pub date : dateOf Of1993 s ≡ dateOf Of1988 s
   pub date-bounds : dated Of1993 s ≡ dated Of1988 s
   pub order : (class : Class) → ordered Of1993 class s ≡ ordered Of1988 class s

@@ -34,7 +34,8 @@ pub record PutsOnPage (bytes page : List ℕ) (at told : ℕ) (pageAfter : List 
 -- the line of an element, by its row in the table
 abbrev pub rowLine : (table : List ℕ) (number : ℕ) → List ℕ
 rowLine table number =
-    element number (getD table (number * tableWidth + wholeColumn) 0) (getD table (number * tableWidth + wholeColumn + 1) 0) (getD table (number * tableWidth) 0)
+    element number (getD table (number * tableWidth + wholeColumn) 0) (getD table (number * tableWidth + wholeColumn + 1) 0)
+    (getD table (number * tableWidth) 0)
 
 -- the lines of so many, from a number on
 unfoldable pub rowLines : (table : List ℕ) (number count : ℕ) → List ℕ

@@ -13,7 +13,8 @@ pub fn children(
     table: &mut [u32],
     list: &mut [u32],
 ) -> Related
-    ensures { λ r. ⌜ ChildrenOutcome edition (now (stream .entry)) (now (table .entry)) row (now (list .entry)) r (now (table .exit)) (now (list .exit)) ⌝ }
+    ensures { λ r. ⌜ ChildrenOutcome edition (now (stream .entry)) (now (table .entry)) row (now (list .entry)) r (now (table .exit))
+        (now (list .exit)) ⌝ }
 {
     let mut octets = [0u8; 0];
     let room = list.len();
@@ -40,7 +41,8 @@ pub extern "C" fn odif_children(
     table: &mut [u32],
     list: &mut [u32],
 ) -> Related
-    ensures { λ r. ⌜ ChildrenOutcome Edition.Of1988 (now (stream .entry)) (now (table .entry)) row (now (list .entry)) r (now (table .exit)) (now (list .exit)) ⌝ }
+    ensures { λ r. ⌜ ChildrenOutcome Edition.Of1988 (now (stream .entry)) (now (table .entry)) row (now (list .entry)) r (now (table .exit))
+        (now (list .exit)) ⌝ }
 {
     children(Edition::Of1988, stream, row as usize, table, list)
 }
@@ -52,7 +54,8 @@ pub extern "C" fn odif_children_1993(
     table: &mut [u32],
     list: &mut [u32],
 ) -> Related
-    ensures { λ r. ⌜ ChildrenOutcome Edition.Of1993 (now (stream .entry)) (now (table .entry)) row (now (list .entry)) r (now (table .exit)) (now (list .exit)) ⌝ }
+    ensures { λ r. ⌜ ChildrenOutcome Edition.Of1993 (now (stream .entry)) (now (table .entry)) row (now (list .entry)) r (now (table .exit))
+        (now (list .exit)) ⌝ }
 {
     children(Edition::Of1993, stream, row as usize, table, list)
 }

@@ -24,8 +24,8 @@ pub fn few(
     requires { ⌜ walkOf (now stream) ≡ Outcome.Ended (length (now stream)) headers ⌝ }
     requires { ⌜ rowsNeeded (now stream) ≤ 512 ⌝ }
     requires { ⌜ Roomy question (now stream) (length (now flat)) ⌝ }
-    ensures { λ r. ⌜ Leaves edition question (now (stream .entry)) (now (table .entry)) (now (flat .entry)) (now (out .entry)) r (now (table .exit)) (now (flat .exit))
-        (now (out .exit)) ⌝ }
+    ensures { λ r. ⌜ Leaves edition question (now (stream .entry)) (now (table .entry)) (now (flat .entry)) (now (out .entry)) r (now (table .exit))
+        (now (flat .exit)) (now (out .exit)) ⌝ }
 {
     let mut rows = [0u32; 6144];
     let mut head = [0u16; 1024];
@@ -78,8 +78,8 @@ pub fn many(
 ) -> Told
     requires { ⌜ walkOf (now stream) ≡ Outcome.Ended (length (now stream)) headers ⌝ }
     requires { ⌜ Roomy question (now stream) (length (now flat)) ⌝ }
-    ensures { λ r. ⌜ Leaves edition question (now (stream .entry)) (now (table .entry)) (now (flat .entry)) (now (out .entry)) r (now (table .exit)) (now (flat .exit))
-        (now (out .exit)) ⌝ }
+    ensures { λ r. ⌜ Leaves edition question (now (stream .entry)) (now (table .entry)) (now (flat .entry)) (now (out .entry)) r (now (table .exit))
+        (now (flat .exit)) (now (out .exit)) ⌝ }
 {
     let mut rows = [0u32; 49152];
     let mut head = [0u16; 8192];

@@ -69,8 +69,8 @@ pub fn ask(
     out: &mut [u8],
 ) -> Told
     requires { ⌜ Roomy question (now stream) (length (now flat)) ⌝ }
-    ensures { λ r. ⌜ Leaves edition question (now (stream .entry)) (now (table .entry)) (now (flat .entry)) (now (out .entry)) r (now (table .exit)) (now (flat .exit))
-        (now (out .exit)) ⌝ }
+    ensures { λ r. ⌜ Leaves edition question (now (stream .entry)) (now (table .entry)) (now (flat .entry)) (now (out .entry)) r (now (table .exit))
+        (now (flat .exit)) (now (out .exit)) ⌝ }
 {
     match octets::walk(stream) {
         Outcome::Ended { at: _, count } => {
