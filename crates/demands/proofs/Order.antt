@@ -19,18 +19,19 @@ use Rattle.orders.specs.Orders.{ordered}
 use Rattle.orders.proofs.Refusing.{ordered-refused}
 use Rattle.answers.specs.Answers.{letterIn}
 use Rattle.answers.proofs.Small.{refusal-small}
-use Rattle.demands.specs.Order.{Accepted, OrderOf, Answers, AnyOrder}
+use Rattle.demands.specs.SameLetter.{IsAccepted}
+use Rattle.demands.specs.Order.{BesideRules, Answers, AnyOrder}
 
 module _ (edition : Edition) (class : Class) (s : List ℕ) where
   -- a number that no rule gives
-  accepted-if : (number : ℕ) → ((1 ≤ number) → (number ≤ 15) → ⊥) → ordered edition class s .number ≡ number → (l : Letter) → letterIn edition s ≡ l → Accepted edition s
+  accepted-if : (number : ℕ) → ((1 ≤ number) → (number ≤ 15) → ⊥) → ordered edition class s .number ≡ number → (l : Letter) → letterIn edition s ≡ l → IsAccepted edition s
   accepted-if number other e (letter headers elements) l = record { headers = headers; elements = elements; judged = l }
   accepted-if number other e (refusal n place headers) l =
       let small = refusal-small edition s n place headers l in
       let same : number ≡ n = sym e ∙ ap (λ (r : Ordered). r .number) (ordered-refused edition class s n place headers l) in
       absurd (other (omega (arith, small .low)) (omega (arith, small .high)))
 
-  pub order-of : OrderOf edition class s
+  pub order-of : BesideRules edition class s
   order-of = record {
     answered = answered edition (classOf class) s;
     in-order = λ e. accepted-if 0 (λ low high. omega arith) e (letterIn edition s) refl;

@@ -5,32 +5,24 @@ use mathlib.Core.Path.{_≡_}
 use mathlib.Core.List.{List}
 use Rattle.elements.specs.declared.Edition.{Edition}
 use Rattle.elements.specs.declared.Edition.the-variants.{Of1988}
-use Rattle.elements.specs.Judge.{Element}
-use Rattle.letters.specs.Letter.{letter}
 use Rattle.order.specs.declared.Class.{Class}
 use Rattle.order.specs.declared.Class.the-variants.{A, B}
 use Rattle.order.specs.Question.{Answered}
 use Rattle.order.specs.Coded.{classOf}
 use Rattle.orders.specs.Orders.{ordered}
-use Rattle.answers.specs.Answers.{letterIn}
+use Rattle.demands.specs.SameLetter.{IsAccepted}
 
--- rules 1 to 15 accept a stream
-pub record Accepted (edition : Edition) (s : List ℕ) : Type 0 where
-  pub headers : ℕ
-  pub elements : List Element
-  pub judged : letterIn edition s ≡ letter headers elements
-
-pub record OrderOf (edition : Edition) (class : Class) (s : List ℕ) : Type 0 where
+pub record BesideRules (edition : Edition) (class : Class) (s : List ℕ) : Type 0 where
   -- 0 exactly if in order; 26 "at the first element such that the elements through it begin no run", "after 15"
   pub answered : Answered edition (classOf class) s
   -- 0 and 26 are answered of what the rules accept, and of nothing else
-  pub in-order : ordered edition class s .number ≡ 0 → Accepted edition s
-  pub out-of-order : ordered edition class s .number ≡ 26 → Accepted edition s
+  pub in-order : ordered edition class s .number ≡ 0 → IsAccepted edition s
+  pub out-of-order : ordered edition class s .number ≡ 26 → IsAccepted edition s
 
 -- a stream that the rules accept and that is answered so by class A and by class B
 pub record Answers (a b : ℕ) : Type 0 where
   pub stream : List ℕ
-  pub accepted : Accepted Of1988 stream
+  pub accepted : IsAccepted Of1988 stream
   pub by-a : ordered Of1988 A stream .number ≡ a
   pub by-b : ordered Of1988 B stream .number ≡ b
 
