@@ -8,7 +8,7 @@ use clap::{Args, CommandFactory, Parser, Subcommand, ValueEnum};
 use odif::{Edition, Refusal, Side, Text};
 
 use crate::status::{Failure, Outcome, Status, tell};
-use crate::{check, date, export, list, make, man, normal, order, outline, pages, same, survey, text, tree};
+use crate::{check, date, export, identity, list, make, man, normal, order, outline, pages, same, survey, text, tree};
 
 const EXAMPLES: &str = "\
 Examples:
@@ -24,20 +24,9 @@ output any more, as in `odif tree letter.odif | head`.";
 /// The signal of a pipe that no one reads.
 const SIGPIPE: u8 = 13;
 
-/// What `--version` tells: which library this is, and what proved it.
-const VERSION: &str = concat!(
-    env!("CARGO_PKG_VERSION"),
-    "\nlibrary   libodif.a, sha256 ",
-    env!("ODIF_LIBRARY"),
-    "\ncommit    ",
-    env!("ODIF_COMMIT"),
-    "\ntoolchain ",
-    env!("ODIF_TOOLCHAIN")
-);
-
 /// Reads letters in the Open Document Interchange Format (ODIF, 1988 and 1993)
 #[derive(Parser)]
-#[command(name = "odif", version, long_version = VERSION, after_help = EXAMPLES, max_term_width = 100)]
+#[command(name = "odif", version, long_version = identity::version(), after_help = EXAMPLES, max_term_width = 100)]
 pub struct Cli {
     #[command(subcommand)]
     command: Command,
