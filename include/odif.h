@@ -25,7 +25,7 @@
    same. In 1993 a text unit may have no content, or content in tiles, and there are four elements more, the protected
    parts: a sealed document profile, A9, an enciphered one, AA, and body parts that were enciphered before or after the
    layout, AB and AC. Every letter of 1988 is one of 1993 with the same rows and matches. A letter with a protected part
-   is none of 1988: it is refused by 10 there.
+   is none of 1988: it is refused by 10 there, at the first such part, unless something before it is refused.
 
    Every answer begins with a number and, but for odif_taken, a place. Number 0 is accepted or answered, with place 0.
    Any other number is a refusal; places count octets of the stream from 0.
@@ -302,7 +302,8 @@ odif_shown odif_logical_text_numbers(const uint8_t *ODIF_APART stream, size_t st
                                      uint8_t *ODIF_APART out, size_t out_len);
 
 /* Writes the normal form of a stream of at most 65,535 octets, for machines with little memory: 1 is given where the
-   stream is longer, and never 17. There the normal form is never longer than the stream. */
+   stream is longer, and never 17. There the normal form is never longer than the stream. A program that asks no other
+   question and is linked with --gc-sections has no code for 17. */
 odif_written odif_normal_short(const uint8_t *ODIF_APART stream, size_t stream_len,
                                uint8_t *ODIF_APART out, size_t out_len);
 
