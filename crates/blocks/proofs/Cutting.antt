@@ -34,7 +34,7 @@ unfolding step
 feed-total s [] = refl
 feed-total s (x ∷ xs) = feed-total (step s x) xs
 
--- "cutting does not matter"
+-- no cutting matters
 pub feed-append : (s : State) (xs ys : List ℕ) → feed s (xs ++ ys) ≡ feed (feed s xs) ys
 feed-append s xs ys = foldl-append step s xs ys
 

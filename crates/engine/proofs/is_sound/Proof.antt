@@ -8,7 +8,7 @@ use Rattle.engine.proofs.is_sound.Tie as tie
 returns : tie.Need-returns
 returns c =
     let b = c .before .before .args .b in
-    rw (lt-leb (b .number) 8 (c .if1 .taken))
+    rw (lt-leb (b .number) 8 (omega (arith, c .if1 .taken)))
 
 returns-2 : tie.Need-returns-2
 returns-2 c =
