@@ -426,8 +426,8 @@ ODIF_INLINE odif_written odif_make(const uint8_t *ODIF_APART buffer, size_t buff
        odif_walked walked = odif_blocks_close(now.state);
 
    The state is this struct and nothing else, with no pointer in it: copy it, keep it, go on from a copy. Its numbers
-   are the engine's own. A caller who makes one up is answered too: where it can't be gone on with, 28 with that state,
-   and 29. The three functions take less than 2 KiB of stack. */
+   are the engine's own. A caller who makes one up is answered too: where it can't be gone on with, as with a finding that
+   is none of 1 to 8, 28 with that state, and 29. The three functions take less than 2 KiB of stack. */
 typedef struct {
     uint64_t total;    /* the octets told, and those that have come */
     uint64_t taken;
