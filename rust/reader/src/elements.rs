@@ -267,12 +267,7 @@ fn is_seal_piece(item: &Item) -> bool {
 
 /// "SEQUENCE { Protected-Part-Identifier, .. }": a 47, then the information, and nothing else. The information is an
 /// "OCTET STRING" or a "BIT STRING", which X.209 lets be constructed: it then holds strings of its own type alone.
-fn protected(
-    tree: &Tree,
-    place: usize,
-    is_string: fn(&Item) -> bool,
-    other: Why,
-) -> Result<(usize, &Item), Why> {
+fn protected(tree: &Tree, place: usize, is_string: fn(&Item) -> bool, other: Why) -> Result<(usize, &Item), Why> {
     let mut run = tree.run(place);
     let is_identifier = |item: &Item| item.octet() == octet::PROTECTED_PART_IDENTIFIER;
     match [run.next(), run.next(), run.next()] {

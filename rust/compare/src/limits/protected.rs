@@ -74,7 +74,8 @@ pub fn pieces() -> Vec<Case> {
                     if level == wrong {
                         nested.extend(item(string ^ 0x07, &[0]));
                     }
-                    nested = if level % 3 == 0 { indefinite(string | 0x20, &nested) } else { item(string | 0x20, &nested) };
+                    nested =
+                        if level % 3 == 0 { indefinite(string | 0x20, &nested) } else { item(string | 0x20, &nested) };
                 }
                 let inner = [item(0x47, b"1"), nested].concat();
                 cases.push(case(format!("{octet:02X} in pieces to level {depth}"), letter(&[item(octet, &inner)])));
