@@ -155,7 +155,8 @@ enum {
     ODIF_PORTIONS_FIRST   = 8,  /* the portions of a class or object */
     ODIF_PORTIONS_PAST    = 9,
     ODIF_CONTENT_FIRST    = 10, /* a text unit's content; if it is in pieces or tiles, the value of the 24 or 30 that
-                                   holds them, with their headers; of kinds 10 to 12 the enciphered information */
+                                   holds them, with their headers; of kinds 10 to 12 the same of
+                                   the enciphered information */
     ODIF_CONTENT_PAST     = 11,
     ODIF_PARENT           = 12  /* of kinds 1, 2, 5 and 6 the row of the class or object of the same side whose
                                    identifier is this one's without its last space and digits, which may come later;

@@ -278,6 +278,10 @@ fn editions() {
     both(b"A000AA0767031301310400");
     // a constructed octet string
     both(b"A000AA0747013124020400");
+    // a constructed bit string
+    both(b"A000A9084701312303030100");
+    // a bit string among the pieces of an octet string
+    both(b"A000AA084701312403030100");
     // a third item
     both(b"A000AA0747013104000400");
     // a sealed profile with an octet string

@@ -52,6 +52,7 @@ pub const GROUPS: [fn() -> Vec<Case>; 49] = [
     pieces::most,
     pieces::tiles,
     protected::contents,
+    protected::pieces,
     protected::named,
     protected::many,
     protected::before_and_after,
