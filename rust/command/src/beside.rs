@@ -56,17 +56,12 @@ impl Beside {
 
     /// Puts the finished file in its place, and on the disk.
     pub fn finish(self) -> Result<(), Failure> {
-        self.end(true)
-    }
-
-    fn end(self, sync: bool) -> Result<(), Failure> {
         let Beside { path, out, permissions } = self;
         let done = match out {
             Out::Through(mut out) => out.flush(),
-            Out::Beside(out) => out
-                .into_inner()
-                .map_err(|error| error.into_error())
-                .and_then(|file| put(file, &path, permissions, sync)),
+            Out::Beside(out) => {
+                out.into_inner().map_err(|error| error.into_error()).and_then(|file| put(file, &path, permissions))
+            }
         };
         done.map_err(|error| failure(&path, &error))
     }
@@ -100,25 +95,16 @@ pub fn write(path: &Path, octets: &[u8]) -> Result<(), Failure> {
     file.finish()
 }
 
-/// Writes a whole file, which the caller puts on the disk with many others.
-pub fn write_unsynced(path: &Path, octets: &[u8]) -> Result<(), Failure> {
-    let mut file = Beside::create(path)?;
-    file.add(octets)?;
-    file.end(false)
-}
-
 /// What can't be written, with its name.
 pub fn failure(path: &Path, error: &io::Error) -> Failure {
     Failure::File(format!("{}: {error}", show::name(path.as_os_str())))
 }
 
-fn put(file: NamedTempFile, path: &Path, permissions: Permissions, sync: bool) -> io::Result<()> {
+fn put(file: NamedTempFile, path: &Path, permissions: Permissions) -> io::Result<()> {
     file.as_file().set_permissions(permissions)?;
-    if sync {
-        file.as_file().sync_all()?;
-    }
+    file.as_file().sync_all()?;
     file.persist(path).map_err(|error| error.error)?;
-    if sync { File::open(folder(path))?.sync_all() } else { Ok(()) }
+    File::open(folder(path))?.sync_all()
 }
 
 /// Those that a new file gets.

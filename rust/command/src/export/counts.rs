@@ -3,6 +3,7 @@
 use std::path::{Path, PathBuf};
 
 use super::line::{Became, Line};
+use super::strangers::Strangers;
 use crate::show;
 use crate::status::{Status, tell};
 
@@ -22,6 +23,7 @@ pub struct Counts {
     pruned: Named,
     unseen: Named,
     strangers: Named,
+    missing: Named,
     before: usize,
 }
 
@@ -76,9 +78,10 @@ impl Counts {
         }
     }
 
-    /// A text that is no line's.
-    pub fn add_stranger(&mut self, file: &Path) {
-        self.strangers.add(file);
+    /// What is not as the lines tell.
+    pub fn add_strangers(&mut self, found: &Strangers) {
+        found.strangers.iter().for_each(|file| self.strangers.add(file));
+        found.missing.iter().for_each(|file| self.missing.add(file));
     }
 
     /// Tells on standard error what needs a look.
@@ -90,6 +93,7 @@ impl Counts {
         self.gone.tell("gone from the archive; its text and line stay until --prune");
         self.pruned.tell("gone from the archive; its text and line are removed");
         self.unseen.tell("in a folder of the archive that can't be read; its text and line stay");
+        self.missing.tell("this text was written and is not there; does the file system take two names for one?");
         self.strangers.tell("this text is no letter's, and this export did not write it; move it away");
     }
 
@@ -108,6 +112,7 @@ impl Counts {
             (&self.gone, "gone from the archive, with their texts and lines still here"),
             (&self.pruned, "gone from the archive, and their texts and lines from here"),
             (&self.unseen, "in folders that can't be read, with their texts and lines still here"),
+            (&self.missing, "of the texts are not there"),
             (&self.strangers, "here that are no letter's text"),
         ] {
             if named.count > 0 {
@@ -119,7 +124,8 @@ impl Counts {
 
     /// How the run ends.
     pub fn status(&self, strict: bool) -> Status {
-        if self.unreadable + self.unwritable.count + self.unseen.count + self.strangers.count > 0 {
+        let named = [&self.unwritable, &self.unseen, &self.strangers, &self.missing];
+        if self.unreadable > 0 || named.iter().any(|named| named.count > 0) {
             Status::Failed
         } else if self.refused + self.gone.count > 0 || strict && self.left_out > 0 {
             Status::Refused

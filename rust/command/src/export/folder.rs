@@ -161,10 +161,12 @@ fn put_below_folders(path: &Path, place: &Path) -> io::Result<()> {
     const TRIES: usize = 1_000;
     for _ in 0..TRIES {
         match fs::rename(path, place) {
-            Err(error) if error.kind() == io::ErrorKind::NotFound => {
-                fs::create_dir_all(place.parent().unwrap_or(place))?;
-            }
+            Err(error) if error.kind() == io::ErrorKind::NotFound => {}
             renamed => return renamed,
+        }
+        match fs::create_dir_all(place.parent().unwrap_or(place)) {
+            Err(error) if error.kind() != io::ErrorKind::NotFound => return Err(error),
+            _ => {}
         }
     }
     fs::rename(path, place)

@@ -47,10 +47,10 @@ impl Gone<'_> {
         Ok(lines)
     }
 
-    /// The files that earlier runs told of, in order. A name that no system has is no file's.
+    /// The files that earlier runs told of, in order. A name that no system has, or that leads out of the archive, is none.
     fn names(&self) -> impl Iterator<Item = (&Name, PathBuf)> {
         let names = self.earlier.names().into_iter();
-        names.filter_map(|name| name.system().map(|file| (name, below_itself(&file))))
+        names.filter_map(|name| plain(&name.system()?).map(|file| (name, file)))
     }
 
     fn is_there(&self, path: &Path) -> bool {
@@ -77,7 +77,9 @@ impl Gone<'_> {
     }
 }
 
-/// A name without the `./` that keeps a spreadsheet from running it.
-fn below_itself(file: &OsStr) -> PathBuf {
-    Path::new(file).components().filter(|part| *part != Component::CurDir).collect()
+/// A name below the archive, without the `./` that keeps a spreadsheet from running it.
+fn plain(file: &OsStr) -> Option<PathBuf> {
+    let parts = Path::new(file).components().filter(|part| *part != Component::CurDir);
+    let names = parts.map(|part| if let Component::Normal(name) = part { Some(name) } else { None });
+    names.collect()
 }

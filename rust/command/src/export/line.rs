@@ -93,14 +93,14 @@ impl Line {
 
     /// Is this the file in the same state?
     pub fn has_stamp_of(&self, other: &Line) -> bool {
-        let stamp = |line: &Line| (line.octets, line.modified.clone(), line.changed.clone(), line.inode);
-        stamp(self) == stamp(other)
+        let (times, others) = ((&self.modified, &self.changed), (&other.modified, &other.changed));
+        (self.octets, self.inode, times) == (other.octets, other.inode, others)
     }
 
     /// Was the file in this state read with the same words by the same library and command?
     pub fn is_of(&self, fresh: &Line) -> bool {
-        let by = |line: &Line| (line.how.clone(), line.library.clone(), line.command.clone());
-        self.has_stamp_of(fresh) && by(self) == by(fresh)
+        let (by, fresh_by) = ((&self.library, &self.command), (&fresh.library, &fresh.command));
+        self.has_stamp_of(fresh) && (&self.how, by) == (&fresh.how, fresh_by)
     }
 
     /// The file's name.

@@ -42,6 +42,7 @@ use self::folder::{Folder, MANIFEST};
 use self::gone::Gone;
 use self::journal::Journal;
 use self::line::{COLUMNS, Line};
+use self::strangers::Strangers;
 use self::work::{Done, Work, below};
 use crate::args::By;
 use crate::beside;
@@ -90,8 +91,9 @@ pub struct Words {
     /// Remove the texts and lines of letters that are gone from the archive
     #[arg(long, conflicts_with = "verify")]
     prune: bool,
-    /// Write nothing: hash the texts of an export again, and the letters where they are there, and tell what differs
-    #[arg(long, value_name = "OUT")]
+    /// Write nothing: hash the texts of an export again, and the letters where they are there, and tell what differs. The
+    /// letters are looked for where the last run found them, or in ARCHIVE
+    #[arg(long, value_name = "OUT", conflicts_with_all = ["side", "logical", "utf8", "edition"])]
     verify: Option<PathBuf>,
     /// The files are hexadecimal digits in pairs
     #[arg(long, conflicts_with = "verify")]
@@ -183,9 +185,7 @@ impl<'a> Told<'a> {
 
     /// Puts the texts on the disk, and then the manifest in its place.
     fn finish(mut self) -> Result<Counts, Failure> {
-        for stranger in strangers::find(&self.folder.out, &self.texts) {
-            self.counts.add_stranger(&stranger);
-        }
+        self.counts.add_strangers(&Strangers::find(&self.folder.out, self.texts));
         self.folder.sync_texts()?;
         self.lines.finish()?;
         if let Ok(about) = fs::metadata(self.folder.out.join(MANIFEST)) {

@@ -1,4 +1,4 @@
-//! Texts in the folder that are no line's.
+//! Whether the texts in the folder are those of the lines.
 
 use std::collections::HashSet;
 use std::ffi::OsStr;
@@ -8,19 +8,30 @@ use walkdir::WalkDir;
 
 use super::folder::STAGE;
 
-/// The files of the folder that have the name of a text and are not among these, sorted. This export did not write them,
-/// so it does not remove them either.
-pub fn find(out: &Path, texts: &HashSet<PathBuf>) -> Vec<PathBuf> {
-    let found = WalkDir::new(out).into_iter().filter_entry(|entry| entry.file_name() != OsStr::new(STAGE));
-    let files =
-        found.filter_map(Result::ok).filter(|entry| !entry.file_type().is_dir()).map(walkdir::DirEntry::into_path);
-    let is_text = |file: &PathBuf| file.extension().is_some_and(|extension| extension == "txt") || has_bare_name(file);
-    let mut strangers: Vec<_> = files.filter(|file| is_text(file) && !texts.contains(file)).collect();
-    strangers.sort();
-    strangers
+/// What is not as the lines tell, sorted.
+pub struct Strangers {
+    /// Files with the name of a text that are no line's. No export wrote them, so none removes them either.
+    pub strangers: Vec<PathBuf>,
+    /// Texts of lines that are not in the list of their folder. Where they can be opened all the same, the file system takes
+    /// two names for one.
+    pub missing: Vec<PathBuf>,
 }
 
-/// `.txt` itself has no extension to the standard library.
-fn has_bare_name(file: &Path) -> bool {
-    file.file_name() == Some(OsStr::new(".txt"))
+impl Strangers {
+    /// Looks at all names in the folder.
+    pub fn find(out: &Path, mut texts: HashSet<PathBuf>) -> Strangers {
+        let found = WalkDir::new(out).into_iter().filter_entry(|entry| entry.file_name() != OsStr::new(STAGE));
+        let files = found.filter_map(Result::ok).filter(|entry| !entry.file_type().is_dir());
+        let named_so = files.filter(|file| file.file_name().as_encoded_bytes().ends_with(b".txt"));
+        let mut strangers: Vec<_> = named_so.map(|file| file.into_path()).filter(|file| !texts.remove(file)).collect();
+        // What lies behind a link to a folder is not looked for.
+        let mut missing: Vec<_> = texts.into_iter().filter(|text| !is_behind_link(out, text)).collect();
+        strangers.sort();
+        missing.sort();
+        Strangers { strangers, missing }
+    }
+}
+
+fn is_behind_link(out: &Path, text: &Path) -> bool {
+    text.ancestors().skip(1).take_while(|folder| *folder != out).any(Path::is_symlink)
 }

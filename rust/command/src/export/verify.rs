@@ -8,7 +8,7 @@ use std::path::{Path, PathBuf};
 use super::earlier;
 use super::folder::{self, JOURNAL, MANIFEST};
 use super::line::{Became, Line};
-use super::strangers;
+use super::strangers::Strangers;
 use super::text::{self, There};
 use crate::pool::Pool;
 use crate::progress::Progress;
@@ -102,7 +102,7 @@ impl Looked<'_> {
         let files = lines.iter().filter(|line| line.has_text()).filter_map(|line| line.name().system());
         let texts = files.map(|file| text::place(self.out, Path::new(&file)));
         // A name with `./` before it is found without.
-        strangers::find(self.out, &texts.map(|text| text.components().collect()).collect())
+        Strangers::find(self.out, texts.map(|text| text.components().collect()).collect()).strangers
     }
 }
 
