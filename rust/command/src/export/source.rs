@@ -35,15 +35,14 @@ pub fn read(path: &Path, hex: bool, line: &Line) -> io::Result<(Line, Vec<u8>)> 
 
 /// The state of an open file, at a moment when a change to come makes another one.
 fn settled(file: &File) -> io::Result<Metadata> {
-    let mut about = file.metadata()?;
     for _ in 0..TRIES {
+        let about = file.metadata()?;
         if age(&about).is_none_or(|age| age >= TICK) {
-            break;
+            return Ok(about);
         }
         thread::sleep(TICK);
-        about = file.metadata()?;
     }
-    Ok(about)
+    Err(io::Error::other("it is being written"))
 }
 
 /// How long ago the file was changed; nothing if its time is still to come.

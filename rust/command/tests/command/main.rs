@@ -9,6 +9,7 @@ mod export_kept;
 mod faults;
 mod help;
 mod kill;
+mod leftovers;
 mod list;
 mod make;
 mod names;
