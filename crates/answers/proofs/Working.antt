@@ -9,8 +9,8 @@ use Rattle.elements.specs.Judge.{Element}
 use Rattle.letters.specs.Letter.{Letter, letter, refusal}
 use Rattle.reading.specs.declared.Side.{Side}
 use Rattle.order.specs.declared.Class.{Class}
-use Rattle.orders.specs.declared.Ordered.{Ordered}
-use Rattle.orders.specs.Orders.{ordered}
+use Rattle.order.specs.declared.Ordered.{Ordered}
+use Rattle.order.specs.Computed.{orderIn}
 use Rattle.orders.proofs.Refusing.{ordered-refused}
 use Rattle.answers.specs.declared.Checked.{Checked}
 use Rattle.answers.specs.declared.Listed.{Listed}
@@ -118,7 +118,7 @@ module _ (edition : Edition) (s table flat out : List ℕ) where
       → Leaves edition (Children row room) s table flat out (relatedTold r) after flatAfter out
   leaves-children e = record { answered = ap relatedTold (e .answered); tabled = e .tabled; put = refl; beside = e .filled }
 
-  pub leaves-order : {class : Class} {r : Ordered} → r ≡ ordered edition class s → Leaves edition (Order class) s table flat out (orderedTold r) table flat out
+  pub leaves-order : {class : Class} {r : Ordered} → r ≡ orderIn edition class s → Leaves edition (Order class) s table flat out (orderedTold r) table flat out
   leaves-order e = record { answered = ap orderedTold e; tabled = refl; put = refl; beside = tt }
 
   pub leaves-text : {side : Side} {room : ℕ} {r : Shown} {after flatAfter outAfter : List ℕ} → TextsFlat edition side s table room out r after flatAfter outAfter
@@ -159,7 +159,7 @@ module _ {edition : Edition} {s table flat out : List ℕ} {told : Told} {tableA
       subst (λ (r : Listed). ListsFlat edition side s table room r tableAfter flatAfter) (sym e)
       (record { answered = ap listedOf (l .answered); tabled = l .tabled; stored = b .stored; fits = b .fits; enough = b .enough })
 
-  pub order-left : {class : Class} → Leaves edition (Order class) s table flat out told tableAfter flatAfter outAfter → orderedOf told ≡ ordered edition class s
+  pub order-left : {class : Class} → Leaves edition (Order class) s table flat out told tableAfter flatAfter outAfter → orderedOf told ≡ orderIn edition class s
   order-left l = ap orderedOf (l .answered)
 
   pub children-left : {row : ℕ} → Leaves edition (Children row (length flat)) s table flat out told tableAfter flatAfter outAfter

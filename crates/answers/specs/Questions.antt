@@ -10,8 +10,8 @@ use Rattle.elements.specs.declared.Edition.{Edition}
 use Rattle.letters.specs.Lent.{rowsNeeded}
 use Rattle.reading.specs.declared.Side.{Side}
 use Rattle.reading.specs.Records.{records}
-use Rattle.orders.specs.declared.Ordered.{Ordered}
-use Rattle.orders.specs.Orders.{ordered}
+use Rattle.order.specs.declared.Ordered.{Ordered}
+use Rattle.order.specs.Computed.{orderIn}
 use Rattle.answers.specs.declared.Checked.{Checked}
 use Rattle.answers.specs.declared.Listed.{Listed}
 use Rattle.answers.specs.declared.Reason.{Reason}
@@ -82,7 +82,7 @@ toldTo edition (Content element) s table out = locatedTold (located edition s el
 toldTo edition (Joined element) s table out = copiedTold (copied edition s element out)
 toldTo edition (Reading side room) s table out = listedTold (listed edition side s table room)
 toldTo edition (Children row room) s table out = relatedTold (related edition s table row room)
-toldTo edition (Order class) s table out = orderedTold (ordered edition class s)
+toldTo edition (Order class) s table out = orderedTold (orderIn edition class s)
 toldTo edition (Text side room) s table out = shownTold (shown edition side s table room out)
 
 -- what is told of a stream that rules 1 to 15 refuse: the check alone is told how many headers passed

@@ -3,7 +3,7 @@
 use elements::Edition;
 use octets::Outcome;
 use order::Class;
-use orders::Ordered;
+use order::Ordered;
 use reading::Side;
 use runs::Run;
 ghost use mathlib.Core.Path.{_≡_};

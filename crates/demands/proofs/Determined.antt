@@ -17,8 +17,9 @@ use Rattle.answers.specs.Related.{ChildrenOutcome}
 use Rattle.answers.specs.Texts.{TextOutcome}
 use Rattle.answers.specs.Short.{ShortOutcome}
 use Rattle.order.specs.declared.Class.{Class}
-use Rattle.orders.specs.declared.Ordered.{Ordered}
-use Rattle.orders.specs.Orders.{ordered}
+use Rattle.order.specs.declared.Ordered.{Ordered}
+use Rattle.order.specs.Question.{OrderIs}
+use Rattle.order.proofs.Letters.{answered}
 use Rattle.answers.specs.Answers.{CheckOutcome, NormalOutcome, ListOutcome, fetched, whyNot, located, JoinedOutcome}
 
 pub check-determined : {edition : Edition} {s table : List ℕ} {a b : Checked} {t u : List ℕ} → CheckOutcome edition s table a t → CheckOutcome edition s table b u → (a ≡ b) × (t ≡ u)
@@ -52,8 +53,8 @@ pub children-determined : {edition : Edition} {s table : List ℕ} {row : ℕ} {
     → ChildrenOutcome edition s table row list a t m → ChildrenOutcome edition s table row list b u n → (a ≡ b) × (t ≡ u) × (m ≡ n)
 children-determined x y = (x .answered ∙ sym (y .answered), x .tabled ∙ sym (y .tabled), x .filled ∙ sym (y .filled))
 
-pub order-determined : (edition : Edition) (class : Class) (s : List ℕ) (a b : Ordered) → a ≡ ordered edition class s → b ≡ ordered edition class s → a ≡ b
-order-determined edition class s a b x y = x ∙ sym y
+pub order-determined : (edition : Edition) (class : Class) (s : List ℕ) (a b : Ordered) → OrderIs edition class s a → OrderIs edition class s b → a ≡ b
+order-determined edition class s = answered edition class s .one
 
 pub text-determined : {edition : Edition} {side : Side} {s table lines out : List ℕ} {a b : Shown} {t u l m o p : List ℕ}
     → TextOutcome edition side s table lines out a t l o → TextOutcome edition side s table lines out b u m p → (a ≡ b) × (t ≡ u) × (l ≡ m) × (o ≡ p)

@@ -39,8 +39,9 @@ use Rattle.answers.specs.Related.{related, relatedTable, relatedList}
 use Rattle.texts.specs.Texts.{textsOf, Line, lineOf, linesFrom}
 use Rattle.answers.specs.Texts.{textIn, textsIn, linesIn, shown, shownLines, shownOutput}
 use Rattle.answers.specs.Short.{writtenShort, writtenShortOutput}
-use Rattle.order.specs.Question.{orderIn}
-use Rattle.orders.specs.Orders.{ordered}
+use Rattle.order.specs.declared.Class.{Class}
+use Rattle.order.specs.declared.Ordered.{Ordered}
+use Rattle.order.specs.Question.{OrderIs, by-rule, in-order, out-of-order}
 use Rattle.answers.specs.Dates.{dateOf, dated}
 use Rattle.answers.specs.FirstDates.{firstTree, firstRule, ruledAlone, firstRuled, firstDateOf, firstDated}
 use Rattle.answers.proofs.Letters.{refused-element, letter-found}
@@ -235,6 +236,12 @@ contained s headers elements e =
     let same = letters-agree s all-alike in
     record { accepted = same ∙ e; rows = rows-agree s (itemsOfStream s) untiled; matches = λ side. rw same }
 
+-- the order is told by the letter alone
+order-alike : (from to : Edition) (s : List ℕ) → letterIn from s ≡ letterIn to s → (class : Class) (r : Ordered) → OrderIs from class s r → OrderIs to class s r
+order-alike from to s same class r (by-rule e) = by-rule (sym same ∙ e)
+order-alike from to s same class r (in-order e o) = in-order (sym same ∙ e) o
+order-alike from to s same class r (out-of-order e f) = out-of-order (sym same ∙ e) f
+
 -- the answers
 module _ (s : List ℕ) (same : letterIn Of1993 s ≡ letterIn Of1988 s) where
   -- where the table and the bounds come from: the same rows, or none
@@ -291,7 +298,7 @@ module _ (s : List ℕ) (same : letterIn Of1993 s ≡ letterIn Of1988 s) where
   lines-alike side = some-lines 0 (matchesIn Of1993 side s) ∙ ap (λ (l : Letter). linesFrom (textIn Of1988 s) 0 (matchesBy side l)) same
 
   same-answers : SameAnswers s
-  unfolding checked written writtenOutput writtenShort writtenShortOutput listed listedList fetched joinedIn copied copiedOutput related relatedList shown shownLines shownOutput ruled dateOf dated ordered orderIn
+  unfolding checked written writtenOutput writtenShort writtenShortOutput listed listedList fetched joinedIn copied copiedOutput related relatedList shown shownLines shownOutput ruled dateOf dated
   same-answers =
       let tables = by-letter (letterIn Of1988 s) refl in
       record {
@@ -316,7 +323,7 @@ module _ (s : List ℕ) (same : letterIn Of1993 s ≡ letterIn Of1988 s) where
         text-output = λ side table room out. rw (same, texts-alike side);
         date = rw same;
         date-bounds = rw same;
-        order = λ class. rw same;
+        order = λ class r. (order-alike Of1993 Of1988 s same class r, order-alike Of1988 Of1993 s (sym same) class r);
       }
 
 -- rules 10 and 11 of a first element that is read alike

@@ -2,7 +2,7 @@
 -- Joining: of the content. Locating: where a part stands. Kept: what the normal form keeps, row by row. Family: parents and children. SameLetter: when two files are the
 -- same letter. Mailroom: the mailroom's normal form. DocumentDate, FirstDate: the date of the document, and by the first element alone.
 -- Order: the order of a letter beside the rules. OneElement: an element read by both editions. Editions: the two beside each other. Examples: the examples hold. Determined: two outcomes
--- of one contract are equal. Wrong: the wrong programs of document 01 meet no contract.
+-- of one contract are equal. Accepted: what a crate that is built upon the check may know of an accepted stream. Wrong: the wrong programs of document 01 meet no contract.
 pub mod Demand1
 pub mod Refusals
 pub mod Telling
@@ -21,4 +21,5 @@ pub mod Editions
 pub mod Order
 pub mod Examples
 pub mod Determined
+pub mod Accepted
 pub mod Wrong

@@ -1,6 +1,7 @@
 -- The two editions beside each other (W-213). `editions` (proofs/Editions) is a value of the record below. What each edition accepts is said by its
 -- shapes (crate elements, specs/Shape); demands 1 to 3 are over either. Definitions only: assumes nothing.
 use mathlib.Core.Path.{_≡_}
+use mathlib.Core.Logic.{_↔_}
 use mathlib.Core.Bool.{Bool, true, not, _&&_, _||_}
 use mathlib.Core.List.{List, [], _∷_, map}
 use mathlib.Core.Option.{some}
@@ -24,7 +25,8 @@ use Rattle.answers.specs.Related.{related, relatedTable, relatedList}
 use Rattle.answers.specs.Texts.{shown, shownLines, shownOutput}
 use Rattle.answers.specs.Short.{writtenShort, writtenShortOutput}
 use Rattle.order.specs.declared.Class.{Class}
-use Rattle.orders.specs.Orders.{ordered}
+use Rattle.order.specs.declared.Ordered.{Ordered}
+use Rattle.order.specs.Question.{OrderIs}
 use Rattle.answers.specs.Dates.{dateOf, dated}
 use Rattle.answers.specs.FirstDates.{firstTree, firstDateOf, firstDated}
 use Rattle.demands.specs.Refusals.{TopItem, topItems, Refuses}
@@ -65,7 +67,7 @@ pub record SameAnswers (s : List ℕ) : Type 0 where
       → shownOutput Of1993 side s table room out ≡ shownOutput Of1988 side s table room out
   pub date : dateOf Of1993 s ≡ dateOf Of1988 s
   pub date-bounds : dated Of1993 s ≡ dated Of1988 s
-  pub order : (class : Class) → ordered Of1993 class s ≡ ordered Of1988 class s
+  pub order : (class : Class) (r : Ordered) → OrderIs Of1993 class s r ↔ OrderIs Of1988 class s r
 
 -- a letter of both: the same elements, rows and matches
 pub record SameLetterIn (s : List ℕ) (headers : ℕ) (elements : List Element) : Type 0 where

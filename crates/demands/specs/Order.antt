@@ -1,32 +1,37 @@
 -- What is promised of the order of a letter beside the rules (W-207): the answer comes after 15, and takes nothing from what the check accepts.
--- What it is to be in order is in crate order (specs/ClassA, ClassB, Begins). Definitions only: assumes nothing.
-use Prim.Native.Nat.{ℕ}
+-- What it is to be in order is in crate order (specs/ClassA, ClassB, Begins), and what is answered there (specs/Question, `OrderIs`).
+-- Definitions only: assumes nothing.
+use Prim.Native.Nat.{ℕ, _≤_}
 use mathlib.Core.Path.{_≡_}
+use mathlib.Core.Logic.{_⊎_}
 use mathlib.Core.List.{List}
+use lib.ListN.{length}
 use Rattle.elements.specs.declared.Edition.{Edition}
 use Rattle.elements.specs.declared.Edition.the-variants.{Of1988}
 use Rattle.order.specs.declared.Class.{Class}
 use Rattle.order.specs.declared.Class.the-variants.{A, B}
-use Rattle.order.specs.Question.{Answered}
-use Rattle.order.specs.Coded.{classOf}
-use Rattle.orders.specs.Orders.{ordered}
+use Rattle.order.specs.declared.Ordered.{Ordered}
+use Rattle.order.specs.Question.{verdict, outOfOrder, OrderIs, Answered}
 use Rattle.demands.specs.SameLetter.{IsAccepted}
 
 pub record BesideRules (edition : Edition) (class : Class) (s : List ℕ) : Type 0 where
-  -- 0 exactly if in order; 26 "at the first element such that the elements through it begin no run", "after 15"
-  pub answered : Answered edition (classOf class) s
+  -- every stream has an answer, and one alone
+  pub answered : Answered edition class s
+  -- 0, one of 1 to 15, or 26; and a place in the stream, or its length
+  pub told : (r : Ordered) → OrderIs edition class s r → (r .number ≤ 15) ⊎ (r .number ≡ outOfOrder)
+  pub inside : (r : Ordered) → OrderIs edition class s r → r .place ≤ length s
   -- 0 and 26 are answered of what the rules accept, and of nothing else
-  pub in-order : ordered edition class s .number ≡ 0 → IsAccepted edition s
-  pub out-of-order : ordered edition class s .number ≡ 26 → IsAccepted edition s
+  pub in-order : (place : ℕ) → OrderIs edition class s (verdict 0 place) → IsAccepted edition s
+  pub out-of-order : (place : ℕ) → OrderIs edition class s (verdict outOfOrder place) → IsAccepted edition s
 
 -- a stream that the rules accept and that is answered so by class A and by class B
 pub record Answers (a b : ℕ) : Type 0 where
   pub stream : List ℕ
   pub accepted : IsAccepted Of1988 stream
-  pub by-a : ordered Of1988 A stream .number ≡ a
-  pub by-b : ordered Of1988 B stream .number ≡ b
+  pub by-a : (place : ℕ) × OrderIs Of1988 A stream (verdict a place)
+  pub by-b : (place : ℕ) × OrderIs Of1988 B stream (verdict b place)
 
--- "The check accepts both orders and neither."
+-- "The base check still accepts both orders and neither"
 pub record AnyOrder : Type 0 where
   pub both : Answers 0 0
   pub a-alone : Answers 0 26

@@ -5,7 +5,7 @@ use Prim.Native.Nat.{ℕ}
 use Rattle.headers.specs.Head.{bigEndianFrom}
 use Rattle.tree.specs.Tree.{Tree, empty, leaf, branch}
 use Rattle.contents.specs.Search.{amount, firstRun}
-use Rattle.measures.specs.Integers.{shortest, isInteger, isNegative, sizeOf, integerOf}
+use Rattle.measures.specs.Integers.{shortest, isInteger, isNegative, distanceOf, integerOf}
 use Rattle.measures.specs.Verdicts.{within, verdictOfSizes, verdictOfTwo}
 use Rattle.dimensions.specs.Dimensions.{verdictOfItems, verdictOfBody}
 
@@ -47,5 +47,5 @@ bodies =
     ∷ []
 
 pub judged : map verdictOfBody bodies ≡ 0 ∷ 1 ∷ 1 ∷ 2 ∷ 2 ∷ 2 ∷ 2 ∷ 2 ∷ 3 ∷ 3 ∷ 1 ∷ 3 ∷ 3 ∷ 4 ∷ 4 ∷ 4 ∷ 4 ∷ 4 ∷ 4 ∷ 4 ∷ 4 ∷ 4 ∷ []
-unfolding amount firstRun bigEndianFrom shortest isInteger isNegative sizeOf integerOf within verdictOfSizes verdictOfTwo verdictOfItems verdictOfBody
+unfolding amount firstRun bigEndianFrom shortest isInteger isNegative distanceOf integerOf within verdictOfSizes verdictOfTwo verdictOfItems verdictOfBody
 judged = refl

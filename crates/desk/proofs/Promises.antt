@@ -14,7 +14,8 @@ use Rattle.normal.specs.Normal.{normalForm}
 use Rattle.elements.specs.declared.Edition.{Edition}
 use Rattle.elements.specs.Judge.{Element}
 use Rattle.reading.specs.Match.{forEach, only}
-use Rattle.reading.proofs.Lists.{Sorted, Once, sorted-once}
+use Rattle.reading.specs.Lists.{Sorted, Once}
+use Rattle.reading.proofs.Lists.{sorted-once}
 use Rattle.reading.proofs.Each.{only-in, only-out, only-sorted, From, each-out, each-in, each-sorted, each-few}
 use Rattle.answers.proofs.Letters.{letter-found}
 use Rattle.demands.specs.Refusals.{TopItem, topItems, saysIn}
@@ -23,9 +24,9 @@ use Rattle.demands.proofs.Refusals.{accepted-elements}
 use Rattle.demands.proofs.Demand2.{normal-tree}
 use Rattle.dimensions.specs.Dimensions.{verdictOf}
 use Rattle.pm1.specs.declared.Page.{Page}
-use Rattle.pm1.specs.declared.Listed.{Listed}
+use Rattle.pm1.specs.declared.Paged.{Paged}
 use Rattle.pm1.specs.Pages.{isPage, pageOf, pagesOf, pagesIn}
-use Rattle.pm1.specs.Answers.{listed, listedList, PagesOutcome}
+use Rattle.pm1.specs.Answers.{paged, pagedList, PagesOutcome}
 use Rattle.pm1.proofs.Records.{only-few}
 use Rattle.desk.specs.Promises.{OfPage, Desk}
 
@@ -95,11 +96,11 @@ module _ (edition : Edition) where
       let size : length (a .elements) ≡ length (topItems (treeOf s)) = ap length (all-said s a) ∙ length-map (topItems (treeOf s)) (saysIn edition) in
       omega arith
 
-  untouched : {s table after : List ℕ} {list listAfter : List Page} {a : Listed} → PagesOutcome edition s table list a after listAfter
+  untouched : {s table after : List ℕ} {list listAfter : List Page} {a : Paged} → PagesOutcome edition s table list a after listAfter
       → (a .number ≡ 0 → ⊥) → listAfter ≡ list
-  unfolding listedList
+  unfolding pagedList
   untouched {s} {table} {after} {list} {listAfter} {a} o refused =
-      let n : eqb (listed edition s table (length list) .number) 0 ≡ false = ap (λ (x : Listed). eqb (x .number) 0) (sym (o .answered)) ∙ ne-eqb (a .number) 0 refused in
+      let n : eqb (paged edition s table (length list) .number) 0 ≡ false = ap (λ (x : Paged). eqb (x .number) 0) (sym (o .answered)) ∙ ne-eqb (a .number) 0 refused in
       o .filled ∙ rw n
 
   pub pm1-desk : Desk edition

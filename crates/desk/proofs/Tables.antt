@@ -6,7 +6,7 @@ use Prim.Native.Nat.{ℕ, _≤_}
 use native.Mathlib.Omega.{arith}
 use lib.Dec.{leb}
 use borrow.Author.Tests.{leb-true, le-leb}
-use Rattle.measures.specs.Verdicts.{under, within, essentialPairs, nonEssentialPairs}
+use Rattle.measures.specs.Verdicts.{notOver, within, essentialPairs, nonEssentialPairs}
 use Rattle.desk.specs.Promises.{EssentialWithin}
 
 both : (a b : Bool) → (a && b) ≡ true → (a ≡ true) × (b ≡ true)
@@ -23,7 +23,7 @@ second true c = refl
 second false c = refl
 
 module _ (h v : ℕ) where
-  bounded : (x y : ℕ) → under h v x y ≡ true → (h ≤ x) × (v ≤ y)
+  bounded : (x y : ℕ) → notOver h v x y ≡ true → (h ≤ x) × (v ≤ y)
   bounded x y e = let b = both (leb h x) (leb v y) e in (leb-true h x (b .0), leb-true v y (b .1))
 
   stands : h ≤ 9240 → v ≤ 12400 → within h v nonEssentialPairs ≡ true
@@ -40,10 +40,10 @@ module _ (h v : ℕ) where
       let q : v ≤ 9920 = omega arith in
       rw (le-leb h 14030 p, le-leb v 9920 q) (second (leb h 9920 && leb v 14030) _)
 
-  by-case : (under h v 9240 12400 ≡ true) ⊎ (under h v 12400 9240 ≡ true) → within h v nonEssentialPairs ≡ true
+  by-case : (notOver h v 9240 12400 ≡ true) ⊎ (notOver h v 12400 9240 ≡ true) → within h v nonEssentialPairs ≡ true
   by-case (inl e) = let b = bounded 9240 12400 e in stands (b .0) (b .1)
   by-case (inr e) = let b = bounded 12400 9240 e in turned (b .0) (b .1)
 
 pub essential-within : EssentialWithin
 unfolding within
-essential-within h v e = by-case h v (either (under h v 9240 12400) (under h v 12400 9240) e)
+essential-within h v e = by-case h v (either (notOver h v 9240 12400) (notOver h v 12400 9240) e)

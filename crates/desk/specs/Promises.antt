@@ -10,16 +10,18 @@ use lib.ListN.{length, getElem?}
 use Rattle.tree.specs.Tree.{treeOf}
 use Rattle.normal.specs.Normal.{normalForm}
 use Rattle.elements.specs.declared.Edition.{Edition}
+use Rattle.elements.specs.declared.Edition.the-variants.{Of1988, Of1993}
 use Rattle.elements.specs.Judge.{Element}
-use Rattle.reading.proofs.Lists.{Sorted, Once}
+use Rattle.reading.specs.Lists.{Sorted, Once}
 use Rattle.demands.specs.Refusals.{TopItem, topItems, saysIn}
 use Rattle.demands.specs.SameLetter.{IsAccepted}
+use Rattle.demands.specs.Editions.{isProtected, agree}
 use Rattle.measures.specs.Verdicts.{within, essentialPairs, nonEssentialPairs}
 use Rattle.dimensions.specs.Dimensions.{verdictOf}
 use Rattle.pm1.specs.declared.Page.{Page}
-use Rattle.pm1.specs.declared.Listed.{Listed}
+use Rattle.pm1.specs.declared.Paged.{Paged}
 use Rattle.pm1.specs.Pages.{isPage, pagesIn}
-use Rattle.pm1.specs.Answers.{PagesOutcome}
+use Rattle.pm1.specs.Answers.{paged, pagedTable, pagedList, PagesOutcome}
 
 -- a record is of a page or a page class of the stream, with the verdict that the definition gives its items
 pub record OfPage (edition : Edition) (s : List ℕ) (p : Page) : Type 0 where
@@ -42,11 +44,25 @@ pub record Desk (edition : Edition) : Type 0 where
   pub same-tree : (s r : List ℕ) → treeOf s ≡ treeOf r → pagesIn edition s ≡ pagesIn edition r
   pub normal : (s : List ℕ) → IsAccepted edition s → pagesIn edition (normalForm s) ≡ pagesIn edition s
   -- two outcomes of the contract are equal, and what is refused leaves the list as it was
-  pub determined : {s table tableA tableB : List ℕ} {list listA listB : List Page} {a b : Listed} → PagesOutcome edition s table list a tableA listA
+  pub determined : {s table tableA tableB : List ℕ} {list listA listB : List Page} {a b : Paged} → PagesOutcome edition s table list a tableA listA
       → PagesOutcome edition s table list b tableB listB → (a ≡ b) × (tableA ≡ tableB) × (listA ≡ listB)
-  pub untouched : {s table after : List ℕ} {list listAfter : List Page} {a : Listed} → PagesOutcome edition s table list a after listAfter
+  pub untouched : {s table after : List ℕ} {list listAfter : List Page} {a : Paged} → PagesOutcome edition s table list a after listAfter
       → (a .number ≡ 0 → ⊥) → listAfter ≡ list
 
--- "every essential pair is within a non-essential one": what is within the one table is within the other
+-- the same answer from both editions, and the same left in table and list
+pub record SamePages (s table : List ℕ) (list : List Page) : Type 0 where
+  pub pages : paged Of1993 s table (length list) ≡ paged Of1988 s table (length list)
+  pub pages-table : pagedTable Of1993 s table (length list) ≡ pagedTable Of1988 s table (length list)
+  pub pages-list : pagedList Of1993 s table list ≡ pagedList Of1988 s table list
+
+-- What is promised of the desk and the two editions (W-213). `pm1-editions` (proofs/Editions) is a value.
+pub record DeskEditions : Type 0 where
+  -- "A stream with no protected parts and only items on which both editions agree gets the same answer from either."
+  pub alike : (s : List ℕ) → agree (treeOf s) ≡ true → (table : List ℕ) (list : List Page) → SamePages s table list
+  -- "never a wrong row": by 1988 a stream with a protected part fills no table
+  pub no-row : (s : List ℕ) (j : ℕ) (item : TopItem) → getElem? (topItems (treeOf s)) j ≡ some item → isProtected (item .type) ≡ true
+      → (table : List ℕ) (room : ℕ) → pagedTable Of1988 s table room ≡ table
+
+-- every essential pair is within a non-essential one: what is within the one table is within the other
 abbrev pub EssentialWithin : Type 0
 EssentialWithin = (h v : ℕ) → within h v essentialPairs ≡ true → within h v nonEssentialPairs ≡ true

@@ -63,8 +63,8 @@ unfolding verdictOfTwo verdictOfSizes
 two-small h v =
     either-small (not (h .valid && v .valid)) notFixed _ (omega arith)
     (either-small (underOne h || underOne v) outside _ (omega arith)
-    (either-small (within (h .size) (v .size) essentialPairs) essential _ (omega arith)
-    (either-small (within (h .size) (v .size) nonEssentialPairs) nonEssential outside (omega arith) (omega arith))))
+    (either-small (within (h .distance) (v .distance) essentialPairs) essential _ (omega arith)
+    (either-small (within (h .distance) (v .distance) nonEssentialPairs) nonEssential outside (omega arith) (omega arith))))
 
 items-small : (t : Tree) → verdictOfItems t ≤ 4
 unfolding verdictOfItems

@@ -11,24 +11,25 @@ use Rattle.names.proofs.Same.{same-refl}
 use Rattle.portions.specs.Portions.{any}
 use Rattle.elements.specs.Judge.{Element}
 use Rattle.reading.specs.Match.{joins}
-use Rattle.order.specs.Answers.{_∈_, Ascending, ProfileFirst, profileKind, answers, owns, isAnswered, allAnswered, everything, keep}
-use Rattle.order.specs.ClassA.{classKinds, objectKinds, answersSome, rankA, orderedBy, listedOf, unitsOf, inStep, InOrderA}
-use Rattle.order.specs.ClassB.{rankIn, rankB, Group, laid, Together, InOrderB}
+use Rattle.order.specs.Represents.{_∈_, Ascending, ProfileFirst, profileKind, represents, isAssociated, isRepresented, allRepresented, everything, keep}
+use Rattle.order.specs.ClassA.{classKinds, objectKinds, representsSome, rankA, orderedBy, listedOf, unitsOf, inStep, InOrderA}
+use Rattle.order.specs.Ranks.{rankIn}
+use Rattle.order.specs.ClassB.{rankB, Group, laid, Together, InOrderB}
 use Rattle.making.specs.Entries.{Said, unitName}
 use Rattle.made.specs.Reads.{profileElement, blockElement, unitElement, entryElements, elementsOf}
 
--- the unit of a block answers its portion
-unit-answers : (x : Said) → answers (blockElement x) (x .portion) (unitElement x) ≡ true
-unfolding answers joins
-unit-answers x = same-refl (unitName x)
+-- the unit of a block represents its portion
+unit-represents : (x : Said) → represents (blockElement x) (x .portion) (unitElement x) ≡ true
+unfolding represents joins
+unit-represents x = same-refl (unitName x)
 
-block-owns : (x : Said) → owns (blockElement x) (unitElement x) ≡ true
-unfolding owns
-block-owns x = rw (unit-answers x)
+block-associated : (x : Said) → isAssociated (blockElement x) (unitElement x) ≡ true
+unfolding isAssociated
+block-associated x = rw (unit-represents x)
 
-block-answered : (x : Said) → allAnswered (unitElement x ∷ []) (blockElement x) ≡ true
-unfolding allAnswered isAnswered
-block-answered x = rw (unit-answers x)
+block-represented : (x : Said) → allRepresented (unitElement x ∷ []) (blockElement x) ≡ true
+unfolding allRepresented isRepresented
+block-represented x = rw (unit-represents x)
 
 -- the kinds of blocks and units
 pub data Either (e : Element) : Type 0 where
@@ -76,19 +77,19 @@ group-of (x ∷ said) g m = either (List·Memᴰ·cases-cons m) (group-of said g
     either (inr n) below = below n
 
 together-profile : Together profileGroup
-unfolding rankIn allAnswered
+unfolding rankIn allRepresented
 together-profile = record { tabled = omega arith; own = λ u m. absurd (List·Memᴰ·not-nil m); whole = refl }
 
-only-unit : (x : Said) (u : Element) → u ∈ unitElement x ∷ [] → owns (blockElement x) u ≡ true
+only-unit : (x : Said) (u : Element) → u ∈ unitElement x ∷ [] → isAssociated (blockElement x) u ≡ true
 only-unit x u m = either (List·Memᴰ·cases-cons m)
   where
-    either : (u ≡ unitElement x) ⊎ (u ∈ []) → owns (blockElement x) u ≡ true
-    either (inl p) = rw p (block-owns x)
+    either : (u ≡ unitElement x) ⊎ (u ∈ []) → isAssociated (blockElement x) u ≡ true
+    either (inl p) = rw p (block-associated x)
     either (inr n) = absurd (List·Memᴰ·not-nil n)
 
 together-group : (x : Said) → Together (groupOf x)
 unfolding rankIn
-together-group x = record { tabled = omega arith; own = only-unit x; whole = block-answered x }
+together-group x = record { tabled = omega arith; own = only-unit x; whole = block-represented x }
 
 ascending-groups : (said : List Said) → Ascending (λ (g : Group). rankB (g .head)) (map groupOf said)
 unfolding rankIn
@@ -110,19 +111,19 @@ made-class-b said = record {
     each g (inl p) = rw p together-profile
     each g (inr n) = let (x, p) = group-of said g n in rw p (together-group x)
 
--- In class A: no element that is made is a class, and the unit of a block answers an object.
-no-class : (said : List Said) (u : Element) → any (map (λ (e : Element). isIn (e .kind) classKinds && owns e u) (entryElements said)) ≡ false
+-- In class A: no element that is made is a class, and the unit of a block represents a portion of an object.
+no-class : (said : List Said) (u : Element) → any (map (λ (e : Element). isIn (e .kind) classKinds && isAssociated e u) (entryElements said)) ≡ false
 unfolding entryElements
 no-class [] u = refl
 no-class (x ∷ said) u = no-class said u
 
-unit-generic : (said : List Said) (u : Element) → answersSome classKinds (elementsOf said) u ≡ false
-unfolding answersSome
+unit-generic : (said : List Said) (u : Element) → representsSome classKinds (elementsOf said) u ≡ false
+unfolding representsSome
 unit-generic said u = no-class said u
 
-unit-specific : (x : Said) (more : List Said) → answersSome objectKinds (elementsOf (x ∷ more)) (unitElement x) ≡ true
-unfolding answersSome entryElements
-unit-specific x more = rw (block-owns x)
+unit-specific : (x : Said) (more : List Said) → representsSome objectKinds (elementsOf (x ∷ more)) (unitElement x) ≡ true
+unfolding representsSome entryElements
+unit-specific x more = rw (block-associated x)
 
 -- the first unit comes after all objects
 unit-rank : (x : Said) (more : List Said) → rankA (elementsOf (x ∷ more)) (unitElement x) ≡ 8
@@ -148,22 +149,22 @@ made-class-a-not x y more o =
 
 -- With no entry it is,
 pub made-class-a-none : InOrderA (elementsOf [])
-unfolding entryElements rankA rankIn listedOf everything keep orderedBy inStep allAnswered answersSome
+unfolding entryElements rankA rankIn listedOf everything keep orderedBy inStep allRepresented representsSome
 made-class-a-none = record {
   profile = profile-first [];
   tabled = λ e m. single e (List·Memᴰ·cases-cons m);
   ascending = (λ y m. absurd (List·Memᴰ·not-nil m), tt);
   in-step = refl;
-  whole = λ e m. answered e (List·Memᴰ·cases-cons m);
+  whole = λ e m. represented e (List·Memᴰ·cases-cons m);
 }
   where
     single : (e : Element) → (e ≡ profileElement) ⊎ (e ∈ []) → rankA (elementsOf []) e < 13
     single e (inl p) = rw p (omega arith)
     single e (inr n) = absurd (List·Memᴰ·not-nil n)
 
-    answered : (e : Element) → (e ≡ profileElement) ⊎ (e ∈ []) → allAnswered (elementsOf []) e ≡ true
-    answered e (inl p) = rw p
-    answered e (inr n) = absurd (List·Memᴰ·not-nil n)
+    represented : (e : Element) → (e ≡ profileElement) ⊎ (e ∈ []) → allRepresented (elementsOf []) e ≡ true
+    represented e (inl p) = rw p
+    represented e (inr n) = absurd (List·Memᴰ·not-nil n)
 
 -- and with one.
 pub data OneOf (x : Said) (e : Element) : Type 0 where
@@ -196,14 +197,14 @@ module _ (x : Said) where
   rank-of e (is-block p) = let q = block-rank three x in rw p (omega arith)
   rank-of e (is-unit p) = let q = unit-rank x [] in rw p (omega arith)
 
-  answered : (e : Element) → OneOf x e → allAnswered three e ≡ true
-  unfolding allAnswered isAnswered answers joins entryElements
-  answered e (is-profile p) = rw p
-  answered e (is-block p) = rw (p, same-refl (unitName x))
-  answered e (is-unit p) = rw p
+  represented : (e : Element) → OneOf x e → allRepresented three e ≡ true
+  unfolding allRepresented isRepresented represents joins entryElements
+  represented e (is-profile p) = rw p
+  represented e (is-block p) = rw (p, same-refl (unitName x))
+  represented e (is-unit p) = rw p
 
   in-step : inStep (listedOf (orderedBy three) three) (unitsOf (orderedBy three) three) ≡ true
-  unfolding entryElements listedOf everything keep orderedBy inStep answersSome owns answers joins
+  unfolding entryElements listedOf everything keep orderedBy inStep representsSome isAssociated represents joins
   in-step = rw (same-refl (unitName x)) (rw (same-refl (unitName x)))
 
   pub made-class-a-one : InOrderA three
@@ -220,7 +221,7 @@ module _ (x : Said) where
           (λ e m. after-block e (List·Memᴰ·cases-cons m), (λ e m. absurd (List·Memᴰ·not-nil m), tt)),
         );
         in-step = in-step;
-        whole = λ e m. answered e (one-of x e m);
+        whole = λ e m. represented e (one-of x e m);
       }
     where
       after-block : (e : Element) → (e ≡ unitElement x) ⊎ (e ∈ []) → rankA three (blockElement x) ≤ rankA three e

@@ -8,7 +8,7 @@ use lib.Dec.{eqb, leb}
 use lib.ListN.{length, getD}
 use borrow.Author.Tests.{le-leb, lt-leb, leb-true, eq-eqb, ne-eqb}
 use Rattle.headers.specs.Head.{isIn, bigEndian}
-use Rattle.measures.specs.Integers.{nineBits, shortest, isInteger, isNegative, sizeOf, noInteger, integerOf}
+use Rattle.measures.specs.Integers.{nineBits, shortest, isInteger, isNegative, distanceOf, noInteger, integerOf}
 
 pub no-octets : (v : List ℕ) → length v ≡ 0 → isInteger v ≡ false
 unfolding isInteger shortest
@@ -74,14 +74,14 @@ unfolding integerOf
 no-integer v e = rw e
 
 module _ (v : List ℕ) (e : isInteger v ≡ true) (n : ℕ) (b : n ≡ bigEndian v) where
-  pub not-under : getD v 0 0 < 128 → record { valid = true; negative = false; size = n } ≡ integerOf v
-  unfolding integerOf sizeOf
+  pub not-under : getD v 0 0 < 128 → record { valid = true; negative = false; distance = n } ≡ integerOf v
+  unfolding integerOf distanceOf
   not-under l =
       let f : isNegative v ≡ false = first-negative v (octets-bounded v e .0) ∙ lt-leb 128 (getD v 0 0) l in
       rw (e, f, b)
 
-  pub under-zero : 128 ≤ getD v 0 0 → (p : ℕ) → p ≡ 256 ^ length v → record { valid = true; negative = true; size = p - n } ≡ integerOf v
-  unfolding integerOf sizeOf
+  pub under-zero : 128 ≤ getD v 0 0 → (p : ℕ) → p ≡ 256 ^ length v → record { valid = true; negative = true; distance = p - n } ≡ integerOf v
+  unfolding integerOf distanceOf
   under-zero l p q =
       let f : isNegative v ≡ true = first-negative v (octets-bounded v e .0) ∙ le-leb 128 (getD v 0 0) l in
       rw (e, f, b, q)

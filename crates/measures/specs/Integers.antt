@@ -28,13 +28,13 @@ isNegative [] = false
 isNegative (x ∷ others) = leb 0x80 x
 
 -- how far from 0: "two's complement", so the first bit counts against
-unfoldable pub sizeOf : List ℕ → ℕ
-sizeOf octets = cond (isNegative octets) (256 ^ length octets - bigEndian octets) (bigEndian octets)
+unfoldable pub distanceOf : List ℕ → ℕ
+distanceOf octets = cond (isNegative octets) (256 ^ length octets - bigEndian octets) (bigEndian octets)
 
 -- what is no such integer
 abbrev pub noInteger : Integer
-noInteger = record { valid = false; negative = false; size = 0 }
+noInteger = record { valid = false; negative = false; distance = 0 }
 
 -- the integer that octets are, if they are one
 unfoldable pub integerOf : List ℕ → Integer
-integerOf octets = cond (isInteger octets) (record { valid = true; negative = isNegative octets; size = sizeOf octets }) noInteger
+integerOf octets = cond (isInteger octets) (record { valid = true; negative = isNegative octets; distance = distanceOf octets }) noInteger

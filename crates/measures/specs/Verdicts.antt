@@ -39,18 +39,18 @@ abbrev pub nonEssentialPairs : List Pair
 nonEssentialPairs = pair 9920 14030 ∷ pair 10200 13200 ∷ pair 14030 19840 ∷ []
 
 -- neither number is over its bound
-abbrev pub under : (horizontal vertical x y : ℕ) → Bool
-under horizontal vertical x y = leb horizontal x && leb vertical y
+abbrev pub notOver : (horizontal vertical x y : ℕ) → Bool
+notOver horizontal vertical x y = leb horizontal x && leb vertical y
 
 -- within a pair of a table, as it stands or turned
 unfoldable pub within : (horizontal vertical : ℕ) → List Pair → Bool
 within horizontal vertical [] = false
 within horizontal vertical (p ∷ others) =
-    under horizontal vertical (p .wide) (p .high) || under horizontal vertical (p .high) (p .wide) || within horizontal vertical others
+    notOver horizontal vertical (p .wide) (p .high) || notOver horizontal vertical (p .high) (p .wide) || within horizontal vertical others
 
 -- "under 1"
 abbrev pub underOne : Integer → Bool
-underOne n = n .negative || eqb (n .size) 0
+underOne n = n .negative || eqb (n .distance) 0
 
 -- "essential if within ..; otherwise non-essential if within ..; otherwise outside"
 unfoldable pub verdictOfSizes : (horizontal vertical : ℕ) → ℕ
@@ -61,4 +61,4 @@ unfoldable pub verdictOfTwo : (horizontal vertical : Integer) → ℕ
 verdictOfTwo h v =
     cond (not (h .valid && v .valid)) notFixed
     (cond (underOne h || underOne v) outside
-    (verdictOfSizes (h .size) (v .size)))
+    (verdictOfSizes (h .distance) (v .distance)))

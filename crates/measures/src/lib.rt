@@ -5,7 +5,7 @@ ghost use Prim.Native.Nat.{_<_, _≤_, _^_};
 ghost use lib.ListN.{length};
 ghost use Rattle.headers.specs.Head.{bigEndian};
 ghost use Rattle.measures.specs.Integers.{isInteger, integerOf};
-ghost use Rattle.measures.specs.Verdicts.{pair, under, within, essentialPairs, nonEssentialPairs, verdictOfSizes, underOne, verdictOfTwo};
+ghost use Rattle.measures.specs.Verdicts.{pair, notOver, within, essentialPairs, nonEssentialPairs, verdictOfSizes, underOne, verdictOfTwo};
 
 // The numbers of the verdicts.
 pub const NONE: usize = 0;
@@ -22,7 +22,7 @@ pub const NOT_FIXED: usize = 4;
 pub struct Integer {
     pub valid: bool,
     pub negative: bool,
-    pub size: usize,
+    pub distance: usize,
 }
 
 fn wide(x: u8) -> usize
@@ -87,7 +87,7 @@ pub fn integer_of(v: &[u8]) -> Integer
         return Integer {
             valid: false,
             negative: false,
-            size: 0,
+            distance: 0,
         };
     }
     let n = big_endian(v);
@@ -95,19 +95,19 @@ pub fn integer_of(v: &[u8]) -> Integer
         return Integer {
             valid: true,
             negative: false,
-            size: n,
+            distance: n,
         };
     }
     Integer {
         valid: true,
         negative: true,
-        size: power(v.len()) - n,
+        distance: power(v.len()) - n,
     }
 }
 
 // Whether neither number is over its bound.
-fn is_under(h: usize, v: usize, x: usize, y: usize) -> bool
-    ensures { λ r. ⌜ r ≡ under h v x y ⌝ }
+fn is_not_over(h: usize, v: usize, x: usize, y: usize) -> bool
+    ensures { λ r. ⌜ r ≡ notOver h v x y ⌝ }
 {
     if x < h {
         return false;
@@ -119,10 +119,10 @@ fn is_under(h: usize, v: usize, x: usize, y: usize) -> bool
 fn fits(h: usize, v: usize, x: usize, y: usize) -> bool
     ensures { λ r. ⌜ r ≡ within h v (pair x y ∷ []) ⌝ }
 {
-    if is_under(h, v, x, y) {
+    if is_not_over(h, v, x, y) {
         return true;
     }
-    is_under(h, v, y, x)
+    is_not_over(h, v, y, x)
 }
 
 fn is_essential(h: usize, v: usize) -> bool
@@ -164,7 +164,7 @@ fn is_under_one(n: Integer) -> bool
     if n.negative {
         return true;
     }
-    n.size == 0
+    n.distance == 0
 }
 
 // The verdict on two values.
@@ -183,5 +183,5 @@ pub fn verdict_of_two(h: Integer, v: Integer) -> usize
     if is_under_one(v) {
         return OUTSIDE;
     }
-    verdict_of_sizes(h.size, v.size)
+    verdict_of_sizes(h.distance, v.distance)
 }

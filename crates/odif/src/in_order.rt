@@ -2,14 +2,13 @@
 use answers::Question;
 use elements::Edition;
 use order::Class;
-pub use orders::Ordered;
-ghost use mathlib.Core.Path.{_≡_};
-ghost use Rattle.orders.specs.Orders.{ordered};
+pub use order::Ordered;
+ghost use Rattle.order.specs.Question.{OrderIs};
 
 // Whether a stream is in the order of a class: 0, or one of 1 to 15, or 26 where its elements leave the order. A partner's gateway asks this; what
 // the check accepts stays as it is.
 pub fn order(edition: Edition, stream: &[u8], class: Class) -> Ordered
-    ensures { λ r. ⌜ r ≡ ordered edition class (now (stream .entry)) ⌝ }
+    ensures { λ r. ⌜ OrderIs edition class (now (stream .entry)) r ⌝ }
 {
     let mut rows = [0u32; 0];
     let mut numbers = [0u32; 0];
@@ -30,28 +29,28 @@ pub fn order(edition: Edition, stream: &[u8], class: Class) -> Ordered
 
 #[no_mangle]
 pub extern "C" fn odif_order_a(stream: &[u8]) -> Ordered
-    ensures { λ r. ⌜ r ≡ ordered Edition.Of1988 Class.A (now (stream .entry)) ⌝ }
+    ensures { λ r. ⌜ OrderIs Edition.Of1988 Class.A (now (stream .entry)) r ⌝ }
 {
     order(Edition::Of1988, stream, Class::A)
 }
 
 #[no_mangle]
 pub extern "C" fn odif_order_b(stream: &[u8]) -> Ordered
-    ensures { λ r. ⌜ r ≡ ordered Edition.Of1988 Class.B (now (stream .entry)) ⌝ }
+    ensures { λ r. ⌜ OrderIs Edition.Of1988 Class.B (now (stream .entry)) r ⌝ }
 {
     order(Edition::Of1988, stream, Class::B)
 }
 
 #[no_mangle]
 pub extern "C" fn odif_order_a_1993(stream: &[u8]) -> Ordered
-    ensures { λ r. ⌜ r ≡ ordered Edition.Of1993 Class.A (now (stream .entry)) ⌝ }
+    ensures { λ r. ⌜ OrderIs Edition.Of1993 Class.A (now (stream .entry)) r ⌝ }
 {
     order(Edition::Of1993, stream, Class::A)
 }
 
 #[no_mangle]
 pub extern "C" fn odif_order_b_1993(stream: &[u8]) -> Ordered
-    ensures { λ r. ⌜ r ≡ ordered Edition.Of1993 Class.B (now (stream .entry)) ⌝ }
+    ensures { λ r. ⌜ OrderIs Edition.Of1993 Class.B (now (stream .entry)) r ⌝ }
 {
     order(Edition::Of1993, stream, Class::B)
 }

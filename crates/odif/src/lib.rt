@@ -13,7 +13,7 @@ pub use answers::Written;
 pub use elements::Edition;
 use normal::Answer;
 pub use order::Class;
-pub use orders::Ordered;
+pub use order::Ordered;
 pub use reading::Match;
 pub use reading::Side;
 ghost use mathlib.Core.Path.{_≡_};

@@ -20,7 +20,7 @@ use Rattle.elements.specs.declared.Edition.the-variants.{Of1988, Of1993}
 use Rattle.elements.specs.Shape.{Shape, Shapes, shapesOf, shapeIn, shapeOf}
 use Rattle.elements.specs.Judge.{Element, bodyOf, portionsOctet, runAt, elementOf, spelt, namesFit, clash, Judged, accepted, refused, refusalOf, judgeOne, judgeFrom, judge}
 use Rattle.letters.proofs.Apart.{accepted-apart}
-use Rattle.order.specs.Answers.{_∈_, speltAside, listing, FitAside, NoClash, LimitsAside}
+use Rattle.order.specs.Represents.{_∈_, speltAside, listing, FitAside, NoClash, LimitsAside}
 use Rattle.order.proofs.Tests.{both, either, member-at}
 
 abbrev isNone : Option ℕ → Bool

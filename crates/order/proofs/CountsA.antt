@@ -1,4 +1,4 @@
--- Class A: how many portions of classes, or of objects, a unit answers is told by whether it answers one of each kind, for it answers at most
+-- Class A: how many portions of classes, or of objects, a unit represents is told by whether it represents one of each kind, for it represents at most
 -- one on a side. With `some-match` (AsMatches) that is told by the records of the unit. And the number of the portion by which it is ordered is
 -- how many are listed before it, and one. Assumes nothing.
 use mathlib.Core.Path.{_≡_, refl, ap, sym, _∙_, subst}
@@ -12,9 +12,9 @@ use borrow.Author.Tests.{eqb-true, eq-eqb, ltb-true, ltb-false}
 use borrow.Table.Steps.{cases}
 use Rattle.headers.specs.Head.{isIn}
 use Rattle.elements.specs.Judge.{Element}
-use Rattle.order.specs.Answers.{_∈_, sideOf, answers, LimitsAside, Listed, listedBy, everything, keep}
-use Rattle.order.specs.ClassA.{classKinds, objectKinds, answersSome, listedOf}
-use Rattle.order.specs.PassA.{listedIn, answersOf, slotIn, countIf}
+use Rattle.order.specs.Represents.{_∈_, sideOf, represents, LimitsAside, Listed, listedBy, everything, keep}
+use Rattle.order.specs.ClassA.{classKinds, objectKinds, representsSome, listedOf}
+use Rattle.order.specs.PassA.{listedIn, representsOf, slotIn, countIf}
 use Rattle.order.proofs.Lacking.{keep-in, Apart, AllApart, apart-keep, apart-everything}
 use Rattle.order.proofs.Keeping.{keep-append, keep-none, keep-all, everything-append}
 use Rattle.order.proofs.FrontA.{of-kind}
@@ -38,14 +38,14 @@ at-most-one test (l ∷ ls) differ a =
     not-both k m t = cases (test k) (λ u. absurd (differ l k (List·Memᴰ·head refl) (tail m) (a .0 k m) t u)) (λ u. u)
 
 module _ (front : List Element) (aside : LimitsAside front) (x : Element) where
-  abbrev answered : Listed → Bool
-  answered l = answers (l .by) (l .portion) x
+  abbrev represented : Listed → Bool
+  represented l = represents (l .by) (l .portion) x
 
   -- elements of one kind are of one side
-  one-of-kind : (kind : ℕ) → answersOf (listedIn (kind ∷ []) front) x ≤ 1
-  unfolding answersOf listedIn
+  one-of-kind : (kind : ℕ) → representsOf (listedIn (kind ∷ []) front) x ≤ 1
+  unfolding representsOf listedIn
   one-of-kind kind =
-      at-most-one answered (listedIn (kind ∷ []) front)
+      at-most-one represented (listedIn (kind ∷ []) front)
       (λ l k m n a t u. apart-unit l k x a (kind-side (l .by) (k .by) (kind-told l m ∙ sym (kind-told k n))) t u)
       apart
     where
@@ -55,16 +55,16 @@ module _ (front : List Element) (aside : LimitsAside front) (x : Element) where
       apart : AllApart (listedIn (kind ∷ []) front)
       apart = apart-keep (λ (l : Listed). isIn (l .by .kind) (kind ∷ [])) (everything front) (apart-everything front aside)
 
-  count-of-kind : (kind : ℕ) → answersOf (listedIn (kind ∷ []) front) x ≡ countIf (answersSome (kind ∷ []) front x) 1
+  count-of-kind : (kind : ℕ) → representsOf (listedIn (kind ∷ []) front) x ≡ countIf (representsSome (kind ∷ []) front x) 1
   count-of-kind kind =
       let few = one-of-kind kind in
-      cases (answersSome (kind ∷ []) front x)
-      (λ t. let l = ltb-true 0 (answersOf (listedIn (kind ∷ []) front) x) (sym (some-count (kind ∷ []) front x) ∙ t) in rw t (omega arith))
-      (λ t. let l = ltb-false 0 (answersOf (listedIn (kind ∷ []) front) x) (sym (some-count (kind ∷ []) front x) ∙ t) in rw t (omega arith))
+      cases (representsSome (kind ∷ []) front x)
+      (λ t. let l = ltb-true 0 (representsOf (listedIn (kind ∷ []) front) x) (sym (some-count (kind ∷ []) front x) ∙ t) in rw t (omega arith))
+      (λ t. let l = ltb-false 0 (representsOf (listedIn (kind ∷ []) front) x) (sym (some-count (kind ∷ []) front x) ∙ t) in rw t (omega arith))
 
   both-kinds : (a b : ℕ) → (a ≡ b → ⊥) → (ls : List Listed)
-      → length (keep answered (keep (λ (l : Listed). isIn (l .by .kind) (a ∷ b ∷ [])) ls))
-      ≡ length (keep answered (keep (λ (l : Listed). isIn (l .by .kind) (a ∷ [])) ls)) + length (keep answered (keep (λ (l : Listed). isIn (l .by .kind) (b ∷ [])) ls))
+      → length (keep represented (keep (λ (l : Listed). isIn (l .by .kind) (a ∷ b ∷ [])) ls))
+      ≡ length (keep represented (keep (λ (l : Listed). isIn (l .by .kind) (a ∷ [])) ls)) + length (keep represented (keep (λ (l : Listed). isIn (l .by .kind) (b ∷ [])) ls))
   unfolding keep
   both-kinds a b differ [] = refl
   both-kinds a b differ (l ∷ ls) =
@@ -72,41 +72,41 @@ module _ (front : List Element) (aside : LimitsAside front) (x : Element) where
       cases (eqb (l .by .kind) a)
       (λ p. cases (eqb (l .by .kind) b)
       (λ q. absurd (differ (sym (eqb-true (l .by .kind) a p) ∙ eqb-true (l .by .kind) b q)))
-      (λ q. cases (answered l) (λ t. rw (p, q, t) (omega arith)) (λ t. rw (p, q, t) more)))
+      (λ q. cases (represented l) (λ t. rw (p, q, t) (omega arith)) (λ t. rw (p, q, t) more)))
       (λ p. cases (eqb (l .by .kind) b)
-      (λ q. cases (answered l) (λ t. rw (p, q, t) (omega arith)) (λ t. rw (p, q, t) more))
+      (λ q. cases (represented l) (λ t. rw (p, q, t) (omega arith)) (λ t. rw (p, q, t) more))
       (λ q. rw (p, q) more))
 
   of-two : (a b : ℕ) → (a ≡ b → ⊥)
-      → answersOf (listedIn (a ∷ b ∷ []) front) x ≡ countIf (answersSome (a ∷ []) front x) 1 + countIf (answersSome (b ∷ []) front x) 1
-  unfolding answersOf listedIn
+      → representsOf (listedIn (a ∷ b ∷ []) front) x ≡ countIf (representsSome (a ∷ []) front x) 1 + countIf (representsSome (b ∷ []) front x) 1
+  unfolding representsOf listedIn
   of-two a b differ = parts ∙ sum (count-of-kind a) (count-of-kind b)
     where
-      parts : answersOf (listedIn (a ∷ b ∷ []) front) x ≡ answersOf (listedIn (a ∷ []) front) x + answersOf (listedIn (b ∷ []) front) x
+      parts : representsOf (listedIn (a ∷ b ∷ []) front) x ≡ representsOf (listedIn (a ∷ []) front) x + representsOf (listedIn (b ∷ []) front) x
       parts = both-kinds a b differ (everything front)
 
       sum : {i j k m : ℕ} → i ≡ j → k ≡ m → i + k ≡ j + m
       sum p q = rw (p, q)
 
   -- what is counted of classes, and of objects
-  pub generic-count : answersOf (listedIn classKinds front) x ≡ countIf (answersSome (1 ∷ []) front x) 1 + countIf (answersSome (5 ∷ []) front x) 1
+  pub generic-count : representsOf (listedIn classKinds front) x ≡ countIf (representsSome (1 ∷ []) front x) 1 + countIf (representsSome (5 ∷ []) front x) 1
   generic-count = of-two 1 5 (λ e. omega arith)
 
-  pub specific-count : answersOf (listedIn objectKinds front) x ≡ countIf (answersSome (2 ∷ []) front x) 1 + countIf (answersSome (6 ∷ []) front x) 1
+  pub specific-count : representsOf (listedIn objectKinds front) x ≡ countIf (representsSome (2 ∷ []) front x) 1 + countIf (representsSome (6 ∷ []) front x) 1
   specific-count = of-two 2 6 (λ e. omega arith)
 
 abbrev listed : Element → List ℕ → Listed
 listed e p = record { by = e; portion = p }
 
--- the number of the one portion that a unit answers, among portions of one side
+-- the number of the one portion that a unit represents, among portions of one side
 slot-at : (n : ℕ) (ls ks : List Listed) (l : Listed) (x : Element) → AllApart (ls ++ l ∷ ks) → ((k : Listed) → k ∈ ls → sideOf (k .by) ≡ sideOf (l .by))
-    → answers (l .by) (l .portion) x ≡ true → slotIn n (ls ++ l ∷ ks) x ≡ suc (n + length ls)
+    → represents (l .by) (l .portion) x ≡ true → slotIn n (ls ++ l ∷ ks) x ≡ suc (n + length ls)
 unfolding slotIn
 slot-at n [] ks l x a side t = let z : suc n ≡ suc (n + 0) = omega arith in rw t z
 slot-at n (k ∷ ls) ks l x a side t =
     let more = slot-at (suc n) ls ks l x (a .1) (λ j m. side j (List·Memᴰ·tail m)) t in
     let z : suc (suc n + length ls) ≡ suc (n + suc (length ls)) = omega arith in
-    cases (answers (k .by) (k .portion) x)
+    cases (represents (k .by) (k .portion) x)
     (λ u. absurd (apart-unit k l x (a .0 l (Memᴰ·append-right ls (List·Memᴰ·head refl))) (side k (List·Memᴰ·head refl)) u t))
     (λ u. rw u (more ∙ z))
 
@@ -136,7 +136,7 @@ module _ (pre : List Element) (e : Element) (post : List Element) (ps : List (Li
       ∙ sym (append-assoc (keep ofKind (everything pre)) (listedBy e ps) (listed e p ∷ (listedBy e qs ++ keep ofKind (everything post))))
 
   -- the number that the pass looks at: the portions that elements of the kind list before, the place of the portion, and one
-  pub slot-is : LimitsAside (pre ++ e ∷ post) → (x : Element) → answers e p x ≡ true
+  pub slot-is : LimitsAside (pre ++ e ∷ post) → (x : Element) → represents e p x ≡ true
       → slotIn 0 (listedOf (e .kind) (pre ++ e ∷ post)) x ≡ suc (length (listedOf (e .kind) pre) + length ps)
   unfolding listedOf
   slot-is aside x t =

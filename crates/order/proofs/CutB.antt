@@ -13,18 +13,20 @@ use Rattle.headers.specs.Head.{isIn}
 use Rattle.elements.specs.Judge.{Element}
 use Rattle.reading.specs.declared.Side.the-variants.{Layout, Logical}
 use Rattle.reading.specs.Match.{unitKind, kindsOf}
-use Rattle.order.specs.Answers.{_∈_, Ascending, isUnit, named, sideOf, answers, owns, allAnswered, profileKind, FitAside}
-use Rattle.order.specs.ClassB.{rankIn, endB, rankB, Group, laid, Together, InOrderB}
-use Rattle.order.specs.Begins.{classB, Begins}
+use Rattle.order.specs.Represents.{_∈_, Ascending, isUnit, named, sideOf, represents, isAssociated, allRepresented, profileKind, FitAside}
+use Rattle.order.specs.Ranks.{rankIn}
+use Rattle.order.specs.ClassB.{endB, rankB, Group, laid, Together, InOrderB}
+use Rattle.order.specs.declared.Class.the-variants.{B}
+use Rattle.order.specs.Begins.{Begins}
 use Rattle.order.specs.ClausesB.{nextB, scanB, mayGoOn, beginsB}
 use Rattle.order.proofs.Tests.{both}
-use Rattle.order.proofs.Answering.{answers-told, owns-unit, owns-named}
+use Rattle.order.proofs.Representing.{represents-told, associated-unit, associated-named}
 use Rattle.order.proofs.Lacking.{lister-kind}
 
 abbrev pub headRank : Group → ℕ
 headRank g = rankB (g .head)
 
--- what has a place is no unit, and owns units on the layout side alone
+-- what has a place is no unit, and isAssociated units on the layout side alone
 tabled-head : (e : Element) → rankB e < endB → isUnit e ≡ false
 unfolding rankIn
 tabled-head e t =
@@ -36,11 +38,11 @@ tabled-head e t =
 pub not-unit : (e : Element) → rankB e < endB → e .kind ≡ unitKind → ⊥
 not-unit e t k = true≢false (sym (eq-eqb (e .kind) unitKind k) ∙ tabled-head e t)
 
-pub tabled-side : (e : Element) (p : List ℕ) (u : Element) → rankB e < endB → answers e p u ≡ true → sideOf e ≡ Layout
+pub tabled-side : (e : Element) (p : List ℕ) (u : Element) → rankB e < endB → represents e p u ≡ true → sideOf e ≡ Layout
 unfolding rankIn
 tabled-side e p u t a =
     cases (isIn (e .kind) (kindsOf Layout)) (λ s. rw s)
-    (λ s. let on : isIn (e .kind) (kindsOf Logical) ≡ true = rw s at (answers-told e p u a .on-side) in absurd (no-logical on))
+    (λ s. let on : isIn (e .kind) (kindsOf Logical) ≡ true = rw s at (represents-told e p u a .on-side) in absurd (no-logical on))
   where
     no-logical : isIn (e .kind) (kindsOf Logical) ≡ true → ⊥
     no-logical on =
@@ -56,13 +58,13 @@ pub unit-lists-none : (e : Element) → FitAside e → e .kind ≡ unitKind → 
 unit-lists-none e f k p m = false≢true (rw k at (lister-kind e f p m))
 
 -- units of its own do not stop the pass
-scan-units : (done : List Element → Element → Bool) (h : Element) (us vs rest : List Element) → ((u : Element) → u ∈ vs → owns h u ≡ true)
+scan-units : (done : List Element → Element → Bool) (h : Element) (us vs rest : List Element) → ((u : Element) → u ∈ vs → isAssociated h u ≡ true)
     → scanB done h us (vs ++ rest) ≡ scanB done h (us ++ vs) rest
 unfolding scanB
 scan-units done h us [] rest o = rw (append-nil us)
 scan-units done h us (v ∷ vs) rest o =
-    let own : owns h v ≡ true = o v (List·Memᴰ·head refl) in
-    let unit : isUnit v ≡ true = eq-eqb (v .kind) unitKind (owns-unit h v own) in
+    let own : isAssociated h v ≡ true = o v (List·Memᴰ·head refl) in
+    let unit : isUnit v ≡ true = eq-eqb (v .kind) unitKind (associated-unit h v own) in
     rw (unit, own) (scan-units done h (us ++ v ∷ []) vs rest (λ u m. o u (List·Memᴰ·tail m)) ∙ rw (append-assoc us (v ∷ []) vs))
 
 next-of : (h x : Element) → (x .kind ≡ profileKind → ⊥) → rankB x < endB → rankB h ≤ rankB x → nextB h x ≡ true
@@ -87,13 +89,13 @@ next-told h x t =
 
 -- groups in order pass
 groups-scan : (g : Group) (gs : List Group) → Together g → ((k : Group) → k ∈ gs → Together k) → Ascending headRank (g ∷ gs)
-    → ((k : Group) → k ∈ gs → k .head .kind ≡ profileKind → ⊥) → scanB allAnswered (g .head) (g .units) (laid gs) ≡ true
+    → ((k : Group) → k ∈ gs → k .head .kind ≡ profileKind → ⊥) → scanB allRepresented (g .head) (g .units) (laid gs) ≡ true
 unfolding scanB
 groups-scan g [] t ts a n = t .whole
 groups-scan g (k ∷ ks) t ts a n =
     let tk = ts k (List·Memᴰ·head refl) in
     rw (tabled-head (k .head) (tk .tabled), t .whole, next-of (g .head) (k .head) (n k (List·Memᴰ·head refl)) (tk .tabled) (a .0 k (List·Memᴰ·head refl)))
-    (scan-units allAnswered (k .head) [] (k .units) (laid ks) (tk .own)
+    (scan-units allRepresented (k .head) [] (k .units) (laid ks) (tk .own)
     ∙ groups-scan k ks tk (λ j m. ts j (List·Memᴰ·tail m)) (a .1) (λ j m. n j (List·Memᴰ·tail m)))
 
 pub laid-head : (gs : List Group) (g : Group) → g ∈ gs → g .head ∈ laid gs
@@ -104,48 +106,48 @@ laid-head (k ∷ gs) g m = step (laid-head gs g) (List·Memᴰ·cases-cons m)
     step below (inl e) = List·Memᴰ·head (ap (λ (j : Group). j .head) e)
     step below (inr n) = List·Memᴰ·tail (Memᴰ·append-right (k .units) (below n))
 
-pub scan-whole : (x : Element) (xs : List Element) → InOrderB (x ∷ xs) → scanB allAnswered x [] xs ≡ true
+pub scan-whole : (x : Element) (xs : List Element) → InOrderB (x ∷ xs) → scanB allRepresented x [] xs ≡ true
 scan-whole x xs o = by-groups (o .groups) (o .laid-out) (o .together) (o .ascending)
   where
-    by-groups : (gs : List Group) → x ∷ xs ≡ laid gs → ((g : Group) → g ∈ gs → Together g) → Ascending headRank gs → scanB allAnswered x [] xs ≡ true
+    by-groups : (gs : List Group) → x ∷ xs ≡ laid gs → ((g : Group) → g ∈ gs → Together g) → Ascending headRank gs → scanB allRepresented x [] xs ≡ true
     by-groups [] e t a = let z : _≡_ {A = ℕ} 0 1 = cc in absurd (omega arith)
     by-groups (g ∷ gs) e t a =
         let p : x ≡ g .head = cc in
         let q : xs ≡ g .units ++ laid gs = cc in
         let tg = t g (List·Memᴰ·head refl) in
-        let s : scanB allAnswered (g .head) [] (g .units ++ laid gs) ≡ true =
-        scan-units allAnswered (g .head) [] (g .units) (laid gs) (tg .own)
+        let s : scanB allRepresented (g .head) [] (g .units ++ laid gs) ≡ true =
+        scan-units allRepresented (g .head) [] (g .units) (laid gs) (tg .own)
         ∙ groups-scan g gs tg (λ k m. t k (List·Memᴰ·tail m)) a
         (λ k m. o .profile .1 (k .head) (subst (λ (l : List Element). k .head ∈ l) (sym q) (Memᴰ·append-right (g .units) (laid-head gs k m)))) in
         rw (p, q) s
 
 -- and so does a front of what passes
-go-on : (us : List Element) (h : Element) → allAnswered us h ≡ true → mayGoOn us h ≡ true
+go-on : (us : List Element) (h : Element) → allRepresented us h ≡ true → mayGoOn us h ≡ true
 unfolding mayGoOn
 go-on us h t = rw t
 
 pub go-on-named : (us : List Element) (h : Element) → named h ≡ true → mayGoOn us h ≡ true
 unfolding mayGoOn
-go-on-named us h t = rw t (or-true (allAnswered us h))
+go-on-named us h t = rw t (or-true (allRepresented us h))
 
-scan-front : (h : Element) (us xs more : List Element) → scanB allAnswered h us (xs ++ more) ≡ true → scanB mayGoOn h us xs ≡ true
+scan-front : (h : Element) (us xs more : List Element) → scanB allRepresented h us (xs ++ more) ≡ true → scanB mayGoOn h us xs ≡ true
 unfolding scanB
 scan-front h us [] [] t = go-on us h t
 scan-front h us [] (m ∷ ms) t =
     cases (isUnit m)
-    (λ u. let s : owns h m && scanB allAnswered h (us ++ m ∷ []) ms ≡ true = rw u at t in go-on-named us h (owns-named h m (both (owns h m) _ s .0)))
-    (λ u. let s : allAnswered us h && (nextB h m && scanB allAnswered m [] ms) ≡ true = rw u at t in go-on us h (both (allAnswered us h) _ s .0))
+    (λ u. let s : isAssociated h m && scanB allRepresented h (us ++ m ∷ []) ms ≡ true = rw u at t in go-on-named us h (associated-named h m (both (isAssociated h m) _ s .0)))
+    (λ u. let s : allRepresented us h && (nextB h m && scanB allRepresented m [] ms) ≡ true = rw u at t in go-on us h (both (allRepresented us h) _ s .0))
 scan-front h us (x ∷ xs) more t =
     cases (isUnit x)
-    (λ u. let s : owns h x && scanB allAnswered h (us ++ x ∷ []) (xs ++ more) ≡ true = rw u at t in
-    let r = both (owns h x) (scanB allAnswered h (us ++ x ∷ []) (xs ++ more)) s in
+    (λ u. let s : isAssociated h x && scanB allRepresented h (us ++ x ∷ []) (xs ++ more) ≡ true = rw u at t in
+    let r = both (isAssociated h x) (scanB allRepresented h (us ++ x ∷ []) (xs ++ more)) s in
     rw (u, r .0) (scan-front h (us ++ x ∷ []) xs more (r .1)))
-    (λ u. let s : allAnswered us h && (nextB h x && scanB allAnswered x [] (xs ++ more)) ≡ true = rw u at t in
-    let r = both (allAnswered us h) (nextB h x && scanB allAnswered x [] (xs ++ more)) s in
-    let q = both (nextB h x) (scanB allAnswered x [] (xs ++ more)) (r .1) in
+    (λ u. let s : allRepresented us h && (nextB h x && scanB allRepresented x [] (xs ++ more)) ≡ true = rw u at t in
+    let r = both (allRepresented us h) (nextB h x && scanB allRepresented x [] (xs ++ more)) s in
+    let q = both (nextB h x) (scanB allRepresented x [] (xs ++ more)) (r .1) in
     rw (u, r .0, q .0) (scan-front x [] xs more (q .1)))
 
-pub begins-told : (front : List Element) → Begins classB front → beginsB front ≡ true
+pub begins-told : (front : List Element) → Begins B front → beginsB front ≡ true
 unfolding beginsB
 begins-told [] b = refl
 begins-told (x ∷ xs) b =
@@ -158,17 +160,17 @@ pub record Cut (done : List Element → Element → Bool) (h : Element) (us xs :
   pub same : h ∷ (us ++ xs) ≡ laid closed ++ (last .head ∷ last .units)
   pub together : (g : Group) → g ∈ closed → Together g
   pub tabled : rankB (last .head) < endB
-  pub own : (u : Element) → u ∈ last .units → owns (last .head) u ≡ true
+  pub own : (u : Element) → u ∈ last .units → isAssociated (last .head) u ≡ true
   pub ends : done (last .units) (last .head) ≡ true
   pub above : (g : Group) → g ∈ closed ++ last ∷ [] → rankB h ≤ rankB (g .head)
   pub ascending : Ascending headRank (closed ++ last ∷ [])
 
-pub one-more : (h x : Element) (us : List Element) → owns h x ≡ true → ((u : Element) → u ∈ us → owns h u ≡ true) → (u : Element) → u ∈ us ++ x ∷ [] → owns h u ≡ true
+pub one-more : (h x : Element) (us : List Element) → isAssociated h x ≡ true → ((u : Element) → u ∈ us → isAssociated h u ≡ true) → (u : Element) → u ∈ us ++ x ∷ [] → isAssociated h u ≡ true
 one-more h x us t o u m = step (List·Memᴰ·append-cases us m)
   where
-    step : (u ∈ us) ⊎ (u ∈ x ∷ []) → owns h u ≡ true
+    step : (u ∈ us) ⊎ (u ∈ x ∷ []) → isAssociated h u ≡ true
     step (inl n) = o u n
-    step (inr n) = ap (owns h) (List·Memᴰ·eq-of-singleton n) ∙ t
+    step (inr n) = ap (isAssociated h) (List·Memᴰ·eq-of-singleton n) ∙ t
 
 first-or : {P : Group → Type 0} (g : Group) (gs : List Group) → P g → ((k : Group) → k ∈ gs → P k) → (k : Group) → k ∈ g ∷ gs → P k
 first-or {P} g gs t ts k m = step (List·Memᴰ·cases-cons m)
@@ -207,7 +209,7 @@ module _ {done : List Element → Element → Bool} {h x : Element} {us xs : Lis
         ascending = (λ k m. let a = c .above k m in omega arith, c .ascending);
       }
 
-pub cut : (done : List Element → Element → Bool) (h : Element) (us xs : List Element) → rankB h < endB → ((u : Element) → u ∈ us → owns h u ≡ true)
+pub cut : (done : List Element → Element → Bool) (h : Element) (us xs : List Element) → rankB h < endB → ((u : Element) → u ∈ us → isAssociated h u ≡ true)
     → scanB done h us xs ≡ true → Cut done h us xs
 unfolding scanB
 cut done h us [] t o s =
@@ -224,9 +226,9 @@ cut done h us [] t o s =
     }
 cut done h us (x ∷ xs) t o s =
     cases (isUnit x)
-    (λ u. let r = both (owns h x) (scanB done h (us ++ x ∷ []) xs) (rw u at s) in
+    (λ u. let r = both (isAssociated h x) (scanB done h (us ++ x ∷ []) xs) (rw u at s) in
     cut-unit (cut done h (us ++ x ∷ []) xs t (one-more h x us (r .0) o) (r .1)))
-    (λ u. let r = both (allAnswered us h) (nextB h x && scanB done x [] xs) (rw u at s) in
+    (λ u. let r = both (allRepresented us h) (nextB h x && scanB done x [] xs) (rw u at s) in
     let q = both (nextB h x) (scanB done x [] xs) (r .1) in
     let n = next-told h x (q .0) in
     cut-head (record { tabled = t; own = o; whole = r .0 }) (n .above) (cut done x [] xs (n .tabled) (λ v m. absurd (List·Memᴰ·not-nil m)) (q .1)))
@@ -237,10 +239,10 @@ unfolding scanB
 scan-others done h us [] s y m k = List·Memᴰ·not-nil m
 scan-others done h us (x ∷ xs) s y m k =
     cases (isUnit x)
-    (λ u. let r = both (owns h x) (scanB done h (us ++ x ∷ []) xs) (rw u at s) in
+    (λ u. let r = both (isAssociated h x) (scanB done h (us ++ x ∷ []) xs) (rw u at s) in
     step (λ e. let z : _≡_ {A = ℕ} 0 3 = sym k ∙ ap (λ (z : Element). z .kind) e ∙ eqb-true (x .kind) unitKind u in omega arith)
     (λ n. scan-others done h (us ++ x ∷ []) xs (r .1) y n k) (List·Memᴰ·cases-cons m))
-    (λ u. let r = both (allAnswered us h) (nextB h x && scanB done x [] xs) (rw u at s) in
+    (λ u. let r = both (allRepresented us h) (nextB h x && scanB done x [] xs) (rw u at s) in
     let q = both (nextB h x) (scanB done x [] xs) (r .1) in
     step (λ e. next-told h x (q .0) .other (ap (λ (z : Element). z .kind) (sym e) ∙ k))
     (λ n. scan-others done x [] xs (q .1) y n k) (List·Memᴰ·cases-cons m))

@@ -1,4 +1,4 @@
--- Class A: in a run in order a unit stands after all whose portions it answers, so a front sees its units as the whole does, and passes.
+-- Class A: in a run in order a unit stands after all whose portions it represents, so a front sees its units as the whole does, and passes.
 -- Assumes nothing.
 use mathlib.Core.Path.{_≡_, refl, ap, sym, _∙_, subst}
 use mathlib.Core.Logic.{_⊎_, inl, inr}
@@ -12,12 +12,13 @@ use borrow.Table.Steps.{cases}
 use Rattle.headers.specs.Head.{isIn}
 use Rattle.portions.specs.Portions.{all, any}
 use Rattle.elements.specs.Judge.{Element}
-use Rattle.order.specs.Answers.{_∈_, Ascending, named, answers, owns, isAnswered, allAnswered, profileKind, ProfileFirst, Listed, everything, keep}
-use Rattle.order.specs.ClassA.{endA, objectKinds, answersSome, rankA, orderedBy, listedOf, unitsOf, inStep, InOrderA}
-use Rattle.order.specs.Begins.{classA, Begins}
+use Rattle.order.specs.Represents.{_∈_, Ascending, named, represents, isAssociated, isRepresented, allRepresented, profileKind, ProfileFirst, Listed, everything, keep}
+use Rattle.order.specs.ClassA.{endA, objectKinds, representsSome, rankA, orderedBy, listedOf, unitsOf, inStep, InOrderA}
+use Rattle.order.specs.declared.Class.the-variants.{A}
+use Rattle.order.specs.Begins.{Begins}
 use Rattle.order.specs.ClausesA.{profileFirst, ascends, awaited, mayCome, placedA, beginsA, orderedA}
 use Rattle.order.proofs.Tests.{both, all-in, all-of, any-of, any-in, any-none}
-use Rattle.order.proofs.Answering.{answers-unit, answers-named, owns-of, owns-unit, answered-told, answered-of, all-answered-told}
+use Rattle.order.proofs.Representing.{represents-unit, represents-named, associated-of, associated-unit, represented-told, represented-of, all-represented-told}
 use Rattle.order.proofs.Lacking.{keep-in, everything-in}
 use Rattle.order.proofs.Keeping.{keep-append, keep-none, keep-same, ascending-left, ascending-cross, ascends-of, ascends-told, everything-append}
 use Rattle.order.proofs.RanksA.{some-told, some-of, owner, object-rank, awaited-object, owned-rank, owner-below, rank-same}
@@ -70,14 +71,14 @@ placed-told es t =
 pub ordered-of : (es : List Element) → InOrderA es → orderedA es ≡ true
 unfolding orderedA
 ordered-of es o =
-    rw (placed-of es (record { profile = o .profile; tabled = o .tabled; ascending = o .ascending; in-step = o .in-step })) (all-of (allAnswered es) es (o .whole))
+    rw (placed-of es (record { profile = o .profile; tabled = o .tabled; ascending = o .ascending; in-step = o .in-step })) (all-of (allRepresented es) es (o .whole))
 
 pub ordered-told : (es : List Element) → orderedA es ≡ true → InOrderA es
 unfolding orderedA
 ordered-told es t =
-    let r = both (placedA es) (all (map (allAnswered es) es)) t in
+    let r = both (placedA es) (all (map (allRepresented es) es)) t in
     let p = placed-told es (r .0) in
-    record { profile = p .profile; tabled = p .tabled; ascending = p .ascending; in-step = p .in-step; whole = all-in (allAnswered es) es (r .1) }
+    record { profile = p .profile; tabled = p .tabled; ascending = p .ascending; in-step = p .in-step; whole = all-in (allRepresented es) es (r .1) }
 
 -- the kind by which units are ordered is of objects
 pub of-kind : (e : Element) (kind : ℕ) → isIn (e .kind) (kind ∷ []) ≡ true → e .kind ≡ kind
@@ -107,7 +108,7 @@ unfolding inStep
 step-left ls [] vs t = refl
 step-left [] (u ∷ us) vs t = t
 step-left (l ∷ ls) (u ∷ us) vs t =
-    let r = both (answers (l .by) (l .portion) u) (inStep ls (us ++ vs)) t in
+    let r = both (represents (l .by) (l .portion) u) (inStep ls (us ++ vs)) t in
     rw (r .0) (step-left ls us vs (r .1))
 
 -- a front of what is in order
@@ -125,37 +126,37 @@ module _ (front more : List Element) (o : InOrderA (front ++ more)) where
   crosses = ascending-cross (rankA whole) front more (o .ascending)
 
   -- no owner of a unit stands after it
-  pub owner-before : (u e : Element) → u ∈ front → e ∈ more → owns e u ≡ true → ⊥
+  pub owner-before : (u e : Element) → u ∈ front → e ∈ more → isAssociated e u ≡ true → ⊥
   owner-before u e m n t =
-      let r = owned-rank whole u (owns-unit e u t) (o .tabled u (left u m)) e (right e n) t in
+      let r = owned-rank whole u (associated-unit e u t) (o .tabled u (left u m)) e (right e n) t in
       let b = owner-below whole e (owner e u t) in
       let a = crosses u e m n in
       omega arith
 
-  some-same : (u : Element) → u ∈ front → (kinds : List ℕ) → answersSome kinds whole u ≡ answersSome kinds front u
-  some-same u m kinds = cases (answersSome kinds front u) (λ t. up t ∙ sym t) (λ t. down t ∙ sym t)
+  some-same : (u : Element) → u ∈ front → (kinds : List ℕ) → representsSome kinds whole u ≡ representsSome kinds front u
+  some-same u m kinds = cases (representsSome kinds front u) (λ t. up t ∙ sym t) (λ t. down t ∙ sym t)
     where
-      up : answersSome kinds front u ≡ true → answersSome kinds whole u ≡ true
+      up : representsSome kinds front u ≡ true → representsSome kinds whole u ≡ true
       up t = let (e, n, k, w) = some-told kinds front u t in some-of kinds whole u e (left e n) k w
 
-      where-owner : answersSome kinds front u ≡ false → (e : Element) → isIn (e .kind) kinds ≡ true → owns e u ≡ true → (e ∈ front) ⊎ (e ∈ more) → ⊥
+      where-owner : representsSome kinds front u ≡ false → (e : Element) → isIn (e .kind) kinds ≡ true → isAssociated e u ≡ true → (e ∈ front) ⊎ (e ∈ more) → ⊥
       where-owner t e k w (inl n) = true≢false (sym (some-of kinds front u e n k w) ∙ t)
       where-owner t e k w (inr n) = owner-before u e m n w
 
-      down : answersSome kinds front u ≡ false → answersSome kinds whole u ≡ false
-      down t = cases (answersSome kinds whole u)
+      down : representsSome kinds front u ≡ false → representsSome kinds whole u ≡ false
+      down t = cases (representsSome kinds whole u)
           (λ s. let (e, n, k, w) = some-told kinds whole u s in absurd (where-owner t e k w (List·Memᴰ·append-cases front n))) (λ s. s)
 
   same-rank : (x : Element) → x ∈ front → rankA whole x ≡ rankA front x
   same-rank x m = rank-same whole front x (some-same x m)
 
   -- its ordered units are in step: if there is one, no object comes after
-  module _ (u : Element) (there : u ∈ front) (answering : answersSome (orderedBy front ∷ []) front u ≡ true) where
+  module _ (u : Element) (there : u ∈ front) (representing : representsSome (orderedBy front ∷ []) front u ≡ true) where
     no-object : (d : Element) → d ∈ more → isIn (d .kind) objectKinds ≡ true → ⊥
     no-object d n k =
-        let (e, m, i, w) = some-told (orderedBy front ∷ []) front u answering in
+        let (e, m, i, w) = some-told (orderedBy front ∷ []) front u representing in
         let obj = ordered-object front e (of-kind e (orderedBy front) i) in
-        let r = owned-rank whole u (owns-unit e u w) (o .tabled u (left u there)) e (left e m) w in
+        let r = owned-rank whole u (associated-unit e u w) (o .tabled u (left u there)) e (left e m) w in
         let s = awaited-object e obj in
         let a = crosses u d there n in
         let b = object-rank whole d k in
@@ -177,24 +178,24 @@ module _ (front more : List Element) (o : InOrderA (front ++ more)) where
         (λ t. absurd (no-object (l .by) (everything-in more l m .0) (ordered-object front (l .by) (eqb-true (l .by .kind) by t)))) (λ t. t)))
         ∙ append-nil (keep test (everything front))
 
-    same-units : unitsOf by whole ≡ unitsOf by front ++ keep (answersSome (by ∷ []) whole) more
+    same-units : unitsOf by whole ≡ unitsOf by front ++ keep (representsSome (by ∷ []) whole) more
     same-units =
-        keep-append (answersSome (by ∷ []) whole) front more
-        ∙ ap (λ (us : List Element). us ++ keep (answersSome (by ∷ []) whole) more)
-        (keep-same (answersSome (by ∷ []) whole) (answersSome (by ∷ []) front) front (λ x m. some-same x m (by ∷ [])))
+        keep-append (representsSome (by ∷ []) whole) front more
+        ∙ ap (λ (us : List Element). us ++ keep (representsSome (by ∷ []) whole) more)
+        (keep-same (representsSome (by ∷ []) whole) (representsSome (by ∷ []) front) front (λ x m. some-same x m (by ∷ [])))
 
     steps-front : steps front ≡ true
     steps-front =
         let a : inStep (listedOf by whole) (unitsOf by whole) ≡ true = subst (λ (k : ℕ). inStep (listedOf k whole) (unitsOf k whole) ≡ true) same-order (o .in-step) in
-        let b : inStep (listedOf by front) (unitsOf by front ++ keep (answersSome (by ∷ []) whole) more) ≡ true =
+        let b : inStep (listedOf by front) (unitsOf by front ++ keep (representsSome (by ∷ []) whole) more) ≡ true =
         subst (λ (us : List Element). inStep (listedOf by front) us ≡ true) same-units (subst (λ (ls : List Listed). inStep ls (unitsOf by whole) ≡ true) same-listed a) in
-        step-left (listedOf by front) (unitsOf by front) (keep (answersSome (by ∷ []) whole) more) b
+        step-left (listedOf by front) (unitsOf by front) (keep (representsSome (by ∷ []) whole) more) b
 
   steps-any : (us : List Element) → unitsOf (orderedBy front) front ≡ us → steps front ≡ true
   unfolding inStep
   steps-any [] e = rw e
   steps-any (u ∷ us) e =
-      let r = keep-in (answersSome (orderedBy front ∷ []) front) front u (subst (λ (l : List Element). u ∈ l) (sym e) (List·Memᴰ·head refl)) in
+      let r = keep-in (representsSome (orderedBy front ∷ []) front) front u (subst (λ (l : List Element). u ∈ l) (sym e) (List·Memᴰ·head refl)) in
       steps-front u (r .0) (r .1)
 
   profile-front : (f m : List Element) → ProfileFirst (f ++ m) → (x : Element) → x ∈ f → ProfileFirst f
@@ -210,32 +211,32 @@ module _ (front more : List Element) (o : InOrderA (front ++ more)) where
         in-step = steps-any (unitsOf (orderedBy front) front) refl;
       }
 
-  -- what is missing is answered later, by a unit after which nothing of the front stands
+  -- what is missing is represented later, by a unit after which nothing of the front stands
   may-come : (e : Element) → e ∈ front → mayCome front e ≡ true
-  unfolding mayCome allAnswered
+  unfolding mayCome allRepresented
   may-come e m =
-      cases (all (map (isAnswered front e) (e .portions))) (λ t. rw t)
+      cases (all (map (isRepresented front e) (e .portions))) (λ t. rw t)
       (λ t. let (p, n, u) = some-false (e .portions) t in
-      let (w, k, a) = answered-told whole e p (all-answered-told whole e (o .whole e (left e m)) p n) in
+      let (w, k, a) = represented-told whole e p (all-represented-told whole e (o .whole e (left e m)) p n) in
       rw t (later p n u w a (List·Memᴰ·append-cases front k)))
     where
-      some-false : (ps : List (List ℕ)) → all (map (isAnswered front e) ps) ≡ false → (p : List ℕ) × (p ∈ ps) × (isAnswered front e p ≡ false)
+      some-false : (ps : List (List ℕ)) → all (map (isRepresented front e) ps) ≡ false → (p : List ℕ) × (p ∈ ps) × (isRepresented front e p ≡ false)
       some-false [] t = absurd (true≢false t)
       some-false (p ∷ ps) t =
-          cases (isAnswered front e p)
+          cases (isRepresented front e p)
           (λ u. let (q, n, v) = some-false ps (rw u at t) in (q, List·Memᴰ·tail n, v))
           (λ u. (p, List·Memᴰ·head refl, u))
 
-      later : (p : List ℕ) → p ∈ e .portions → isAnswered front e p ≡ false → (w : Element) → answers e p w ≡ true → (w ∈ front) ⊎ (w ∈ more)
+      later : (p : List ℕ) → p ∈ e .portions → isRepresented front e p ≡ false → (w : Element) → represents e p w ≡ true → (w ∈ front) ⊎ (w ∈ more)
           → named e && all (map (λ (x : Element). leb (rankA front x) (awaited e)) front) ≡ true
-      later p n u w a (inl k) = absurd (true≢false (sym (answered-of front e p w k a) ∙ u))
+      later p n u w a (inl k) = absurd (true≢false (sym (represented-of front e p w k a) ∙ u))
       later p n u w a (inr k) =
-          let r : rankA whole w ≡ awaited e = owned-rank whole w (answers-unit e p w a) (o .tabled w (right w k)) e (left e m) (owns-of e w p n a) in
-          rw (answers-named e p w a)
+          let r : rankA whole w ≡ awaited e = owned-rank whole w (represents-unit e p w a) (o .tabled w (right w k)) e (left e m) (associated-of e w p n a) in
+          rw (represents-named e p w a)
           (all-of (λ (x : Element). leb (rankA front x) (awaited e)) front
           (λ x i. let c = crosses x w i k in let s = same-rank x i in le-leb (rankA front x) (awaited e) (omega arith)))
 
-pub begins-told : (front : List Element) → Begins classA front → beginsA front ≡ true
+pub begins-told : (front : List Element) → Begins A front → beginsA front ≡ true
 unfolding beginsA
 begins-told [] b = refl
 begins-told (x ∷ xs) b =

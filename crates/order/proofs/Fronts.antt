@@ -6,8 +6,9 @@ use mathlib.Core.List.{List, [], _∷_, _++_, append-assoc, append-nil, List·Me
 use Rattle.contents.specs.Search.{absent}
 use Rattle.portions.specs.Portions.{repeats}
 use Rattle.elements.specs.Judge.{Element, noType, single}
-use Rattle.order.specs.Answers.{FitAside, LimitsAside}
-use Rattle.order.specs.Begins.{Class, InOrder, Begins}
+use Rattle.order.specs.Represents.{FitAside, LimitsAside}
+use Rattle.order.specs.declared.Class.{Class}
+use Rattle.order.specs.Begins.{InOrder, Begins}
 
 pub begins-front : (class : Class) (xs ys : List Element) → Begins class (xs ++ ys) → Begins class xs
 begins-front class xs ys b =

@@ -8,7 +8,7 @@ use lib.Dec.{leb}
 use borrow.Author.Tests.{leb-true, le-leb}
 use borrow.Table.Steps.{cases}
 use Rattle.elements.specs.Judge.{Element}
-use Rattle.order.specs.Answers.{_∈_, Ascending, listedBy, everything, keep}
+use Rattle.order.specs.Represents.{_∈_, Ascending, listedBy, everything, keep}
 use Rattle.order.specs.ClausesA.{ascends}
 use Rattle.portions.specs.Portions.{all}
 use Rattle.order.proofs.Tests.{both, all-in, all-of}

@@ -1,5 +1,5 @@
 -- With a unit for each portion that is missing the elements are still such as a letter has, limits aside: such a unit's name is unused, since
--- a unit that had it would answer the portion; and no two portions of one side have one name. Assumes nothing.
+-- a unit that had it would represent the portion; and no two portions of one side have one name. Assumes nothing.
 use mathlib.Core.Path.{_≡_, refl, ap, sym, _∙_, subst}
 use mathlib.Core.Logic.{_⊎_, inl, inr}
 use mathlib.Core.Bool.{Bool, true, false, cond, not, _&&_, false≢true, true≢false}
@@ -21,10 +21,10 @@ use Rattle.elements.specs.Judge.{Element, clash}
 use Rattle.reading.specs.declared.Side.{Side}
 use Rattle.reading.specs.declared.Side.the-variants.{Layout, Logical}
 use Rattle.reading.specs.Match.{unitKind, nameOn}
-use Rattle.order.specs.Answers.{_∈_, present, named, sideOf, answers, isAnswered, listing, speltAside, FitAside, NoClash, LimitsAside, Listed, listedBy, everything, keep}
+use Rattle.order.specs.Represents.{_∈_, present, named, sideOf, represents, isRepresented, listing, speltAside, FitAside, NoClash, LimitsAside, Listed, listedBy, everything, keep}
 use Rattle.order.specs.Missing.{missing, label, unitNamed, unitFor, lacking}
 use Rattle.order.proofs.Tests.{both, all-in, any-of}
-use Rattle.order.proofs.Answering.{answers-told, answers-of, answered-of, listing-side, side-space, unit-space, Clashing, clash-told, clash-of}
+use Rattle.order.proofs.Representing.{represents-told, represents-of, represented-of, listing-side, side-space, unit-space, Clashing, clash-told, clash-of}
 
 -- what is kept
 module _ {A : Type 0} (test : A → Bool) where
@@ -78,20 +78,20 @@ everything-of (d ∷ es) e p m n = step (λ o. everything-of es e p o n) (List·
 pub record Missing (es : List Element) (l : Listed) : Type 0 where
   pub by : l .by ∈ es
   pub listed : l .portion ∈ l .by .portions
-  pub unanswered : isAnswered es (l .by) (l .portion) ≡ false
+  pub unrepresented : isRepresented es (l .by) (l .portion) ≡ false
 
 pub missing-told : (es : List Element) (l : Listed) → l ∈ missing es → Missing es l
 unfolding missing
 missing-told es l m =
-    let r = keep-in (λ (k : Listed). not (isAnswered es (k .by) (k .portion))) (everything es) l m in
+    let r = keep-in (λ (k : Listed). not (isRepresented es (k .by) (k .portion))) (everything es) l m in
     let q = everything-in es l (r .0) in
-    record { by = q .0; listed = q .1; unanswered = not-true (isAnswered es (l .by) (l .portion)) (r .1) }
+    record { by = q .0; listed = q .1; unrepresented = not-true (isRepresented es (l .by) (l .portion)) (r .1) }
 
-pub missing-of : (es : List Element) (e : Element) (p : List ℕ) → e ∈ es → p ∈ e .portions → isAnswered es e p ≡ false
+pub missing-of : (es : List Element) (e : Element) (p : List ℕ) → e ∈ es → p ∈ e .portions → isRepresented es e p ≡ false
     → _∈_ {A = Listed} (record { by = e; portion = p }) (missing es)
 unfolding missing
 missing-of es e p m n u =
-    keep-of (λ (k : Listed). not (isAnswered es (k .by) (k .portion))) (everything es) (record { by = e; portion = p }) (everything-of es e p m n) (rw u)
+    keep-of (λ (k : Listed). not (isRepresented es (k .by) (k .portion))) (everything es) (record { by = e; portion = p }) (everything-of es e p m n) (rw u)
 
 -- what an element with an identifier says
 pub present-told : (v : Value) → present v ≡ true → (bytes : List ℕ) × (v ≡ octets bytes)
@@ -132,12 +132,12 @@ pub unit-for-bare : (l : Listed) → (unitFor l) .portions ≡ []
 unfolding unitFor
 unit-for-bare l = bare-side (sideOf (l .by)) (label (l .by .identifier) (l .portion))
 
--- the unit for a portion answers it
-pub unit-for-answers : (l : Listed) → FitAside (l .by) → l .portion ∈ l .by .portions → named (l .by) ≡ true → answers (l .by) (l .portion) (unitFor l) ≡ true
+-- the unit for a portion represents it
+pub unit-for-represents : (l : Listed) → FitAside (l .by) → l .portion ∈ l .by .portions → named (l .by) ≡ true → represents (l .by) (l .portion) (unitFor l) ≡ true
 unfolding unitFor
-unit-for-answers l f m n =
+unit-for-represents l f m n =
     let r = present-told (l .by .identifier) n in
-    answers-of (l .by) (l .portion) (unitFor l)
+    represents-of (l .by) (l .portion) (unitFor l)
     (record {
       on-side = listing-side (l .by .kind) (lister-kind (l .by) f (l .portion) m);
       of-unit = made-kind (sideOf (l .by)) (label (l .by .identifier) (l .portion));
@@ -147,10 +147,10 @@ unit-for-answers l f m n =
     })
 
 -- and no portion of the other side
-pub unit-for-side : (l : Listed) (e : Element) (p : List ℕ) → answers e p (unitFor l) ≡ true → sideOf e ≡ sideOf (l .by)
+pub unit-for-side : (l : Listed) (e : Element) (p : List ℕ) → represents e p (unitFor l) ≡ true → sideOf e ≡ sideOf (l .by)
 unfolding unitFor
 unit-for-side l e p t =
-    let j = answers-told e p (unitFor l) t in
+    let j = represents-told e p (unitFor l) t in
     made-side (sideOf (l .by)) (sideOf e) (label (l .by .identifier) (l .portion)) (j .identifier ++ spaceByte ∷ p) (j .spelt) .0
 
 -- no two portions of one side have one name
@@ -263,9 +263,9 @@ unit-new es l miss f e m = cases (clash e (unitFor l)) (λ t. absurd (clashing (
         let n = label-named (l .by .identifier) (l .portion) (c .bytes) (r .1) in
         let name : nameOn (sideOf (l .by)) e ≡ octets (n .0 ++ spaceByte ∷ l .portion) =
         ap (λ (s : Side). nameOn s e) (sym (r .0)) ∙ c .left ∙ sym (r .1) ∙ ap (λ (v : Value). label v (l .portion)) (n .1) in
-        let t = answers-of (l .by) (l .portion) e
+        let t = represents-of (l .by) (l .portion) e
         (record { on-side = listing-side (l .by .kind) (lister-kind (l .by) f (l .portion) (miss .listed)); of-unit = unit; identifier = n .0; named = n .1; spelt = name }) in
-        true≢false (sym (answered-of es (l .by) (l .portion) e m t) ∙ miss .unanswered)
+        true≢false (sym (represented-of es (l .by) (l .portion) e m t) ∙ miss .unrepresented)
 
 pub no-clash-append : (xs ys : List Element) → NoClash xs → NoClash ys → ((x y : Element) → x ∈ xs → y ∈ ys → clash x y ≡ false) → NoClash (xs ++ ys)
 no-clash-append [] ys a b c = b
@@ -330,7 +330,7 @@ lacking-aside es a =
     record {
       fit = λ e m. fit e (List·Memᴰ·append-cases es m);
       apart = no-clash-append es (lacking es) (a .apart)
-          (units-apart (missing es) (apart-keep (λ l. not (isAnswered es (l .by) (l .portion))) (everything es) (apart-everything es a)))
+          (units-apart (missing es) (apart-keep (λ l. not (isRepresented es (l .by) (l .portion))) (everything es) (apart-everything es a)))
           (λ e u m n. new e m u (lacking-told es u n));
     }
   where

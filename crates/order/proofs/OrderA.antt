@@ -17,16 +17,17 @@ use Rattle.elements.specs.Judge.{Element, clash}
 use Rattle.reading.specs.declared.Side.{Side}
 use Rattle.reading.specs.declared.Side.the-variants.{Layout, Logical}
 use Rattle.reading.specs.Match.{unitKind, kindsOf, nameOn}
-use Rattle.order.specs.Answers.{_∈_, Ascending, named, sideOf, answers, owns, isAnswered, allAnswered, profileKind, ProfileFirst, NoClash, LimitsAside, Listed, everything, keep}
-use Rattle.order.specs.ClassB.{rankIn}
-use Rattle.order.specs.ClassA.{endA, classKinds, objectKinds, answersSome, unitRank, rankA, orderedBy, listedOf, unitsOf, inStep, InOrderA}
-use Rattle.order.specs.Begins.{classA, Begins}
+use Rattle.order.specs.Represents.{_∈_, Ascending, named, sideOf, represents, isAssociated, isRepresented, allRepresented, profileKind, ProfileFirst, NoClash, LimitsAside, Listed, everything, keep}
+use Rattle.order.specs.Ranks.{rankIn}
+use Rattle.order.specs.ClassA.{endA, classKinds, objectKinds, representsSome, unitRank, rankA, orderedBy, listedOf, unitsOf, inStep, InOrderA}
+use Rattle.order.specs.declared.Class.the-variants.{A}
+use Rattle.order.specs.Begins.{Begins}
 use Rattle.order.specs.ClausesA.{profileFirst, ascends, awaited, mayCome, placedA, beginsA, orderedA}
 use Rattle.order.specs.Missing.{missing, label, unitFor, lacking}
 use Rattle.order.proofs.Tests.{both, either, all-in}
 use Rattle.order.proofs.Fronts.{begins-front, aProfile, profile-aside}
-use Rattle.order.proofs.Answering.{answers-told, answers-one, owns-told, owns-of, answered-told, answered-of, answered-more, all-answered-told, all-answered-of}
-use Rattle.order.proofs.Lacking.{keep-in, keep-of, everything-in, Missing, missing-told, missing-of, lister-kind, unit-for-kind, unit-for-bare, unit-for-answers, unit-for-side, Apart, AllApart, apart-keep, apart-everything, lacking-told, lacking-of, lacking-aside}
+use Rattle.order.proofs.Representing.{represents-told, represents-one, associated-told, associated-of, represented-told, represented-of, represented-more, all-represented-told, all-represented-of}
+use Rattle.order.proofs.Lacking.{keep-in, keep-of, everything-in, Missing, missing-told, missing-of, lister-kind, unit-for-kind, unit-for-bare, unit-for-represents, unit-for-side, Apart, AllApart, apart-keep, apart-everything, lacking-told, lacking-of, lacking-aside}
 use Rattle.order.proofs.OrderB.{lacking-others}
 use Rattle.order.proofs.Keeping.{keep-append, keep-all, keep-same, keep-swap, keep-map, ascending-left, ascending-append, ascending-any, everything-append, everything-none}
 use Rattle.order.proofs.RanksA.{some-told, some-of, Owner, class, object, lister-owner, object-rank, class-not-object, awaited-class, awaited-object, unit-rank, rank-same}
@@ -43,11 +44,11 @@ no-clash-one (x ∷ es) a e f m n c d = step (λ i j. no-clash-one es (a .1) e f
     step below (inr i) (inl q) = absurd (true≢false (sym d ∙ ap (λ (z : Element). clash z e) q ∙ a .0 e i))
     step below (inr i) (inr j) = below i j
 
--- one unit does not answer two portions that are apart
-pub apart-unit : (l k : Listed) (u : Element) → Apart l k → sideOf (l .by) ≡ sideOf (k .by) → answers (l .by) (l .portion) u ≡ true → answers (k .by) (k .portion) u ≡ true → ⊥
+-- one unit does not represent two portions that are apart
+pub apart-unit : (l k : Listed) (u : Element) → Apart l k → sideOf (l .by) ≡ sideOf (k .by) → represents (l .by) (l .portion) u ≡ true → represents (k .by) (k .portion) u ≡ true → ⊥
 apart-unit l k u a s t w =
-    let i = answers-told (l .by) (l .portion) u t in
-    let j = answers-told (k .by) (k .portion) u w in
+    let i = represents-told (l .by) (l .portion) u t in
+    let j = represents-told (k .by) (k .portion) u w in
     a s (i .identifier ++ spaceByte ∷ l .portion) (ap (λ (v : Value). label v (l .portion)) (i .named))
     (ap (λ (v : Value). label v (k .portion)) (j .named) ∙ sym (j .spelt) ∙ ap (λ (x : Side). nameOn x u) (sym s) ∙ i .spelt)
 
@@ -57,39 +58,39 @@ kind-side d e p = ap (λ (k : ℕ). cond (isIn k (kindsOf Layout)) Layout Logica
 -- units in step, and then a unit for each that is left
 module _ (es : List Element) (kind : ℕ) where
   abbrev open-yet : Listed → Bool
-  open-yet l = not (isAnswered es (l .by) (l .portion))
+  open-yet l = not (isRepresented es (l .by) (l .portion))
 
-  rest-in-step : (ls : List Listed) → ((l : Listed) → l ∈ ls → answers (l .by) (l .portion) (unitFor l) ≡ true) → inStep ls (map unitFor ls) ≡ true
+  rest-in-step : (ls : List Listed) → ((l : Listed) → l ∈ ls → represents (l .by) (l .portion) (unitFor l) ≡ true) → inStep ls (map unitFor ls) ≡ true
   unfolding inStep
   rest-in-step [] h = refl
   rest-in-step (l ∷ ls) h = rw (h l (List·Memᴰ·head refl)) (rest-in-step ls (λ k m. h k (List·Memᴰ·tail m)))
 
   all-in-step : (ls : List Listed) (us : List Element) → inStep ls us ≡ true → AllApart ls → ((l : Listed) → l ∈ ls → l .by .kind ≡ kind)
       → ((u : Element) → u ∈ us → u ∈ es)
-      → ((l : Listed) → l ∈ ls → isAnswered es (l .by) (l .portion) ≡ true → (u : Element) × (u ∈ us) × (answers (l .by) (l .portion) u ≡ true))
-      → ((l : Listed) → l ∈ ls → isAnswered es (l .by) (l .portion) ≡ false → answers (l .by) (l .portion) (unitFor l) ≡ true)
+      → ((l : Listed) → l ∈ ls → isRepresented es (l .by) (l .portion) ≡ true → (u : Element) × (u ∈ us) × (represents (l .by) (l .portion) u ≡ true))
+      → ((l : Listed) → l ∈ ls → isRepresented es (l .by) (l .portion) ≡ false → represents (l .by) (l .portion) (unitFor l) ≡ true)
       → inStep ls (us ++ map unitFor (keep open-yet ls)) ≡ true
   unfolding inStep keep
   all-in-step ls [] t a k i h n =
-      let none : (l : Listed) → l ∈ ls → isAnswered es (l .by) (l .portion) ≡ false =
-      λ l m. cases (isAnswered es (l .by) (l .portion)) (λ u. absurd (List·Memᴰ·not-nil (h l m u .1))) (λ u. u) in
+      let none : (l : Listed) → l ∈ ls → isRepresented es (l .by) (l .portion) ≡ false =
+      λ l m. cases (isRepresented es (l .by) (l .portion)) (λ u. absurd (List·Memᴰ·not-nil (h l m u .1))) (λ u. u) in
       subst (λ (ks : List Listed). inStep ls (map unitFor ks) ≡ true) (sym (keep-all open-yet ls (λ l m. rw (none l m))))
       (rest-in-step ls (λ l m. n l m (none l m)))
   all-in-step [] (u ∷ us) t a k i h n = absurd (false≢true t)
   all-in-step (l ∷ ls) (u ∷ us) t a k i h n =
-      let r = both (answers (l .by) (l .portion) u) (inStep ls us) t in
-      let d = answered-of es (l .by) (l .portion) u (i u (List·Memᴰ·head refl)) (r .0) in
+      let r = both (represents (l .by) (l .portion) u) (inStep ls us) t in
+      let d = represented-of es (l .by) (l .portion) u (i u (List·Memᴰ·head refl)) (r .0) in
       rw (r .0, d)
       (all-in-step ls us (r .1) (a .1) (λ j m. k j (List·Memᴰ·tail m)) (λ v m. i v (List·Memᴰ·tail m))
       (λ j m s. elsewhere (r .0) j m (h j (List·Memᴰ·tail m) s)) (λ j m. n j (List·Memᴰ·tail m)))
     where
-      elsewhere : answers (l .by) (l .portion) u ≡ true → (j : Listed) → j ∈ ls
-          → ((v : Element) × (v ∈ u ∷ us) × (answers (j .by) (j .portion) v ≡ true)) → (v : Element) × (v ∈ us) × (answers (j .by) (j .portion) v ≡ true)
+      elsewhere : represents (l .by) (l .portion) u ≡ true → (j : Listed) → j ∈ ls
+          → ((v : Element) × (v ∈ u ∷ us) × (represents (j .by) (j .portion) v ≡ true)) → (v : Element) × (v ∈ us) × (represents (j .by) (j .portion) v ≡ true)
       elsewhere b j m (v, o, w) = step (List·Memᴰ·cases-cons o)
         where
-          step : (v ≡ u) ⊎ (v ∈ us) → (x : Element) × (x ∈ us) × (answers (j .by) (j .portion) x ≡ true)
+          step : (v ≡ u) ⊎ (v ∈ us) → (x : Element) × (x ∈ us) × (represents (j .by) (j .portion) x ≡ true)
           step (inl e) = absurd (apart-unit l j u (a .0 j m) (kind-side (l .by) (j .by) (k l (List·Memᴰ·head refl) ∙ sym (k j (List·Memᴰ·tail m)))) b
-              (ap (answers (j .by) (j .portion)) (sym e) ∙ w))
+              (ap (represents (j .by) (j .portion)) (sym e) ∙ w))
           step (inr p) = (v, p, w)
 
 -- a front that passes, with all that it lacks
@@ -106,22 +107,22 @@ module _ (front : List Element) (aside : LimitsAside front) (placed : Placed fro
       step : ((l : Listed) × (l ∈ missing front) × (unitFor l ≡ e)) → (e .portions ≡ []) × (e .kind ≡ unitKind)
       step (l, n, i) = (ap (λ (x : Element). x .portions) (sym i) ∙ unit-for-bare l, ap (λ (x : Element). x .kind) (sym i) ∙ unit-for-kind l)
 
-  more-owns-none : (e u : Element) → e ∈ more → owns e u ≡ true → ⊥
-  more-owns-none e u m t = let (p, n, a) = owns-told e u t in List·Memᴰ·not-nil (subst (λ (ps : List (List ℕ)). p ∈ ps) (more-bare e m .0) n)
+  more-associated-none : (e u : Element) → e ∈ more → isAssociated e u ≡ true → ⊥
+  more-associated-none e u m t = let (p, n, a) = associated-told e u t in List·Memᴰ·not-nil (subst (λ (ps : List (List ℕ)). p ∈ ps) (more-bare e m .0) n)
 
-  -- what more adds owns nothing, so ranks stay
-  some-complete : (u : Element) (kinds : List ℕ) → answersSome kinds complete u ≡ answersSome kinds front u
-  some-complete u kinds = cases (answersSome kinds front u) (λ t. up t ∙ sym t) (λ t. down t ∙ sym t)
+  -- what more adds isAssociated nothing, so ranks stay
+  some-complete : (u : Element) (kinds : List ℕ) → representsSome kinds complete u ≡ representsSome kinds front u
+  some-complete u kinds = cases (representsSome kinds front u) (λ t. up t ∙ sym t) (λ t. down t ∙ sym t)
     where
-      up : answersSome kinds front u ≡ true → answersSome kinds complete u ≡ true
+      up : representsSome kinds front u ≡ true → representsSome kinds complete u ≡ true
       up t = let (e, n, k, w) = some-told kinds front u t in some-of kinds complete u e (Memᴰ·append-left more n) k w
 
-      where-owner : answersSome kinds front u ≡ false → (e : Element) → isIn (e .kind) kinds ≡ true → owns e u ≡ true → (e ∈ front) ⊎ (e ∈ more) → ⊥
+      where-owner : representsSome kinds front u ≡ false → (e : Element) → isIn (e .kind) kinds ≡ true → isAssociated e u ≡ true → (e ∈ front) ⊎ (e ∈ more) → ⊥
       where-owner t e k w (inl n) = true≢false (sym (some-of kinds front u e n k w) ∙ t)
-      where-owner t e k w (inr n) = more-owns-none e u n w
+      where-owner t e k w (inr n) = more-associated-none e u n w
 
-      down : answersSome kinds front u ≡ false → answersSome kinds complete u ≡ false
-      down t = cases (answersSome kinds complete u)
+      down : representsSome kinds front u ≡ false → representsSome kinds complete u ≡ false
+      down t = cases (representsSome kinds complete u)
           (λ s. let (e, n, k, w) = some-told kinds complete u s in absurd (where-owner t e k w (List·Memᴰ·append-cases front n))) (λ s. s)
 
   rank-complete : (x : Element) → rankA complete x ≡ rankA front x
@@ -131,38 +132,38 @@ module _ (front : List Element) (aside : LimitsAside front) (placed : Placed fro
   pub awaits : (l : Listed) → Missing front l → (named (l .by) ≡ true) × ((x : Element) → x ∈ front → rankA front x ≤ awaited (l .by))
   unfolding mayCome
   awaits l m =
-      which (either (allAnswered front (l .by)) (named (l .by) && all (map (λ (x : Element). leb (rankA front x) (awaited (l .by))) front)) (may (l .by) (m .by)))
+      which (either (allRepresented front (l .by)) (named (l .by) && all (map (λ (x : Element). leb (rankA front x) (awaited (l .by))) front)) (may (l .by) (m .by)))
     where
-      which : (allAnswered front (l .by) ≡ true) ⊎ (named (l .by) && all (map (λ (x : Element). leb (rankA front x) (awaited (l .by))) front) ≡ true)
+      which : (allRepresented front (l .by) ≡ true) ⊎ (named (l .by) && all (map (λ (x : Element). leb (rankA front x) (awaited (l .by))) front) ≡ true)
           → (named (l .by) ≡ true) × ((x : Element) → x ∈ front → rankA front x ≤ awaited (l .by))
-      which (inl t) = absurd (true≢false (sym (all-answered-told front (l .by) t (l .portion) (m .listed)) ∙ m .unanswered))
+      which (inl t) = absurd (true≢false (sym (all-represented-told front (l .by) t (l .portion) (m .listed)) ∙ m .unrepresented))
       which (inr t) =
           let r = both (named (l .by)) (all (map (λ (x : Element). leb (rankA front x) (awaited (l .by))) front)) t in
           (r .0, λ x n. leb-true (rankA front x) (awaited (l .by)) (all-in (λ (y : Element). leb (rankA front y) (awaited (l .by))) front (r .1) x n))
 
-  made-answers : (l : Listed) → Missing front l → answers (l .by) (l .portion) (unitFor l) ≡ true
-  made-answers l m = unit-for-answers l (aside .fit (l .by) (m .by)) (m .listed) (awaits l m .0)
+  made-represents : (l : Listed) → Missing front l → represents (l .by) (l .portion) (unitFor l) ≡ true
+  made-represents l m = unit-for-represents l (aside .fit (l .by) (m .by)) (m .listed) (awaits l m .0)
 
   missing-owner : (l : Listed) → Missing front l → Owner (l .by)
   missing-owner l m = lister-owner (l .by) (lister-kind (l .by) (aside .fit (l .by) (m .by)) (l .portion) (m .listed))
 
   -- the unit for it has no other owner
-  sole-owner : (l : Listed) → Missing front l → (e : Element) → e ∈ front → owns e (unitFor l) ≡ true → e ≡ l .by
+  sole-owner : (l : Listed) → Missing front l → (e : Element) → e ∈ front → isAssociated e (unitFor l) ≡ true → e ≡ l .by
   sole-owner l m e n t =
-      let (p, i, a) = owns-told e (unitFor l) t in
+      let (p, i, a) = associated-told e (unitFor l) t in
       let s : sideOf e ≡ sideOf (l .by) = unit-for-side l e p a in
       let x = all-in isPortion (e .portions) (aside .fit e n .portions) p i in
       let y = all-in isPortion (l .by .portions) (aside .fit (l .by) (m .by) .portions) (l .portion) (m .listed) in
-      let b = made-answers l m in
-      no-clash-one front (aside .apart) e (l .by) n (m .by) (answers-one e (l .by) p (l .portion) (unitFor l) s x y a b .0)
-      (answers-one (l .by) e (l .portion) p (unitFor l) (sym s) y x b a .0)
+      let b = made-represents l m in
+      no-clash-one front (aside .apart) e (l .by) n (m .by) (represents-one e (l .by) p (l .portion) (unitFor l) s x y a b .0)
+      (represents-one (l .by) e (l .portion) p (unitFor l) (sym s) y x b a .0)
 
-  -- so it answers elements of those kinds alone of which its owner is
-  made-some : (l : Listed) → Missing front l → (kinds : List ℕ) → answersSome kinds front (unitFor l) ≡ isIn (l .by .kind) kinds
+  -- so it is associated with elements of those kinds alone of which its owner is
+  made-some : (l : Listed) → Missing front l → (kinds : List ℕ) → representsSome kinds front (unitFor l) ≡ isIn (l .by .kind) kinds
   made-some l m kinds =
       cases (isIn (l .by .kind) kinds)
-      (λ t. some-of kinds front (unitFor l) (l .by) (m .by) t (owns-of (l .by) (unitFor l) (l .portion) (m .listed) (made-answers l m)) ∙ sym t)
-      (λ t. cases (answersSome kinds front (unitFor l))
+      (λ t. some-of kinds front (unitFor l) (l .by) (m .by) t (associated-of (l .by) (unitFor l) (l .portion) (m .listed) (made-represents l m)) ∙ sym t)
+      (λ t. cases (representsSome kinds front (unitFor l))
       (λ s. let (e, n, k, w) = some-told kinds front (unitFor l) s in
       absurd (true≢false (sym k ∙ ap (λ (x : Element). isIn (x .kind) kinds) (sole-owner l m e n w) ∙ t))) (λ s. s ∙ sym t))
 
@@ -216,19 +217,19 @@ module _ (front : List Element) (aside : LimitsAside front) (placed : Placed fro
       step (inl n) = let a = placed .tabled e n in let b = rank-complete e in omega arith
       step (inr n) = let (l, i, r) = more-rank e n in let a = awaited-below (l .by) (missing-owner l i) in omega arith
 
-  complete-whole : (e : Element) → e ∈ complete → allAnswered complete e ≡ true
+  complete-whole : (e : Element) → e ∈ complete → allRepresented complete e ≡ true
   complete-whole e m = step (List·Memᴰ·append-cases front m)
     where
-      one : e ∈ front → (p : List ℕ) → p ∈ e .portions → isAnswered complete e p ≡ true
+      one : e ∈ front → (p : List ℕ) → p ∈ e .portions → isRepresented complete e p ≡ true
       one n p i =
-          cases (isAnswered front e p) (λ t. answered-more front complete e p (λ u o. Memᴰ·append-left more o) t)
+          cases (isRepresented front e p) (λ t. represented-more front complete e p (λ u o. Memᴰ·append-left more o) t)
           (λ t. let l : Listed = record { by = e; portion = p } in
           let r = missing-of front e p n i t in
-          answered-of complete e p (unitFor l) (Memᴰ·append-right front (lacking-of front l r)) (made-answers l (missing-told front l r)))
+          represented-of complete e p (unitFor l) (Memᴰ·append-right front (lacking-of front l r)) (made-represents l (missing-told front l r)))
 
-      step : (e ∈ front) ⊎ (e ∈ more) → allAnswered complete e ≡ true
-      step (inl n) = all-answered-of complete e (one n)
-      step (inr n) = all-answered-of complete e (λ p i. absurd (List·Memᴰ·not-nil (rw (more-bare e n .0) at i)))
+      step : (e ∈ front) ⊎ (e ∈ more) → allRepresented complete e ≡ true
+      step (inl n) = all-represented-of complete e (one n)
+      step (inr n) = all-represented-of complete e (λ p i. absurd (List·Memᴰ·not-nil (rw (more-bare e n .0) at i)))
 
   abbrev kindA : ℕ
   kindA = orderedBy front
@@ -243,12 +244,12 @@ module _ (front : List Element) (aside : LimitsAside front) (placed : Placed fro
       (everything-append front more ∙ ap (λ (ls : List Listed). everything front ++ ls) (everything-none more (λ e m. more-bare e m .0)) ∙ append-nil (everything front))
 
   -- of what lacks, the ordered units are those for what the objects of that kind list
-  lacking-units : keep (answersSome (kindA ∷ []) complete) more ≡ map unitFor (keep (open-yet front kindA) (listedOf kindA front))
+  lacking-units : keep (representsSome (kindA ∷ []) complete) more ≡ map unitFor (keep (open-yet front kindA) (listedOf kindA front))
   unfolding lacking missing listedOf
   lacking-units =
-      keep-map (answersSome (kindA ∷ []) complete) unitFor (missing front)
+      keep-map (representsSome (kindA ∷ []) complete) unitFor (missing front)
       ∙ ap (map unitFor)
-      (keep-same (λ l. answersSome (kindA ∷ []) complete (unitFor l)) (λ l. eqb (l .by .kind) kindA) (missing front)
+      (keep-same (λ l. representsSome (kindA ∷ []) complete (unitFor l)) (λ l. eqb (l .by .kind) kindA) (missing front)
       (λ l m. some-complete (unitFor l) (kindA ∷ []) ∙ made-some l (missing-told front l m) (kindA ∷ []) ∙ is-kind (eqb (l .by .kind) kindA))
       ∙ keep-swap (λ l. eqb (l .by .kind) kindA) (open-yet front kindA) (everything front))
     where
@@ -258,9 +259,9 @@ module _ (front : List Element) (aside : LimitsAside front) (placed : Placed fro
 
   complete-units : unitsOf kindA complete ≡ unitsOf kindA front ++ map unitFor (keep (open-yet front kindA) (listedOf kindA front))
   complete-units =
-      keep-append (answersSome (kindA ∷ []) complete) front more
-      ∙ ap (λ (us : List Element). us ++ keep (answersSome (kindA ∷ []) complete) more)
-      (keep-same (answersSome (kindA ∷ []) complete) (answersSome (kindA ∷ []) front) front (λ x m. some-complete x (kindA ∷ [])))
+      keep-append (representsSome (kindA ∷ []) complete) front more
+      ∙ ap (λ (us : List Element). us ++ keep (representsSome (kindA ∷ []) complete) more)
+      (keep-same (representsSome (kindA ∷ []) complete) (representsSome (kindA ∷ []) front) front (λ x m. some-complete x (kindA ∷ [])))
       ∙ ap (λ (us : List Element). unitsOf kindA front ++ us) lacking-units
 
   listed-told : (l : Listed) → l ∈ listedOf kindA front → (l .by .kind ≡ kindA) × (l .by ∈ front) × (l .portion ∈ l .by .portions)
@@ -278,22 +279,22 @@ module _ (front : List Element) (aside : LimitsAside front) (placed : Placed fro
   complete-steps =
       let a : inStep (listedOf kindA front) (unitsOf kindA front ++ map unitFor (keep (open-yet front kindA) (listedOf kindA front))) ≡ true =
       all-in-step front kindA (listedOf kindA front) (unitsOf kindA front) (placed .in-step) listed-apart (λ l m. listed-told l m .0)
-      (λ u m. keep-in (answersSome (kindA ∷ []) front) front u m .0)
-      answering
-      (λ l m t. let r = listed-told l m in made-answers l (record { by = r .1; listed = r .2; unanswered = t })) in
+      (λ u m. keep-in (representsSome (kindA ∷ []) front) front u m .0)
+      representing
+      (λ l m t. let r = listed-told l m in made-represents l (record { by = r .1; listed = r .2; unrepresented = t })) in
       let b : inStep (listedOf kindA complete) (unitsOf kindA complete) ≡ true =
       subst (λ (ls : List Listed). inStep ls (unitsOf kindA complete) ≡ true) (sym complete-listed)
       (subst (λ (us : List Element). inStep (listedOf kindA front) us ≡ true) (sym complete-units) a) in
       subst (λ (k : ℕ). inStep (listedOf k complete) (unitsOf k complete) ≡ true) (sym complete-order) b
     where
-      answering : (l : Listed) → l ∈ listedOf kindA front → isAnswered front (l .by) (l .portion) ≡ true
-          → (u : Element) × (u ∈ unitsOf kindA front) × (answers (l .by) (l .portion) u ≡ true)
-      answering l m t =
+      representing : (l : Listed) → l ∈ listedOf kindA front → isRepresented front (l .by) (l .portion) ≡ true
+          → (u : Element) × (u ∈ unitsOf kindA front) × (represents (l .by) (l .portion) u ≡ true)
+      representing l m t =
           let (k, i, j) = listed-told l m in
-          let (u, n, w) = answered-told front (l .by) (l .portion) t in (
+          let (u, n, w) = represented-told front (l .by) (l .portion) t in (
             u,
-            keep-of (answersSome (kindA ∷ []) front) front u n
-                (some-of (kindA ∷ []) front u (l .by) i (kind-of (l .by) kindA k) (owns-of (l .by) u (l .portion) j w)),
+            keep-of (representsSome (kindA ∷ []) front) front u n
+                (some-of (kindA ∷ []) front u (l .by) i (kind-of (l .by) kindA k) (associated-of (l .by) u (l .portion) j w)),
             w,
           )
 
@@ -308,7 +309,7 @@ module _ (front : List Element) (aside : LimitsAside front) (placed : Placed fro
           step y (inl n) = p .1 y n
           step y (inr n) = lacking-others front y n
 
-  complete-begins : Begins classA front
+  complete-begins : Begins A front
   complete-begins =
       record {
         more = more;
@@ -322,22 +323,22 @@ module _ (front : List Element) (aside : LimitsAside front) (placed : Placed fro
         };
       }
 
-begins-some : (x : Element) (xs : List Element) → LimitsAside (x ∷ xs) → beginsA (x ∷ xs) ≡ true → Begins classA (x ∷ xs)
+begins-some : (x : Element) (xs : List Element) → LimitsAside (x ∷ xs) → beginsA (x ∷ xs) ≡ true → Begins A (x ∷ xs)
 unfolding beginsA
 begins-some x xs a t =
     let r = both (placedA (x ∷ xs)) (all (map (mayCome (x ∷ xs)) (x ∷ xs))) t in
     complete-begins (x ∷ xs) a (placed-told (x ∷ xs) (r .0)) (all-in (mayCome (x ∷ xs)) (x ∷ xs) (r .1))
 
 profile-passes : beginsA (aProfile ∷ []) ≡ true
-unfolding beginsA placedA profileFirst ascends rankA inStep listedOf orderedBy keep answersSome everything mayCome allAnswered owns rankIn
+unfolding beginsA placedA profileFirst ascends rankA inStep listedOf orderedBy keep representsSome everything mayCome allRepresented isAssociated rankIn
 profile-passes = refl
 
-pub begins-of : (front : List Element) → LimitsAside front → beginsA front ≡ true → Begins classA front
-begins-of [] a t = begins-front classA [] (aProfile ∷ []) (begins-some aProfile [] profile-aside profile-passes)
+pub begins-of : (front : List Element) → LimitsAside front → beginsA front ≡ true → Begins A front
+begins-of [] a t = begins-front A [] (aProfile ∷ []) (begins-some aProfile [] profile-aside profile-passes)
 begins-of (x ∷ xs) a t = begins-some x xs a t
 
 -- THE THEOREM for class A: the clauses compute whether elements begin a run in order, and whether they are in order.
-pub begins-exactly : (front : List Element) → LimitsAside front → (beginsA front ≡ true) ↔ Begins classA front
+pub begins-exactly : (front : List Element) → LimitsAside front → (beginsA front ≡ true) ↔ Begins A front
 begins-exactly front a = (begins-of front a, begins-told front)
 
 pub ordered-exactly : (elements : List Element) → (orderedA elements ≡ true) ↔ InOrderA elements

@@ -11,15 +11,16 @@ use borrow.Author.Tests.{eqb-true, eq-eqb}
 use borrow.Table.Steps.{cases}
 use Rattle.names.specs.Names.{isPortion}
 use Rattle.elements.specs.Judge.{Element, clash}
-use Rattle.order.specs.Answers.{_∈_, Ascending, named, sideOf, answers, owns, isAnswered, allAnswered, profileKind, ProfileFirst, NoClash, LimitsAside, Listed}
+use Rattle.order.specs.Represents.{_∈_, Ascending, named, sideOf, represents, isAssociated, isRepresented, allRepresented, profileKind, ProfileFirst, NoClash, LimitsAside, Listed}
 use Rattle.order.specs.ClassB.{rankB, Group, laid, Together, InOrderB}
-use Rattle.order.specs.Begins.{classB, Begins}
+use Rattle.order.specs.declared.Class.the-variants.{B}
+use Rattle.order.specs.Begins.{Begins}
 use Rattle.order.specs.ClausesB.{scanB, mayGoOn, beginsB, orderedB}
 use Rattle.order.specs.Missing.{missing, unitFor, lacking}
 use Rattle.order.proofs.Tests.{both, either, all-in}
 use Rattle.order.proofs.Fronts.{begins-front, aProfile, profile-aside}
-use Rattle.order.proofs.Answering.{answers-unit, answers-one, owns-told, owns-of, owns-unit, answered-told, answered-of, answered-more, all-answered-told, all-answered-of}
-use Rattle.order.proofs.Lacking.{Missing, missing-told, missing-of, unit-for-kind, unit-for-answers, lacking-told, lacking-of, lacking-aside}
+use Rattle.order.proofs.Representing.{represents-unit, represents-one, associated-told, associated-of, associated-unit, represented-told, represented-of, represented-more, all-represented-told, all-represented-of}
+use Rattle.order.proofs.Lacking.{Missing, missing-told, missing-of, unit-for-kind, unit-for-represents, lacking-told, lacking-of, lacking-aside}
 use Rattle.order.proofs.CutB.{headRank, not-unit, tabled-side, profile-tabled, unit-lists-none, laid-head, scan-whole, begins-told, Cut, cut, scan-others}
 
 -- so what passes is in order
@@ -64,11 +65,11 @@ pub ordered-told : (elements : List Element) → orderedB elements ≡ true → 
 unfolding orderedB
 ordered-told [] t = absurd (false≢true t)
 ordered-told (x ∷ xs) t =
-    let r = both (eqb (x .kind) profileKind) (scanB allAnswered x [] xs) t in
+    let r = both (eqb (x .kind) profileKind) (scanB allRepresented x [] xs) t in
     let k : x .kind ≡ profileKind = eqb-true (x .kind) profileKind (r .0) in
-    let c = cut allAnswered x [] xs (profile-tabled x k) (λ v m. absurd (List·Memᴰ·not-nil m)) (r .1) in
+    let c = cut allRepresented x [] xs (profile-tabled x k) (λ v m. absurd (List·Memᴰ·not-nil m)) (r .1) in
     record {
-      profile = (k, scan-others allAnswered x [] xs (r .1));
+      profile = (k, scan-others allRepresented x [] xs (r .1));
       groups = c .closed ++ c .last ∷ [];
       laid-out = c .same ∙ rw (laid-append (c .closed) (c .last ∷ []), append-nil (c .last .units));
       together = last-together (c .closed) (c .last) (c .together) (record { tabled = c .tabled; own = c .own; whole = c .ends });
@@ -165,72 +166,72 @@ module _ (h : Element) (xs : List Element) (aside : LimitsAside (h ∷ xs)) (c :
     where
       by-place : Stands (l .by) → l .by ≡ head
       by-place (heads g n p) =
-          let t : isAnswered (g .units) (g .head) (l .portion) ≡ true =
-          all-answered-told (g .units) (g .head) (c .together g n .whole) (l .portion) (subst (λ (e : Element). l .portion ∈ e .portions) p (m .listed)) in
-          let s : isAnswered front (g .head) (l .portion) ≡ true =
-          answered-more (g .units) front (g .head) (l .portion) (λ u o. closed-in-front u (laid-units (c .closed) g n u o)) t in
-          absurd (true≢false (sym s ∙ ap (λ (e : Element). isAnswered front e (l .portion)) (sym p) ∙ m .unanswered))
-      by-place (follows g n p) = absurd (unit-lists-none (l .by) (aside .fit (l .by) (m .by)) (owns-unit (g .head) (l .by) (c .together g n .own (l .by) p)) (l .portion) (m .listed))
+          let t : isRepresented (g .units) (g .head) (l .portion) ≡ true =
+          all-represented-told (g .units) (g .head) (c .together g n .whole) (l .portion) (subst (λ (e : Element). l .portion ∈ e .portions) p (m .listed)) in
+          let s : isRepresented front (g .head) (l .portion) ≡ true =
+          represented-more (g .units) front (g .head) (l .portion) (λ u o. closed-in-front u (laid-units (c .closed) g n u o)) t in
+          absurd (true≢false (sym s ∙ ap (λ (e : Element). isRepresented front e (l .portion)) (sym p) ∙ m .unrepresented))
+      by-place (follows g n p) = absurd (unit-lists-none (l .by) (aside .fit (l .by) (m .by)) (associated-unit (g .head) (l .by) (c .together g n .own (l .by) p)) (l .portion) (m .listed))
       by-place (heads-last p) = p
-      by-place (follows-last p) = absurd (unit-lists-none (l .by) (aside .fit (l .by) (m .by)) (owns-unit head (l .by) (c .own (l .by) p)) (l .portion) (m .listed))
+      by-place (follows-last p) = absurd (unit-lists-none (l .by) (aside .fit (l .by) (m .by)) (associated-unit head (l .by) (c .own (l .by) p)) (l .portion) (m .listed))
 
   -- and it has an identifier
-  missing-named : (p : List ℕ) → p ∈ head .portions → isAnswered front head p ≡ false → named head ≡ true
+  missing-named : (p : List ℕ) → p ∈ head .portions → isRepresented front head p ≡ false → named head ≡ true
   unfolding mayGoOn
-  missing-named p m u = which (either (allAnswered units head) (named head) (c .ends))
+  missing-named p m u = which (either (allRepresented units head) (named head) (c .ends))
     where
-      which : (allAnswered units head ≡ true) ⊎ (named head ≡ true) → named head ≡ true
-      which (inl t) = absurd (true≢false (sym (answered-more units front head p unit-in-front (all-answered-told units head t p m)) ∙ u))
+      which : (allRepresented units head ≡ true) ⊎ (named head ≡ true) → named head ≡ true
+      which (inl t) = absurd (true≢false (sym (represented-more units front head p unit-in-front (all-represented-told units head t p m)) ∙ u))
       which (inr t) = t
 
   -- a unit for it is the last head's own
-  lacking-own : (u : Element) → ((l : Listed) × (l ∈ missing front) × (unitFor l ≡ u)) → owns head u ≡ true
+  lacking-own : (u : Element) → ((l : Listed) × (l ∈ missing front) × (unitFor l ≡ u)) → isAssociated head u ≡ true
   lacking-own u (l, m, i) =
       let r = missing-told front l m in
       let p : l .by ≡ head = missing-last l r in
       let listed : l .portion ∈ head .portions = subst (λ (e : Element). l .portion ∈ e .portions) p (r .listed) in
-      let n : named (l .by) ≡ true = ap named p ∙ missing-named (l .portion) listed (ap (λ (e : Element). isAnswered front e (l .portion)) (sym p) ∙ r .unanswered) in
-      let o : owns (l .by) (unitFor l) ≡ true = owns-of (l .by) (unitFor l) (l .portion) (r .listed) (unit-for-answers l (aside .fit (l .by) (r .by)) (r .listed) n) in
-      sym (ap (λ (e : Element). owns e u) p) ∙ ap (owns (l .by)) (sym i) ∙ o
+      let n : named (l .by) ≡ true = ap named p ∙ missing-named (l .portion) listed (ap (λ (e : Element). isRepresented front e (l .portion)) (sym p) ∙ r .unrepresented) in
+      let o : isAssociated (l .by) (unitFor l) ≡ true = associated-of (l .by) (unitFor l) (l .portion) (r .listed) (unit-for-represents l (aside .fit (l .by) (r .by)) (r .listed) n) in
+      sym (ap (λ (e : Element). isAssociated e u) p) ∙ ap (isAssociated (l .by)) (sym i) ∙ o
 
-  -- no unit of another group answers the last head
-  answered-near : (p : List ℕ) → p ∈ head .portions → isAnswered front head p ≡ true → isAnswered units head p ≡ true
-  answered-near p m t = let r = answered-told front head p t in by-place (r .0) (r .2) (stands (r .0) (r .1))
+  -- no unit of another group is associated with the last head
+  represented-near : (p : List ℕ) → p ∈ head .portions → isRepresented front head p ≡ true → isRepresented units head p ≡ true
+  represented-near p m t = let r = represented-told front head p t in by-place (r .0) (r .2) (stands (r .0) (r .1))
     where
-      by-place : (u : Element) → answers head p u ≡ true → Stands u → isAnswered units head p ≡ true
-      by-place u a (heads g n q) = absurd (not-unit (g .head) (c .together g n .tabled) (ap (λ (e : Element). e .kind) (sym q) ∙ answers-unit head p u a))
+      by-place : (u : Element) → represents head p u ≡ true → Stands u → isRepresented units head p ≡ true
+      by-place u a (heads g n q) = absurd (not-unit (g .head) (c .together g n .tabled) (ap (λ (e : Element). e .kind) (sym q) ∙ represents-unit head p u a))
       by-place u a (follows g n q) =
-          let o = owns-told (g .head) u (c .together g n .own u q) in
+          let o = associated-told (g .head) u (c .together g n .own u q) in
           let s : sideOf (g .head) ≡ sideOf head = tabled-side (g .head) (o .0) u (c .together g n .tabled) (o .2) ∙ sym (tabled-side head p u (c .tabled) a) in
           let inside = laid-head (c .closed) g n in
-          let one = answers-one (g .head) head (o .0) p u s
+          let one = represents-one (g .head) head (o .0) p u s
           (all-in isPortion (g .head .portions) (aside .fit (g .head) (closed-in-front (g .head) inside) .portions) (o .0) (o .1))
           (all-in isPortion (head .portions) (aside .fit head head-in-front .portions) p m) (o .2) a in
           absurd (true≢false (sym (one .0) ∙ no-clash-split (laid (c .closed)) (head ∷ units) (subst NoClash (c .same) (aside .apart)) (g .head) head inside (List·Memᴰ·head refl)))
-      by-place u a (heads-last q) = absurd (not-unit head (c .tabled) (ap (λ (e : Element). e .kind) (sym q) ∙ answers-unit head p u a))
-      by-place u a (follows-last q) = answered-of units head p u q a
+      by-place u a (heads-last q) = absurd (not-unit head (c .tabled) (ap (λ (e : Element). e .kind) (sym q) ∙ represents-unit head p u a))
+      by-place u a (follows-last q) = represented-of units head p u q a
 
   made-whole : Together (record { head = head; units = units ++ lacking front })
   made-whole =
       record {
         tabled = c .tabled;
         own = λ u m. own u (List·Memᴰ·append-cases units m);
-        whole = all-answered-of (units ++ lacking front) head (λ p m. cases (isAnswered front head p) (near p m) (made p m));
+        whole = all-represented-of (units ++ lacking front) head (λ p m. cases (isRepresented front head p) (near p m) (made p m));
       }
     where
-      own : (u : Element) → (u ∈ units) ⊎ (u ∈ lacking front) → owns head u ≡ true
+      own : (u : Element) → (u ∈ units) ⊎ (u ∈ lacking front) → isAssociated head u ≡ true
       own u (inl n) = c .own u n
       own u (inr n) = lacking-own u (lacking-told front u n)
 
-      near : (p : List ℕ) → p ∈ head .portions → isAnswered front head p ≡ true → isAnswered (units ++ lacking front) head p ≡ true
-      near p m t = answered-more units (units ++ lacking front) head p (λ u n. Memᴰ·append-left (lacking front) n) (answered-near p m t)
+      near : (p : List ℕ) → p ∈ head .portions → isRepresented front head p ≡ true → isRepresented (units ++ lacking front) head p ≡ true
+      near p m t = represented-more units (units ++ lacking front) head p (λ u n. Memᴰ·append-left (lacking front) n) (represented-near p m t)
 
-      made : (p : List ℕ) → p ∈ head .portions → isAnswered front head p ≡ false → isAnswered (units ++ lacking front) head p ≡ true
+      made : (p : List ℕ) → p ∈ head .portions → isRepresented front head p ≡ false → isRepresented (units ++ lacking front) head p ≡ true
       made p m t =
           let l : Listed = record { by = head; portion = p } in
-          answered-of (units ++ lacking front) head p (unitFor l)
+          represented-of (units ++ lacking front) head p (unitFor l)
           (Memᴰ·append-right units (lacking-of front l (missing-of front head p head-in-front m t)))
-          (unit-for-answers l (aside .fit head head-in-front) m (missing-named p m t))
+          (unit-for-represents l (aside .fit head head-in-front) m (missing-named p m t))
 
 -- what lacks is units, so no profile
 pub lacking-others : (es : List Element) (y : Element) → y ∈ lacking es → y .kind ≡ profileKind → ⊥
@@ -240,7 +241,7 @@ lacking-others es y m k = step (lacking-told es y m)
     step (l, n, i) = let z : _≡_ {A = ℕ} 3 0 = sym (unit-for-kind l) ∙ ap (λ (e : Element). e .kind) i ∙ k in omega arith
 
 -- so a front that passes begins a run in order
-begins-some : (x : Element) (xs : List Element) → LimitsAside (x ∷ xs) → beginsB (x ∷ xs) ≡ true → Begins classB (x ∷ xs)
+begins-some : (x : Element) (xs : List Element) → LimitsAside (x ∷ xs) → beginsB (x ∷ xs) ≡ true → Begins B (x ∷ xs)
 unfolding beginsB
 begins-some x xs a t =
     let r = both (eqb (x .kind) profileKind) (scanB mayGoOn x [] xs) t in
@@ -257,15 +258,15 @@ begins-some x xs a t =
     others y s (inr m) = lacking-others (x ∷ xs) y m
 
 profile-passes : beginsB (aProfile ∷ []) ≡ true
-unfolding beginsB scanB mayGoOn allAnswered
+unfolding beginsB scanB mayGoOn allRepresented
 profile-passes = refl
 
-pub begins-of : (front : List Element) → LimitsAside front → beginsB front ≡ true → Begins classB front
-begins-of [] a t = begins-front classB [] (aProfile ∷ []) (begins-some aProfile [] profile-aside profile-passes)
+pub begins-of : (front : List Element) → LimitsAside front → beginsB front ≡ true → Begins B front
+begins-of [] a t = begins-front B [] (aProfile ∷ []) (begins-some aProfile [] profile-aside profile-passes)
 begins-of (x ∷ xs) a t = begins-some x xs a t
 
 -- THE THEOREM for class B: the pass computes whether elements begin a run in order, and whether they are in order.
-pub begins-exactly : (front : List Element) → LimitsAside front → (beginsB front ≡ true) ↔ Begins classB front
+pub begins-exactly : (front : List Element) → LimitsAside front → (beginsB front ≡ true) ↔ Begins B front
 begins-exactly front a = (begins-of front a, begins-told front)
 
 pub ordered-exactly : (elements : List Element) → (orderedB elements ≡ true) ↔ InOrderB elements

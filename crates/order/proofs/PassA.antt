@@ -11,15 +11,15 @@ use borrow.Table.Steps.{cases}
 use Rattle.headers.specs.Head.{isIn}
 use Rattle.portions.specs.Portions.{all}
 use Rattle.elements.specs.Judge.{Element}
-use Rattle.order.specs.Answers.{_∈_, isAnswered, allAnswered, profileKind, FitAside, LimitsAside, Listed, everything, keep}
-use Rattle.order.specs.ClassB.{rankIn}
-use Rattle.order.specs.ClassA.{endA, classKinds, objectKinds, answersSome, rankA, orderedBy, listedOf, unitsOf, inStep}
+use Rattle.order.specs.Represents.{_∈_, isRepresented, allRepresented, profileKind, FitAside, LimitsAside, Listed, everything, keep}
+use Rattle.order.specs.Ranks.{rankIn}
+use Rattle.order.specs.ClassA.{endA, classKinds, objectKinds, representsSome, rankA, orderedBy, listedOf, unitsOf, inStep}
 use Rattle.order.specs.ClausesA.{profileFirst, mayCome, placedA, beginsA, orderedA}
-use Rattle.order.specs.Begins.{classA}
+use Rattle.order.specs.declared.Class.the-variants.{A}
 use Rattle.order.specs.Fault.{faultFrom, faultOf}
 use Rattle.order.specs.PassA.{listedIn, sightA, sightsA, StateA, nextA, passA, noneA, placeA}
 use Rattle.order.proofs.Tests.{both, all-in, all-of}
-use Rattle.order.proofs.Answering.{owns-unit, all-answered-told, all-answered-of}
+use Rattle.order.proofs.Representing.{associated-unit, all-represented-told, all-represented-of}
 use Rattle.order.proofs.Lacking.{Missing, lister-kind}
 use Rattle.order.proofs.Keeping.{keep-none, everything-none}
 use Rattle.order.proofs.RanksA.{some-told, Owner, class, object, lister-owner}
@@ -28,32 +28,32 @@ use Rattle.order.proofs.Place.{aside-left}
 use Rattle.order.proofs.SightsA.{no-member, isOpen, openIn, open-of, open-told, empty-step, begins-parts, Holds, passing-told, and-of}
 use Rattle.order.proofs.StepA.{begins-placed, tests-exactly, holds-next}
 
--- at the end: all is answered exactly when nothing is open
+-- at the end: all is represented exactly when nothing is open
 module _ (front : List Element) (aside : LimitsAside front) (placed : Placed front) (s : StateA) (holds : Holds front s) where
-  closed-all : eqb (s .generic) 0 && eqb (s .specific) 0 ≡ true → (e : Element) → e ∈ front → allAnswered front e ≡ true
+  closed-all : eqb (s .generic) 0 && eqb (s .specific) 0 ≡ true → (e : Element) → e ∈ front → allRepresented front e ≡ true
   closed-all t e m =
-      all-answered-of front e
-      (λ p n. cases (isAnswered front e p) (λ u. u)
-      (λ u. absurd (none (both (eqb (s .generic) 0) (eqb (s .specific) 0) t) (record { by = e; portion = p }) (record { by = m; listed = n; unanswered = u }) (lister-owner e (lister-kind e (aside .fit e m) p n)))))
+      all-represented-of front e
+      (λ p n. cases (isRepresented front e p) (λ u. u)
+      (λ u. absurd (none (both (eqb (s .generic) 0) (eqb (s .specific) 0) t) (record { by = e; portion = p }) (record { by = m; listed = n; unrepresented = u }) (lister-owner e (lister-kind e (aside .fit e m) p n)))))
     where
       none : (eqb (s .generic) 0 ≡ true) × (eqb (s .specific) 0 ≡ true) → (l : Listed) → Missing front l → Owner (l .by) → ⊥
       none (g, c) l i (class k) = let a = open-of classKinds front l i k in let b = eqb-true (s .generic) 0 g in let d = holds .generic-is in omega arith
       none (g, c) l i (object k) = let a = open-of objectKinds front l i k in let b = eqb-true (s .specific) 0 c in let d = holds .specific-is in omega arith
 
-  all-closed : ((e : Element) → e ∈ front → allAnswered front e ≡ true) → (kinds : List ℕ) → length (openIn kinds front) ≡ 0
+  all-closed : ((e : Element) → e ∈ front → allRepresented front e ≡ true) → (kinds : List ℕ) → length (openIn kinds front) ≡ 0
   all-closed h kinds =
       ap length (no-member (openIn kinds front)
       (λ l m. let (miss, k) = open-told kinds front l m in
-      true≢false (sym (all-answered-told front (l .by) (h (l .by) (miss .by)) (l .portion) (miss .listed)) ∙ miss .unanswered)))
+      true≢false (sym (all-represented-told front (l .by) (h (l .by) (miss .by)) (l .portion) (miss .listed)) ∙ miss .unrepresented)))
 
   end-exactly : orderedA front ≡ eqb (s .generic) 0 && eqb (s .specific) 0
   unfolding orderedA
   end-exactly =
       rw (placed-of front placed)
       (cases (eqb (s .generic) 0 && eqb (s .specific) 0)
-      (λ t. all-of (allAnswered front) front (closed-all t) ∙ sym t)
-      (λ t. cases (all (map (allAnswered front) front))
-      (λ u. let h = all-in (allAnswered front) front u in
+      (λ t. all-of (allRepresented front) front (closed-all t) ∙ sym t)
+      (λ t. cases (all (map (allRepresented front) front))
+      (λ u. let h = all-in (allRepresented front) front u in
       let g = all-closed h classKinds in let c = all-closed h objectKinds in
       let zg : s .generic ≡ 0 = holds .generic-is ∙ g in
       let zc : s .specific ≡ 0 = holds .specific-is ∙ c in
@@ -61,7 +61,7 @@ module _ (front : List Element) (aside : LimitsAside front) (placed : Placed fro
       (λ u. u ∙ sym t)))
 
 pass-finds : (rest front : List Element) (s : StateA) (n : ℕ) → LimitsAside (front ++ rest) → Placed front → ((e : Element) → e ∈ front → mayCome front e ≡ true) → Holds front s
-    → n ≡ length front → passA s n (sightsA front rest) ≡ faultFrom classA front rest
+    → n ≡ length front → passA s n (sightsA front rest) ≡ faultFrom A front rest
 unfolding passA faultFrom
 pass-finds [] front s n a p m h i = rw (end-exactly front (subst LimitsAside (append-nil front) a) p s h, i)
 pass-finds (x ∷ xs) front s n a p m h i =
@@ -96,10 +96,10 @@ module _ (x : Element) (fit : FitAside x) (profile : x .kind ≡ profileKind) wh
 
   alone-units : (kind : ℕ) → unitsOf kind alone ≡ []
   alone-units kind =
-      keep-none (answersSome (kind ∷ []) alone) alone
-      (λ y m. cases (answersSome (kind ∷ []) alone y)
+      keep-none (representsSome (kind ∷ []) alone) alone
+      (λ y m. cases (representsSome (kind ∷ []) alone y)
       (λ t. let (e, n, k, o) = some-told (kind ∷ []) alone y t in
-      let u = owns-unit e y o in let v = in-alone (λ z. z .kind ≡ profileKind) profile y m in absurd (omega arith)) (λ t. t))
+      let u = associated-unit e y o in let v = in-alone (λ z. z .kind ≡ profileKind) profile y m in absurd (omega arith)) (λ t. t))
 
   pub alone-placed : Placed alone
   alone-placed =
@@ -113,7 +113,7 @@ module _ (x : Element) (fit : FitAside x) (profile : x .kind ≡ profileKind) wh
   alone-may : (e : Element) → e ∈ alone → mayCome alone e ≡ true
   unfolding mayCome
   alone-may e m =
-      let t : allAnswered alone e ≡ true = all-answered-of alone e (λ p n. absurd (List·Memᴰ·not-nil (rw (in-alone (λ y. y .portions ≡ []) alone-bare e m) at n))) in
+      let t : allRepresented alone e ≡ true = all-represented-of alone e (λ p n. absurd (List·Memᴰ·not-nil (rw (in-alone (λ y. y .portions ≡ []) alone-bare e m) at n))) in
       rw t
 
   alone-open : (kinds : List ℕ) → length (openIn kinds alone) ≡ 0
@@ -131,7 +131,7 @@ module _ (x : Element) (fit : FitAside x) (profile : x .kind ≡ profileKind) wh
       }
 
 -- THE LAW of the pass: it finds what the definition says
-pub pass-exactly : (elements : List Element) → LimitsAside elements → placeA (sightsA [] elements) ≡ faultOf classA elements
+pub pass-exactly : (elements : List Element) → LimitsAside elements → placeA (sightsA [] elements) ≡ faultOf A elements
 unfolding placeA faultFrom orderedA placedA profileFirst
 pass-exactly [] a = refl
 pass-exactly (x ∷ xs) a =

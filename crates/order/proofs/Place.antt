@@ -10,21 +10,25 @@ use lib.Dec.{ltb}
 use borrow.Author.Tests.{ltb-true, ltb-false}
 use borrow.Table.Steps.{cases}
 use Rattle.elements.specs.Judge.{Element}
-use Rattle.order.specs.Answers.{NoClash, LimitsAside}
-use Rattle.order.specs.Begins.{Class, classA, classB, InOrder, Begins, FaultAt}
-use Rattle.order.specs.Fault.{begins, ordered, Found, in-order, fault, faultFrom, faultOf}
+use Rattle.order.specs.Represents.{NoClash, LimitsAside}
+use Rattle.order.specs.declared.Class.{Class}
+use Rattle.order.specs.declared.Class.the-variants.{A, B}
+use Rattle.order.specs.Begins.{InOrder, Begins, FaultAt}
+use Rattle.order.specs.declared.Fault.{Fault}
+use Rattle.order.specs.declared.Fault.the-variants.{Nowhere, At}
+use Rattle.order.specs.Fault.{begins, ordered, faultFrom, faultOf}
 use Rattle.order.proofs.Fronts.{begins-front, whole-begins}
-use Rattle.order.proofs.OrderA as A
-use Rattle.order.proofs.OrderB as B
+use Rattle.order.proofs.OrderA as OfA
+use Rattle.order.proofs.OrderB as OfB
 
 -- THE THEOREM, for both classes: what is computed is what it is to begin a run in order, and to be in order
 pub begins-exactly : (class : Class) (front : List Element) → LimitsAside front → (begins class front ≡ true) ↔ Begins class front
-begins-exactly classA front a = A.begins-exactly front a
-begins-exactly classB front a = B.begins-exactly front a
+begins-exactly A front a = OfA.begins-exactly front a
+begins-exactly B front a = OfB.begins-exactly front a
 
 pub ordered-exactly : (class : Class) (elements : List Element) → (ordered class elements ≡ true) ↔ InOrder class elements
-ordered-exactly classA elements = A.ordered-exactly elements
-ordered-exactly classB elements = B.ordered-exactly elements
+ordered-exactly A elements = OfA.ordered-exactly elements
+ordered-exactly B elements = OfB.ordered-exactly elements
 
 -- there is one place at most
 pub place-determined : (class : Class) (elements : List Element) (m n : ℕ) → FaultAt class elements m → FaultAt class elements n → m ≡ n
@@ -76,9 +80,9 @@ take-through [] x xs = refl
 take-through (y ∷ front) x xs = ap (λ (l : List Element). y ∷ l) (take-through front x xs)
 
 -- what is found, after a front all of whose fronts begin
-abbrev Tells : Class → List Element → Found → Type 0
-Tells class elements in-order = InOrder class elements
-Tells class elements (fault n) = FaultAt class elements n
+abbrev Tells : Class → List Element → Fault → Type 0
+Tells class elements Nowhere = InOrder class elements
+Tells class elements (At n) = FaultAt class elements n
 
 module _ (class : Class) where
   tells-from : (front rest : List Element) → LimitsAside (front ++ rest) → ((k : ℕ) → k < length front → Begins class (take (suc k) (front ++ rest)))
@@ -123,20 +127,20 @@ module _ (class : Class) where
   pub found-tells : (elements : List Element) → LimitsAside elements → Tells class elements (faultOf class elements)
   found-tells elements a = tells-from [] elements a (λ k l. absurd (omega arith))
 
-  found-told : (elements : List Element) → LimitsAside elements → (f : Found) → faultOf class elements ≡ f → Tells class elements f
+  found-told : (elements : List Element) → LimitsAside elements → (f : Fault) → faultOf class elements ≡ f → Tells class elements f
   found-told elements a f e = subst (Tells class elements) e (found-tells elements a)
 
   -- 26 at a place exactly when that is the place, and in order exactly when it is
-  pub fault-exactly : (elements : List Element) → LimitsAside elements → (n : ℕ) → (faultOf class elements ≡ fault n) ↔ FaultAt class elements n
-  fault-exactly elements a n = (found-told elements a (fault n), λ f. from (faultOf class elements) (found-tells elements a) f)
+  pub fault-exactly : (elements : List Element) → LimitsAside elements → (n : ℕ) → (faultOf class elements ≡ At n) ↔ FaultAt class elements n
+  fault-exactly elements a n = (found-told elements a (At n), λ f. from (faultOf class elements) (found-tells elements a) f)
     where
-      from : (g : Found) → Tells class elements g → FaultAt class elements n → g ≡ fault n
-      from in-order o f = absurd (in-order-none class elements a o n f)
-      from (fault m) h f = ap fault (place-determined class elements m n h f)
+      from : (g : Fault) → Tells class elements g → FaultAt class elements n → g ≡ At n
+      from Nowhere o f = absurd (in-order-none class elements a o n f)
+      from (At m) h f = ap At (place-determined class elements m n h f)
 
-  pub in-order-exactly : (elements : List Element) → LimitsAside elements → (faultOf class elements ≡ in-order) ↔ InOrder class elements
-  in-order-exactly elements a = (found-told elements a in-order, λ o. from (faultOf class elements) (found-tells elements a) o)
+  pub in-order-exactly : (elements : List Element) → LimitsAside elements → (faultOf class elements ≡ Nowhere) ↔ InOrder class elements
+  in-order-exactly elements a = (found-told elements a Nowhere, λ o. from (faultOf class elements) (found-tells elements a) o)
     where
-      from : (g : Found) → Tells class elements g → InOrder class elements → g ≡ in-order
-      from in-order p o = refl
-      from (fault m) h o = absurd (in-order-none class elements a o m h)
+      from : (g : Fault) → Tells class elements g → InOrder class elements → g ≡ Nowhere
+      from Nowhere p o = refl
+      from (At m) h o = absurd (in-order-none class elements a o m h)

@@ -12,16 +12,16 @@ use borrow.Table.Steps.{cases}
 use Rattle.headers.specs.Head.{isIn}
 use Rattle.portions.specs.Portions.{all, any}
 use Rattle.elements.specs.Judge.{Element, clash}
-use Rattle.order.specs.Answers.{_∈_, named, answers, isAnswered, profileKind, Listed, everything, keep}
-use Rattle.order.specs.ClassA.{endA, genericRank, specificRank, classKinds, objectKinds, answersSome, rankA, orderedBy, unitsOf, inStep}
+use Rattle.order.specs.Represents.{_∈_, named, represents, isRepresented, profileKind, Listed, everything, keep}
+use Rattle.order.specs.ClassA.{endA, genericRank, specificRank, classKinds, objectKinds, representsSome, rankA, orderedBy, unitsOf, inStep}
 use Rattle.order.specs.ClausesA.{mayCome, placedA, beginsA}
-use Rattle.order.specs.PassA.{listedIn, answersOf, slotIn, SightA, StateA, rankSeen, testsA}
+use Rattle.order.specs.PassA.{listedIn, representsOf, slotIn, SightA, StateA, rankSeen, testsA}
 use Rattle.order.proofs.Tests.{both}
-use Rattle.order.proofs.Answering.{owns-told, owns-of}
+use Rattle.order.proofs.Representing.{associated-told, associated-of}
 use Rattle.order.proofs.Lacking.{keep-in, keep-of, everything-in, everything-of, Missing}
 use Rattle.order.proofs.Keeping.{keep-none}
 use Rattle.order.proofs.RanksA.{some-told, some-of}
-use Rattle.order.proofs.Counting.{answer-clash}
+use Rattle.order.proofs.Counting.{represent-clash}
 
 module _ {A : Type 0} where
   pub no-member : (xs : List A) → ((x : A) → x ∈ xs → ⊥) → xs ≡ []
@@ -63,51 +63,51 @@ listed-in-of : (kinds : List ℕ) (es : List Element) (e : Element) (p : List �
 unfolding listedIn
 listed-in-of kinds es e p k m n = keep-of (λ (l : Listed). isIn (l .by .kind) kinds) (everything es) (record { by = e; portion = p }) (everything-of es e p m n) k
 
--- a unit answers some exactly when it answers one or more
-pub some-count : (kinds : List ℕ) (es : List Element) (x : Element) → answersSome kinds es x ≡ ltb 0 (answersOf (listedIn kinds es) x)
-unfolding answersOf
+-- a unit represents some exactly when it represents one or more
+pub some-count : (kinds : List ℕ) (es : List Element) (x : Element) → representsSome kinds es x ≡ ltb 0 (representsOf (listedIn kinds es) x)
+unfolding representsOf
 some-count kinds es x =
-    cases (answersSome kinds es x)
+    cases (representsSome kinds es x)
     (λ t. let (e, m, k, o) = some-told kinds es x t in
-    let (p, n, a) = owns-told e x o in
+    let (p, n, a) = associated-told e x o in
     t ∙ sym (lt-ltb 0 (length (keep test (listedIn kinds es)))
     (member-some (keep test (listedIn kinds es)) (record { by = e; portion = p }) (keep-of test (listedIn kinds es) (record { by = e; portion = p }) (listed-in-of kinds es e p k m n) a))))
     (λ t. t ∙ sym (ap (λ (ls : List Listed). ltb 0 (length ls)) (keep-none test (listedIn kinds es) (λ l m. none t l (listed-in-told kinds es l m)))))
   where
     test : Listed → Bool
-    test l = answers (l .by) (l .portion) x
+    test l = represents (l .by) (l .portion) x
 
-    none : answersSome kinds es x ≡ false → (l : Listed) → (isIn (l .by .kind) kinds ≡ true) × (l .by ∈ es) × (l .portion ∈ l .by .portions) → answers (l .by) (l .portion) x ≡ false
+    none : representsSome kinds es x ≡ false → (l : Listed) → (isIn (l .by .kind) kinds ≡ true) × (l .by ∈ es) × (l .portion ∈ l .by .portions) → represents (l .by) (l .portion) x ≡ false
     none t l (k, m, n) =
-        cases (answers (l .by) (l .portion) x)
-        (λ a. absurd (true≢false (sym (some-of kinds es x (l .by) m k (owns-of (l .by) x (l .portion) n a)) ∙ t))) (λ a. a)
+        cases (represents (l .by) (l .portion) x)
+        (λ a. absurd (true≢false (sym (some-of kinds es x (l .by) m k (associated-of (l .by) x (l .portion) n a)) ∙ t))) (λ a. a)
 
 -- slots
 pub slot-beyond : (n : ℕ) (ls : List Listed) (x : Element) → (slotIn n ls x ≡ 0) ⊎ (n < slotIn n ls x)
 unfolding slotIn
 slot-beyond n [] x = inl refl
-slot-beyond n (l ∷ ls) x = cases (answers (l .by) (l .portion) x) (λ t. rw t (inr (omega arith))) (λ t. rw t (step (slot-beyond (suc n) ls x)))
+slot-beyond n (l ∷ ls) x = cases (represents (l .by) (l .portion) x) (λ t. rw t (inr (omega arith))) (λ t. rw t (step (slot-beyond (suc n) ls x)))
   where
     step : (slotIn (suc n) ls x ≡ 0) ⊎ (suc n < slotIn (suc n) ls x) → (slotIn (suc n) ls x ≡ 0) ⊎ (n < slotIn (suc n) ls x)
     step (inl z) = inl z
     step (inr l) = inr (omega arith)
 
-pub slot-none : (n : ℕ) (ls : List Listed) (x : Element) → ((l : Listed) → l ∈ ls → answers (l .by) (l .portion) x ≡ true → ⊥) → slotIn n ls x ≡ 0
+pub slot-none : (n : ℕ) (ls : List Listed) (x : Element) → ((l : Listed) → l ∈ ls → represents (l .by) (l .portion) x ≡ true → ⊥) → slotIn n ls x ≡ 0
 unfolding slotIn
 slot-none n [] x h = refl
 slot-none n (l ∷ ls) x h =
-    cases (answers (l .by) (l .portion) x) (λ t. absurd (h l (List·Memᴰ·head refl) t)) (λ t. rw t (slot-none (suc n) ls x (λ k m. h k (List·Memᴰ·tail m))))
+    cases (represents (l .by) (l .portion) x) (λ t. absurd (h l (List·Memᴰ·head refl) t)) (λ t. rw t (slot-none (suc n) ls x (λ k m. h k (List·Memᴰ·tail m))))
 
-pub slot-some : (n : ℕ) (ls : List Listed) (x : Element) (l : Listed) → l ∈ ls → answers (l .by) (l .portion) x ≡ true → slotIn n ls x ≡ 0 → ⊥
+pub slot-some : (n : ℕ) (ls : List Listed) (x : Element) (l : Listed) → l ∈ ls → represents (l .by) (l .portion) x ≡ true → slotIn n ls x ≡ 0 → ⊥
 unfolding slotIn
 slot-some n [] x l m a z = List·Memᴰ·not-nil m
 slot-some n (k ∷ ls) x l m a z =
-    cases (answers (k .by) (k .portion) x)
+    cases (represents (k .by) (k .portion) x)
     (λ t. let y : suc n ≡ 0 = rw t at z in omega arith)
     (λ t. step t (λ i. slot-some (suc n) ls x l i a (rw t at z)) (List·Memᴰ·cases-cons m))
   where
-    step : answers (k .by) (k .portion) x ≡ false → (l ∈ ls → ⊥) → (l ≡ k) ⊎ (l ∈ ls) → ⊥
-    step t below (inl e) = true≢false (sym a ∙ ap (λ (j : Listed). answers (j .by) (j .portion) x) e ∙ t)
+    step : represents (k .by) (k .portion) x ≡ false → (l ∈ ls → ⊥) → (l ≡ k) ⊎ (l ∈ ls) → ⊥
+    step t below (inl e) = true≢false (sym a ∙ ap (λ (j : Listed). represents (j .by) (j .portion) x) e ∙ t)
     step t below (inr i) = below i
 
 -- one unit more is in step exactly when its slot is the next
@@ -116,7 +116,7 @@ pub slot-step : (n : ℕ) (ls : List Listed) (us : List Element) (x : Element) �
 unfolding inStep slotIn
 slot-step n [] [] x t c = sym (ne-eqb 0 (suc (n + 0)) (λ z. omega arith))
 slot-step n (l ∷ ls) [] x t c =
-    cases (answers (l .by) (l .portion) x)
+    cases (represents (l .by) (l .portion) x)
     (λ a. rw a (sym (eq-eqb (suc n) (suc (n + 0)) (omega arith))))
     (λ a. rw a (sym (ne-eqb (slotIn (suc n) ls x) (suc (n + 0)) (later (slot-beyond (suc n) ls x)))))
   where
@@ -125,21 +125,21 @@ slot-step n (l ∷ ls) [] x t c =
     later (inr l) e = omega arith
 slot-step n [] (u ∷ us) x t c = absurd (false≢true t)
 slot-step n (l ∷ ls) (u ∷ us) x t c =
-    let r = both (answers (l .by) (l .portion) u) (inStep ls us) t in
+    let r = both (represents (l .by) (l .portion) u) (inStep ls us) t in
     let i : suc (suc n + length us) ≡ suc (n + suc (length us)) = omega arith in
-    let other : answers (l .by) (l .portion) x ≡ false =
-    cases (answers (l .by) (l .portion) x) (λ a. absurd (true≢false (sym (answer-clash (l .by) (l .portion) u x (r .0) a) ∙ c u (List·Memᴰ·head refl)))) (λ a. a) in
+    let other : represents (l .by) (l .portion) x ≡ false =
+    cases (represents (l .by) (l .portion) x) (λ a. absurd (true≢false (sym (represent-clash (l .by) (l .portion) u x (r .0) a) ∙ c u (List·Memᴰ·head refl)))) (λ a. a) in
     rw (r .0, other, ← i) (slot-step (suc n) ls us x (r .1) (λ v m. c v (List·Memᴰ·tail m)))
 
 pub step-more : (ls ks : List Listed) (us : List Element) → inStep ls us ≡ true → inStep (ls ++ ks) us ≡ true
 unfolding inStep
 step-more ls ks [] t = refl
 step-more [] ks (u ∷ us) t = absurd (false≢true t)
-step-more (l ∷ ls) ks (u ∷ us) t = let r = both (answers (l .by) (l .portion) u) (inStep ls us) t in rw (r .0) (step-more ls ks us (r .1))
+step-more (l ∷ ls) ks (u ∷ us) t = let r = both (represents (l .by) (l .portion) u) (inStep ls us) t in rw (r .0) (step-more ls ks us (r .1))
 
--- what no unit of a front answers
+-- what no unit of a front represents
 abbrev pub isOpen : List Element → Listed → Bool
-isOpen es l = not (isAnswered es (l .by) (l .portion))
+isOpen es l = not (isRepresented es (l .by) (l .portion))
 
 unfoldable pub openIn : List ℕ → List Element → List Listed
 openIn kinds es = keep (isOpen es) (listedIn kinds es)
@@ -147,14 +147,14 @@ openIn kinds es = keep (isOpen es) (listedIn kinds es)
 pub open-of : (kinds : List ℕ) (es : List Element) (l : Listed) → Missing es l → isIn (l .by .kind) kinds ≡ true → 0 < length (openIn kinds es)
 unfolding openIn
 open-of kinds es l m k =
-    member-some (openIn kinds es) l (keep-of (isOpen es) (listedIn kinds es) l (listed-in-of kinds es (l .by) (l .portion) k (m .by) (m .listed)) (rw (m .unanswered)))
+    member-some (openIn kinds es) l (keep-of (isOpen es) (listedIn kinds es) l (listed-in-of kinds es (l .by) (l .portion) k (m .by) (m .listed)) (rw (m .unrepresented)))
 
 pub open-told : (kinds : List ℕ) (es : List Element) (l : Listed) → l ∈ openIn kinds es → Missing es l × (isIn (l .by .kind) kinds ≡ true)
 unfolding openIn
 open-told kinds es l m =
     let r = keep-in (isOpen es) (listedIn kinds es) l m in
     let (k, i, j) = listed-in-told kinds es l (r .0) in
-    (record { by = i; listed = j; unanswered = not-true (isAnswered es (l .by) (l .portion)) (r .1) }, k)
+    (record { by = i; listed = j; unrepresented = not-true (isRepresented es (l .by) (l .portion)) (r .1) }, k)
 
 pub empty-step : (ls : List Listed) → inStep ls [] ≡ true
 unfolding inStep
@@ -229,9 +229,9 @@ any-more f [] x = or-nothing (f x)
     or-nothing false = refl
 any-more f (y ∷ xs) x = cases (f y) (λ t. rw t) (λ t. rw t (any-more f xs x))
 
-pub answered-next : (es : List Element) (x e : Element) (p : List ℕ) → isAnswered (es ++ x ∷ []) e p ≡ isAnswered es e p || answers e p x
-unfolding isAnswered
-answered-next es x e p = any-more (answers e p) es x
+pub represented-next : (es : List Element) (x e : Element) (p : List ℕ) → isRepresented (es ++ x ∷ []) e p ≡ isRepresented es e p || represents e p x
+unfolding isRepresented
+represented-next es x e p = any-more (represents e p) es x
 
 pub not-or : (a b : Bool) → not (a || b) ≡ not a && not b
 not-or true b = refl

@@ -15,14 +15,15 @@ use Rattle.headers.specs.Head.{isIn}
 use Rattle.portions.specs.Portions.{all, any}
 use Rattle.elements.specs.Judge.{Element, clash}
 use Rattle.reading.specs.Match.{unitKind}
-use Rattle.order.specs.Answers.{_∈_, Ascending, named, answers, owns, isAnswered, allAnswered, profileKind, ProfileFirst, LimitsAside, Listed, listedBy, everything, keep}
-use Rattle.order.specs.ClassA.{endA, genericRank, specificRank, classKinds, objectKinds, answersSome, rankA, orderedBy, listedOf, unitsOf, inStep, InOrderA}
+use Rattle.order.specs.Represents.{_∈_, Ascending, named, represents, isAssociated, isRepresented, allRepresented, profileKind, ProfileFirst, LimitsAside, Listed, listedBy, everything, keep}
+use Rattle.order.specs.ClassA.{endA, genericRank, specificRank, classKinds, objectKinds, representsSome, rankA, orderedBy, listedOf, unitsOf, inStep, InOrderA}
 use Rattle.order.specs.ClausesA.{awaited, mayCome, placedA, beginsA}
-use Rattle.order.specs.Begins.{classA, Begins}
-use Rattle.order.specs.Fault.{in-order}
-use Rattle.order.specs.PassA.{listedIn, answersOf, SightA, sightA, StateA, rankSeen, testsA, countIf, nextA}
+use Rattle.order.specs.declared.Class.the-variants.{A}
+use Rattle.order.specs.Begins.{Begins}
+use Rattle.order.specs.declared.Fault.the-variants.{Nowhere}
+use Rattle.order.specs.PassA.{listedIn, representsOf, SightA, sightA, StateA, rankSeen, testsA, countIf, nextA}
 use Rattle.order.proofs.Tests.{both, either, all-in, all-of, any-of, any-in, any-none, all-not}
-use Rattle.order.proofs.Answering.{answers-unit, owns-told, owns-of, owns-unit, answered-told, answered-of, answered-more, all-answered-told}
+use Rattle.order.proofs.Representing.{represents-unit, associated-told, associated-of, associated-unit, represented-told, represented-of, represented-more, all-represented-told}
 use Rattle.order.proofs.Lacking.{keep-in, keep-of, everything-in, everything-of, Missing, lister-kind}
 use Rattle.order.proofs.CutB.{unit-lists-none}
 use Rattle.order.proofs.OrderB.{no-clash-split}
@@ -30,9 +31,9 @@ use Rattle.order.proofs.Keeping.{keep-append, keep-none, keep-all, keep
 use Rattle.order.proofs.RanksA.{some-told, some-of, Owner, class, object, lister-owner, object-rank, awaited-class, awaited-object, owned-rank, owner-below, rank-same}
 use Rattle.order.proofs.FrontA.{steps, Placed, placed-of, placed-told, of-kind, kind-of, ordered-object, ordered-same, owner-before}
 use Rattle.order.proofs.OrderA.{awaits, begins-of}
-use Rattle.order.proofs.Counting.{answer-clash}
+use Rattle.order.proofs.Counting.{represent-clash}
 use Rattle.order.proofs.Place.{aside-left}
-use Rattle.order.proofs.SightsA.{no-member, member-some, keep-split, keep-one, listed-in-told, some-count, slot-none, slot-some, slot-step, step-more, isOpen, openIn, open-of, open-told, empty-step, begins-parts, Holds, Passing, passing-told, passing-of, answered-next, not-or}
+use Rattle.order.proofs.SightsA.{no-member, member-some, keep-split, keep-one, listed-in-told, some-count, slot-none, slot-some, slot-step, step-more, isOpen, openIn, open-of, open-told, empty-step, begins-parts, Holds, Passing, passing-told, passing-of, represented-next, not-or}
 
 -- after a front that begins, one element
 module _ (front : List Element) (x : Element) (aside : LimitsAside (front ++ x ∷ [])) (placed : Placed front) (may : (e : Element) → e ∈ front → mayCome front e ≡ true) where
@@ -61,23 +62,23 @@ module _ (front : List Element) (x : Element) (aside : LimitsAside (front ++ x �
   unclashing : (u : Element) → u ∈ front → clash u x ≡ false
   unclashing u m = no-clash-split front (x ∷ []) (aside .apart) u x m (List·Memᴰ·head refl)
 
-  -- no portion of it is answered before it
-  module _ (late : (u : Element) → u ∈ front → owns x u ≡ true → ⊥) where
-    owns-none : (u : Element) → u ∈ longer → owns x u ≡ true → ⊥
-    owns-none = front-or late (λ t. let (p, m, a) = owns-told x x t in unit-lists-none x (aside .fit x x-in) (owns-unit x x t) p m)
+  -- no portion of it is represented before it
+  module _ (late : (u : Element) → u ∈ front → isAssociated x u ≡ true → ⊥) where
+    associated-none : (u : Element) → u ∈ longer → isAssociated x u ≡ true → ⊥
+    associated-none = front-or late (λ t. let (p, m, a) = associated-told x x t in unit-lists-none x (aside .fit x x-in) (associated-unit x x t) p m)
 
-    some-next : (kinds : List ℕ) (y : Element) → y ∈ longer → answersSome kinds longer y ≡ answersSome kinds front y
-    some-next kinds y m = cases (answersSome kinds front y) (λ t. up t ∙ sym t) (λ t. down t ∙ sym t)
+    some-next : (kinds : List ℕ) (y : Element) → y ∈ longer → representsSome kinds longer y ≡ representsSome kinds front y
+    some-next kinds y m = cases (representsSome kinds front y) (λ t. up t ∙ sym t) (λ t. down t ∙ sym t)
       where
-        up : answersSome kinds front y ≡ true → answersSome kinds longer y ≡ true
+        up : representsSome kinds front y ≡ true → representsSome kinds longer y ≡ true
         up t = let (e, n, k, w) = some-told kinds front y t in some-of kinds longer y e (in-longer e n) k w
 
-        down : answersSome kinds front y ≡ false → answersSome kinds longer y ≡ false
+        down : representsSome kinds front y ≡ false → representsSome kinds longer y ≡ false
         down t =
-            cases (answersSome kinds longer y)
+            cases (representsSome kinds longer y)
             (λ s. let (e, n, k, w) = some-told kinds longer y s in
-            absurd (front-or {P = λ e. isIn (e .kind) kinds ≡ true → owns e y ≡ true → ⊥}
-            (λ d i k w. true≢false (sym (some-of kinds front y d i k w) ∙ t)) (λ k w. owns-none y m w) e n k w)) (λ s. s)
+            absurd (front-or {P = λ e. isIn (e .kind) kinds ≡ true → isAssociated e y ≡ true → ⊥}
+            (λ d i k w. true≢false (sym (some-of kinds front y d i k w) ∙ t)) (λ k w. associated-none y m w) e n k w)) (λ s. s)
 
     rank-next : (y : Element) → y ∈ longer → rankA longer y ≡ rankA front y
     rank-next y m = rank-same longer front y (λ kinds. some-next kinds y m)
@@ -87,8 +88,8 @@ module _ (front : List Element) (x : Element) (aside : LimitsAside (front ++ x �
   rank-seen = rw (some-count classKinds front x, some-count objectKinds front x)
 
   -- the units, and what is listed, with one element more
-  some-unit : (kinds : List ℕ) (y : Element) → answersSome kinds front y ≡ true → y .kind ≡ unitKind
-  some-unit kinds y t = let (e, m, k, o) = some-told kinds front y t in owns-unit e y o
+  some-unit : (kinds : List ℕ) (y : Element) → representsSome kinds front y ≡ true → y .kind ≡ unitKind
+  some-unit kinds y t = let (e, m, k, o) = some-told kinds front y t in associated-unit e y o
 
   abbrev kindA : ℕ
   kindA = orderedBy front
@@ -104,25 +105,25 @@ module _ (front : List Element) (x : Element) (aside : LimitsAside (front ++ x �
   unfolding listedOf
   listed-kind kind e p k m n = keep-of (λ (l : Listed). eqb (l .by .kind) kind) (everything front) (record { by = e; portion = p }) (everything-of front e p m n) (eq-eqb (e .kind) kind k)
 
-  slot-zero : answersSome (kindA ∷ []) front x ≡ false → seen .slot ≡ 0
+  slot-zero : representsSome (kindA ∷ []) front x ≡ false → seen .slot ≡ 0
   slot-zero t =
       slot-none 0 (listedOf kindA front) x
       (λ l m a. let (k, i, j) = kind-listed kindA l m in
-      true≢false (sym (some-of (kindA ∷ []) front x (l .by) i (kind-of (l .by) kindA k) (owns-of (l .by) x (l .portion) j a)) ∙ t))
+      true≢false (sym (some-of (kindA ∷ []) front x (l .by) i (kind-of (l .by) kindA k) (associated-of (l .by) x (l .portion) j a)) ∙ t))
 
-  slot-not : answersSome (kindA ∷ []) front x ≡ true → seen .slot ≡ 0 → ⊥
+  slot-not : representsSome (kindA ∷ []) front x ≡ true → seen .slot ≡ 0 → ⊥
   slot-not t z =
       let (e, m, k, o) = some-told (kindA ∷ []) front x t in
-      let (p, n, a) = owns-told e x o in
+      let (p, n, a) = associated-told e x o in
       slot-some 0 (listedOf kindA front) x (record { by = e; portion = p }) (listed-kind kindA e p (of-kind e kindA k) m n) a z
 
-  module _ (late : (u : Element) → u ∈ front → owns x u ≡ true → ⊥) where
-    units-next : (kind : ℕ) → unitsOf kind longer ≡ unitsOf kind front ++ cond (answersSome (kind ∷ []) front x) (x ∷ []) []
+  module _ (late : (u : Element) → u ∈ front → isAssociated x u ≡ true → ⊥) where
+    units-next : (kind : ℕ) → unitsOf kind longer ≡ unitsOf kind front ++ cond (representsSome (kind ∷ []) front x) (x ∷ []) []
     units-next kind =
-        keep-append (answersSome (kind ∷ []) longer) front (x ∷ [])
-        ∙ ap (λ (us : List Element). us ++ keep (answersSome (kind ∷ []) longer) (x ∷ []))
-        (keep-same (answersSome (kind ∷ []) longer) (answersSome (kind ∷ []) front) front (λ y m. some-next late (kind ∷ []) y (in-longer y m)))
-        ∙ ap (λ (us : List Element). unitsOf kind front ++ us) (keep-one (answersSome (kind ∷ []) longer) x ∙ ap (λ (b : Bool). cond b (x ∷ []) []) (some-next late (kind ∷ []) x x-in))
+        keep-append (representsSome (kind ∷ []) longer) front (x ∷ [])
+        ∙ ap (λ (us : List Element). us ++ keep (representsSome (kind ∷ []) longer) (x ∷ []))
+        (keep-same (representsSome (kind ∷ []) longer) (representsSome (kind ∷ []) front) front (λ y m. some-next late (kind ∷ []) y (in-longer y m)))
+        ∙ ap (λ (us : List Element). unitsOf kind front ++ us) (keep-one (representsSome (kind ∷ []) longer) x ∙ ap (λ (b : Bool). cond b (x ∷ []) []) (some-next late (kind ∷ []) x x-in))
 
     listed-next : (kind : ℕ) → listedOf kind longer ≡ listedOf kind front ++ listedOf kind (x ∷ [])
     unfolding listedOf
@@ -146,18 +147,18 @@ module _ (front : List Element) (x : Element) (aside : LimitsAside (front ++ x �
       two : Element → Bool
       two e = eqb (e .kind) 2
 
-  no-units : ((e : Element) → e ∈ front → e .kind ≡ 2 → ⊥) → (y : Element) → answersSome (2 ∷ []) front y ≡ false
-  no-units h y = cases (answersSome (2 ∷ []) front y) (λ t. let (e, m, k, o) = some-told (2 ∷ []) front y t in absurd (h e m (of-kind e 2 k))) (λ t. t)
+  no-units : ((e : Element) → e ∈ front → e .kind ≡ 2 → ⊥) → (y : Element) → representsSome (2 ∷ []) front y ≡ false
+  no-units h y = cases (representsSome (2 ∷ []) front y) (λ t. let (e, m, k, o) = some-told (2 ∷ []) front y t in absurd (h e m (of-kind e 2 k))) (λ t. t)
 
   -- a unit lists nothing
-  unit-bare : (kinds : List ℕ) → answersSome kinds front x ≡ true → x .portions ≡ []
+  unit-bare : (kinds : List ℕ) → representsSome kinds front x ≡ true → x .portions ≡ []
   unit-bare kinds t = no-member (x .portions) (λ p m. unit-lists-none x (aside .fit x x-in) (some-unit kinds x t) p m)
 
   none-listed : x .portions ≡ [] → (kind : ℕ) → listedOf kind (x ∷ []) ≡ []
   unfolding listedOf keep
   none-listed e kind = ap (keep (λ l. eqb (l .by .kind) kind)) (everything-none (x ∷ []) (λ d m. ap (λ (y : Element). y .portions) (List·Memᴰ·eq-of-singleton m) ∙ e))
 
-  module _ (late : (u : Element) → u ∈ front → owns x u ≡ true → ⊥) where
+  module _ (late : (u : Element) → u ∈ front → isAssociated x u ≡ true → ⊥) where
     abbrev slots : Bool
     slots = eqb (seen .slot) 0 || eqb (seen .slot) (suc (length (unitsOf kindA front)))
 
@@ -165,17 +166,17 @@ module _ (front : List Element) (x : Element) (aside : LimitsAside (front ++ x �
     steps-same =
         ap (λ (ls : List Listed). inStep ls (unitsOf kindA longer)) (listed-next late kindA)
         ∙ ap (inStep (listedOf kindA front ++ listedOf kindA (x ∷ []))) (units-next late kindA)
-        ∙ cases (answersSome (kindA ∷ []) front x) is-some is-none
+        ∙ cases (representsSome (kindA ∷ []) front x) is-some is-none
       where
-        is-some : answersSome (kindA ∷ []) front x ≡ true
-            → inStep (listedOf kindA front ++ listedOf kindA (x ∷ [])) (unitsOf kindA front ++ cond (answersSome (kindA ∷ []) front x) (x ∷ []) []) ≡ slots
+        is-some : representsSome (kindA ∷ []) front x ≡ true
+            → inStep (listedOf kindA front ++ listedOf kindA (x ∷ [])) (unitsOf kindA front ++ cond (representsSome (kindA ∷ []) front x) (x ∷ []) []) ≡ slots
         is-some t =
             let i : suc (0 + length (unitsOf kindA front)) ≡ suc (length (unitsOf kindA front)) = omega arith in
             rw (t, ne-eqb (seen .slot) 0 (slot-not t), none-listed (unit-bare (kindA ∷ []) t) kindA, append-nil (listedOf kindA front), ← i)
-            (slot-step 0 (listedOf kindA front) (unitsOf kindA front) x (placed .in-step) (λ u m. unclashing u (keep-in (answersSome (kindA ∷ []) front) front u m .0)))
+            (slot-step 0 (listedOf kindA front) (unitsOf kindA front) x (placed .in-step) (λ u m. unclashing u (keep-in (representsSome (kindA ∷ []) front) front u m .0)))
 
-        is-none : answersSome (kindA ∷ []) front x ≡ false
-            → inStep (listedOf kindA front ++ listedOf kindA (x ∷ [])) (unitsOf kindA front ++ cond (answersSome (kindA ∷ []) front x) (x ∷ []) []) ≡ slots
+        is-none : representsSome (kindA ∷ []) front x ≡ false
+            → inStep (listedOf kindA front ++ listedOf kindA (x ∷ [])) (unitsOf kindA front ++ cond (representsSome (kindA ∷ []) front x) (x ∷ []) []) ≡ slots
         is-none t =
             rw (t, slot-zero t, append-nil (unitsOf kindA front)) (step-more (listedOf kindA front) (listedOf kindA (x ∷ [])) (unitsOf kindA front) (placed .in-step))
 
@@ -185,25 +186,25 @@ module _ (front : List Element) (x : Element) (aside : LimitsAside (front ++ x �
         by-order : Ordering → steps longer ≡ slots
         by-order (as-before e) = ap (λ (k : ℕ). inStep (listedOf k longer) (unitsOf k longer)) e ∙ steps-same
         by-order (first-layout k none e) =
-            let not-unit : answersSome (kindA ∷ []) front x ≡ false =
-            cases (answersSome (kindA ∷ []) front x) (λ t. let u = some-unit (kindA ∷ []) x t in absurd (omega arith)) (λ t. t) in
+            let not-unit : representsSome (kindA ∷ []) front x ≡ false =
+            cases (representsSome (kindA ∷ []) front x) (λ t. let u = some-unit (kindA ∷ []) x t in absurd (omega arith)) (λ t. t) in
             let units : unitsOf 2 longer ≡ [] =
             units-next late 2 ∙ ap (λ (b : Bool). unitsOf 2 front ++ cond b (x ∷ []) []) (no-units none x) ∙ append-nil (unitsOf 2 front)
-            ∙ keep-none (answersSome (2 ∷ []) front) front (λ y m. no-units none y) in
+            ∙ keep-none (representsSome (2 ∷ []) front) front (λ y m. no-units none y) in
             let a : steps longer ≡ true = ap (λ (k : ℕ). inStep (listedOf k longer) (unitsOf k longer)) e ∙ ap (inStep (listedOf 2 longer)) units ∙ empty-step (listedOf 2 longer) in
             a ∙ rw (slot-zero not-unit)
 
-  -- a unit before it that answers a portion of it: no run begins so
-  early-none : (u : Element) → u ∈ front → owns x u ≡ true → beginsA longer ≡ true → ⊥
+  -- a unit before it that represents a portion of it: no run begins so
+  early-none : (u : Element) → u ∈ front → isAssociated x u ≡ true → beginsA longer ≡ true → ⊥
   early-none u m o b =
-      let c : Begins classA longer = begins-of longer aside b in
+      let c : Begins A longer = begins-of longer aside b in
       owner-before front (x ∷ c .more) (subst InOrderA (append-assoc front (x ∷ []) (c .more)) (c .in-order)) u x m (List·Memᴰ·head refl) o
 
-  early-told : (seen .early ≡ false) → (u : Element) → u ∈ front → owns x u ≡ true → ⊥
-  early-told t u m o = true≢false (sym (any-of (owns x) front u m o) ∙ t)
+  early-told : (seen .early ≡ false) → (u : Element) → u ∈ front → isAssociated x u ≡ true → ⊥
+  early-told t u m o = true≢false (sym (any-of (isAssociated x) front u m o) ∙ t)
 
-  early-of : ((u : Element) → u ∈ front → owns x u ≡ true → ⊥) → seen .early ≡ false
-  early-of h = any-none (owns x) front h
+  early-of : ((u : Element) → u ∈ front → isAssociated x u ≡ true → ⊥) → seen .early ≡ false
+  early-of h = any-none (isAssociated x) front h
 
   pub begins-placed : beginsA longer ≡ true → Placed longer × ((e : Element) → e ∈ longer → mayCome longer e ≡ true)
   begins-placed b =
@@ -238,15 +239,15 @@ module _ (front : List Element) (x : Element) (aside : LimitsAside (front ++ x �
       by-x : (l : Listed) → l ∈ listedBy x (x .portions) → isIn (l .by .kind) kinds ≡ isIn (x .kind) kinds
       by-x l m = step l (Memᴰ·of-map (λ (p : List ℕ). record { by = x; portion = p }) (x .portions) m)
 
-  open-next : ((u : Element) → u ∈ front → owns x u ≡ true → ⊥) → (kinds : List ℕ)
-      → length (openIn kinds longer) ≡ length (openIn kinds front) - answersOf (listedIn kinds front) x + countIf (isIn (x .kind) kinds) (length (x .portions))
-  unfolding openIn answersOf
+  open-next : ((u : Element) → u ∈ front → isAssociated x u ≡ true → ⊥) → (kinds : List ℕ)
+      → length (openIn kinds longer) ≡ length (openIn kinds front) - representsOf (listedIn kinds front) x + countIf (isIn (x .kind) kinds) (length (x .portions))
+  unfolding openIn representsOf
   open-next late kinds =
       let a : keep (isOpen longer) (listedIn kinds longer) ≡ keep (isOpen longer) (listedIn kinds front) ++ keep (isOpen longer) (listedIn kinds (x ∷ [])) =
       ap (keep (isOpen longer)) (listed-in-next kinds) ∙ keep-append (isOpen longer) (listedIn kinds front) (listedIn kinds (x ∷ [])) in
       let b : keep (isOpen longer) (listedIn kinds (x ∷ [])) ≡ listedIn kinds (x ∷ []) = keep-all (isOpen longer) (listedIn kinds (x ∷ [])) new-open in
-      let c = keep-split (isOpen front) (λ (l : Listed). answers (l .by) (l .portion) x) (isOpen longer) (listedIn kinds front)
-      (λ l m. ap not (answered-next front x (l .by) (l .portion)) ∙ not-or (isAnswered front (l .by) (l .portion)) (answers (l .by) (l .portion) x))
+      let c = keep-split (isOpen front) (λ (l : Listed). represents (l .by) (l .portion) x) (isOpen longer) (listedIn kinds front)
+      (λ l m. ap not (represented-next front x (l .by) (l .portion)) ∙ not-or (isRepresented front (l .by) (l .portion)) (represents (l .by) (l .portion) x))
       (λ l m t. still-open l t) in
       let d : length (keep (isOpen longer) (listedIn kinds longer)) ≡ length (keep (isOpen longer) (listedIn kinds front)) + length (listedIn kinds (x ∷ [])) =
       ap length a ∙ length-append (keep (isOpen longer) (listedIn kinds front)) (keep (isOpen longer) (listedIn kinds (x ∷ [])))
@@ -254,28 +255,28 @@ module _ (front : List Element) (x : Element) (aside : LimitsAside (front ++ x �
       let e = listed-one kinds in
       omega arith
     where
-      still-open : (l : Listed) → answers (l .by) (l .portion) x ≡ true → isOpen front l ≡ true
+      still-open : (l : Listed) → represents (l .by) (l .portion) x ≡ true → isOpen front l ≡ true
       still-open l t =
-          cases (isAnswered front (l .by) (l .portion))
-          (λ u. let (v, m, w) = answered-told front (l .by) (l .portion) u in absurd (true≢false (sym (answer-clash (l .by) (l .portion) v x w t) ∙ unclashing v m)))
+          cases (isRepresented front (l .by) (l .portion))
+          (λ u. let (v, m, w) = represented-told front (l .by) (l .portion) u in absurd (true≢false (sym (represent-clash (l .by) (l .portion) v x w t) ∙ unclashing v m)))
           (λ u. rw u)
 
       new-open : (l : Listed) → l ∈ listedIn kinds (x ∷ []) → isOpen longer l ≡ true
       new-open l m =
           let (k, i, j) = listed-in-told kinds (x ∷ []) l m in
           let by-x : l .by ≡ x = List·Memᴰ·eq-of-singleton i in
-          cases (isAnswered longer (l .by) (l .portion))
-          (λ u. let (v, n, w) = answered-told longer (l .by) (l .portion) u in
-          absurd (owns-none late v n (ap (λ (e : Element). owns e v) (sym by-x) ∙ owns-of (l .by) v (l .portion) j w)))
+          cases (isRepresented longer (l .by) (l .portion))
+          (λ u. let (v, n, w) = represented-told longer (l .by) (l .portion) u in
+          absurd (associated-none late v n (ap (λ (e : Element). isAssociated e v) (sym by-x) ∙ associated-of (l .by) v (l .portion) j w)))
           (λ u. rw u)
 
   -- what is missing after it was missing before it
-  missing-before : (e : Element) → e ∈ front → (p : List ℕ) → p ∈ e .portions → isAnswered longer e p ≡ false → Missing front (record { by = e; portion = p })
+  missing-before : (e : Element) → e ∈ front → (p : List ℕ) → p ∈ e .portions → isRepresented longer e p ≡ false → Missing front (record { by = e; portion = p })
   missing-before e m p n u =
       record {
         by = m;
         listed = n;
-        unanswered = cases (isAnswered front e p) (λ t. absurd (true≢false (sym (answered-more front longer e p in-longer t) ∙ u))) (λ t. t);
+        unrepresented = cases (isRepresented front e p) (λ t. absurd (true≢false (sym (represented-more front longer e p in-longer t) ∙ u))) (λ t. t);
       }
 
   profile-more : (f : List Element) → ProfileFirst f → (x .kind ≡ profileKind → ⊥) → ProfileFirst (f ++ x ∷ [])
@@ -293,7 +294,7 @@ module _ (front : List Element) (x : Element) (aside : LimitsAside (front ++ x �
   module _ (s : StateA) (holds : Holds front s) where
     -- what passes the tests begins a run
     module _ (p : Passing s seen) where
-      late : (u : Element) → u ∈ front → owns x u ≡ true → ⊥
+      late : (u : Element) → u ∈ front → isAssociated x u ≡ true → ⊥
       late = early-told (p .late)
 
       own-rank : rankA longer x ≡ rankSeen seen
@@ -330,20 +331,20 @@ module _ (front : List Element) (x : Element) (aside : LimitsAside (front ++ x �
               which (inl t) = let a = leb-true (rankSeen seen) specificRank t in let b = awaited-object (l .by) k in omega (arith, own-rank)
               which (inr t) = let a = eqb-true (s .specific) 0 t in let b = open-of objectKinds front l m k in let c = holds .specific-is in absurd (omega arith)
 
-      may-with : (e : Element) → (allAnswered longer e ≡ false → (named e ≡ true) × ((y : Element) → y ∈ longer → rankA longer y ≤ awaited e)) → mayCome longer e ≡ true
+      may-with : (e : Element) → (allRepresented longer e ≡ false → (named e ≡ true) × ((y : Element) → y ∈ longer → rankA longer y ≤ awaited e)) → mayCome longer e ≡ true
       unfolding mayCome
       may-with e h =
-          cases (allAnswered longer e) (λ t. rw t)
+          cases (allRepresented longer e) (λ t. rw t)
           (λ t. let (n, r) = h t in rw (t, n) (all-of (λ (y : Element). leb (rankA longer y) (awaited e)) longer (λ y m. le-leb (rankA longer y) (awaited e) (r y m))))
 
-      unanswered : (e : Element) → allAnswered longer e ≡ false → (q : List ℕ) × (q ∈ e .portions) × (isAnswered longer e q ≡ false)
-      unfolding allAnswered
-      unanswered e t = all-not (isAnswered longer e) (e .portions) t
+      unrepresented : (e : Element) → allRepresented longer e ≡ false → (q : List ℕ) × (q ∈ e .portions) × (isRepresented longer e q ≡ false)
+      unfolding allRepresented
+      unrepresented e t = all-not (isRepresented longer e) (e .portions) t
 
       may-front : (e : Element) → e ∈ front → mayCome longer e ≡ true
       may-front e m =
           may-with e
-          (λ t. let (q, n, u) = unanswered e t in
+          (λ t. let (q, n, u) = unrepresented e t in
           let miss = missing-before e m q n u in
           let (named-e, low) = awaits front before placed may (record { by = e; portion = q }) miss in
           (named-e, front-or {P = λ y. rankA longer y ≤ awaited e} (λ y i. let a = rank-next late y (in-longer y i) in let b = low y i in omega arith) (waits (record { by = e; portion = q }) miss)))
@@ -351,7 +352,7 @@ module _ (front : List Element) (x : Element) (aside : LimitsAside (front ++ x �
       may-own : mayCome longer x ≡ true
       may-own =
           may-with x
-          (λ t. let (q, n, u) = unanswered x t in
+          (λ t. let (q, n, u) = unrepresented x t in
           let b = owner-below longer x (lister-owner x (lister-kind x (aside .fit x x-in) q n)) in (
             has-name q n (either (eqb (seen .lists) 0) (seen .named) (p .comes)),
             front-or {P = λ y. rankA longer y ≤ awaited x} (λ y i. let a = below-own y i in omega arith) (omega arith),
@@ -366,7 +367,7 @@ module _ (front : List Element) (x : Element) (aside : LimitsAside (front ++ x �
 
     -- and what begins a run passes the tests
     module _ (b : beginsA longer ≡ true) where
-      late-then : (u : Element) → u ∈ front → owns x u ≡ true → ⊥
+      late-then : (u : Element) → u ∈ front → isAssociated x u ≡ true → ⊥
       late-then u m o = early-none u m o b
 
       placed-then : Placed longer
@@ -380,17 +381,17 @@ module _ (front : List Element) (x : Element) (aside : LimitsAside (front ++ x �
 
       await-then : (l : Listed) → Missing front l → rankA longer x ≤ awaited (l .by)
       await-then l m =
-          cases (isAnswered longer (l .by) (l .portion))
-          (λ t. let (u, i, a) = answered-told longer (l .by) (l .portion) t in
-          answered-by u a (List·Memᴰ·append-cases front i))
-          (λ t. awaits longer aside placed-then may-then l (record { by = in-longer (l .by) (m .by); listed = m .listed; unanswered = t }) .1 x x-in)
+          cases (isRepresented longer (l .by) (l .portion))
+          (λ t. let (u, i, a) = represented-told longer (l .by) (l .portion) t in
+          represented-by u a (List·Memᴰ·append-cases front i))
+          (λ t. awaits longer aside placed-then may-then l (record { by = in-longer (l .by) (m .by); listed = m .listed; unrepresented = t }) .1 x x-in)
         where
-          answered-by : (u : Element) → answers (l .by) (l .portion) u ≡ true → (u ∈ front) ⊎ (u ∈ x ∷ []) → rankA longer x ≤ awaited (l .by)
-          answered-by u a (inl i) = absurd (true≢false (sym (answered-of front (l .by) (l .portion) u i a) ∙ m .unanswered))
-          answered-by u a (inr i) =
-              let w : answers (l .by) (l .portion) x ≡ true = ap (answers (l .by) (l .portion)) (sym (List·Memᴰ·eq-of-singleton i)) ∙ a in
-              let r = owned-rank longer x (answers-unit (l .by) (l .portion) x w) (placed-then .tabled x x-in) (l .by) (in-longer (l .by) (m .by))
-              (owns-of (l .by) x (l .portion) (m .listed) w) in
+          represented-by : (u : Element) → represents (l .by) (l .portion) u ≡ true → (u ∈ front) ⊎ (u ∈ x ∷ []) → rankA longer x ≤ awaited (l .by)
+          represented-by u a (inl i) = absurd (true≢false (sym (represented-of front (l .by) (l .portion) u i a) ∙ m .unrepresented))
+          represented-by u a (inr i) =
+              let w : represents (l .by) (l .portion) x ≡ true = ap (represents (l .by) (l .portion)) (sym (List·Memᴰ·eq-of-singleton i)) ∙ a in
+              let r = owned-rank longer x (represents-unit (l .by) (l .portion) x w) (placed-then .tabled x x-in) (l .by) (in-longer (l .by) (m .by))
+              (associated-of (l .by) x (l .portion) (m .listed) w) in
               omega arith
 
       closed-then : (kinds : List ℕ) (rank left : ℕ) → left ≡ length (openIn kinds front) → ((l : Listed) → isIn (l .by .kind) kinds ≡ true → awaited (l .by) ≡ rank)
@@ -407,12 +408,12 @@ module _ (front : List Element) (x : Element) (aside : LimitsAside (front ++ x �
       unfolding mayCome
       comes-then =
           cases (named x) (λ t. rw t (or-true (eqb (length (x .portions)) 0)))
-          (λ t. let all-x : allAnswered longer x ≡ true = which t (either (allAnswered longer x) (named x && all (map (λ (y : Element). leb (rankA longer y) (awaited x)) longer)) (may-then x x-in)) in
+          (λ t. let all-x : allRepresented longer x ≡ true = which t (either (allRepresented longer x) (named x && all (map (λ (y : Element). leb (rankA longer y) (awaited x)) longer)) (may-then x x-in)) in
           let none : x .portions ≡ [] = no-member (x .portions)
-          (λ q m. let (u, i, a) = answered-told longer x q (all-answered-told longer x all-x q m) in owns-none late-then u i (owns-of x u q m a)) in
+          (λ q m. let (u, i, a) = represented-told longer x q (all-represented-told longer x all-x q m) in associated-none late-then u i (associated-of x u q m a)) in
           rw (eq-eqb (length (x .portions)) 0 (ap length none)))
         where
-          which : named x ≡ false → (allAnswered longer x ≡ true) ⊎ (named x && all (map (λ (y : Element). leb (rankA longer y) (awaited x)) longer) ≡ true) → allAnswered longer x ≡ true
+          which : named x ≡ false → (allRepresented longer x ≡ true) ⊎ (named x && all (map (λ (y : Element). leb (rankA longer y) (awaited x)) longer) ≡ true) → allRepresented longer x ≡ true
           which t (inl a) = a
           which t (inr a) = absurd (true≢false (sym (both (named x) (all (map (λ (y : Element). leb (rankA longer y) (awaited x)) longer)) a .0) ∙ t))
 
@@ -448,30 +449,30 @@ module _ (front : List Element) (x : Element) (aside : LimitsAside (front ++ x �
           ordered-is = by-order ordering;
         }
       where
-        by-some : s .ordered + countIf (not (eqb (seen .slot) 0)) 1 ≡ length (unitsOf kindA front ++ cond (answersSome (kindA ∷ []) front x) (x ∷ []) [])
+        by-some : s .ordered + countIf (not (eqb (seen .slot) 0)) 1 ≡ length (unitsOf kindA front ++ cond (representsSome (kindA ∷ []) front x) (x ∷ []) [])
         by-some =
             let e = holds .ordered-is in
-            cases (answersSome (kindA ∷ []) front x)
+            cases (representsSome (kindA ∷ []) front x)
             (λ t. rw (t, ne-eqb (seen .slot) 0 (slot-not t)) (simp length-append (omega arith)))
             (λ t. rw (t, slot-zero t) (simp length-append (omega arith)))
 
         by-order : Ordering → s .ordered + countIf (not (eqb (seen .slot) 0)) 1 ≡ length (unitsOf (orderedBy longer) longer)
         by-order (as-before e) = by-some ∙ ap length (sym (units-next (late p) kindA)) ∙ ap (λ (k : ℕ). length (unitsOf k longer)) (sym e)
         by-order (first-layout k none e) =
-            let not-unit : answersSome (kindA ∷ []) front x ≡ false =
-            cases (answersSome (kindA ∷ []) front x) (λ t. let u = some-unit (kindA ∷ []) x t in absurd (omega arith)) (λ t. t) in
+            let not-unit : representsSome (kindA ∷ []) front x ≡ false =
+            cases (representsSome (kindA ∷ []) front x) (λ t. let u = some-unit (kindA ∷ []) x t in absurd (omega arith)) (λ t. t) in
             let units : unitsOf 2 longer ≡ [] =
             units-next (late p) 2 ∙ ap (λ (b : Bool). unitsOf 2 front ++ cond b (x ∷ []) []) (no-units none x) ∙ append-nil (unitsOf 2 front)
-            ∙ keep-none (answersSome (2 ∷ []) front) front (λ y m. no-units none y) in
-            let before-none : unitsOf kindA front ≡ [] = no-member (unitsOf kindA front) (λ u m. too-high k u (keep-in (answersSome (kindA ∷ []) front) front u m)) in
+            ∙ keep-none (representsSome (2 ∷ []) front) front (λ y m. no-units none y) in
+            let before-none : unitsOf kindA front ≡ [] = no-member (unitsOf kindA front) (λ u m. too-high k u (keep-in (representsSome (kindA ∷ []) front) front u m)) in
             let zero-ordered : s .ordered ≡ 0 = holds .ordered-is ∙ ap length before-none in
             let left : s .ordered + countIf (not (eqb (seen .slot) 0)) 1 ≡ 0 = rw (slot-zero not-unit, zero-ordered) in
             left ∙ sym (ap (λ (j : ℕ). length (unitsOf j longer)) e ∙ ap length units)
           where
-            too-high : x .kind ≡ 2 → (u : Element) → (u ∈ front) × (answersSome (kindA ∷ []) front u ≡ true) → ⊥
+            too-high : x .kind ≡ 2 → (u : Element) → (u ∈ front) × (representsSome (kindA ∷ []) front u ≡ true) → ⊥
             too-high k u (m, t) =
                 let (d, i, j, o) = some-told (kindA ∷ []) front u t in
-                let r = owned-rank front u (owns-unit d u o) (placed .tabled u m) d i o in
+                let r = owned-rank front u (associated-unit d u o) (placed .tabled u m) d i o in
                 let a = awaited-object d (ordered-object front d (of-kind d kindA j)) in
                 let b = holds .top u m in
                 let c = p .above in

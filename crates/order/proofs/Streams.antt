@@ -16,25 +16,25 @@ use Rattle.elements.specs.Judge.{bodyOf, contentOf, elementOf, ordered, asTable
 use Rattle.elements.specs.Rows.{placeOf}
 use Rattle.letters.specs.Letter.{letterOf}
 use Rattle.reading.specs.Match.{joins}
-use Rattle.order.specs.Answers.{answers, owns, isAnswered, allAnswered, everything, keep}
-use Rattle.order.specs.ClassB.{rankIn}
-use Rattle.order.specs.ClassA.{answersSome, rankA, orderedBy, listedOf, inStep}
+use Rattle.order.specs.Represents.{represents, isAssociated, isRepresented, allRepresented, everything, keep}
+use Rattle.order.specs.Ranks.{rankIn}
+use Rattle.order.specs.ClassA.{representsSome, rankA, orderedBy, listedOf, inStep}
 use Rattle.order.specs.ClausesB.{nextB, scanB, mayGoOn, beginsB, orderedB}
 use Rattle.order.specs.ClausesA.{profileFirst, ascends, awaited, mayCome, placedA, beginsA, orderedA}
-use Rattle.order.specs.Begins.{classA, classB}
+use Rattle.order.specs.declared.Class.the-variants.{A, B}
 use Rattle.order.specs.Fault.{faultFrom}
-use Rattle.order.specs.Question.{orderIn}
+use Rattle.order.specs.Computed.{orderIn}
 use Rattle.order.specs.Streams.{Stream, streams}
 
-pub by-class-a : map (λ (x : Stream). orderIn Of1988 classA (x .stream)) streams ≡ map (λ (x : Stream). x .a) streams
-unfolding permits formAllowed bigEndianFrom misfits definiteAt indefiniteAt longAt byFirst lengthAt itemAt closingAt headAt runFor run walkOf amount firstValue firstRun inOrder onlyPieces joined allPortions values wellSpelt repeats among isDigit grouped isIdentifier allDigits isPortion same nameSpaceOf shapeOf bodyOf contentOf elementOf ordered asTabled namesFit clash twice refusalOf judgeOne judgeFrom judge placeOf letterOf xor faultFrom beginsA orderedA placedA profileFirst ascends rankA rankIn inStep listedOf orderedBy keep answersSome everything mayCome awaited allAnswered isAnswered owns answers joins orderIn
+pub by-class-a : map (λ (x : Stream). orderIn Of1988 A (x .stream)) streams ≡ map (λ (x : Stream). x .a) streams
+unfolding permits formAllowed bigEndianFrom misfits definiteAt indefiniteAt longAt byFirst lengthAt itemAt closingAt headAt runFor run walkOf amount firstValue firstRun inOrder onlyPieces joined allPortions values wellSpelt repeats among isDigit grouped isIdentifier allDigits isPortion same nameSpaceOf shapeOf bodyOf contentOf elementOf ordered asTabled namesFit clash twice refusalOf judgeOne judgeFrom judge placeOf letterOf xor faultFrom beginsA orderedA placedA profileFirst ascends rankA rankIn inStep listedOf orderedBy keep representsSome everything mayCome awaited allRepresented isRepresented isAssociated represents joins orderIn
 by-class-a = refl
 
-pub by-class-b : map (λ (x : Stream). orderIn Of1988 classB (x .stream)) streams ≡ map (λ (x : Stream). x .b) streams
-unfolding permits formAllowed bigEndianFrom misfits definiteAt indefiniteAt longAt byFirst lengthAt itemAt closingAt headAt runFor run walkOf amount firstValue firstRun inOrder onlyPieces joined allPortions values wellSpelt repeats among isDigit grouped isIdentifier allDigits isPortion same nameSpaceOf shapeOf bodyOf contentOf elementOf ordered asTabled namesFit clash twice refusalOf judgeOne judgeFrom judge placeOf letterOf xor faultFrom beginsB orderedB scanB nextB mayGoOn rankIn allAnswered isAnswered owns answers joins orderIn
+pub by-class-b : map (λ (x : Stream). orderIn Of1988 B (x .stream)) streams ≡ map (λ (x : Stream). x .b) streams
+unfolding permits formAllowed bigEndianFrom misfits definiteAt indefiniteAt longAt byFirst lengthAt itemAt closingAt headAt runFor run walkOf amount firstValue firstRun inOrder onlyPieces joined allPortions values wellSpelt repeats among isDigit grouped isIdentifier allDigits isPortion same nameSpaceOf shapeOf bodyOf contentOf elementOf ordered asTabled namesFit clash twice refusalOf judgeOne judgeFrom judge placeOf letterOf xor faultFrom beginsB orderedB scanB nextB mayGoOn rankIn allRepresented isRepresented isAssociated represents joins orderIn
 by-class-b = refl
 
 -- and the same by the edition of 1993
-pub by-class-b-1993 : map (λ (x : Stream). orderIn Of1993 classB (x .stream)) streams ≡ map (λ (x : Stream). x .b) streams
-unfolding permits formAllowed bigEndianFrom misfits definiteAt indefiniteAt longAt byFirst lengthAt itemAt closingAt headAt runFor run walkOf amount firstValue firstRun inOrder onlyPieces joined allPortions values wellSpelt repeats among isDigit grouped isIdentifier allDigits isPortion same nameSpaceOf shapeOf bodyOf contentOf elementOf ordered asTabled namesFit clash twice refusalOf judgeOne judgeFrom judge placeOf letterOf xor faultFrom beginsB orderedB scanB nextB mayGoOn rankIn allAnswered isAnswered owns answers joins orderIn
+pub by-class-b-1993 : map (λ (x : Stream). orderIn Of1993 B (x .stream)) streams ≡ map (λ (x : Stream). x .b) streams
+unfolding permits formAllowed bigEndianFrom misfits definiteAt indefiniteAt longAt byFirst lengthAt itemAt closingAt headAt runFor run walkOf amount firstValue firstRun inOrder onlyPieces joined allPortions values wellSpelt repeats among isDigit grouped isIdentifier allDigits isPortion same nameSpaceOf shapeOf bodyOf contentOf elementOf ordered asTabled namesFit clash twice refusalOf judgeOne judgeFrom judge placeOf letterOf xor faultFrom beginsB orderedB scanB nextB mayGoOn rankIn allRepresented isRepresented isAssociated represents joins orderIn
 by-class-b-1993 = refl

@@ -5,17 +5,16 @@ use mathlib.Core.Logic.{_⊎_}
 use mathlib.Core.List.{List, _++_}
 use lib.ListN.{length, take}
 use Rattle.elements.specs.Judge.{Element}
-use Rattle.order.specs.Answers.{LimitsAside}
+use Rattle.order.specs.declared.Class.{Class}
+use Rattle.order.specs.declared.Class.the-variants.{A, B}
+use Rattle.order.specs.Represents.{LimitsAside}
 use Rattle.order.specs.ClassA.{InOrderA}
 use Rattle.order.specs.ClassB.{InOrderB}
 
-pub data Class : Type 0 where
-  classA classB : Class
-
 -- a whole run is in the order of a class
 abbrev pub InOrder : Class → List Element → Type 0
-InOrder classA elements = InOrderA elements
-InOrder classB elements = InOrderB elements
+InOrder A elements = InOrderA elements
+InOrder B elements = InOrderB elements
 
 -- "begin .. [a] run in the asked order, limits aside": some run in the order starts with these elements
 pub record Begins (class : Class) (front : List Element) : Type 0 where

@@ -16,7 +16,7 @@
 --   11     l     11  pre-enciphered parts (1993)
 --   12     m     12  post-enciphered parts (1993)
 --
--- Any group but a may be empty; no other kind has a place, nor has a unit that answers nothing, or both a class and an object. Printed and
+-- Any group but a may be empty; no other kind has a place, nor has a unit that represents nothing, or portions of a class and of an object. Printed and
 -- not judged: the order among the objects (T.412), and alternatives. Portions are in order as their objects are, and as they list them.
 use Prim.Native.Nat.{ℕ, _<_}
 use mathlib.Core.Path.{_≡_}
@@ -26,8 +26,8 @@ use lib.Dec.{eqb}
 use Rattle.headers.specs.Head.{isIn}
 use Rattle.portions.specs.Portions.{any}
 use Rattle.elements.specs.Judge.{Element}
-use Rattle.order.specs.Answers.{_∈_, Ascending, isUnit, answers, owns, allAnswered, ProfileFirst, Listed, everything, keep}
-use Rattle.order.specs.ClassB.{rankIn}
+use Rattle.order.specs.Represents.{_∈_, Ascending, isUnit, represents, isAssociated, allRepresented, ProfileFirst, Listed, everything, keep}
+use Rattle.order.specs.Ranks.{rankIn}
 
 -- the kinds by rank, with the two places of text units
 abbrev pub rowsA : List ℕ
@@ -49,9 +49,9 @@ classKinds = 1 ∷ 5 ∷ []
 abbrev pub objectKinds : List ℕ
 objectKinds = 2 ∷ 6 ∷ []
 
--- a unit answers a portion that an element of one of these kinds lists
-unfoldable pub answersSome : (kinds : List ℕ) → (elements : List Element) → (unit : Element) → Bool
-answersSome kinds elements unit = any (map (λ e. isIn (e .kind) kinds && owns e unit) elements)
+-- a unit represents a portion that an element of one of these kinds lists
+unfoldable pub representsSome : (kinds : List ℕ) → (elements : List Element) → (unit : Element) → Bool
+representsSome kinds elements unit = any (map (λ e. isIn (e .kind) kinds && isAssociated e unit) elements)
 
 -- generic or specific, and not both
 abbrev pub unitRank : (generic specific : Bool) → ℕ
@@ -61,7 +61,7 @@ unitRank false true = specificRank
 unitRank false false = endA
 
 unfoldable pub rankA : (elements : List Element) → Element → ℕ
-rankA elements e = cond (isUnit e) (unitRank (answersSome classKinds elements e) (answersSome objectKinds elements e)) (rankIn rowsA (e .kind))
+rankA elements e = cond (isUnit e) (unitRank (representsSome classKinds elements e) (representsSome objectKinds elements e)) (rankIn rowsA (e .kind))
 
 -- the objects by which specific units are ordered: layout objects, if there are any, otherwise logical objects
 unfoldable pub orderedBy : List Element → ℕ
@@ -71,15 +71,15 @@ orderedBy elements = cond (any (map (λ e. eqb (e .kind) 2) elements)) 2 6
 unfoldable pub listedOf : (kind : ℕ) → List Element → List Listed
 listedOf kind elements = keep (λ l. eqb (l .by .kind) kind) (everything elements)
 
--- the units that answer them, in stream order
+-- the units that represent them, in stream order
 abbrev pub unitsOf : (kind : ℕ) → List Element → List Element
-unitsOf kind elements = keep (answersSome (kind ∷ []) elements) elements
+unitsOf kind elements = keep (representsSome (kind ∷ []) elements) elements
 
--- the first unit answers the first portion, the second the second, and so on for as many units as there are
+-- the first unit represents the first portion, the second the second, and so on for as many units as there are
 unfoldable pub inStep : List Listed → List Element → Bool
 inStep ls [] = true
 inStep [] (u ∷ us) = false
-inStep (l ∷ ls) (u ∷ us) = answers (l .by) (l .portion) u && inStep ls us
+inStep (l ∷ ls) (u ∷ us) = represents (l .by) (l .portion) u && inStep ls us
 
 -- a whole run in the order of class A
 pub record InOrderA (elements : List Element) : Type 0 where
@@ -87,4 +87,4 @@ pub record InOrderA (elements : List Element) : Type 0 where
   pub tabled : (e : Element) → e ∈ elements → rankA elements e < endA
   pub ascending : Ascending (rankA elements) elements
   pub in-step : inStep (listedOf (orderedBy elements) elements) (unitsOf (orderedBy elements) elements) ≡ true
-  pub whole : (e : Element) → e ∈ elements → allAnswered elements e ≡ true
+  pub whole : (e : Element) → e ∈ elements → allRepresented elements e ≡ true

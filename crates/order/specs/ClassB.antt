@@ -11,18 +11,13 @@
 --
 -- Any group but a may be empty; no other kind has a place. Printed and not judged: the order among the objects (T.412), which classes lie
 -- together.
-use Prim.Native.Nat.{ℕ, suc, _<_}
+use Prim.Native.Nat.{ℕ, _<_}
 use mathlib.Core.Path.{_≡_}
-use mathlib.Core.Bool.{true, cond}
+use mathlib.Core.Bool.{true}
 use mathlib.Core.List.{List, [], _∷_, _++_}
-use lib.Dec.{eqb}
 use Rattle.elements.specs.Judge.{Element}
-use Rattle.order.specs.Answers.{_∈_, Ascending, owns, allAnswered, ProfileFirst}
-
--- the row of a table in which a kind stands, from 0; past the table, if it has none
-unfoldable pub rankIn : (table : List ℕ) → (kind : ℕ) → ℕ
-rankIn [] kind = 0
-rankIn (k ∷ ks) kind = cond (eqb kind k) 0 (suc (rankIn ks kind))
+use Rattle.order.specs.Ranks.{rankIn}
+use Rattle.order.specs.Represents.{_∈_, Ascending, isAssociated, allRepresented, ProfileFirst}
 
 -- the kinds by rank
 abbrev pub rowsB : List ℕ
@@ -47,8 +42,8 @@ laid (g ∷ gs) = g .head ∷ (g .units ++ laid gs)
 -- "each descriptor .. is followed immediately by the associated text units": by no others, and by one for every portion that it lists
 pub record Together (g : Group) : Type 0 where
   pub tabled : rankB (g .head) < endB
-  pub own : (u : Element) → u ∈ g .units → owns (g .head) u ≡ true
-  pub whole : allAnswered (g .units) (g .head) ≡ true
+  pub own : (u : Element) → u ∈ g .units → isAssociated (g .head) u ≡ true
+  pub whole : allRepresented (g .units) (g .head) ≡ true
 
 -- a whole run in the order of class B: groups, ranks ascending
 pub record InOrderB (elements : List Element) : Type 0 where

@@ -6,7 +6,7 @@ use lib.Dec.{eqb, leb, ltb}
 use Rattle.headers.specs.Head.{isIn}
 use Rattle.portions.specs.Portions.{all}
 use Rattle.elements.specs.Judge.{Element}
-use Rattle.order.specs.Answers.{named, allAnswered, profileKind}
+use Rattle.order.specs.Represents.{named, allRepresented, profileKind}
 use Rattle.order.specs.ClassA.{rankA, endA, classKinds, genericRank, specificRank, orderedBy, listedOf, unitsOf, inStep}
 
 unfoldable pub profileFirst : List Element → Bool
@@ -17,13 +17,13 @@ unfoldable pub ascends : (Element → ℕ) → List Element → Bool
 ascends rank [] = true
 ascends rank (x ∷ xs) = all (map (λ y. leb (rank x) (rank y)) xs) && ascends rank xs
 
--- the rank of the units that answer an element's portions
+-- the rank of the units that represent an element's portions
 unfoldable pub awaited : Element → ℕ
 awaited e = cond (isIn (e .kind) classKinds) genericRank specificRank
 
 -- nothing that the element lists is missing, or it can still come: it has an identifier, and nothing stands after such units
 unfoldable pub mayCome : (elements : List Element) → Element → Bool
-mayCome elements e = allAnswered elements e || (named e && all (map (λ x. leb (rankA elements x) (awaited e)) elements))
+mayCome elements e = allRepresented elements e || (named e && all (map (λ x. leb (rankA elements x) (awaited e)) elements))
 
 -- what is asked of a front and of a whole
 unfoldable pub placedA : List Element → Bool
@@ -39,4 +39,4 @@ beginsA [] = true
 beginsA (x ∷ xs) = placedA (x ∷ xs) && all (map (mayCome (x ∷ xs)) (x ∷ xs))
 
 unfoldable pub orderedA : List Element → Bool
-orderedA elements = placedA elements && all (map (allAnswered elements) elements)
+orderedA elements = placedA elements && all (map (allRepresented elements) elements)

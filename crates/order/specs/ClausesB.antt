@@ -3,7 +3,7 @@ use mathlib.Core.Bool.{Bool, true, false, cond, not, _&&_, _||_}
 use mathlib.Core.List.{List, [], _∷_, _++_}
 use lib.Dec.{eqb, leb, ltb}
 use Rattle.elements.specs.Judge.{Element}
-use Rattle.order.specs.Answers.{isUnit, named, owns, allAnswered, profileKind}
+use Rattle.order.specs.Represents.{isUnit, named, isAssociated, allRepresented, profileKind}
 use Rattle.order.specs.ClassB.{rankB, endB}
 
 -- what may stand next after a head and its units: no second profile, a kind with a place, no rank below
@@ -15,12 +15,12 @@ unfoldable pub scanB : (done : List Element → Element → Bool) → (head : El
 scanB done head units [] = done units head
 scanB done head units (x ∷ xs) =
     cond (isUnit x)
-    (owns head x && scanB done head (units ++ x ∷ []) xs)
-    (allAnswered units head && (nextB head x && scanB done x [] xs))
+    (isAssociated head x && scanB done head (units ++ x ∷ []) xs)
+    (allRepresented units head && (nextB head x && scanB done x [] xs))
 
 -- nothing is missing, or it can still come
 unfoldable pub mayGoOn : List Element → Element → Bool
-mayGoOn units head = allAnswered units head || named head
+mayGoOn units head = allRepresented units head || named head
 
 unfoldable pub beginsB : List Element → Bool
 beginsB [] = true
@@ -28,4 +28,4 @@ beginsB (x ∷ xs) = eqb (x .kind) profileKind && scanB mayGoOn x [] xs
 
 unfoldable pub orderedB : List Element → Bool
 orderedB [] = false
-orderedB (x ∷ xs) = eqb (x .kind) profileKind && scanB allAnswered x [] xs
+orderedB (x ∷ xs) = eqb (x .kind) profileKind && scanB allRepresented x [] xs

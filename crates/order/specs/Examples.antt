@@ -5,15 +5,16 @@ use mathlib.Core.List.{List, [], _∷_}
 use Rattle.names.specs.Names.{spaceByte}
 use Rattle.contents.specs.Search.{Value, absent, octets}
 use Rattle.elements.specs.Judge.{Element, noType, single}
-use Rattle.order.specs.Fault.{Found, in-order, fault}
+use Rattle.order.specs.declared.Fault.{Fault}
+use Rattle.order.specs.declared.Fault.the-variants.{Nowhere, At}
 
 -- elements, and what is found of them by class A and by class B
 pub record Example : Type 0 where
-  pub a : Found
-  pub b : Found
+  pub a : Fault
+  pub b : Fault
   pub elements : List Element
 
-abbrev pub found : (a b : Found) → List Element → Example
+abbrev pub found : (a b : Fault) → List Element → Example
 found a b elements = record { a = a; b = b; elements = elements }
 
 -- an identifier of digits
@@ -62,66 +63,66 @@ two = lister 2 (name (1 ∷ 0 ∷ [])) (spelling (0 ∷ []) ∷ spelling (1 ∷ 
 abbrev pub examples : List Example
 examples =
     -- the profile alone
-    found in-order in-order (other 0 ∷ [])
+    found Nowhere Nowhere (other 0 ∷ [])
     -- a block, its unit
-    ∷ found in-order in-order (other 0 ∷ lists 2 1 0 ∷ ofLayout 1 0 ∷ [])
+    ∷ found Nowhere Nowhere (other 0 ∷ lists 2 1 0 ∷ ofLayout 1 0 ∷ [])
     -- two blocks, then two units
-    ∷ found in-order (fault 2) (other 0 ∷ lists 2 1 0 ∷ lists 2 1 1 ∷ ofLayout 1 0 ∷ ofLayout 1 1 ∷ [])
+    ∷ found Nowhere (At 2) (other 0 ∷ lists 2 1 0 ∷ lists 2 1 1 ∷ ofLayout 1 0 ∷ ofLayout 1 1 ∷ [])
     -- two blocks, each with its unit
-    ∷ found (fault 3) in-order (other 0 ∷ lists 2 1 0 ∷ ofLayout 1 0 ∷ lists 2 1 1 ∷ ofLayout 1 1 ∷ [])
+    ∷ found (At 3) Nowhere (other 0 ∷ lists 2 1 0 ∷ ofLayout 1 0 ∷ lists 2 1 1 ∷ ofLayout 1 1 ∷ [])
     -- a block, its unit missing
-    ∷ found (fault 2) (fault 2) (other 0 ∷ lists 2 1 0 ∷ [])
+    ∷ found (At 2) (At 2) (other 0 ∷ lists 2 1 0 ∷ [])
     -- portions 0 and 1, units of 1 and then 0
-    ∷ found (fault 2) in-order (other 0 ∷ two ∷ unit (name (1 ∷ 0 ∷ 1 ∷ [])) absent ∷ ofLayout 1 0 ∷ [])
+    ∷ found (At 2) Nowhere (other 0 ∷ two ∷ unit (name (1 ∷ 0 ∷ 1 ∷ [])) absent ∷ ofLayout 1 0 ∷ [])
     -- portions 0 and 1, the unit of 1 alone
-    ∷ found (fault 2) (fault 3) (other 0 ∷ two ∷ unit (name (1 ∷ 0 ∷ 1 ∷ [])) absent ∷ [])
+    ∷ found (At 2) (At 3) (other 0 ∷ two ∷ unit (name (1 ∷ 0 ∷ 1 ∷ [])) absent ∷ [])
     -- a unit that no element lists
-    ∷ found (fault 2) (fault 2) (other 0 ∷ bare 2 (1 ∷ 0 ∷ []) ∷ unit (name (9 ∷ 9 ∷ [])) absent ∷ [])
+    ∷ found (At 2) (At 2) (other 0 ∷ bare 2 (1 ∷ 0 ∷ []) ∷ unit (name (9 ∷ 9 ∷ [])) absent ∷ [])
     -- a unit without identifier after a block
-    ∷ found (fault 2) (fault 2) (other 0 ∷ bare 2 (1 ∷ 0 ∷ []) ∷ unit absent absent ∷ [])
+    ∷ found (At 2) (At 2) (other 0 ∷ bare 2 (1 ∷ 0 ∷ []) ∷ unit absent absent ∷ [])
     -- a unit before its block
-    ∷ found (fault 1) (fault 1) (other 0 ∷ ofLayout 1 0 ∷ lists 2 1 0 ∷ [])
+    ∷ found (At 1) (At 1) (other 0 ∷ ofLayout 1 0 ∷ lists 2 1 0 ∷ [])
     -- an object, then a presentation style
-    ∷ found (fault 2) (fault 2) (other 0 ∷ bare 2 (1 ∷ []) ∷ other 7 ∷ [])
+    ∷ found (At 2) (At 2) (other 0 ∷ bare 2 (1 ∷ []) ∷ other 7 ∷ [])
     -- a class, a style, an object
-    ∷ found in-order in-order (other 0 ∷ bare 1 (0 ∷ []) ∷ other 7 ∷ bare 2 (1 ∷ []) ∷ [])
+    ∷ found Nowhere Nowhere (other 0 ∷ bare 1 (0 ∷ []) ∷ other 7 ∷ bare 2 (1 ∷ []) ∷ [])
     -- a class with its unit, a style, an object with its unit
-    ∷ found in-order in-order (other 0 ∷ lists 1 0 0 ∷ ofLayout 0 0 ∷ other 7 ∷ lists 2 1 0 ∷ ofLayout 1 0 ∷ [])
+    ∷ found Nowhere Nowhere (other 0 ∷ lists 1 0 0 ∷ ofLayout 0 0 ∷ other 7 ∷ lists 2 1 0 ∷ ofLayout 1 0 ∷ [])
     -- a class with a portion, a style, then the unit
-    ∷ found (fault 2) (fault 2) (other 0 ∷ lists 1 0 0 ∷ other 7 ∷ ofLayout 0 0 ∷ [])
+    ∷ found (At 2) (At 2) (other 0 ∷ lists 1 0 0 ∷ other 7 ∷ ofLayout 0 0 ∷ [])
     -- a layout style
-    ∷ found in-order (fault 1) (other 0 ∷ other 8 ∷ [])
+    ∷ found Nowhere (At 1) (other 0 ∷ other 8 ∷ [])
     -- a logical object
-    ∷ found in-order (fault 1) (other 0 ∷ bare 6 (3 ∷ []) ∷ [])
+    ∷ found Nowhere (At 1) (other 0 ∷ bare 6 (3 ∷ []) ∷ [])
     -- all groups of class A in 1988
-    ∷ found in-order (fault 2)
+    ∷ found Nowhere (At 2)
     (other 0 ∷ lists 1 0 0 ∷ lists 5 2 0 ∷ ofLayout 0 0 ∷ ofLogical 2 0 ∷ other 7 ∷ other 8
     ∷ lists 2 1 0 ∷ lists 6 3 0 ∷ ofBoth 1 0 3 0 ∷ [])
     -- a logical class, a layout class
-    ∷ found (fault 2) (fault 1) (other 0 ∷ bare 5 (2 ∷ []) ∷ bare 1 (0 ∷ []) ∷ [])
+    ∷ found (At 2) (At 1) (other 0 ∷ bare 5 (2 ∷ []) ∷ bare 1 (0 ∷ []) ∷ [])
     -- a layout style, a presentation style
-    ∷ found (fault 2) (fault 1) (other 0 ∷ other 8 ∷ other 7 ∷ [])
+    ∷ found (At 2) (At 1) (other 0 ∷ other 8 ∷ other 7 ∷ [])
     -- a logical object, a layout object
-    ∷ found (fault 2) (fault 1) (other 0 ∷ bare 6 (3 ∷ []) ∷ bare 2 (1 ∷ []) ∷ [])
+    ∷ found (At 2) (At 1) (other 0 ∷ bare 6 (3 ∷ []) ∷ bare 2 (1 ∷ []) ∷ [])
     -- units in layout order, not in logical order
-    ∷ found in-order (fault 2)
+    ∷ found Nowhere (At 2)
     (other 0 ∷ lists 2 1 0 ∷ lists 2 1 1 ∷ lists 6 3 0 ∷ lists 6 3 1 ∷ ofBoth 1 0 3 1 ∷ ofBoth 1 1 3 0 ∷ [])
     -- units in logical order, not in layout order
-    ∷ found (fault 5) (fault 2)
+    ∷ found (At 5) (At 2)
     (other 0 ∷ lists 2 1 0 ∷ lists 2 1 1 ∷ lists 6 3 0 ∷ lists 6 3 1 ∷ ofBoth 1 1 3 0 ∷ ofBoth 1 0 3 1 ∷ [])
     -- no layout object, and units not in logical order
-    ∷ found (fault 3) (fault 1) (other 0 ∷ lists 6 3 0 ∷ lists 6 3 1 ∷ ofLogical 3 1 ∷ ofLogical 3 0 ∷ [])
+    ∷ found (At 3) (At 1) (other 0 ∷ lists 6 3 0 ∷ lists 6 3 1 ∷ ofLogical 3 1 ∷ ofLogical 3 0 ∷ [])
     -- a unit that is generic on one side and specific on the other
-    ∷ found (fault 2) (fault 1) (other 0 ∷ lists 5 2 0 ∷ lists 2 1 0 ∷ ofBoth 1 0 2 0 ∷ [])
+    ∷ found (At 2) (At 1) (other 0 ∷ lists 5 2 0 ∷ lists 2 1 0 ∷ ofBoth 1 0 2 0 ∷ [])
     -- an object that lists a portion and has no identifier
-    ∷ found (fault 1) (fault 1) (other 0 ∷ lister 2 absent (spelling (0 ∷ []) ∷ []) ∷ [])
+    ∷ found (At 1) (At 1) (other 0 ∷ lister 2 absent (spelling (0 ∷ []) ∷ []) ∷ [])
     -- siblings split
-    ∷ found in-order in-order (other 0 ∷ bare 1 (0 ∷ 0 ∷ []) ∷ bare 1 (0 ∷ 0 ∷ 0 ∷ []) ∷ bare 1 (0 ∷ 1 ∷ []) ∷ [])
+    ∷ found Nowhere Nowhere (other 0 ∷ bare 1 (0 ∷ 0 ∷ []) ∷ bare 1 (0 ∷ 0 ∷ 0 ∷ []) ∷ bare 1 (0 ∷ 1 ∷ []) ∷ [])
     -- a generic unit, then an object that lists it too: ranks ascend, and yet it begins no run
-    ∷ found (fault 3) (fault 3) (other 0 ∷ lists 1 0 0 ∷ ofBoth 0 0 3 0 ∷ lists 6 3 0 ∷ [])
+    ∷ found (At 3) (At 3) (other 0 ∷ lists 1 0 0 ∷ ofBoth 0 0 3 0 ∷ lists 6 3 0 ∷ [])
     -- the protected parts of 1993, by class A, and those of class B
-    ∷ found in-order (fault 4) (other 0 ∷ bare 2 (1 ∷ []) ∷ other 9 ∷ other 10 ∷ other 11 ∷ other 12 ∷ [])
-    ∷ found in-order in-order (other 0 ∷ bare 2 (1 ∷ []) ∷ other 9 ∷ other 10 ∷ other 12 ∷ [])
+    ∷ found Nowhere (At 4) (other 0 ∷ bare 2 (1 ∷ []) ∷ other 9 ∷ other 10 ∷ other 11 ∷ other 12 ∷ [])
+    ∷ found Nowhere Nowhere (other 0 ∷ bare 2 (1 ∷ []) ∷ other 9 ∷ other 10 ∷ other 12 ∷ [])
     -- an enciphered profile, then a sealed one
-    ∷ found (fault 2) (fault 2) (other 0 ∷ other 10 ∷ other 9 ∷ [])
+    ∷ found (At 2) (At 2) (other 0 ∷ other 10 ∷ other 9 ∷ [])
     ∷ []

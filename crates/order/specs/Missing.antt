@@ -1,4 +1,4 @@
--- The portions that are listed and not answered, and a text unit for each: what a front lacks of a whole. Definitions only: assumes nothing.
+-- The portions that are listed and not represented, and a text unit for each: what a front lacks of a whole. Definitions only: assumes nothing.
 use Prim.Native.Nat.{ℕ}
 use mathlib.Core.Bool.{not}
 use mathlib.Core.List.{List, [], _∷_, _++_, map}
@@ -8,11 +8,11 @@ use Rattle.elements.specs.Judge.{Element, noType, single}
 use Rattle.reading.specs.declared.Side.{Side}
 use Rattle.reading.specs.declared.Side.the-variants.{Layout, Logical}
 use Rattle.reading.specs.Match.{unitKind}
-use Rattle.order.specs.Answers.{sideOf, isAnswered, Listed, keep, everything}
+use Rattle.order.specs.Represents.{sideOf, isRepresented, Listed, keep, everything}
 
--- what is listed and no element of these answers
+-- what is listed and no element of these represents
 unfoldable pub missing : List Element → List Listed
-missing elements = keep (λ l. not (isAnswered elements (l .by) (l .portion))) (everything elements)
+missing elements = keep (λ l. not (isRepresented elements (l .by) (l .portion))) (everything elements)
 
 -- "is the element's identifier, one space, the portion"
 abbrev pub label : Value → (portion : List ℕ) → Value
@@ -24,7 +24,7 @@ abbrev pub unitNamed : Side → Value → Element
 unitNamed Layout name = record { kind = unitKind; object = noType; identifier = name; logical = absent; portions = []; content = single (octets []) }
 unitNamed Logical name = record { kind = unitKind; object = noType; identifier = absent; logical = name; portions = []; content = single (octets []) }
 
--- the text unit that answers a portion
+-- the text unit that represents a portion
 unfoldable pub unitFor : Listed → Element
 unitFor l = unitNamed (sideOf (l .by)) (label (l .by .identifier) (l .portion))
 

@@ -1,7 +1,5 @@
--- Class A in one pass over numbers, as code does it. Of each element: its kind, whether it has an identifier, how many portions it lists,
--- whether a unit before it answers one of them; of a unit, how many portions of classes and of objects before it it answers (one on each side
--- at most), and the number of the one by which it is ordered. Of what went before, four numbers. proofs/ shows that it finds the place of 26.
--- Definitions only: assumes nothing.
+-- Class A in one pass over numbers, as code does it: a few numbers of each element, and of what went before four. For the code alone; proofs/
+-- shows that it finds the place of 26. Definitions only: assumes nothing.
 use Prim.Native.Nat.{ℕ, suc, _+_, _-_}
 use mathlib.Core.Bool.{Bool, cond, not, _&&_, _||_}
 use mathlib.Core.List.{List, [], _∷_, _++_, map}
@@ -11,32 +9,38 @@ use Rattle.headers.specs.Head.{isIn}
 use Rattle.portions.specs.Portions.{all, any}
 use Rattle.elements.specs.Judge.{Element}
 use Rattle.reading.specs.Match.{unitKind}
-use Rattle.order.specs.Answers.{named, answers, owns, profileKind, Listed, everything, keep}
-use Rattle.order.specs.ClassB.{rankIn}
+use Rattle.order.specs.Represents.{named, represents, isAssociated, profileKind, Listed, everything, keep}
+use Rattle.order.specs.Ranks.{rankIn}
 use Rattle.order.specs.ClassA.{rowsA, endA, genericRank, specificRank, classKinds, objectKinds, unitRank, orderedBy, listedOf}
-use Rattle.order.specs.Fault.{Found, in-order, fault}
+use Rattle.order.specs.declared.Fault.{Fault}
+use Rattle.order.specs.declared.Fault.the-variants.{Nowhere, At}
 
 -- what the elements of these kinds list
 unfoldable pub listedIn : (kinds : List ℕ) → List Element → List Listed
 listedIn kinds elements = keep (λ l. isIn (l .by .kind) kinds) (everything elements)
 
--- how many of these a unit answers
-unfoldable pub answersOf : List Listed → (unit : Element) → ℕ
-answersOf ls u = length (keep (λ l. answers (l .by) (l .portion) u) ls)
+-- how many of these a unit represents
+unfoldable pub representsOf : List Listed → (unit : Element) → ℕ
+representsOf ls u = length (keep (λ l. represents (l .by) (l .portion) u) ls)
 
--- the number, from n + 1 on, of the first that a unit answers; 0 if it answers none
+-- the number, from n + 1 on, of the first that a unit represents; 0 if it represents none
 unfoldable pub slotIn : (n : ℕ) → List Listed → (unit : Element) → ℕ
 slotIn n [] u = 0
-slotIn n (l ∷ ls) u = cond (answers (l .by) (l .portion) u) (suc n) (slotIn (suc n) ls u)
+slotIn n (l ∷ ls) u = cond (represents (l .by) (l .portion) u) (suc n) (slotIn (suc n) ls u)
 
 -- what is looked at of an element after a front
 pub record SightA : Type 0 where
   pub kind : ℕ
+  -- it has an identifier
   pub named : Bool
+  -- how many portions it lists
   pub lists : ℕ
+  -- a unit before it represents one of them
   pub early : Bool
+  -- of a unit, how many portions of classes, and of objects, it represents that stand before it: one on each side at most
   pub generic : ℕ
   pub specific : ℕ
+  -- of a unit, the number, from 1, of the portion by which it is ordered; 0 if there is none
   pub slot : ℕ
 
 abbrev pub sightA : (front : List Element) → Element → SightA
@@ -45,9 +49,9 @@ sightA front x =
       kind = x .kind;
       named = named x;
       lists = length (x .portions);
-      early = any (map (owns x) front);
-      generic = answersOf (listedIn classKinds front) x;
-      specific = answersOf (listedIn objectKinds front) x;
+      early = any (map (isAssociated x) front);
+      generic = representsOf (listedIn classKinds front) x;
+      specific = representsOf (listedIn objectKinds front) x;
       slot = slotIn 0 (listedOf (orderedBy front) front) x;
     }
 
@@ -55,11 +59,14 @@ abbrev pub sightsA : (front rest : List Element) → List SightA
 sightsA front [] = []
 sightsA front (x ∷ xs) = sightA front x ∷ sightsA (front ++ x ∷ []) xs
 
--- the rank of the last; how many portions of classes, and of objects, wait for their units; how many ordered units there were
+-- what is known of a front
 pub record StateA : Type 0 where
+  -- the rank of its last element
   pub rank : ℕ
+  -- how many portions of classes, and of objects, wait for their units
   pub generic : ℕ
   pub specific : ℕ
+  -- how many units that are ordered there were
   pub ordered : ℕ
 
 abbrev pub rankSeen : SightA → ℕ
@@ -91,15 +98,15 @@ nextA s x =
     }
 
 -- the elements from n on
-unfoldable pub passA : StateA → (n : ℕ) → List SightA → Found
-passA s n [] = cond (eqb (s .generic) 0 && eqb (s .specific) 0) in-order (fault n)
-passA s n (x ∷ xs) = cond (all (testsA s x)) (passA (nextA s x) (suc n) xs) (fault n)
+unfoldable pub passA : StateA → (n : ℕ) → List SightA → Fault
+passA s n [] = cond (eqb (s .generic) 0 && eqb (s .specific) 0) Nowhere (At n)
+passA s n (x ∷ xs) = cond (all (testsA s x)) (passA (nextA s x) (suc n) xs) (At n)
 
 -- nothing has been
 abbrev pub noneA : StateA
 noneA = record { rank = 0; generic = 0; specific = 0; ordered = 0 }
 
 -- the first is the profile
-unfoldable pub placeA : List SightA → Found
-placeA [] = fault 0
-placeA (x ∷ xs) = cond (eqb (x .kind) profileKind) (passA noneA 1 xs) (fault 0)
+unfoldable pub placeA : List SightA → Fault
+placeA [] = At 0
+placeA (x ∷ xs) = cond (eqb (x .kind) profileKind) (passA noneA 1 xs) (At 0)

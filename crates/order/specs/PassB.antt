@@ -1,5 +1,5 @@
 -- Class B in one pass over numbers, as code does it: of each element its kind, whether it has an identifier, how many portions it lists and
--- which element it answers; of what went before, three numbers. proofs/ shows that it finds the place of 26. Definitions only: assumes nothing.
+-- with whom it is associated; of what went before, three numbers. proofs/ shows that it finds the place of 26. Definitions only: assumes nothing.
 use Prim.Native.Nat.{ℕ, suc, _-_}
 use mathlib.Core.Bool.{Bool, cond, not, _&&_, _||_}
 use mathlib.Core.List.{List, [], _∷_}
@@ -9,14 +9,16 @@ use Rattle.headers.specs.Head.{isIn}
 use Rattle.elements.specs.Judge.{Element}
 use Rattle.reading.specs.declared.Side.the-variants.{Layout}
 use Rattle.reading.specs.Match.{unitKind, kindsOf}
-use Rattle.order.specs.Answers.{named, owns, profileKind}
-use Rattle.order.specs.ClassB.{rankIn, rowsB, endB}
-use Rattle.order.specs.Fault.{Found, in-order, fault}
+use Rattle.order.specs.Represents.{named, isAssociated, profileKind}
+use Rattle.order.specs.Ranks.{rankIn}
+use Rattle.order.specs.ClassB.{rowsB, endB}
+use Rattle.order.specs.declared.Fault.{Fault}
+use Rattle.order.specs.declared.Fault.the-variants.{Nowhere, At}
 
--- the number, from n + 1 on, of the element that a unit answers on the layout side; 0 if it answers none
+-- the number, from n + 1 on, of the element that a unit is associated with on the layout side; 0 if there is none
 unfoldable pub layoutOwner : (n : ℕ) → List Element → (unit : Element) → ℕ
 layoutOwner n [] u = 0
-layoutOwner n (e ∷ es) u = cond (isIn (e .kind) (kindsOf Layout) && owns e u) (suc n) (layoutOwner (suc n) es u)
+layoutOwner n (e ∷ es) u = cond (isIn (e .kind) (kindsOf Layout) && isAssociated e u) (suc n) (layoutOwner (suc n) es u)
 
 -- what is looked at of an element
 pub record Sight : Type 0 where
@@ -53,16 +55,16 @@ stepB s n x =
     (cond (eqb (s .left) 0 && (not (eqb (x .kind) profileKind) && (ltb (rankIn rowsB (x .kind)) endB && leb (s .rank) (rankIn rowsB (x .kind)))) && canCome x)
     (goes (startB n x)) stops)
 
-abbrev pub afterB : StepB → (n : ℕ) → (StateB → Found) → Found
+abbrev pub afterB : StepB → (n : ℕ) → (StateB → Fault) → Fault
 afterB (goes s) n more = more s
-afterB stops n more = fault n
+afterB stops n more = At n
 
 -- the elements from n on
-unfoldable pub passB : StateB → (n : ℕ) → List Sight → Found
-passB s n [] = cond (eqb (s .left) 0) in-order (fault n)
+unfoldable pub passB : StateB → (n : ℕ) → List Sight → Fault
+passB s n [] = cond (eqb (s .left) 0) Nowhere (At n)
 passB s n (x ∷ xs) = afterB (stepB s n x) n (λ t. passB t (suc n) xs)
 
 -- the first is the profile
-unfoldable pub placeB : List Sight → Found
-placeB [] = fault 0
-placeB (x ∷ xs) = cond (eqb (x .kind) profileKind && canCome x) (passB (startB 0 x) 1 xs) (fault 0)
+unfoldable pub placeB : List Sight → Fault
+placeB [] = At 0
+placeB (x ∷ xs) = cond (eqb (x .kind) profileKind && canCome x) (passB (startB 0 x) 1 xs) (At 0)

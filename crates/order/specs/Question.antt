@@ -3,7 +3,6 @@
 -- of the answer: a record, of which proofs/Letters has a value for every stream. Definitions only: assumes nothing.
 use Prim.Native.Nat.{ℕ, _<_}
 use mathlib.Core.Path.{_≡_}
-use mathlib.Core.Logic.{_⊎_, _↔_}
 use mathlib.Core.Bool.{cond}
 use mathlib.Core.List.{List}
 use lib.Dec.{ltb}
@@ -11,16 +10,13 @@ use lib.ListN.{length}
 use Rattle.elements.specs.declared.Edition.{Edition}
 use Rattle.elements.specs.Judge.{Element}
 use Rattle.elements.specs.Rows.{placeOf}
-use Rattle.letters.specs.Letter.{Letter, letter, refusal, letterOf, itemsOfStream}
-use Rattle.order.specs.Begins.{Class, InOrder, FaultAt}
-use Rattle.order.specs.Fault.{Found, in-order, fault, faultOf}
+use Rattle.letters.specs.Letter.{letter, refusal, letterOf, itemsOfStream}
+use Rattle.order.specs.declared.Class.{Class}
+use Rattle.order.specs.declared.Ordered.{Ordered}
+use Rattle.order.specs.Begins.{InOrder, FaultAt}
 
 -- the number of a refusal and its place; 0 and 0 if the stream is in order
-pub record Verdict : Type 0 where
-  pub number : ℕ
-  pub place : ℕ
-
-abbrev pub verdict : (number place : ℕ) → Verdict
+abbrev pub verdict : (number place : ℕ) → Ordered
 verdict number place = record { number = number; place = place }
 
 abbrev pub outOfOrder : ℕ
@@ -30,31 +26,23 @@ outOfOrder = 26
 abbrev pub octetAt : (s : List ℕ) → List Element → (n : ℕ) → ℕ
 octetAt s elements n = cond (ltb n (length elements)) (placeOf n (itemsOfStream s)) (length s)
 
-abbrev pub byFound : (s : List ℕ) → List Element → Found → Verdict
-byFound s elements in-order = verdict 0 0
-byFound s elements (fault n) = verdict outOfOrder (octetAt s elements n)
-
-abbrev pub byLetter : Class → (s : List ℕ) → Letter → Verdict
-byLetter class s (refusal number place headers) = verdict number place
-byLetter class s (letter headers elements) = byFound s elements (faultOf class elements)
-
--- THE ORDER of a stream
-unfoldable pub orderIn : Edition → Class → (s : List ℕ) → Verdict
-orderIn edition class s = byLetter class s (letterOf edition s)
+-- THE ORDER of a stream: what is answered of it, by `InOrder` and `FaultAt` alone
+pub data OrderIs (edition : Edition) (class : Class) (s : List ℕ) : Ordered → Type 0 where
+  -- "after 15": what rules 1 to 15 refuse is refused as they say
+  by-rule : {number place headers : ℕ} → letterOf edition s ≡ refusal number place headers → OrderIs edition class s (verdict number place)
+  in-order : {headers : ℕ} {elements : List Element} → letterOf edition s ≡ letter headers elements
+      → InOrder class elements → OrderIs edition class s (verdict 0 0)
+  out-of-order : {headers n : ℕ} {elements : List Element} → letterOf edition s ≡ letter headers elements
+      → FaultAt class elements n → OrderIs edition class s (verdict outOfOrder (octetAt s elements n))
 
 -- What is promised of the answer.
 pub record Answered (edition : Edition) (class : Class) (s : List ℕ) : Type 0 where
-  -- "after 15": what the rules refuse is refused as they say
-  pub refused : (number place headers : ℕ) → letterOf edition s ≡ refusal number place headers → orderIn edition class s ≡ verdict number place
-  -- a letter is answered by 0 exactly if it is in order
-  pub ordered : (headers : ℕ) (elements : List Element) → letterOf edition s ≡ letter headers elements
-      → (orderIn edition class s ≡ verdict 0 0) ↔ InOrder class elements
-  -- "at the first element such that the elements through it begin no run"
+  -- every stream has an answer, and one alone: a letter is in order or has a place of 26, and no third
+  pub some : (r : Ordered) × OrderIs edition class s r
+  pub one : (a b : Ordered) → OrderIs edition class s a → OrderIs edition class s b → a ≡ b
+  -- "at the first element such that the elements through it begin no run": its first octet
   pub at-element : (headers n : ℕ) (elements : List Element) → letterOf edition s ≡ letter headers elements → n < length elements
-      → FaultAt class elements n → orderIn edition class s ≡ verdict outOfOrder (placeOf n (itemsOfStream s))
+      → FaultAt class elements n → OrderIs edition class s (verdict outOfOrder (placeOf n (itemsOfStream s)))
   -- "at the stream's length if only the end is missing"
   pub at-length : (headers : ℕ) (elements : List Element) → letterOf edition s ≡ letter headers elements
-      → FaultAt class elements (length elements) → orderIn edition class s ≡ verdict outOfOrder (length s)
-  -- a letter is in order or has such a place, and no third
-  pub either : (headers : ℕ) (elements : List Element) → letterOf edition s ≡ letter headers elements
-      → InOrder class elements ⊎ ((n : ℕ) × FaultAt class elements n)
+      → FaultAt class elements (length elements) → OrderIs edition class s (verdict outOfOrder (length s))

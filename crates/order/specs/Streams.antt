@@ -2,14 +2,15 @@
 -- in neither. Definitions only: assumes nothing.
 use Prim.Native.Nat.{ℕ, _+_}
 use mathlib.Core.List.{List, [], _∷_, _++_}
-use Rattle.order.specs.Question.{Verdict, verdict}
+use Rattle.order.specs.declared.Ordered.{Ordered}
+use Rattle.order.specs.Question.{verdict}
 
 pub record Stream : Type 0 where
-  pub a : Verdict
-  pub b : Verdict
+  pub a : Ordered
+  pub b : Ordered
   pub stream : List ℕ
 
-abbrev pub asked : (a b : Verdict) → List ℕ → Stream
+abbrev pub asked : (a b : Ordered) → List ℕ → Stream
 asked a b stream = record { a = a; b = b; stream = stream }
 
 abbrev pub profile : List ℕ

@@ -11,17 +11,19 @@ use lib.Seq.{drop-cons, drop-length}
 use borrow.Table.Steps.{cases}
 use Rattle.elements.specs.Judge.{Element}
 use Rattle.reading.specs.Ready.{noElement, elementAt}
-use Rattle.order.specs.Answers.{profileKind, LimitsAside}
+use Rattle.order.specs.Represents.{profileKind, LimitsAside}
 use Rattle.order.specs.ClausesB.{orderedB}
-use Rattle.order.specs.Begins.{classB}
-use Rattle.order.specs.Fault.{Found, in-order, fault, faultFrom, faultOf}
+use Rattle.order.specs.declared.Class.the-variants.{B}
+use Rattle.order.specs.declared.Fault.{Fault}
+use Rattle.order.specs.declared.Fault.the-variants.{Nowhere, At}
+use Rattle.order.specs.Fault.{faultFrom, faultOf}
 use Rattle.order.specs.PassB.{sightOf, StateB, StepB, goes, stops, startB, canCome, stepB, afterB, passB, placeB}
 use Rattle.order.proofs.PassB.{pass-exactly}
 use Rattle.ordering.specs.Steps.{firstStep}
 
 module _ (elements : List Element) where
   -- the pass from element j on
-  abbrev pub passFrom : StateB → (j : ℕ) → Found
+  abbrev pub passFrom : StateB → (j : ℕ) → Fault
   passFrom state j = passB state j (map (sightOf elements) (drop j elements))
 
   module _ (state : StateB) (j : ℕ) where
@@ -29,13 +31,13 @@ module _ (elements : List Element) where
     unfolding passB
     next l = ap (λ (es : List Element). passB state j (map (sightOf elements) es)) (drop-cons elements j noElement l)
 
-    pub pass-stops : j < length elements → stops ≡ stepB state j (sightOf elements (elementAt elements j)) → passFrom state j ≡ fault j
+    pub pass-stops : j < length elements → stops ≡ stepB state j (sightOf elements (elementAt elements j)) → passFrom state j ≡ At j
     pass-stops l e = next l ∙ ap (λ (t : StepB). afterB t j (λ u. passFrom u (suc j))) (sym e)
 
     pub pass-goes : (after : StateB) → j < length elements → goes after ≡ stepB state j (sightOf elements (elementAt elements j)) → passFrom state j ≡ passFrom after (j + 1)
     pass-goes after l e = next l ∙ ap (λ (t : StepB). afterB t j (λ u. passFrom u (suc j))) (sym e) ∙ ap (passFrom after) (sym (add-one j))
 
-    pub pass-ends : j ≡ length elements → passFrom state j ≡ cond (eqb (state .left) 0) in-order (fault j)
+    pub pass-ends : j ≡ length elements → passFrom state j ≡ cond (eqb (state .left) 0) Nowhere (At j)
     unfolding passB
     pass-ends e = ap (λ (es : List Element). passB state j (map (sightOf elements) es)) (ap (λ (k : ℕ). drop k elements) e ∙ drop-length elements)
 
@@ -51,16 +53,16 @@ module _ (elements : List Element) where
       of (x ∷ xs) l = cases (eqb (x .kind) profileKind && canCome (sightOf all x)) (λ t. rw t) (λ t. rw t)
 
   module _ (aside : LimitsAside elements) (some-elements : 0 < length elements) where
-    pub first-stops : stops ≡ firstStep (sightOf elements (elementAt elements 0)) → fault 0 ≡ faultOf classB elements
+    pub first-stops : stops ≡ firstStep (sightOf elements (elementAt elements 0)) → At 0 ≡ faultOf B elements
     first-stops e =
         ap (λ (t : StepB). afterB t 0 (λ u. passFrom u 1)) e ∙ sym (place-first elements some-elements) ∙ pass-exactly elements aside
 
-    pub first-starts : (start : StateB) → goes start ≡ firstStep (sightOf elements (elementAt elements 0)) → passFrom start 1 ≡ faultOf classB elements
+    pub first-starts : (start : StateB) → goes start ≡ firstStep (sightOf elements (elementAt elements 0)) → passFrom start 1 ≡ faultOf B elements
     first-starts start e =
         ap (λ (t : StepB). afterB t 0 (λ u. passFrom u 1)) e ∙ sym (place-first elements some-elements) ∙ pass-exactly elements aside
 
 -- with no element there is no profile
-pub none-fault : (elements : List Element) → length elements ≡ 0 → fault 0 ≡ faultOf classB elements
+pub none-fault : (elements : List Element) → length elements ≡ 0 → At 0 ≡ faultOf B elements
 unfolding faultFrom orderedB
 none-fault [] e = refl
 none-fault (x ∷ xs) e = absurd (omega arith)

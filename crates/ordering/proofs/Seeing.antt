@@ -14,8 +14,9 @@ use Rattle.reading.specs.declared.Side.the-variants.{Layout}
 use Rattle.reading.specs.Match.{unitKind}
 use Rattle.reading.specs.Ready.{spanAt, there, RowsTell, elementAt}
 use Rattle.reading.proofs.Listing.{element-there}
-use Rattle.order.specs.Answers.{named, profileKind, LimitsAside}
-use Rattle.order.specs.ClassB.{rankIn, rowsB}
+use Rattle.order.specs.Represents.{named, profileKind, LimitsAside}
+use Rattle.order.specs.Ranks.{rankIn}
+use Rattle.order.specs.ClassB.{rowsB}
 use Rattle.order.specs.PassB.{layoutOwner, Sight, sightOf, StateB, StepB, goes, stops, startB, canCome, stepB}
 use Rattle.order.proofs.AsMatches.{owner-match}
 use Rattle.owners.specs.declared.Owner.{Owner}

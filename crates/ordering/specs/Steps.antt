@@ -8,11 +8,11 @@ use lib.Dec.{eqb, leb, ltb}
 use lib.ListN.{drop}
 use Rattle.elements.specs.Judge.{Element}
 use Rattle.reading.specs.Ready.{RowsTell, elementAt}
-use Rattle.order.specs.Answers.{profileKind, LimitsAside}
-use Rattle.order.specs.ClassB.{rankIn, rowsB, endB}
+use Rattle.order.specs.Represents.{profileKind, LimitsAside}
+use Rattle.order.specs.Ranks.{rankIn}
+use Rattle.order.specs.ClassB.{rowsB, endB}
 use Rattle.order.specs.PassB.{Sight, sightOf, StateB, StepB, goes, stops, startB, canCome, passB}
 use Rattle.order.specs.declared.Fault.{Fault}
-use Rattle.order.specs.Coded.{foundOf}
 use Rattle.ordering.specs.declared.State.{State}
 use Rattle.ordering.specs.declared.Step.{Step}
 use Rattle.ordering.specs.declared.Step.the-variants.{Goes, Stops}
@@ -49,4 +49,4 @@ headStep s n x = cond (mayFollow s (x .kind) && canCome x) (goes (startB n x)) s
 abbrev pub PassIs : (s rows : List ℕ) → (n : ℕ) → StateB → Fault → Type 0
 PassIs s rows n state found =
     (elements : List Element) → RowsTell s rows n elements → LimitsAside elements
-    → foundOf found ≡ passB state 1 (map (sightOf elements) (drop 1 elements))
+    → found ≡ passB state 1 (map (sightOf elements) (drop 1 elements))

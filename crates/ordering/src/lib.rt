@@ -1,4 +1,4 @@
-// The order of class B in one pass over the rows, with a small state by value. Nothing is stored: the element that a unit answers is looked up in
+// The order of class B in one pass over the rows, with a small state by value. Nothing is stored: the element that a unit is associated with is looked up in
 // the index that is there.
 use order::Fault;
 use owners::Owner;
@@ -11,10 +11,11 @@ ghost use lib.ListN.{length};
 ghost use Rattle.index.specs.Rows.{rowWidth};
 ghost use Rattle.index.specs.Columns.{identifierColumn};
 ghost use Rattle.reading.specs.Ready.{spanAt, there};
-ghost use Rattle.order.specs.ClassB.{rankIn, rowsB};
-ghost use Rattle.order.specs.Begins.{classB};
+ghost use Rattle.order.specs.Ranks.{rankIn};
+ghost use Rattle.order.specs.ClassB.{rowsB};
+ghost use Rattle.order.specs.declared.Class.the-variants.{B};
 ghost use Rattle.order.specs.PassB.{stepB};
-ghost use Rattle.order.specs.Coded.{FaultIn};
+ghost use Rattle.order.specs.Fault.{FaultIn};
 ghost use Rattle.owners.specs.Owner.{Known};
 ghost use Rattle.ordering.specs.Steps.{stateOf, StepIs, firstStep, unitStep, mayFollow, headStep, PassIs};
 
@@ -124,7 +125,7 @@ fn first_step(s: &[u8], rows: &[u32], head: &[u16], next: &[u16], n: usize) -> S
     })
 }
 
-// A text unit: it must answer a portion of the last element that is none.
+// A text unit: it must represent a portion of the last element that is none.
 fn unit_step(
     s: &[u8],
     rows: &[u32],
@@ -228,7 +229,7 @@ fn pass(s: &[u8], rows: &[u32], head: &[u16], next: &[u16], n: usize, start: Sta
 // Where the elements of an accepted letter leave the order of class B.
 pub fn fault_b(s: &[u8], rows: &[u32], head: &[u16], next: &[u16], n: usize) -> Fault
     requires { ⌜ Known (now s) (now rows) (now head) (now next) n ⌝ }
-    ensures { λ r. ⌜ FaultIn classB (now (s .entry)) (now (rows .entry)) n r ⌝ }
+    ensures { λ r. ⌜ FaultIn B (now (s .entry)) (now (rows .entry)) n r ⌝ }
 {
     if n == 0 {
         return Fault::At(0);

@@ -12,9 +12,10 @@ use Rattle.elements.specs.Judge.{Element}
 use Rattle.reading.specs.declared.Side.{Side}
 use Rattle.reading.specs.Match.{matches}
 use Rattle.reading.specs.Ready.{elementAt}
-use Rattle.order.specs.Answers.{_∈_, LimitsAside}
-use Rattle.order.specs.Begins.{classA}
-use Rattle.order.specs.Fault.{in-order, fault, faultOf}
+use Rattle.order.specs.Represents.{_∈_, LimitsAside}
+use Rattle.order.specs.declared.Class.the-variants.{A}
+use Rattle.order.specs.declared.Fault.the-variants.{Nowhere, At}
+use Rattle.order.specs.Fault.{faultOf}
 use Rattle.order.specs.PassA.{sightsA, passA, placeA}
 use Rattle.order.proofs.PassA.{pass-exactly}
 use Rattle.ranks.specs.declared.Sight.{Sight}
@@ -55,20 +56,20 @@ start-bounds n = record { row = omega arith; base = omega arith; generic = omega
 
 -- at the end
 module _ (es : List Element) (aside : LimitsAside es) (n : ℕ) (count : length es ≡ n) (w : Walk) (st : Standing es n w) where
-  ends : placeA (sightsA [] es) ≡ cond (eqb (w .state .generic) 0 && eqb (w .state .specific) 0) in-order (fault n)
+  ends : placeA (sightsA [] es) ≡ cond (eqb (w .state .generic) 0 && eqb (w .state .specific) 0) Nowhere (At n)
   unfolding passA
   ends = st .goes-on ∙ ap (λ (xs : List Element). passA (asState (w .state)) n (sightsA (take n es) xs)) (drop-of-length-le es {i = n} (omega arith))
 
-  pub ends-waiting : waiting (w .state) ≡ true → fault n ≡ faultOf classA es
+  pub ends-waiting : waiting (w .state) ≡ true → At n ≡ faultOf A es
   unfolding waiting
   ends-waiting t = let e = not-true (eqb (w .state .generic) 0 && eqb (w .state .specific) 0) t in sym (sym (pass-exactly es aside) ∙ ends ∙ rw e)
 
-  pub ends-whole : waiting (w .state) ≡ false → in-order ≡ faultOf classA es
+  pub ends-whole : waiting (w .state) ≡ false → Nowhere ≡ faultOf A es
   unfolding waiting
   ends-whole t = let e = not-false (eqb (w .state .generic) 0 && eqb (w .state .specific) 0) t in sym (sym (pass-exactly es aside) ∙ ends ∙ rw e)
 
 -- where the first is no profile
-pub no-profile : (es : List Element) → LimitsAside es → (length es ≡ 0) ⊎ (elementAt es 0 .kind ≡ 0 → ⊥) → fault 0 ≡ faultOf classA es
+pub no-profile : (es : List Element) → LimitsAside es → (length es ≡ 0) ⊎ (elementAt es 0 .kind ≡ 0 → ⊥) → At 0 ≡ faultOf A es
 unfolding placeA
 no-profile [] aside e = sym (sym (pass-exactly [] aside) ∙ refl)
 no-profile (x ∷ xs) aside (inl z) = absurd (omega arith)

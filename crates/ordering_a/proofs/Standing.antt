@@ -17,11 +17,11 @@ use Rattle.reading.specs.declared.Side.{Side}
 use Rattle.reading.specs.declared.Side.the-variants.{Layout, Logical}
 use Rattle.reading.specs.Match.{unitKind, matches}
 use Rattle.reading.specs.Ready.{elementAt, noElement}
-use Rattle.order.specs.Answers.{_∈_, named, owns, LimitsAside}
-use Rattle.order.specs.ClassB.{rankIn}
+use Rattle.order.specs.Represents.{_∈_, named, isAssociated, LimitsAside}
+use Rattle.order.specs.Ranks.{rankIn}
 use Rattle.order.specs.ClassA.{endA, specificRank, unitRank, classKinds, objectKinds, orderedBy, listedOf}
-use Rattle.order.specs.Fault.{fault}
-use Rattle.order.specs.PassA.{listedIn, answersOf, slotIn, sightA, sightsA, rankSeen, testsA, passA, placeA, countIf}
+use Rattle.order.specs.declared.Fault.the-variants.{At}
+use Rattle.order.specs.PassA.{listedIn, representsOf, slotIn, sightA, sightsA, rankSeen, testsA, passA, placeA, countIf}
 use Rattle.order.proofs.Place.{aside-left}
 use Rattle.order.proofs.SightsA.{Passing, passing-told}
 use Rattle.order.proofs.CountsA.{generic-count, specific-count}
@@ -56,7 +56,7 @@ any-more f [] x = or-nothing (f x)
     or-nothing false = refl
 any-more f (y ∷ xs) x = cases (f y) (λ t. rw t) (λ t. rw t (any-more f xs x))
 
--- a unit that answers an object, and has a place, is of the rank of such units
+-- a unit that is associated with an object, and has a place, is of the rank of such units
 specific-place : (generic : Bool) → unitRank generic true < endA → specificRank ≤ unitRank generic true
 specific-place true l = absurd (omega arith)
 specific-place false l = omega arith
@@ -92,15 +92,15 @@ module _ (es : List Element) (aside : LimitsAside es) (k : ℕ) (below : k < len
   aside-front : LimitsAside front
   aside-front = aside-left front (here ∷ drop (suc k) es) (subst LimitsAside (whole es k below) aside)
 
-  early-is : any (map (owns here) front) ≡ eqb (w .least) k
+  early-is : any (map (isAssociated here) front) ≡ eqb (w .least) k
   early-is =
       cases (eqb (w .least) k)
       (λ t. least (eqb-true (w .least) k t) (st .least-is) ∙ sym t)
-      (λ t. cases (any (map (owns here) front))
+      (λ t. cases (any (map (isAssociated here) front))
       (λ u. let (side, p, v, l, m) = early-told es k below u in absurd (eqb-false (w .least) k t (is-least (st .no-less side k p v l m))))
       (λ u. u ∙ sym t))
     where
-      least : w .least ≡ k → (w .least ≡ length es) ⊎ ((side : Side) × (p : ℕ) × (u : ℕ) × (u < k) × (made (w .least) p u ∈ matches side es)) → any (map (owns here) front) ≡ true
+      least : w .least ≡ k → (w .least ≡ length es) ⊎ ((side : Side) × (p : ℕ) × (u : ℕ) × (u < k) × (made (w .least) p u ∈ matches side es)) → any (map (isAssociated here) front) ≡ true
       least e (inl z) = absurd (omega arith)
       least e (inr (side, p, u, l, m)) = early-of es k below side p u l (subst (λ (i : ℕ). made i p u ∈ matches side es) e m)
 
@@ -148,7 +148,7 @@ module _ (es : List Element) (aside : LimitsAside es) (k : ℕ) (below : k < len
   tests = stands-exactly (w .state) (sightA front here) x sees
 
   -- from here
-  from-here : placeA (sightsA [] es) ≡ cond (stands (w .state) x) (passA (asState (next (w .state) x)) (suc k) (sightsA (take (suc k) es) (drop (suc k) es))) (fault k)
+  from-here : placeA (sightsA [] es) ≡ cond (stands (w .state) x) (passA (asState (next (w .state) x)) (suc k) (sightsA (take (suc k) es) (drop (suc k) es))) (At k)
   unfolding passA
   from-here =
       st .goes-on
@@ -156,7 +156,7 @@ module _ (es : List Element) (aside : LimitsAside es) (k : ℕ) (below : k < len
       ∙ rw (tests, next-exactly (w .state) (sightA front here) x sees, take-suc es k noElement below)
 
   -- where it may not stand, 26 is there
-  pub stops-here : stands (w .state) x ≡ false → placeA (sightsA [] es) ≡ fault k
+  pub stops-here : stands (w .state) x ≡ false → placeA (sightsA [] es) ≡ At k
   stops-here t = from-here ∙ rw t
 
   module _ (t : stands (w .state) x ≡ true) where
@@ -172,7 +172,7 @@ module _ (es : List Element) (aside : LimitsAside es) (k : ℕ) (below : k < len
     above : w .state .rank ≤ rankOf x
     above = subst (λ (i : ℕ). w .state .rank ≤ i) rank-is (passing .above)
 
-    -- the first row that a unit answers lies further
+    -- the first row that a unit is associated with lies further
     not-least : w .least ≡ k → ⊥
     not-least e = true≢false (sym (eq-eqb (w .least) k e) ∙ sym early-is ∙ passing .late)
 
@@ -274,10 +274,10 @@ module _ (es : List Element) (aside : LimitsAside es) (k : ℕ) (below : k < len
 
     ordered-place : eqb (own .kind) by ≡ true → specificRank ≤ rankOf x
     ordered-place u =
-        let many : ltb 0 (answersOf (listedIn objectKinds front) here) ≡ true = ap (ltb 0) (sees .specific ∙ seen .specific) ∙ ordered-counts (w .layouts) layout logical u in
-        let is : rankSeen (sightA front here) ≡ unitRank (ltb 0 (answersOf (listedIn classKinds front) here)) true = rw (ordered-unit u, many) in
-        let low : unitRank (ltb 0 (answersOf (listedIn classKinds front) here)) true < endA = subst (λ (i : ℕ). i < endA) is (passing .tabled) in
-        subst (λ (i : ℕ). specificRank ≤ i) (sym is ∙ rank-is) (specific-place (ltb 0 (answersOf (listedIn classKinds front) here)) low)
+        let many : ltb 0 (representsOf (listedIn objectKinds front) here) ≡ true = ap (ltb 0) (sees .specific ∙ seen .specific) ∙ ordered-counts (w .layouts) layout logical u in
+        let is : rankSeen (sightA front here) ≡ unitRank (ltb 0 (representsOf (listedIn classKinds front) here)) true = rw (ordered-unit u, many) in
+        let low : unitRank (ltb 0 (representsOf (listedIn classKinds front) here)) true < endA = subst (λ (i : ℕ). i < endA) is (passing .tabled) in
+        subst (λ (i : ℕ). specificRank ≤ i) (sym is ∙ rank-is) (specific-place (ltb 0 (representsOf (listedIn classKinds front) here)) low)
 
     ordered-rank : (row ≡ 0) ⊎ (specificRank ≤ rankOf x)
     ordered-rank =

@@ -11,10 +11,10 @@ use Rattle.index.specs.Columns.{kindAt}
 use Rattle.elements.specs.Judge.{Element}
 use Rattle.reading.specs.declared.Side.the-variants.{Layout, Logical}
 use Rattle.reading.specs.Ready.{RowsTell}
-use Rattle.order.specs.Answers.{LimitsAside}
+use Rattle.order.specs.Represents.{LimitsAside}
 use Rattle.order.specs.declared.Fault.the-variants.{Nowhere, At}
-use Rattle.order.specs.Begins.{classA}
-use Rattle.order.specs.Coded.{FaultIn}
+use Rattle.order.specs.declared.Class.the-variants.{A}
+use Rattle.order.specs.Fault.{FaultIn}
 use Rattle.order.proofs.PassA.{pass-exactly}
 use Rattle.ranks.specs.declared.Sight.{Sight}
 use Rattle.ranks.specs.Step.{stands, waiting, Small}
@@ -113,7 +113,7 @@ walking-first {s} {rows} {n} told l k =
     }
 
 module _ {s rows : List ℕ} {n k : ℕ} {w : Walk} (at : Walking s rows n k w) where
-  pub walking-stops : StepAt s rows n k w Stops → FaultIn classA s rows n (At k)
+  pub walking-stops : StepAt s rows n k w Stops → FaultIn A s rows n (At k)
   walking-stops step es ready aside = sym (step es ready aside (at .standing es ready aside)) ∙ pass-exactly es aside
 
   pub walking-more : {v : Walk} → k < n → StepAt s rows n k w (Goes v) → Walking s rows n (k + 1) v
@@ -128,8 +128,8 @@ module _ {s rows : List ℕ} {n k : ℕ} {w : Walk} (at : Walking s rows n k w) 
     stands-at : (es : List Element) → RowsTell s rows n es → LimitsAside es → Standing es n w
     stands-at es ready aside = subst (λ (i : ℕ). Standing es i w) last (at .standing es ready aside)
 
-    pub walking-ends : waiting (w .state) ≡ true → FaultIn classA s rows n (At n)
+    pub walking-ends : waiting (w .state) ≡ true → FaultIn A s rows n (At n)
     walking-ends t es ready aside = ends-waiting es aside n (ready .counted) w (stands-at es ready aside) t
 
-    pub walking-whole : waiting (w .state) ≡ false → FaultIn classA s rows n Nowhere
+    pub walking-whole : waiting (w .state) ≡ false → FaultIn A s rows n Nowhere
     walking-whole t es ready aside = ends-whole es aside n (ready .counted) w (stands-at es ready aside) t

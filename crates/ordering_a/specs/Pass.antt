@@ -13,9 +13,9 @@ use Rattle.elements.specs.Judge.{Element}
 use Rattle.reading.specs.declared.Side.{Side}
 use Rattle.reading.specs.Match.{matches}
 use Rattle.reading.specs.Ready.{spanAt, there, RowsTell}
-use Rattle.order.specs.Answers.{_∈_, LimitsAside}
+use Rattle.order.specs.Represents.{_∈_, LimitsAside}
 use Rattle.order.specs.ClassA.{specificRank}
-use Rattle.order.specs.Fault.{fault}
+use Rattle.order.specs.declared.Fault.the-variants.{At}
 use Rattle.order.specs.PassA.{sightsA, passA, placeA}
 use Rattle.owners.specs.Owner.{made, listedAt}
 use Rattle.ranks.specs.declared.Sight.{Sight}
@@ -67,7 +67,7 @@ startOf n = record { state = record { rank = 0; generic = 0; specific = 0; order
 pub record Standing (elements : List Element) (k : ℕ) (w : Walk) : Type 0 where
   -- the place of 26 is what the definition's pass finds from here
   pub goes-on : placeA (sightsA [] elements) ≡ passA (asState (w .state)) k (sightsA (take k elements) (drop k elements))
-  -- of the rows from k on that a unit before k answers on a side, the least; how many rows there are, if there is none
+  -- of the rows from k on that a unit before k is associated with on a side, the least; how many rows there are, if there is none
   pub least-low : k ≤ w .least
   pub no-less : (side : Side) (row portion u : ℕ) → u < k → made row portion u ∈ matches side elements → (row < k) ⊎ (w .least ≤ row)
   pub least-is : (w .least ≡ length elements) ⊎ ((side : Side) × (portion : ℕ) × (u : ℕ) × (u < k) × (made (w .least) portion u ∈ matches side elements))
@@ -90,6 +90,6 @@ pub record Bounds (k : ℕ) (w : Walk) : Type 0 where
 -- what a step answers: 26 is here, or the same is known before the next element
 abbrev pub StepAt : (s rows : List ℕ) → (n k : ℕ) → Walk → Step → Type 0
 StepAt s rows n k w Stops =
-    (elements : List Element) → RowsTell s rows n elements → LimitsAside elements → Standing elements k w → placeA (sightsA [] elements) ≡ fault k
+    (elements : List Element) → RowsTell s rows n elements → LimitsAside elements → Standing elements k w → placeA (sightsA [] elements) ≡ At k
 StepAt s rows n k w (Goes v) =
     Bounds (suc k) v × ((elements : List Element) → RowsTell s rows n elements → LimitsAside elements → Standing elements k w → Standing elements (suc k) v)

@@ -7,8 +7,8 @@ use turns::Own;
 ghost use mathlib.Core.Path.{_≡_};
 ghost use Prim.Native.Nat.{_<_};
 ghost use Rattle.index.specs.Columns.{kindAt};
-ghost use Rattle.order.specs.Begins.{classA};
-ghost use Rattle.order.specs.Coded.{FaultIn};
+ghost use Rattle.order.specs.declared.Class.the-variants.{A};
+ghost use Rattle.order.specs.Fault.{FaultIn};
 ghost use Rattle.owners.specs.Owner.{Known};
 ghost use Rattle.ranks.specs.Step.{Small};
 ghost use Rattle.reading.specs.declared.Side.{Side};
@@ -23,7 +23,7 @@ const LOGICAL_CLASS: usize = 5;
 
 const LOGICAL_OBJECT: usize = 6;
 
-// What is known of the elements so far: the step's own state; the first row that a unit before it answers; up to which row the portions were
+// What is known of the elements so far: the step's own state; the first row that a unit before it is associated with; up to which row the portions were
 // counted by which units are ordered, and how many they are; whether there was a layout object.
 pub struct Walk {
     pub state: State,
@@ -153,7 +153,7 @@ fn first_walk(n: usize) -> Walk
 fn pass(s: &[u8], rows: &[u32], head: &[u16], next: &[u16], n: usize) -> Fault
     requires { ⌜ Known (now s) (now rows) (now head) (now next) n ⌝ }
     requires { ⌜ (0 < n) × (kindAt (now rows) 0 ≡ 0) ⌝ }
-    ensures { λ r. ⌜ FaultIn classA (now (s .entry)) (now (rows .entry)) n r ⌝ }
+    ensures { λ r. ⌜ FaultIn A (now (s .entry)) (now (rows .entry)) n r ⌝ }
 {
     let mut w = first_walk(n);
     let mut k: usize = 1;
@@ -179,7 +179,7 @@ fn pass(s: &[u8], rows: &[u32], head: &[u16], next: &[u16], n: usize) -> Fault
 // is missing, or none.
 pub fn fault_a(s: &[u8], rows: &[u32], head: &[u16], next: &[u16], n: usize) -> Fault
     requires { ⌜ Known (now s) (now rows) (now head) (now next) n ⌝ }
-    ensures { λ r. ⌜ FaultIn classA (now (s .entry)) (now (rows .entry)) n r ⌝ }
+    ensures { λ r. ⌜ FaultIn A (now (s .entry)) (now (rows .entry)) n r ⌝ }
 {
     if n == 0 {
         return Fault::At(0);

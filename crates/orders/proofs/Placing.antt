@@ -28,14 +28,15 @@ use Rattle.reading.proofs.Scratch.{filled-ready}
 use Rattle.order.specs.declared.Class.{Class}
 use Rattle.order.specs.declared.Fault.{Fault}
 use Rattle.order.specs.declared.Fault.the-variants.{Nowhere, At}
-use Rattle.order.specs.Answers.{LimitsAside}
-use Rattle.order.specs.Fault.{Found, faultOf}
-use Rattle.order.specs.Question.{outOfOrder, octetAt, byFound, byLetter, orderIn}
-use Rattle.order.specs.Coded.{classOf, foundOf, FaultIn}
+use Rattle.order.specs.Represents.{LimitsAside}
+use Rattle.order.specs.Fault.{faultOf}
+use Rattle.order.specs.declared.Ordered.{Ordered}
+use Rattle.order.specs.Question.{verdict, outOfOrder, octetAt}
+use Rattle.order.specs.Computed.{byFound, byLetter, orderIn}
+use Rattle.order.specs.Fault.{FaultIn}
 use Rattle.order.proofs.Accepted.{judged-aside}
 use Rattle.owners.specs.Owner.{Known}
-use Rattle.orders.specs.declared.Ordered.{Ordered}
-use Rattle.orders.specs.Orders.{given, ordered, faultPlace}
+use Rattle.orders.specs.Orders.{faultPlace}
 
 -- the row of an item begins where the item does
 row-place : (edition : Edition) (s : List ℕ) (items : Items) (k : ℕ) (row : Row) → getElem? (rowsOf edition s items) k ≡ some row → row .whole .first ≡ placeOf k items
@@ -71,22 +72,22 @@ module _ {edition : Edition} {s rows head next head2 next2 : List ℕ} {count : 
     unfolding letterOf
     is-letter = rw (walked, filled .judged)
 
-    by-fault : (found : Fault) → FaultIn (classOf class) s rows count found → given (byFound s (filled .elements) (foundOf found)) ≡ ordered edition class s
-    unfolding ordered orderIn
+    by-fault : (found : Fault) → FaultIn class s rows count found → byFound s (filled .elements) found ≡ orderIn edition class s
+    unfolding orderIn
     by-fault found f =
         let aside = judged-aside edition (treeOf s) (filled .elements) (filled .judged) in
-        sym (ap (λ (l : Letter). given (byLetter (classOf class) s l)) is-letter
-        ∙ ap (λ (x : Found). given (byFound s (filled .elements) x)) (sym (f (filled .elements) (filled-ready filled) aside)))
+        sym (ap (λ (l : Letter). byLetter class s l) is-letter
+        ∙ ap (λ (x : Fault). byFound s (filled .elements) x) (sym (f (filled .elements) (filled-ready filled) aside)))
 
     -- nothing was found
-    pub none-found : (found : Fault) → FaultIn (classOf class) s rows count found → found ≡ Nowhere → record { number = 0; place = 0 } ≡ ordered edition class s
-    none-found found f e = ap (λ (x : Fault). given (byFound s (filled .elements) (foundOf x))) (sym e) ∙ by-fault found f
+    pub none-found : (found : Fault) → FaultIn class s rows count found → found ≡ Nowhere → verdict 0 0 ≡ orderIn edition class s
+    none-found found f e = ap (λ (x : Fault). byFound s (filled .elements) x) (sym e) ∙ by-fault found f
 
     -- a fault was found at a row, or past them
-    pub fault-found : (found : Fault) (k : ℕ) → FaultIn (classOf class) s rows count found → found ≡ At k → faultPlace s rows count k ≡ ordered edition class s
+    pub fault-found : (found : Fault) (k : ℕ) → FaultIn class s rows count found → found ≡ At k → faultPlace s rows count k ≡ orderIn edition class s
     fault-found found k f e =
-        ap (λ (p : ℕ). record { number = outOfOrder; place = p }) same-octet
-        ∙ ap (λ (x : Fault). given (byFound s (filled .elements) (foundOf x))) (sym e) ∙ by-fault found f
+        ap (λ (p : ℕ). verdict outOfOrder p) same-octet
+        ∙ ap (λ (x : Fault). byFound s (filled .elements) x) (sym e) ∙ by-fault found f
       where
         by-count : cond (ltb k count) (firstAt rows wholeColumn k) (length s) ≡ cond (ltb k count) (placeOf k (itemsOfStream s)) (length s)
         by-count = cases (ltb k count) (λ t. rw (t, place-at k (ltb-true k count t))) (λ t. rw t)

@@ -5,11 +5,10 @@ use Prim.Native.Nat.{ℕ}
 use Rattle.elements.specs.declared.Edition.{Edition}
 use Rattle.letters.specs.Letter.{Letter, refusal, letterOf}
 use Rattle.order.specs.declared.Class.{Class}
-use Rattle.order.specs.Question.{byLetter, orderIn}
-use Rattle.order.specs.Coded.{classOf}
-use Rattle.orders.specs.Orders.{given, ordered}
+use Rattle.order.specs.Question.{verdict}
+use Rattle.order.specs.Computed.{byLetter, orderIn}
 
 pub ordered-refused : (edition : Edition) (class : Class) (s : List ℕ) (number place headers : ℕ) → letterOf edition s ≡ refusal number place headers
-    → ordered edition class s ≡ record { number = number; place = place }
-unfolding ordered orderIn
-ordered-refused edition class s number place headers e = ap (λ (l : Letter). given (byLetter (classOf class) s l)) e
+    → orderIn edition class s ≡ verdict number place
+unfolding orderIn
+ordered-refused edition class s number place headers e = ap (λ (l : Letter). byLetter class s l) e

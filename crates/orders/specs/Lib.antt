@@ -1,2 +1,2 @@
--- Orders: what is answered of the order of a stream.
+-- Orders: 26 by the rows.
 pub mod Orders

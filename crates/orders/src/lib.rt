@@ -5,29 +5,24 @@ use index::WHOLE;
 use octets::Outcome;
 use order::Class;
 use order::Fault;
+use order::Ordered;
 ghost use mathlib.Core.Path.{_≡_};
 ghost use Prim.Native.Nat.{ℕ, _*_, _≤_};
 ghost use lib.ListN.{length};
 ghost use Rattle.octets.specs.Walk.{streamLimit, walkOf};
 ghost use Rattle.index.specs.Rows.{rowWidth};
 ghost use Rattle.letters.specs.Scratch.{Filled};
-ghost use Rattle.order.specs.Coded.{classOf, FaultIn};
+ghost use Rattle.order.specs.Fault.{FaultIn};
 ghost use Rattle.owners.specs.Owner.{Known};
-ghost use Rattle.orders.specs.Orders.{ordered, faultPlace};
+ghost use Rattle.order.specs.Computed.{orderIn};
+ghost use Rattle.orders.specs.Orders.{faultPlace};
 
 const OUT_OF_ORDER: u32 = 26;
-
-// What is answered of the order of a stream. Number 0 is in order.
-#[repr(C)]
-pub struct Ordered {
-    pub number: u32,
-    pub place: u32,
-}
 
 // Where the elements leave the order of a class.
 fn fault_in(s: &[u8], class: Class, rows: &[u32], head: &[u16], next: &[u16], n: usize) -> Fault
     requires { ⌜ Known (now s) (now rows) (now head) (now next) n ⌝ }
-    ensures { λ r. ⌜ FaultIn (classOf class) (now (s .entry)) (now (rows .entry)) n r ⌝ }
+    ensures { λ r. ⌜ FaultIn class (now (s .entry)) (now (rows .entry)) n r ⌝ }
 {
     match class {
         Class::A => ordering_a::fault_a(s, rows, head, next, n),
@@ -66,7 +61,7 @@ pub fn order_judged(
 ) -> Ordered
     requires { ⌜ ((headers : ℕ) × (walkOf (now stream) ≡ Outcome.Ended (length (now stream)) headers)) ⌝ }
     requires { ⌜ Filled edition (now stream) (now rows) (now head) (now next) (now head2) (now next2) count ⌝ }
-    ensures { λ r. ⌜ r ≡ ordered edition class (now (stream .entry)) ⌝ }
+    ensures { λ r. ⌜ r ≡ orderIn edition class (now (stream .entry)) ⌝ }
 {
     match fault_in(stream, class, rows, head, next, count) {
         Fault::Nowhere => Ordered {

@@ -20,7 +20,7 @@ use Rattle.reading.specs.declared.Side.the-variants.{Layout, Logical}
 use Rattle.reading.specs.Ready.{columnOf, spanAt, there, nameIn, portionsAt, Tells, RowsTell, elementAt}
 use Rattle.reading.proofs.Listing.{element-there, element-told}
 use Rattle.reading.proofs.OnePlace.{few-portions}
-use Rattle.order.specs.Answers.{present, named}
+use Rattle.order.specs.Represents.{present, named}
 use Rattle.owners.specs.Owner.{Known, listedAt, Meetable}
 
 module _ {s rows : List ℕ} {n : ℕ} {elements : List Element} (ready : RowsTell s rows n elements) (j : ℕ) (below : j < n) where

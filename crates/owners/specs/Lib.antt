@@ -1,2 +1,2 @@
--- Owner: which portion of which element a text unit answers, as the code finds it in the rows.
+-- Owner: which portion of which element a text unit represents, as the code finds it in the rows.
 pub mod Owner

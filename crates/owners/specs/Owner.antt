@@ -1,4 +1,4 @@
--- Which portion of which element a text unit answers, by the rows and the index that are there: the unit's record of a side, found from the unit.
+-- Which portion of which element a text unit represents, by the rows and the index that are there: the unit's record of a side, found from the unit.
 -- W-207. Definitions only: assumes nothing.
 use Prim.Native.Nat.{ℕ, suc, _≤_}
 use mathlib.Core.Path.{_≡_}
@@ -17,7 +17,7 @@ use Rattle.reading.specs.declared.Match.{Match}
 use Rattle.reading.specs.declared.Side.{Side}
 use Rattle.reading.specs.Match.{kindsOf, matches}
 use Rattle.reading.specs.Ready.{portionsAt, RowsTell}
-use Rattle.order.specs.Answers.{_∈_}
+use Rattle.order.specs.Represents.{_∈_}
 use Rattle.owners.specs.declared.Owner.{Owner}
 use Rattle.owners.specs.declared.Owner.the-variants.{Nobody, Of}
 

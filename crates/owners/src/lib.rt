@@ -1,4 +1,4 @@
-// Which portion of which element a text unit answers: what its identifier says, looked up by the index that is there. And what else the order
+// Which portion of which element a text unit represents: what its identifier says, looked up by the index that is there. And what else the order
 // rules look at. Nothing is stored: each is asked of the rows when it is wanted.
 use index::IDENTIFIER;
 use index::ROW_WIDTH;
@@ -17,7 +17,7 @@ ghost use Rattle.owners.specs.Owner.{OwnerAt, Known, Meetable, ownerAmon
 // The kind of a text unit.
 const TEXT_UNIT: usize = 3;
 
-// The element whose portion a text unit answers, and the place of that portion, both from 0.
+// The element whose portion a text unit represents, and the place of that portion, both from 0.
 pub enum Owner {
     Nobody,
     Of { row: usize, portion: usize },
@@ -112,7 +112,7 @@ fn owner_by(s: &[u8], rows: &[u32], side: Side, row: usize, first: usize, past: 
     portion_with(s, rows, row, first, past)
 }
 
-// Whose portion row u answers on a side, and which. A row that is no text unit answers none. The unit's identifier of the side is cut at its last
+// Whose portion row u represents on a side, and which. A row that is no text unit represents none. The unit's identifier of the side is cut at its last
 // space; what stands before it is looked up among classes and objects, what stands after it among the portions of the one that has that name.
 pub fn owner_of(
     s: &[u8],

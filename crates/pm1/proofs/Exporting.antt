@@ -41,10 +41,10 @@ use Rattle.elements.proofs.Edition as E
 use Rattle.elements.proofs.Edition.Laws as E′
 use Rattle.pm1.specs.declared.Page.{Page}
 use Rattle.pm1.proofs.Page.Laws as T′
-use Rattle.pm1.specs.declared.Listed.{Listed}
+use Rattle.pm1.specs.declared.Paged.{Paged}
 use Rattle.pm1.specs.Answers.{PagesOutcome}
-use Rattle.pm1.proofs.Listed as L
-use Rattle.pm1.proofs.Listed.Laws as L′
+use Rattle.pm1.proofs.Paged as L
+use Rattle.pm1.proofs.Paged.Laws as L′
 use Rattle.pm1.proofs.Filling.{R, record-ty, mach}
 use Rattle.pm1.proofs.pages as pages
 use Rattle.pm1.proofs.pages.Symbol.{name as #pm1·pages}
@@ -114,7 +114,7 @@ module _ {M : Type 1} (𝓤 : URA M) (H : Heap 𝓤) (A : Atoms 𝓤) (W : Given
   goes-list = qed W ((‵ (flft κ₀ q₀) ⊛ ‵ (flft κ₁ q₁) ⊛ ‵ (flft κ₂ q₂) ⊛ ‵ ftrue) ∷ ‵ OwnAll ∷ []) ∵ join ! $ frame ! $ done !
 
   module _ (C : Calls 𝓤 H) (Λ : Loops 𝓤 H) (fm : FmC 𝓤 H (W .laws) C) (known : Triple 𝓤 (C #pm1·pages) (Listing 𝓤 H A mem run)) (Post : Val → SProp 𝓤)
-      (exits : (r : Listed) (ts′ : List ℕ) (ys′ : List Page) → Is L.the-row r (mach r ∷ []) → PagesOutcome edition ss ts ys r ts′ ys′ → length ts′ ≡ length ts → length ys′ ≡ length ys
+      (exits : (r : Paged) (ts′ : List ℕ) (ys′ : List Page) → Is L.the-row r (mach r ∷ []) → PagesOutcome edition ss ts ys r ts′ ys′ → length ts′ ≡ length ts → length ys′ ≡ length ys
       → ent 𝓤 (⋆ 𝓤 H A ((‵ (flft κ₀ q₀) ⊛ ‵ (flft κ₁ q₁) ⊛ ‵ (flft κ₂ q₂) ⊛ ‵ ftrue) ∷ ‵ (finally u32 γ₁ ts′) ∷ ‵ (finally R γ₂ ys′) ∷ ‵ Own₀ ∷ [])) (Post (mach r))) where
     walk : ent 𝓤 (⋆ 𝓤 H A ((‵ (flft κ₀ q₀) ⊛ ‵ (flft κ₁ q₁) ⊛ ‵ (flft κ₂ q₂) ⊛ ‵ ftrue) ∷ ‵ (owns (ShrSlice (named 0) κ₀ u8 ∷ MutSlice (named 1) κ₁ u32 ∷ MutSlice (named 2) κ₂ R ∷ []) (x₀, (x₁, (x₂, tt))) (s₀ ∷ [], (s₁ ∷ [], (s₂ ∷ [], tt)))) ∷ [])) (WpFn 𝓤 H C Λ (function j) (s₀ ∷ s₁ ∷ s₂ ∷ []) Post)
     walk =
@@ -132,7 +132,7 @@ module _ {M : Type 1} (𝓤 : URA M) (H : Heap 𝓤) (A : Atoms 𝓤) (W : Given
         -- [all that `pages` is lent; the stream; _9; …; the tokens]
         move ! (20 ∷ 0 ∷ []) $ use2 W (raw (Listing 𝓤 H A mem run .pre to-list)) goes-list $
         calls-at ! fm (Listing 𝓤 H A mem run) known to-list (and-then ! (load ! (from ! (stop !)) (look ! 10 refl)) (and-then ! (load ! (from ! (stop !)) (look ! 16 refl)) (and-then ! (load ! (from ! (stop !)) (look ! 6 refl)) (and-then ! (load ! (from ! (stop !)) (look ! 2 refl)) (no-more !))))) (λ u.
-        use1 W (later (some (λ (r : Listed). ((‵ (flft κ₀ q₀) ⊛ ‵ (flft κ₁ q₁) ⊛ ‵ (flft κ₂ q₂) ⊛ ‵ ftrue) ⊛ ‵ (L.the-row .own r (u ∷ []))) ⊛ raw (ensured 𝓤 H A pages.ended (pages.clauses 𝓤 H A mem run) (κ₀, (κ₁, (κ₂, tt))) (edition, (x₀, (x₁, (x₂, tt)))) tt r)))) (id⊢ 𝓤 _) $ await ! tt $ pick ! (λ r.
+        use1 W (later (some (λ (r : Paged). ((‵ (flft κ₀ q₀) ⊛ ‵ (flft κ₁ q₁) ⊛ ‵ (flft κ₂ q₂) ⊛ ‵ ftrue) ⊛ ‵ (L.the-row .own r (u ∷ []))) ⊛ raw (ensured 𝓤 H A pages.ended (pages.clauses 𝓤 H A mem run) (κ₀, (κ₁, (κ₂, tt))) (edition, (x₀, (x₁, (x₂, tt)))) tt r)))) (id⊢ 𝓤 _) $ await ! tt $ pick ! (λ r.
         split ! $ move ! (1 ∷ []) $ use1 W (some (λ (ls : Unit {0} × (Unit {0} × (List ℕ × (List Page × Unit {0})))). ‵ (lasts pages.ended (κ₀, (κ₁, (κ₂, tt))) (edition, (x₀, (x₁, (x₂, tt)))) ls) ⊛ raw (fact 𝓤 (PagesOutcome edition ss ts ys r (ls .1 .1 .0) (ls .1 .1 .1 .0))))) (id⊢ 𝓤 _) $ pick ! (λ ls.
         split ! $ move ! (1 ∷ []) $ heard ! (PagesOutcome edition ss ts ys r (ls .1 .1 .0) (ls .1 .1 .1 .0)) (λ e. fsplit ! $ toss ! $ fsplit ! $ toss ! $ fsplit ! $ fsplit ! $ move ! (1 ∷ []) $ feqL ! (λ len₁.
         move ! (1 ∷ []) $ fsplit ! $ fsplit ! $ move ! (1 ∷ []) $ feqL ! (λ len₂.
@@ -165,7 +165,7 @@ module _ {M : Type 1} (𝓤 : URA M) (H : Heap 𝓤) (A : Atoms 𝓤) (W : Given
   abbrev Post : Val → SProp 𝓤
   Post = walkOf 𝓤 H A exported.ended stayed (clauses 𝓤 H A mem run edition) .post bound
 
-  exits : (r : Listed) (ts : List ℕ) (ys : List Page) → Is L.the-row r (mach r ∷ []) → PagesOutcome edition (x₀ .now) (x₁ .now) (x₂ .now) r ts ys → length ts ≡ length (x₁ .now) → length ys ≡ length (x₂ .now)
+  exits : (r : Paged) (ts : List ℕ) (ys : List Page) → Is L.the-row r (mach r ∷ []) → PagesOutcome edition (x₀ .now) (x₁ .now) (x₂ .now) r ts ys → length ts ≡ length (x₁ .now) → length ys ≡ length (x₂ .now)
       → ent 𝓤 (⋆ 𝓤 H A ((‵ (flft κ₀ q₀) ⊛ ‵ (flft κ₁ q₁) ⊛ ‵ (flft κ₂ q₂) ⊛ ‵ ftrue) ∷ ‵ (finally u32 (x₁ .name) ts) ∷ ‵ (finally R (x₂ .name) ys) ∷ ‵ (ShrSlice (named 0) κ₀ u8 .own x₀ (slice-vals x₀)) ∷ [])) (Post (mach r))
   exits r ts ys is e len₁ len₂ =
       qed W ((‵ (flft κ₀ q₀) ⊛ ‵ (flft κ₁ q₁) ⊛ ‵ (flft κ₂ q₂) ⊛ ‵ ftrue) ∷ ‵ (finally u32 (x₁ .name) ts) ∷ ‵ (finally R (x₂ .name) ys) ∷ ‵ (ShrSlice (named 0) κ₀ u8 .own x₀ (slice-vals x₀)) ∷ []) ∵

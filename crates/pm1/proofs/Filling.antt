@@ -54,11 +54,11 @@ use Rattle.pm1.proofs.Page as T
 use Rattle.pm1.proofs.Page.Laws as T′
 use Rattle.pm1.proofs.fill as fill
 use Rattle.pm1.proofs.fill.Symbol.{name as #pm1·fill}
-use Rattle.pm1.specs.declared.Listed.{Listed}
+use Rattle.pm1.specs.declared.Paged.{Paged}
 use Rattle.pm1.specs.Answers.{PagesOutcome}
-use Rattle.pm1.proofs.Outcomes.{listed-list}
-use Rattle.pm1.proofs.Listed as L
-use Rattle.pm1.proofs.Listed.Laws as L′
+use Rattle.pm1.proofs.Outcomes.{paged-list}
+use Rattle.pm1.proofs.Paged as L
+use Rattle.pm1.proofs.Paged.Laws as L′
 use Rattle.pm1.proofs.pages_flat as flat
 use Rattle.pm1.proofs.pages_flat.Symbol.{name as #pm1·pages-flat}
 use Rattle.scratch.proofs.Lending.{arrayTy, to-cells, to-parts, from-parts, big}
@@ -71,7 +71,7 @@ abbrev pub record-ty : Ty
 record-ty = pointee (R .written)
 
 -- the answer's machine value
-abbrev pub mach : Listed → Val
+abbrev pub mach : Paged → Val
 mach r = vstruct (vcons (vint w32 (r .number)) (vcons (vint w32 (r .place)) (vcons (vint w32 (r .elements)) (vcons (vint w32 (r .pages)) vnil))))
 
 -- how many numbers are kept for the records
@@ -185,7 +185,7 @@ module _ {M : Type 1} (𝓤 : URA M) (H : Heap 𝓤) (A : Atoms 𝓤) (W : Given
       move ! (1 ∷ 0 ∷ []) $ fjoin ! $ owned ! E.the-row (Is E.the-row) (EL.makes E.the-type E′.the-plain 𝓤 H A) edition _ isE $ fjoin ! $ done !
 
   -- what `pages_flat` says of its answer, of the last table and of the last numbers
-  abbrev Said : Listed → List ℕ → List ℕ → Type 0
+  abbrev Said : Paged → List ℕ → List ℕ → Type 0
   Said r ts′ ns = ListsFlat edition ss ts (length ys) r ts′ ns
 
   abbrev y : List ℕ → ℕ → GName → RefT (List ℕ)
@@ -201,7 +201,7 @@ module _ {M : Type 1} (𝓤 : URA M) (H : Heap 𝓤) (A : Atoms 𝓤) (W : Given
       says ! (enough, within) $ frame ! $
       move ! (1 ∷ []) $ nothing ! $ move ! (1 ∷ 0 ∷ []) $ fjoin ! $ owned ! usize (Is usize) (uint-makes 𝓤 H A W w64) k _ (refl, k-fits) $ fjoin ! $ move ! (1 ∷ 0 ∷ []) $ fjoin ! $ done !
 
-  exits : (r : Listed) (ts′ : List ℕ) (ys′ : List Page) → Is L.the-row r (mach r ∷ []) → PagesOutcome edition ss ts ys r ts′ ys′ → length ts′ ≡ length ts → length ys′ ≡ length ys
+  exits : (r : Paged) (ts′ : List ℕ) (ys′ : List Page) → Is L.the-row r (mach r ∷ []) → PagesOutcome edition ss ts ys r ts′ ys′ → length ts′ ≡ length ts → length ys′ ≡ length ys
       → ent 𝓤 (⋆ 𝓤 H A (‵ (flft κ₀ q₀) ∷ ‵ (flft κ₁ q₁) ∷ (‵ (flft κ₂ q₂) ⊛ ‵ ftrue) ∷ ‵ (finally u32 γ₁ ts′) ∷ ‵ (finally R γ₂ ys′) ∷ ‵ Own₀ ∷ [])) (Post (mach r))
   exits r ts′ ys′ is e len₁ len₂ =
       qed W (‵ (flft κ₀ q₀) ∷ ‵ (flft κ₁ q₁) ∷ (‵ (flft κ₂ q₂) ⊛ ‵ ftrue) ∷ ‵ (finally u32 γ₁ ts′) ∷ ‵ (finally R γ₂ ys′) ∷ ‵ Own₀ ∷ []) ∵
@@ -242,7 +242,7 @@ module _ {M : Type 1} (𝓤 : URA M) (H : Heap 𝓤) (A : Atoms 𝓤) (W : Given
         move ! (3 ∷ 6 ∷ []) $ join ! $ move ! (1 ∷ 4 ∷ 0 ∷ []) $ use3 W (raw (Flat 𝓤 H A mem run .pre (to-flat l₆ ν γ))) (goes-flat l₆ ν γ) $
         -- [what `pages_flat` asks; κ₂; the list; the stream; the lender's part; _19; …]
         calls-at ! fm (Flat 𝓤 H A mem run) known (to-flat l₆ ν γ) (and-then ! (load ! (from ! (stop !)) (look ! 36 refl)) (and-then ! (load ! (from ! (stop !)) (look ! 34 refl)) (and-then ! (load ! (from ! (stop !)) (look ! 23 refl)) (and-then ! (load ! (from ! (stop !)) (look ! 19 refl)) (and-then ! (load ! (from ! (stop !)) (look ! 15 refl)) (no-more !)))))) (λ w.
-        use1 W (later (some (λ (r : Listed). ((‵ (flft κ₀ q₀) ⊛ ‵ (flft κ₁ q₁) ⊛ ‵ (flft (ν ∷ []) fullShare) ⊛ ‵ ftrue) ⊛ ‵ (L.the-row .own r (w ∷ []))) ⊛ raw (ensured 𝓤 H A flat.ended (flat.clauses 𝓤 H A mem run) (κ₀, (κ₁, (ν ∷ [], tt))) (edition, (x₀, (length ys, (x₁, (x l₆ γ, tt))))) tt r)))) (id⊢ 𝓤 _) $ await ! tt $ pick ! (λ r.
+        use1 W (later (some (λ (r : Paged). ((‵ (flft κ₀ q₀) ⊛ ‵ (flft κ₁ q₁) ⊛ ‵ (flft (ν ∷ []) fullShare) ⊛ ‵ ftrue) ⊛ ‵ (L.the-row .own r (w ∷ []))) ⊛ raw (ensured 𝓤 H A flat.ended (flat.clauses 𝓤 H A mem run) (κ₀, (κ₁, (ν ∷ [], tt))) (edition, (x₀, (length ys, (x₁, (x l₆ γ, tt))))) tt r)))) (id⊢ 𝓤 _) $ await ! tt $ pick ! (λ r.
         split ! $ move ! (1 ∷ []) $ use1 W (some (λ (ls : Unit {0} × (Unit {0} × (Unit {0} × (List ℕ × (List ℕ × Unit {0}))))). ‵ (lasts flat.ended (κ₀, (κ₁, (ν ∷ [], tt))) (edition, (x₀, (length ys, (x₁, (x l₆ γ, tt))))) ls) ⊛ raw (fact 𝓤 (Said r (ls .1 .1 .1 .0) (ls .1 .1 .1 .1 .0))))) (id⊢ 𝓤 _) $ pick ! (λ ls.
         split ! $ move ! (1 ∷ []) $ heard ! (Said r (ls .1 .1 .1 .0) (ls .1 .1 .1 .1 .0)) (λ e. fsplit ! $ toss ! $ fsplit ! $ toss ! $ fsplit ! $ toss ! $ fsplit ! $ fsplit ! $ move ! (1 ∷ []) $ feqL ! (λ len₁.
         move ! (1 ∷ []) $ fsplit ! $ fsplit ! $ move ! (1 ∷ []) $ feqL ! (λ lenN.
@@ -286,7 +286,7 @@ module _ {M : Type 1} (𝓤 : URA M) (H : Heap 𝓤) (A : Atoms 𝓤) (W : Given
         assigns ! (of-opd ! (load ! (from ! (stop !)) (look ! 32 refl))) (from ! (stop !)) (init ! 43 refl (LL.lawful L.the-type L′.the-laws 𝓤 H A W .typed r _ is .0)) $
         returns ! (look ! 43 refl) $ forget ! 0 refl $ forget ! 10 refl $ forget ! 12 refl $ forget ! 14 refl $ forget ! 16 refl $ forget ! 18 refl $ forget ! 20 refl $ forget ! 22 refl $ forget ! 24 refl $ forget ! 26 refl $ forget ! 28 refl $ forget ! 30 refl $ forget ! 32 refl $ forget ! 35 refl $ forget ! 37 refl $ forget ! 39 refl $ forget ! 41 refl $ forget ! 43 refl $
         move ! (43 ∷ 44 ∷ []) $ free1 ! $ move ! (41 ∷ 42 ∷ []) $ free1 ! $ move ! (39 ∷ 40 ∷ []) $ free1 ! $ move ! (37 ∷ 38 ∷ []) $ free1 ! $ move ! (35 ∷ 36 ∷ []) $ free1 ! $ move ! (0 ∷ 34 ∷ []) $ free1 ! $ move ! (31 ∷ 32 ∷ []) $ free1 ! $ move ! (29 ∷ 30 ∷ []) $ free1 ! $ move ! (27 ∷ 28 ∷ []) $ free1 ! $ move ! (25 ∷ 26 ∷ []) $ free1 ! $ move ! (23 ∷ 24 ∷ []) $ free1 ! $ move ! (21 ∷ 22 ∷ []) $ free1 ! $ move ! (19 ∷ 20 ∷ []) $ free1 ! $ move ! (17 ∷ 18 ∷ []) $ free1 ! $ move ! (15 ∷ 16 ∷ []) $ free1 ! $ move ! (13 ∷ 14 ∷ []) $ free1 ! $ move ! (11 ∷ 12 ∷ []) $ free1 ! $ move ! (9 ∷ 10 ∷ []) $ free1 ! $ free0 ! $
-        keep ! (4 ∷ 5 ∷ 0 ∷ 7 ∷ 1 ∷ 8 ∷ []) $ by ! (exits r (ls .1 .1 .1 .0) (ms .1 .1 .0) is (record { answered = e .answered; tabled = e .tabled; filled = f ∙ listed-list ys e }) len₁ len₂))))))))))))))))))))))))))))))))))))))
+        keep ! (4 ∷ 5 ∷ 0 ∷ 7 ∷ 1 ∷ 8 ∷ []) $ by ! (exits r (ls .1 .1 .1 .0) (ms .1 .1 .0) is (record { answered = e .answered; tabled = e .tabled; filled = f ∙ paged-list ys e }) len₁ len₂))))))))))))))))))))))))))))))))))))))
 
 module _ {M : Type 1} (𝓤 : URA M) (H : Heap 𝓤) (A : Atoms 𝓤) (W : Given 𝓤 H A) (mem : Memory → SProp 𝓤) (run : Routine → Fun 𝓤) (𝓣 : Tables 𝓤 H) (known : Triple 𝓤 (𝓣 .C #pm1·pages-flat) (Flat 𝓤 H A mem run)) (known′ : Triple 𝓤 (𝓣 .C #pm1·fill) (Fill 𝓤 H A mem run)) (room-n : Room u32 n) where
   walks : Walks 𝓤 H A pages.ended stayed (WpFn 𝓤 H (𝓣 .C) (𝓣 .Λ) function) (pages.clauses 𝓤 H A mem run)

@@ -26,7 +26,7 @@ use Rattle.dimensions.specs.Dimensions.{verdictOf}
 use Rattle.pm1.specs.declared.Page.{Page}
 use Rattle.pm1.specs.Pages.{isPage, pageOf, pagesIn}
 use Rattle.pm1.specs.Flat.{kindAt, objectAt, pageAt, pagesAt}
-use Rattle.pm1.proofs.Accepted.{Accepted, items-proper, finished}
+use Rattle.demands.proofs.Accepted.{Accepted, items-proper, finished}
 
 module _ (edition : Edition) (s table : List ℕ) where
   -- the table tells the kind and the object type of rows of which the first is row j

@@ -12,12 +12,12 @@ use Rattle.runs.specs.Runs.{itemsOf, wholeStream, tops}
 use Rattle.elements.specs.declared.Edition.{Edition}
 use Rattle.answers.specs.declared.Checked.{Checked}
 use Rattle.answers.specs.Answers.{tableOf, checked, checkedTable, CheckOutcome}
-use Rattle.pm1.specs.declared.Listed.{Listed}
+use Rattle.pm1.specs.declared.Paged.{Paged}
 use Rattle.pm1.specs.declared.Page.{Page}
 use Rattle.pm1.specs.Pages.{pagesIn}
-use Rattle.pm1.specs.Answers.{listed, listedTable, listedList}
+use Rattle.pm1.specs.Answers.{paged, pagedTable, pagedList}
 use Rattle.pm1.specs.Flat.{pagesAt, records, Ready, ListsFlat}
-use Rattle.pm1.proofs.Accepted.{Accepted, accepts, check-high, fine, as-many, few, finished}
+use Rattle.demands.proofs.Accepted.{Accepted, accepts, check-high, fine, as-many, few, finished}
 use Rattle.pm1.proofs.Numbers.{pages-by-table}
 use Rattle.pm1.proofs.Records.{no-records, length-records}
 
@@ -27,7 +27,7 @@ module _ {edition : Edition} {s table : List ℕ} {answer : Checked} {after : Li
 
   pub lists-refused : (flat : List ℕ) (room : ℕ) → (answer .number ≡ 0 → ⊥)
       → ListsFlat edition s table room (record { number = answer .number; place = answer .place; elements = 0; pages = 0 }) after flat
-  unfolding listed listedTable checkedTable
+  unfolding paged pagedTable checkedTable
   lists-refused flat room some =
       let high = check-high edition s table in
       let n = number-is in
@@ -59,14 +59,14 @@ module _ {edition : Edition} {s table : List ℕ} {answer : Checked} {after : Li
       many = sym (ap length all) ∙ length-records flat pages
 
       pub lists-30 : room < pages → ListsFlat edition s table room (record { number = 30; place = 0; elements = answer .elements; pages = 0 }) after flat
-      unfolding listed listedTable
+      unfolding paged pagedTable
       lists-30 short =
           let a = o .answered in
           let t : ltb room (length (pagesIn edition s)) ≡ true = lt-ltb room (length (pagesIn edition s)) (omega (arith, many)) in
           record { answered = rw (← a, eq-eqb (answer .number) 0 zero, t); tabled = after-is ∙ rw (← a, eq-eqb (answer .number) 0 zero, t); stored = no-records flat; fits = omega arith; enough = omega arith }
 
       pub lists-all : pages ≤ room → ListsFlat edition s table room (record { number = 0; place = 0; elements = answer .elements; pages = pages }) after flat
-      unfolding listed listedTable
+      unfolding paged pagedTable
       lists-all enough =
           let a = o .answered in
           let c = many in
@@ -74,12 +74,12 @@ module _ {edition : Edition} {s table : List ℕ} {answer : Checked} {after : Li
           record { answered = rw (← a, eq-eqb (answer .number) 0 zero, t, c); tabled = after-is ∙ rw (← a, eq-eqb (answer .number) 0 zero, t); stored = all; fits = long; enough = enough }
 
 -- the records that were answered, in front of what the list held, are the list at exit
-pub listed-list : (list : List Page) {edition : Edition} {s table : List ℕ} {answer : Listed} {after flat : List ℕ}
-    → ListsFlat edition s table (length list) answer after flat → records flat (answer .pages) ++ drop (answer .pages) list ≡ listedList edition s table list
-unfolding listedList
-listed-list list {edition} {s} {table} {answer} {after} {flat} l =
+pub paged-list : (list : List Page) {edition : Edition} {s table : List ℕ} {answer : Paged} {after flat : List ℕ}
+    → ListsFlat edition s table (length list) answer after flat → records flat (answer .pages) ++ drop (answer .pages) list ≡ pagedList edition s table list
+unfolding pagedList
+paged-list list {edition} {s} {table} {answer} {after} {flat} l =
     let n = answer .pages in
-    let told : eqb (listed edition s table (length list) .number) 0 ≡ eqb (answer .number) 0 = ap (λ (a : Listed). eqb (a .number) 0) (sym (l .answered)) in
+    let told : eqb (paged edition s table (length list) .number) 0 ≡ eqb (answer .number) 0 = ap (λ (a : Paged). eqb (a .number) 0) (sym (l .answered)) in
     let size = length-records flat n in
     let stored = l .stored in
     cases (eqb (answer .number) 0)

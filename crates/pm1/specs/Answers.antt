@@ -10,7 +10,7 @@ use Rattle.headers.specs.Head.{isIn}
 use Rattle.elements.specs.declared.Edition.{Edition}
 use Rattle.answers.specs.declared.Checked.{Checked}
 use Rattle.answers.specs.Answers.{onto, checked, tableOf}
-use Rattle.pm1.specs.declared.Listed.{Listed}
+use Rattle.pm1.specs.declared.Paged.{Paged}
 use Rattle.pm1.specs.declared.Page.{Page}
 use Rattle.pm1.specs.Pages.{pagesIn}
 
@@ -19,27 +19,27 @@ abbrev pub listTooShort : ℕ
 listTooShort = 30
 
 -- after the check: its refusals 1 to 16 with no counts; 30, which keeps the element count; or how many pages there are
-abbrev pub listedAfter : Checked → (pages room : ℕ) → Listed
-listedAfter c pages room =
+abbrev pub pagedAfter : Checked → (pages room : ℕ) → Paged
+pagedAfter c pages room =
     cond (eqb (c .number) 0)
     (cond (ltb room pages) (record { number = listTooShort; place = 0; elements = c .elements; pages = 0 })
     (record { number = 0; place = 0; elements = c .elements; pages = pages }))
     (record { number = c .number; place = c .place; elements = 0; pages = 0 })
 
 -- the list that is lent has room for so many records
-unfoldable pub listed : Edition → (s table : List ℕ) → (room : ℕ) → Listed
-listed edition s table room = listedAfter (checked edition s table) (length (pagesIn edition s)) room
+unfoldable pub paged : Edition → (s table : List ℕ) → (room : ℕ) → Paged
+paged edition s table room = pagedAfter (checked edition s table) (length (pagesIn edition s)) room
 
 -- "table finished", as the check leaves it; with any other refusal it is untouched
-unfoldable pub listedTable : Edition → (s table : List ℕ) → (room : ℕ) → List ℕ
-listedTable edition s table room = cond (isIn (listed edition s table room .number) (0 ∷ listTooShort ∷ [])) (tableOf edition s table) table
+unfoldable pub pagedTable : Edition → (s table : List ℕ) → (room : ℕ) → List ℕ
+pagedTable edition s table room = cond (isIn (paged edition s table room .number) (0 ∷ listTooShort ∷ [])) (tableOf edition s table) table
 
 -- "list untouched"; else the pages in front of what it held
-unfoldable pub listedList : Edition → (s table : List ℕ) → (list : List Page) → List Page
-listedList edition s table list = cond (eqb (listed edition s table (length list) .number) 0) (onto (pagesIn edition s) list) list
+unfoldable pub pagedList : Edition → (s table : List ℕ) → (list : List Page) → List Page
+pagedList edition s table list = cond (eqb (paged edition s table (length list) .number) 0) (onto (pagesIn edition s) list) list
 
 -- the contract of the question: its answer, and the table and the list at exit
-pub record PagesOutcome (edition : Edition) (s table : List ℕ) (list : List Page) (answer : Listed) (tableAfter : List ℕ) (listAfter : List Page) : Type 0 where
-  pub answered : answer ≡ listed edition s table (length list)
-  pub tabled : tableAfter ≡ listedTable edition s table (length list)
-  pub filled : listAfter ≡ listedList edition s table list
+pub record PagesOutcome (edition : Edition) (s table : List ℕ) (list : List Page) (answer : Paged) (tableAfter : List ℕ) (listAfter : List Page) : Type 0 where
+  pub answered : answer ≡ paged edition s table (length list)
+  pub tabled : tableAfter ≡ pagedTable edition s table (length list)
+  pub filled : listAfter ≡ pagedList edition s table list

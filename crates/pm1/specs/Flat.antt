@@ -13,10 +13,10 @@ use Rattle.elements.specs.declared.Edition.{Edition}
 use Rattle.reading.specs.Match.{only}
 use Rattle.answers.specs.Table.{tableWidth}
 use Rattle.dimensions.specs.Dimensions.{verdictOf}
-use Rattle.pm1.specs.declared.Listed.{Listed}
+use Rattle.pm1.specs.declared.Paged.{Paged}
 use Rattle.pm1.specs.declared.Page.{Page}
 use Rattle.pm1.specs.Pages.{isPage, pagesIn}
-use Rattle.pm1.specs.Answers.{listed, listedTable}
+use Rattle.pm1.specs.Answers.{paged, pagedTable}
 
 -- the kind and the object type that a table has in row j
 abbrev pub kindAt : (table : List ℕ) → (j : ℕ) → ℕ
@@ -60,9 +60,9 @@ pub record Ready (s table flat : List ℕ) : Type 0 where
   pub room : 2 * tops (itemsOf s (wholeStream s)) ≤ length flat
 
 -- the list as numbers: as many records as are answered, all pages if the number is 0
-pub record ListsFlat (edition : Edition) (s table : List ℕ) (room : ℕ) (answer : Listed) (tableAfter flat : List ℕ) : Type 0 where
-  pub answered : answer ≡ listed edition s table room
-  pub tabled : tableAfter ≡ listedTable edition s table room
+pub record ListsFlat (edition : Edition) (s table : List ℕ) (room : ℕ) (answer : Paged) (tableAfter flat : List ℕ) : Type 0 where
+  pub answered : answer ≡ paged edition s table room
+  pub tabled : tableAfter ≡ pagedTable edition s table room
   pub stored : records flat (answer .pages) ≡ cond (eqb (answer .number) 0) (pagesIn edition s) []
   pub fits : 2 * answer .pages ≤ length flat
   pub enough : answer .pages ≤ room

@@ -33,7 +33,7 @@ pub struct Page {
 
 // What the question answers. Number 0 is answered.
 #[repr(C)]
-pub struct Listed {
+pub struct Paged {
     pub number: u32,
     pub place: u32,
     pub elements: u32,
@@ -113,10 +113,10 @@ fn put_pages(stream: &[u8], table: &[u32], flat: &mut [u32]) -> usize
 }
 
 // What is answered where there is nothing in the list.
-fn refuse(number: u32, place: u32, elements: u32) -> Listed
+fn refuse(number: u32, place: u32, elements: u32) -> Paged
     ensures { λ r. ⌜ r ≡ record { number = number; place = place; elements = elements; pages = 0 } ⌝ }
 {
-    Listed {
+    Paged {
         number,
         place,
         elements,
@@ -131,7 +131,7 @@ fn pages_flat(
     room: usize,
     table: &mut [u32],
     flat: &mut [u32],
-) -> Listed
+) -> Paged
     requires { ⌜ 8192 ≤ length (now flat) ⌝ }
     ensures { λ r. ⌜ ListsFlat edition (now (stream .entry)) (now (table .entry)) room r (now (table .exit)) (now (flat .exit)) ⌝ }
 {
@@ -143,7 +143,7 @@ fn pages_flat(
     if room < pages {
         return refuse(LIST_TOO_SHORT, 0, checked.elements);
     }
-    Listed {
+    Paged {
         number: 0,
         place: 0,
         elements: checked.elements,
@@ -178,7 +178,7 @@ fn fill(flat: &[u32], count: usize, list: &mut [Page])
 
 // Lists the pages of a letter with the verdict on each, and fills the element table as the check does. A partner who accepts only PM1 asks this;
 // nothing is written to a list that is too short. There are never more pages than elements, so numbers for as many records are enough.
-pub fn pages(edition: Edition, stream: &[u8], table: &mut [u32], list: &mut [Page]) -> Listed
+pub fn pages(edition: Edition, stream: &[u8], table: &mut [u32], list: &mut [Page]) -> Paged
     ensures { λ r. ⌜ PagesOutcome edition (now (stream .entry)) (now (table .entry)) (now (list .entry)) r (now (table .exit)) (now (list .exit)) ⌝ }
 {
     let mut flat = [0u32; 8192];
@@ -190,14 +190,14 @@ pub fn pages(edition: Edition, stream: &[u8], table: &mut [u32], list: &mut [Pag
 
 // The same for C, as include/pm1.h declares it: of the edition of 1988, and its twin of that of 1993.
 #[no_mangle]
-pub extern "C" fn pm1_pages(stream: &[u8], table: &mut [u32], list: &mut [Page]) -> Listed
+pub extern "C" fn pm1_pages(stream: &[u8], table: &mut [u32], list: &mut [Page]) -> Paged
     ensures { λ r. ⌜ PagesOutcome Edition.Of1988 (now (stream .entry)) (now (table .entry)) (now (list .entry)) r (now (table .exit)) (now (list .exit)) ⌝ }
 {
     pages(Edition::Of1988, stream, table, list)
 }
 
 #[no_mangle]
-pub extern "C" fn pm1_pages_1993(stream: &[u8], table: &mut [u32], list: &mut [Page]) -> Listed
+pub extern "C" fn pm1_pages_1993(stream: &[u8], table: &mut [u32], list: &mut [Page]) -> Paged
     ensures { λ r. ⌜ PagesOutcome Edition.Of1993 (now (stream .entry)) (now (table .entry)) (now (list .entry)) r (now (table .exit)) (now (list .exit)) ⌝ }
 {
     pages(Edition::Of1993, stream, table, list)

@@ -7,7 +7,7 @@ use native.Mathlib.Omega.{arith}
 use borrow.Table.Steps.{cases}
 use Rattle.headers.specs.Head.{isIn}
 use lib.Dec.{eqb, leb, ltb}
-use Rattle.order.specs.Answers.{profileKind}
+use Rattle.order.specs.Represents.{profileKind}
 use Rattle.order.specs.ClassA.{endA}
 use Rattle.portions.specs.Portions.{all}
 use Rattle.order.specs.PassA.{SightA, rankSeen, testsA, nextA}

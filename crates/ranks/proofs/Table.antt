@@ -5,7 +5,7 @@ use Prim.Native.Nat.{ℕ, zero, suc, _<_, _≤_}
 use native.Mathlib.Omega.{arith}
 use lib.ListN.{getD}
 use borrow.Author.Tests.{ne-eqb}
-use Rattle.order.specs.ClassB.{rankIn}
+use Rattle.order.specs.Ranks.{rankIn}
 use Rattle.order.specs.ClassA.{rowsA, endA}
 
 abbrev pub table : List ℕ

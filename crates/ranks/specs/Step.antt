@@ -7,8 +7,8 @@ use mathlib.Core.List.{[], _∷_}
 use lib.Dec.{eqb, leb, ltb}
 use Rattle.headers.specs.Head.{isIn}
 use Rattle.reading.specs.Match.{unitKind}
-use Rattle.order.specs.Answers.{profileKind}
-use Rattle.order.specs.ClassB.{rankIn}
+use Rattle.order.specs.Represents.{profileKind}
+use Rattle.order.specs.Ranks.{rankIn}
 use Rattle.order.specs.ClassA.{rowsA, endA, genericRank, specificRank, unitRank}
 use Rattle.order.specs.PassA.{SightA, StateA, countIf}
 use Rattle.ranks.specs.declared.Sight.{Sight}

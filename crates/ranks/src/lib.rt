@@ -1,7 +1,7 @@
 // One step of the order of class A, by numbers: whether an element may stand next, and what is known after it.
 ghost use mathlib.Core.Path.{_≡_};
 ghost use Prim.Native.Nat.{_+_, _-_, _≤_};
-ghost use Rattle.order.specs.ClassB.{rankIn};
+ghost use Rattle.order.specs.Ranks.{rankIn};
 ghost use Rattle.order.specs.ClassA.{rowsA};
 ghost use Rattle.ranks.specs.Step.{rankOf, tabled, settled, comes, complete, stands, one, countOf, next, waiting, Small};
 
@@ -16,8 +16,8 @@ const GENERIC: usize = 3;
 
 const SPECIFIC: usize = 8;
 
-// What is seen of an element: its kind, whether it has an identifier, how many portions it lists, whether a unit before it answers one of
-// them; of a unit how many portions of classes and of objects before it it answers, whether it is one of those that are ordered, and whether
+// What is seen of an element: its kind, whether it has an identifier, how many portions it lists, whether a unit before it represents one of
+// them; of a unit how many portions of classes and of objects before it it represents, whether it is one of those that are ordered, and whether
 // its turn has come.
 pub struct Sight {
     pub kind: usize,
@@ -55,7 +55,7 @@ fn rank_in(kind: usize) -> usize
     wide(RANKS[kind])
 }
 
-// The rank of an element: of a unit by what it answers, classes or objects, and not both.
+// The rank of an element: of a unit by what it represents, classes or objects, and not both.
 fn rank_of(x: Sight) -> usize
     ensures { λ r. ⌜ r ≡ rankOf x ⌝ }
 {

@@ -16,8 +16,8 @@ use Rattle.reading.specs.declared.Side.{Side}
 use Rattle.reading.specs.declared.Side.the-variants.{Layout, Logical}
 use Rattle.reading.specs.Match.{kindsOf, matches}
 use Rattle.reading.specs.Ready.{RowsTell, elementAt}
-use Rattle.order.specs.Answers.{_∈_}
-use Rattle.order.specs.ClassA.{answersSome}
+use Rattle.order.specs.Represents.{_∈_}
+use Rattle.order.specs.ClassA.{representsSome}
 use Rattle.owners.specs.declared.Owner.{Owner}
 use Rattle.owners.specs.declared.Owner.the-variants.{Nobody, Of}
 use Rattle.owners.specs.Owner.{made, OwnerIs}
@@ -37,13 +37,13 @@ module _ {s rows : List ℕ} {n : ℕ} {es : List Element} (ready : RowsTell s r
   inside : u < length es
   inside = omega (arith, ready .counted)
 
-  abbrev answersKind : ℕ → Bool
-  answersKind kind = answersSome (kind ∷ []) (take u es) (elementAt es u)
+  abbrev representsKind : ℕ → Bool
+  representsKind kind = representsSome (kind ∷ []) (take u es) (elementAt es u)
 
-  -- no element before it that it answers
-  none-before : ((row p : ℕ) → made row p u ∈ matches side es → row < u → ⊥) → (kind : ℕ) → isIn kind (kindsOf side) ≡ true → answersKind kind ≡ eqb 0 kind
+  -- no element before it that it is associated with
+  none-before : ((row p : ℕ) → made row p u ∈ matches side es → row < u → ⊥) → (kind : ℕ) → isIn kind (kindsOf side) ≡ true → representsKind kind ≡ eqb 0 kind
   none-before none kind k =
-      cases (answersKind kind)
+      cases (representsKind kind)
       (λ t. let (row, p, l, m, e) = some-told-record es u inside side kind k t in absurd (none row p m l))
       (λ t. t ∙ sym (no-kind-is side kind k))
 
@@ -54,11 +54,11 @@ module _ {s rows : List ℕ} {n : ℕ} {es : List Element} (ready : RowsTell s r
     same-row : (r q : ℕ) → made r q u ∈ matches side es → r ≡ row
     same-row r q i = one-record es (ready .apart) side r q row p u i m
 
-    kinds-before : row < u → (kind : ℕ) → isIn kind (kindsOf side) ≡ true → answersKind kind ≡ eqb (kindAt rows row) kind
+    kinds-before : row < u → (kind : ℕ) → isIn kind (kindsOf side) ≡ true → representsKind kind ≡ eqb (kindAt rows row) kind
     kinds-before l kind k =
         cases (eqb (kindAt rows row) kind)
         (λ t. some-of-record es u inside side row p kind l m (sym row-told ∙ eqb-true (kindAt rows row) kind t) ∙ sym t)
-        (λ t. cases (answersKind kind)
+        (λ t. cases (representsKind kind)
         (λ v. let (r, q, h, i, e) = some-told-record es u inside side kind k v in
         absurd (eqb-false (kindAt rows row) kind t (row-told ∙ ap (λ (j : ℕ). elementAt es j .kind) (sym (same-row r q i)) ∙ e)))
         (λ v. v ∙ sym t))

@@ -1,5 +1,5 @@
--- What the records of the reading lists tell of element k after the elements before it: whether a unit before it answers one of its portions,
--- and which element before it a unit answers, of which kind. Assumes nothing.
+-- What the records of the reading lists tell of element k after the elements before it: whether a unit before it represents one of its portions,
+-- and which element before it a unit is associated with, of which kind. Assumes nothing.
 use mathlib.Core.Path.{_≡_, refl, ap, sym, _∙_, subst}
 use mathlib.Core.Bool.{true, false, false≢true}
 use mathlib.Core.Option.{some}
@@ -23,8 +23,8 @@ use Rattle.reading.specs.Ready.{elementAt, noElement}
 use Rattle.reading.proofs.Lists.{at-getD}
 use Rattle.reading.proofs.Matches.{matches-are}
 use Rattle.reading.proofs.Single.{unit-one-match}
-use Rattle.order.specs.Answers.{_∈_, sideOf, owns}
-use Rattle.order.specs.ClassA.{answersSome}
+use Rattle.order.specs.Represents.{_∈_, sideOf, isAssociated}
+use Rattle.order.specs.ClassA.{representsSome}
 use Rattle.order.proofs.FrontA.{of-kind, kind-of}
 use Rattle.order.proofs.AsMatches.{Recorded, early-match, some-match}
 use Rattle.owners.specs.Owner.{made}
@@ -102,8 +102,8 @@ module _ (es : List Element) where
     pub front-length : length front ≡ k
     front-length = length-take-le k es (omega arith)
 
-    -- a unit before the element answers one of its portions
-    pub early-of : (side : Side) (p u : ℕ) → u < k → made k p u ∈ matches side es → any (map (owns here) front) ≡ true
+    -- a unit before the element represents one of its portions
+    pub early-of : (side : Side) (p u : ℕ) → u < k → made k p u ∈ matches side es → any (map (isAssociated here) front) ≡ true
     early-of side p u l m =
         early-match front here rest .1 (u, omega (arith, front-length), subst (λ (xs : List Element). Recorded xs (length front) u here) whole recorded)
       where
@@ -116,15 +116,15 @@ module _ (es : List Element) where
                   (subst (λ (given : Side). made k p u ∈ matches given es) (sym (side-told side here (row-kind side k p u m))) m);
             }
 
-    pub early-told : any (map (owns here) front) ≡ true → (side : Side) × (p : ℕ) × (u : ℕ) × (u < k) × (made k p u ∈ matches side es)
+    pub early-told : any (map (isAssociated here) front) ≡ true → (side : Side) × (p : ℕ) × (u : ℕ) × (u < k) × (made k p u ∈ matches side es)
     early-told t =
         let (u, l, r) = early-match front here rest .0 t in
         let q = subst (λ (xs : List Element). Recorded xs (length front) u here) (sym whole) r in
         (sideOf here, q .portion, u, omega (arith, front-length), subst (λ (i : ℕ). made i (q .portion) u ∈ matches (sideOf here) es) front-length (q .record-there))
 
-    -- the unit answers an element of a kind before it
+    -- the unit is associated with an element of a kind before it
     pub some-of-record : (side : Side) (row p kind : ℕ) → row < k → made row p k ∈ matches side es → elementAt es row .kind ≡ kind
-        → answersSome (kind ∷ []) front here ≡ true
+        → representsSome (kind ∷ []) front here ≡ true
     some-of-record side row p kind l m e =
         some-match front here rest (kind ∷ []) .1 (
           row,
@@ -143,7 +143,7 @@ module _ (es : List Element) where
                   (subst (λ (given : Side). made row p k ∈ matches given es) (sym (side-told side (elementAt es row) (row-kind side row p k m))) m);
             }
 
-    pub some-told-record : (side : Side) (kind : ℕ) → isIn kind (kindsOf side) ≡ true → answersSome (kind ∷ []) front here ≡ true
+    pub some-told-record : (side : Side) (kind : ℕ) → isIn kind (kindsOf side) ≡ true → representsSome (kind ∷ []) front here ≡ true
         → (row : ℕ) × (p : ℕ) × (row < k) × (made row p k ∈ matches side es) × (elementAt es row .kind ≡ kind)
     some-told-record side kind s t =
         let (i, e, l, a, r) = some-match front here rest (kind ∷ []) .0 t in

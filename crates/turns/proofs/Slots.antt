@@ -15,17 +15,17 @@ use Rattle.reading.specs.declared.Side.{Side}
 use Rattle.reading.specs.Match.{matches}
 use Rattle.reading.specs.Ready.{elementAt, noElement}
 use Rattle.reading.proofs.Lists.{at-getD}
-use Rattle.order.specs.Answers.{_∈_, answers, LimitsAside, Listed, listedBy, everything, keep}
-use Rattle.order.specs.ClassA.{answersSome, listedOf}
+use Rattle.order.specs.Represents.{_∈_, represents, LimitsAside, Listed, listedBy, everything, keep}
+use Rattle.order.specs.ClassA.{representsSome, listedOf}
 use Rattle.order.specs.PassA.{slotIn, countIf}
-use Rattle.order.proofs.Answering.{owns-of}
+use Rattle.order.proofs.Representing.{associated-of}
 use Rattle.order.proofs.Lacking.{keep-in, everything-in}
 use Rattle.order.proofs.Keeping.{keep-append, keep-none, keep-all, everything-append}
 use Rattle.order.proofs.FrontA.{kind-of}
 use Rattle.order.proofs.RanksA.{some-of}
 use Rattle.order.proofs.Place.{aside-left}
 use Rattle.order.proofs.SightsA.{slot-none}
-use Rattle.order.proofs.AsMatches.{answers-match}
+use Rattle.order.proofs.AsMatches.{represents-match}
 use Rattle.order.proofs.CountsA.{slot-is}
 use Rattle.owners.specs.Owner.{made}
 use Rattle.turns.specs.Turns.{before}
@@ -84,15 +84,15 @@ module _ (es : List Element) (aside : LimitsAside es) (k : ℕ) (below : k < len
   abbrev slot : ℕ
   slot = slotIn 0 (listedOf kind (take k es)) (elementAt es k)
 
-  -- a unit that answers none of the kind has no number
-  pub no-slot : answersSome (kind ∷ []) (take k es) (elementAt es k) ≡ false → slot ≡ 0
+  -- a unit that represents none of the kind has no number
+  pub no-slot : representsSome (kind ∷ []) (take k es) (elementAt es k) ≡ false → slot ≡ 0
   unfolding listedOf
   no-slot t =
       slot-none 0 (listedOf kind (take k es)) (elementAt es k)
       (λ l m a.
       let r = keep-in (λ (i : Listed). eqb (i .by .kind) kind) (everything (take k es)) l m in
       let q = everything-in (take k es) l (r .0) in
-      true≢false (sym (some-of (kind ∷ []) (take k es) (elementAt es k) (l .by) (q .0) (kind-of (l .by) kind (eqb-true (l .by .kind) kind (r .1))) (owns-of (l .by) (elementAt es k) (l .portion) (q .1) a)) ∙ t))
+      true≢false (sym (some-of (kind ∷ []) (take k es) (elementAt es k) (l .by) (q .0) (kind-of (l .by) kind (eqb-true (l .by .kind) kind (r .1))) (associated-of (l .by) (elementAt es k) (l .portion) (q .1) a)) ∙ t))
 
   module _ (side : Side) (row p : ℕ) (earlier : row < k) (m : made row p k ∈ matches side es) (of : elementAt es row .kind ≡ kind) where
     abbrev e : Element
@@ -104,12 +104,12 @@ module _ (es : List Element) (aside : LimitsAside es) (k : ℕ) (below : k < len
     abbrev portion : List ℕ
     portion = getD (e .portions) p []
 
-    answered : answers e portion (elementAt es k) ≡ true
-    answered =
-        answers-match es row p k e portion (elementAt es k) (at-getD es row noElement (omega arith)) (at-getD (e .portions) p [] portion-below) (at-getD es k noElement below) .1
+    represented : represents e portion (elementAt es k) ≡ true
+    represented =
+        represents-match es row p k e portion (elementAt es k) (at-getD es row noElement (omega arith)) (at-getD (e .portions) p [] portion-below) (at-getD es k noElement below) .1
         (subst (λ (given : Side). made row p k ∈ matches given es) (sym (side-told side e (row-kind es side row p k m))) m)
 
-    -- the elements before the unit, parted at the one that it answers
+    -- the elements before the unit, parted at the one that it is associated with
     parts : take k es ≡ take row es ++ e ∷ drop (suc row) (take k es)
     parts =
         let l : row < length (take k es) = omega (arith, length-take-le k es (omega arith)) in
@@ -122,7 +122,7 @@ module _ (es : List Element) (aside : LimitsAside es) (k : ℕ) (below : k < len
         ap (λ (xs : List Element). slotIn 0 (listedOf kind xs) (elementAt es k)) parts
         ∙ subst (λ (i : ℕ). slotIn 0 (listedOf i (take row es ++ e ∷ drop (suc row) (take k es))) (elementAt es k) ≡ suc (before i es row + p)) of
         (slot-is (take row es) e (drop (suc row) (take k es)) (take p (e .portions)) portion (drop (suc p) (e .portions)) (split-at (e .portions) p [] portion-below)
-        (subst LimitsAside parts (aside-left (take k es) (elementAt es k ∷ rest es k below) (subst LimitsAside (whole es k below) aside))) (elementAt es k) answered
+        (subst LimitsAside parts (aside-left (take k es) (elementAt es k ∷ rest es k below) (subst LimitsAside (whole es k below) aside))) (elementAt es k) represented
         ∙ ap (λ (i : ℕ). suc (before (e .kind) es row + i)) (length-take-le p (e .portions) (omega (arith, portion-below))))
 
     -- the portion is one of those that are listed before a later element

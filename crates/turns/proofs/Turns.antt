@@ -14,7 +14,7 @@ use Rattle.reading.specs.declared.Side.{Side}
 use Rattle.reading.specs.declared.Side.the-variants.{Layout, Logical}
 use Rattle.reading.specs.Match.{kindsOf, matches}
 use Rattle.reading.specs.Ready.{elementAt}
-use Rattle.order.specs.Answers.{_∈_, LimitsAside}
+use Rattle.order.specs.Represents.{_∈_, LimitsAside}
 use Rattle.order.specs.ClassA.{listedOf}
 use Rattle.order.specs.PassA.{slotIn}
 use Rattle.order.proofs.Tests.{both}
@@ -35,7 +35,7 @@ module _ (es : List Element) (aside : LimitsAside es) (n k : ℕ) (below : k < l
   abbrev base : ℕ
   base = before kind es to
 
-  -- the unit's record, if it answers one of the kind
+  -- the unit's record, if it represents one of the kind
   module _ (t : eqb (own .kind) kind ≡ true) where
     is-kind : own .kind ≡ kind
     is-kind = eqb-true (own .kind) kind t
@@ -137,7 +137,7 @@ unfolding kindFor ownFor
 ordering es n k true layout logical a b = record { side = Layout; on-side = refl; own-is = a }
 ordering es n k false layout logical a b = record { side = Logical; on-side = refl; own-is = b }
 
--- an ordered unit answers an object
+-- an ordered unit is associated with an object
 pub ordered-counts : (layouts : Bool) (layout logical : Own) → eqb (ownFor layouts layout logical .kind) (kindFor layouts) ≡ true → ltb 0 (counts layout 2 logical 6) ≡ true
 unfolding kindFor ownFor counts
 ordered-counts true layout logical t =

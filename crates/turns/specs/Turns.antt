@@ -1,4 +1,4 @@
--- What a unit's records tell in numbers: which element it answers on a side, and where its portion stands among those by which units are ordered.
+-- What a unit's records tell in numbers: which element it is associated with on a side, and where its portion stands among those by which units are ordered.
 -- Of whatever elements the rows tell. Definitions only: assumes nothing.
 use Prim.Native.Nat.{ℕ, _+_, _-_, _*_, _<_, _≤_}
 use mathlib.Core.Path.{_≡_}
@@ -14,8 +14,8 @@ use Rattle.elements.specs.Judge.{Element}
 use Rattle.reading.specs.declared.Side.{Side}
 use Rattle.reading.specs.Match.{kindsOf, matches}
 use Rattle.reading.specs.Ready.{RowsTell, elementAt}
-use Rattle.order.specs.Answers.{_∈_}
-use Rattle.order.specs.ClassA.{answersSome, listedOf}
+use Rattle.order.specs.Represents.{_∈_}
+use Rattle.order.specs.ClassA.{representsSome, listedOf}
 use Rattle.order.specs.PassA.{countIf}
 use Rattle.owners.specs.declared.Owner.{Owner}
 use Rattle.owners.specs.declared.Owner.the-variants.{Nobody, Of}
@@ -35,8 +35,8 @@ ownOf rows n u (Of row portion) =
 
 -- what is so of element u and the elements before it, on a side
 pub record OwnIs (side : Side) (elements : List Element) (n u : ℕ) (own : Own) : Type 0 where
-  -- which kind it answers
-  pub kinds : (kind : ℕ) → isIn kind (kindsOf side) ≡ true → answersSome (kind ∷ []) (take u elements) (elementAt elements u) ≡ eqb (own .kind) kind
+  -- of which kind the element is
+  pub kinds : (kind : ℕ) → isIn kind (kindsOf side) ≡ true → representsSome (kind ∷ []) (take u elements) (elementAt elements u) ≡ eqb (own .kind) kind
   -- its record, if the element stands before it
   pub placed : isIn (own .kind) (kindsOf side) ≡ true
       → (own .row < u) × (made (own .row) (own .portion) u ∈ matches side elements) × (elementAt elements (own .row) .kind ≡ own .kind)
@@ -49,7 +49,7 @@ pub record OwnAt (side : Side) (s rows : List ℕ) (n u : ℕ) (own : Own) : Typ
   pub is : (elements : List Element) → RowsTell s rows n elements → OwnIs side elements n u own
   pub in-rows : own .row ≤ u
 
--- the objects by which units are ordered, and the one that a unit answers
+-- the objects by which units are ordered, and the one that a unit is associated with
 unfoldable pub kindFor : (layouts : Bool) → ℕ
 kindFor layouts = cond layouts 2 6
 
@@ -64,7 +64,7 @@ rowFor own kind row = cond (eqb (own .kind) kind) (cond (ltb (own .row) row) row
 unfoldable pub turnFor : (own : Own) → (kind row base ordered : ℕ) → Bool
 turnFor own kind row base ordered = cond (eqb (own .kind) kind) (eqb (own .row) row && (leb base ordered && eqb (own .portion) (ordered - base))) true
 
--- how many of the two that a unit answers are of their kind
+-- how many of the two that a unit is associated with are of their kind
 unfoldable pub counts : (layout : Own) (a : ℕ) (logical : Own) (b : ℕ) → ℕ
 counts layout a logical b = countIf (eqb (layout .kind) a) 1 + countIf (eqb (logical .kind) b) 1
 

@@ -1,4 +1,4 @@
-// What the records of a unit tell in numbers: which element it answers on a side, and whether its portion is the next of those by which units
+// What the records of a unit tell in numbers: which element it is associated with on a side, and whether its portion is the next of those by which units
 // are ordered. Nothing is stored.
 use owners::Owner;
 use reading::Side;
@@ -13,7 +13,7 @@ const LAYOUT_OBJECT: usize = 2;
 
 const LOGICAL_OBJECT: usize = 6;
 
-// Whose portion a unit answers on a side: the kind of the element, if it stands before the unit, its row and the place of the portion; kind 0,
+// Whose portion a unit represents on a side: the kind of the element, if it stands before the unit, its row and the place of the portion; kind 0,
 // if there is none. And its row, if it stands after the unit; else how many rows there are.
 pub struct Own {
     pub kind: usize,
@@ -53,7 +53,7 @@ fn own_of(rows: &[u32], n: usize, u: usize, owner: Owner) -> Own
     }
 }
 
-// Whose portion row u answers on a side.
+// Whose portion row u represents on a side.
 pub fn look(
     s: &[u8],
     rows: &[u32],

@@ -9,21 +9,21 @@ use Rattle.measures.proofs.fits.Statement.{statement}
 use Rattle.measures.proofs.fits.Tie as tie
 use Rattle.measures.proofs.fits.Reads as reads
 use Rattle.measures.proofs.fits.Lts as lts
-use Rattle.measures.proofs.is_under.Reads as is-under-reads
+use Rattle.measures.proofs.is_not_over.Reads as is-not-over-reads
 
-is-under-requires : tie.Need-is-under-requires
-is-under-requires c κs = search needs
+is-not-over-requires : tie.Need-is-not-over-requires
+is-not-over-requires c κs = search needs
 
 returns : tie.Need-returns
 unfolding within
-returns c = stands _ _ (sym (c .before .is-under .ensures) ∙ c .if1 .taken)
+returns c = stands _ _ (sym (c .before .is-not-over .ensures) ∙ c .if1 .taken)
 
-is-under-requires-2 : tie.Need-is-under-requires-2
-is-under-requires-2 c κs = search needs
+is-not-over-requires-2 : tie.Need-is-not-over-requires-2
+is-not-over-requires-2 c κs = search needs
 
 returns-2 : tie.Need-returns-2
 unfolding within
-returns-2 c = c .is-under2 .ensures ∙ turns _ _ (sym (c .before .before .is-under .ensures) ∙ c .before .if1 .left)
+returns-2 c = c .is-not-over2 .ensures ∙ turns _ _ (sym (c .before .before .is-not-over .ensures) ∙ c .before .if1 .left)
 
 pub fits-spec : {M : Type 1} → statement M
-fits-spec = tie.close (tie.spec is-under-requires returns is-under-requires-2 returns-2)
+fits-spec = tie.close (tie.spec is-not-over-requires returns is-not-over-requires-2 returns-2)

@@ -6,7 +6,8 @@ use borrow.Author.Needs.{needs}
 use borrow.Author.Tests.{eq-eqb, ne-eqb, le-ltb, lt-ltb}
 use native.Mathlib.Omega.{arith}
 use lib.Dec.{ltb, leb}
-use Rattle.order.specs.ClassB.{rankIn, rowsB, endB}
+use Rattle.order.specs.Ranks.{rankIn}
+use Rattle.order.specs.ClassB.{rowsB, endB}
 use Rattle.ordering.proofs.may_follow.Statement.{statement}
 use Rattle.ordering.proofs.may_follow.Tie as tie
 

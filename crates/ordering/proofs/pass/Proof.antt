@@ -9,8 +9,9 @@ use borrow.Author.Tests.{eq-eqb, ne-eqb}
 use lib.ListN.{length}
 use Rattle.elements.specs.Judge.{Element}
 use Rattle.reading.specs.Ready.{RowsTell}
-use Rattle.order.specs.Answers.{LimitsAside}
-use Rattle.order.specs.Fault.{Found, in-order, fault}
+use Rattle.order.specs.Represents.{LimitsAside}
+use Rattle.order.specs.declared.Fault.{Fault}
+use Rattle.order.specs.declared.Fault.the-variants.{Nowhere, At}
 use Rattle.ordering.specs.Steps.{stateOf, stepOf}
 use Rattle.ordering.proofs.Passing.{passFrom, pass-stops, pass-goes, pass-ends}
 use Rattle.ordering.proofs.pass.Statement.{statement}
@@ -67,14 +68,14 @@ returns-2 c elements ready aside =
     let l = c .before .before .before .loop in
     let all : l .j ≡ length elements = omega (arith, c .before .before .loop-test .left, l .inv .1, ready .counted) in
     sym (l .inv .2 elements ready aside ∙ pass-ends elements (stateOf (l .state)) (l .j) all
-    ∙ ap (λ (b : Bool). cond b in-order (fault (l .j))) (eq-eqb (l .state .left) 0 (c .if1 .taken)))
+    ∙ ap (λ (b : Bool). cond b Nowhere (At (l .j))) (eq-eqb (l .state .left) 0 (c .if1 .taken)))
 
 returns-3 : tie.Need-returns-3 Inv-loop μ-loop
 returns-3 c elements ready aside =
     let l = c .before .before .before .loop in
     let all : l .j ≡ length elements = omega (arith, c .before .before .loop-test .left, l .inv .1, ready .counted) in
     sym (l .inv .2 elements ready aside ∙ pass-ends elements (stateOf (l .state)) (l .j) all
-    ∙ ap (λ (b : Bool). cond b in-order (fault (l .j))) (ne-eqb (l .state .left) 0 (c .if1 .left)) ∙ ap fault (all ∙ ready .counted))
+    ∙ ap (λ (b : Bool). cond b Nowhere (At (l .j))) (ne-eqb (l .state .left) 0 (c .if1 .left)) ∙ ap At (all ∙ ready .counted))
 
 pub pass-spec : {M : Type 1} → statement M
 pass-spec =

@@ -1,6 +1,6 @@
 -- `ordering::rank_of` meets its contract: the tests are those of the table. Assumes nothing.
 use borrow.Author.Tests.{eq-eqb, ne-eqb}
-use Rattle.order.specs.ClassB.{rankIn}
+use Rattle.order.specs.Ranks.{rankIn}
 use Rattle.ordering.proofs.rank_of.Statement.{statement}
 use Rattle.ordering.proofs.rank_of.Tie as tie
 

@@ -2,7 +2,7 @@
 use mathlib.Core.Path.{sym, subst}
 use borrow.Author.Needs.{needs}
 use Rattle.order.specs.declared.Class.{Class}
-use Rattle.order.specs.Coded.{classOf, FaultIn}
+use Rattle.order.specs.Fault.{FaultIn}
 use Rattle.orders.proofs.fault_in.Statement.{statement}
 use Rattle.orders.proofs.fault_in.Tie as tie
 
@@ -21,12 +21,12 @@ fault-b-requires c κs = search needs
 returns : tie.Need-returns
 returns c =
     let a = c .before .before .before .before .before .before .before .args in
-    subst (λ (class : Class). FaultIn (classOf class) (a .s .now) (a .rows .now) (a .n) (c .fault-a .result)) (sym (c .before .enum-told .given .1)) (c .fault-a .ensures)
+    subst (λ (class : Class). FaultIn class (a .s .now) (a .rows .now) (a .n) (c .fault-a .result)) (sym (c .before .enum-told .given .1)) (c .fault-a .ensures)
 
 returns-2 : tie.Need-returns-2
 returns-2 c =
     let a = c .before .before .before .before .before .before .before .args in
-    subst (λ (class : Class). FaultIn (classOf class) (a .s .now) (a .rows .now) (a .n) (c .fault-b .result)) (sym (c .before .enum-told2 .given .1)) (c .fault-b .ensures)
+    subst (λ (class : Class). FaultIn class (a .s .now) (a .rows .now) (a .n) (c .fault-b .result)) (sym (c .before .enum-told2 .given .1)) (c .fault-b .ensures)
 
 pub fault-in-spec : {M : Type 1} → statement M
 fault-in-spec = tie.close (tie.spec enum-told fault-a-requires enum-told-2 fault-b-requires returns returns-2)

@@ -1,5 +1,5 @@
--- What it tells that a unit answers a portion: the element has an identifier, the unit's name on the element's side is that identifier, a
--- space and the portion; so no unit answers two portions of one side. Assumes nothing.
+-- What it tells that a unit represents a portion: the element has an identifier, the unit's name on the element's side is that identifier, a
+-- space and the portion; so no unit represents two portions of one side. Assumes nothing.
 use mathlib.Core.Path.{_≡_, refl, ap, sym, _∙_}
 use mathlib.Core.Logic.{_⊎_, inl, inr}
 use mathlib.Core.Bool.{true, cond, _||_, false≢true}
@@ -20,61 +20,61 @@ use Rattle.reading.specs.declared.Side.{Side}
 use Rattle.reading.specs.declared.Side.the-variants.{Layout, Logical}
 use Rattle.reading.specs.Match.{unitKind, kindsOf, nameOn, Joined}
 use Rattle.reading.proofs.Matches.{joins-told, joined-joins}
-use Rattle.order.specs.Answers.{_∈_, named, sideOf, answers, owns, isAnswered, allAnswered, listing}
+use Rattle.order.specs.Represents.{_∈_, named, sideOf, represents, isAssociated, isRepresented, allRepresented, listing}
 use Rattle.order.proofs.Tests.{both, either, all-in, all-of, any-of, any-in}
 
-pub answers-told : (e : Element) (p : List ℕ) (u : Element) → answers e p u ≡ true → Joined (sideOf e) e p u
-unfolding answers
-answers-told e p u t = joins-told (sideOf e) e p u t
+pub represents-told : (e : Element) (p : List ℕ) (u : Element) → represents e p u ≡ true → Joined (sideOf e) e p u
+unfolding represents
+represents-told e p u t = joins-told (sideOf e) e p u t
 
-pub answers-of : (e : Element) (p : List ℕ) (u : Element) → Joined (sideOf e) e p u → answers e p u ≡ true
-unfolding answers
-answers-of e p u j = joined-joins (sideOf e) e p u j
+pub represents-of : (e : Element) (p : List ℕ) (u : Element) → Joined (sideOf e) e p u → represents e p u ≡ true
+unfolding represents
+represents-of e p u j = joined-joins (sideOf e) e p u j
 
-pub answers-unit : (e : Element) (p : List ℕ) (u : Element) → answers e p u ≡ true → u .kind ≡ unitKind
-answers-unit e p u t = answers-told e p u t .of-unit
+pub represents-unit : (e : Element) (p : List ℕ) (u : Element) → represents e p u ≡ true → u .kind ≡ unitKind
+represents-unit e p u t = represents-told e p u t .of-unit
 
-pub answers-named : (e : Element) (p : List ℕ) (u : Element) → answers e p u ≡ true → named e ≡ true
-answers-named e p u t = rw (answers-told e p u t .named)
+pub represents-named : (e : Element) (p : List ℕ) (u : Element) → represents e p u ≡ true → named e ≡ true
+represents-named e p u t = rw (represents-told e p u t .named)
 
--- a unit is an element's own exactly when it answers one that it lists
-pub owns-told : (e u : Element) → owns e u ≡ true → (p : List ℕ) × (p ∈ e .portions) × (answers e p u ≡ true)
-unfolding owns
-owns-told e u t = any-in (λ p. answers e p u) (e .portions) t
+-- a unit is associated with an element exactly when it represents a portion that it lists
+pub associated-told : (e u : Element) → isAssociated e u ≡ true → (p : List ℕ) × (p ∈ e .portions) × (represents e p u ≡ true)
+unfolding isAssociated
+associated-told e u t = any-in (λ p. represents e p u) (e .portions) t
 
-pub owns-of : (e u : Element) (p : List ℕ) → p ∈ e .portions → answers e p u ≡ true → owns e u ≡ true
-unfolding owns
-owns-of e u p m t = any-of (λ q. answers e q u) (e .portions) p m t
+pub associated-of : (e u : Element) (p : List ℕ) → p ∈ e .portions → represents e p u ≡ true → isAssociated e u ≡ true
+unfolding isAssociated
+associated-of e u p m t = any-of (λ q. represents e q u) (e .portions) p m t
 
-pub owns-unit : (e u : Element) → owns e u ≡ true → u .kind ≡ unitKind
-owns-unit e u t = let r = owns-told e u t in answers-unit e (r .0) u (r .2)
+pub associated-unit : (e u : Element) → isAssociated e u ≡ true → u .kind ≡ unitKind
+associated-unit e u t = let r = associated-told e u t in represents-unit e (r .0) u (r .2)
 
-pub owns-named : (e u : Element) → owns e u ≡ true → named e ≡ true
-owns-named e u t = let r = owns-told e u t in answers-named e (r .0) u (r .2)
+pub associated-named : (e u : Element) → isAssociated e u ≡ true → named e ≡ true
+associated-named e u t = let r = associated-told e u t in represents-named e (r .0) u (r .2)
 
 module _ (us : List Element) (e : Element) where
-  pub answered-told : (p : List ℕ) → isAnswered us e p ≡ true → (u : Element) × (u ∈ us) × (answers e p u ≡ true)
-  unfolding isAnswered
-  answered-told p t = any-in (answers e p) us t
+  pub represented-told : (p : List ℕ) → isRepresented us e p ≡ true → (u : Element) × (u ∈ us) × (represents e p u ≡ true)
+  unfolding isRepresented
+  represented-told p t = any-in (represents e p) us t
 
-  pub answered-of : (p : List ℕ) (u : Element) → u ∈ us → answers e p u ≡ true → isAnswered us e p ≡ true
-  unfolding isAnswered
-  answered-of p u m t = any-of (answers e p) us u m t
+  pub represented-of : (p : List ℕ) (u : Element) → u ∈ us → represents e p u ≡ true → isRepresented us e p ≡ true
+  unfolding isRepresented
+  represented-of p u m t = any-of (represents e p) us u m t
 
-  pub all-answered-told : allAnswered us e ≡ true → (p : List ℕ) → p ∈ e .portions → isAnswered us e p ≡ true
-  unfolding allAnswered
-  all-answered-told t p m = all-in (isAnswered us e) (e .portions) t p m
+  pub all-represented-told : allRepresented us e ≡ true → (p : List ℕ) → p ∈ e .portions → isRepresented us e p ≡ true
+  unfolding allRepresented
+  all-represented-told t p m = all-in (isRepresented us e) (e .portions) t p m
 
-  pub all-answered-of : ((p : List ℕ) → p ∈ e .portions → isAnswered us e p ≡ true) → allAnswered us e ≡ true
-  unfolding allAnswered
-  all-answered-of h = all-of (isAnswered us e) (e .portions) h
+  pub all-represented-of : ((p : List ℕ) → p ∈ e .portions → isRepresented us e p ≡ true) → allRepresented us e ≡ true
+  unfolding allRepresented
+  all-represented-of h = all-of (isRepresented us e) (e .portions) h
 
--- with more units no less is answered
-pub answered-more : (us vs : List Element) (e : Element) (p : List ℕ) → ((u : Element) → u ∈ us → u ∈ vs) → isAnswered us e p ≡ true → isAnswered vs e p ≡ true
-answered-more us vs e p i t = let r = answered-told us e p t in answered-of vs e p (r .0) (i (r .0) (r .1)) (r .2)
+-- with more units no less is represented
+pub represented-more : (us vs : List Element) (e : Element) (p : List ℕ) → ((u : Element) → u ∈ us → u ∈ vs) → isRepresented us e p ≡ true → isRepresented vs e p ≡ true
+represented-more us vs e p i t = let r = represented-told us e p t in represented-of vs e p (r .0) (i (r .0) (r .1)) (r .2)
 
-pub all-answered-more : (us vs : List Element) (e : Element) → ((u : Element) → u ∈ us → u ∈ vs) → allAnswered us e ≡ true → allAnswered vs e ≡ true
-all-answered-more us vs e i t = all-answered-of vs e (λ p m. answered-more us vs e p i (all-answered-told us e t p m))
+pub all-represented-more : (us vs : List Element) (e : Element) → ((u : Element) → u ∈ us → u ∈ vs) → allRepresented us e ≡ true → allRepresented vs e ≡ true
+all-represented-more us vs e i t = all-represented-of vs e (λ p m. represented-more us vs e p i (all-represented-told us e t p m))
 
 -- who lists portions has a side, and its name space is that of classes and objects
 pub listing-side : (k : ℕ) → isIn k listing ≡ true → isIn k (kindsOf (cond (isIn k (kindsOf Layout)) Layout Logical)) ≡ true
@@ -137,11 +137,11 @@ unfolding clash
 clash-of d e bytes s p q = rw (eq-eqb _ _ s, p, q, same-refl bytes)
 
 -- one unit, two portions of one side: the elements clash, and the portions are the same
-pub answers-one : (e f : Element) (p q : List ℕ) (u : Element) → sideOf e ≡ sideOf f → isPortion p ≡ true → isPortion q ≡ true
-    → answers e p u ≡ true → answers f q u ≡ true → (clash e f ≡ true) × (p ≡ q)
-answers-one e f p q u s a b t w =
-    let i = answers-told e p u t in
-    let j = answers-told f q u w in
+pub represents-one : (e f : Element) (p q : List ℕ) (u : Element) → sideOf e ≡ sideOf f → isPortion p ≡ true → isPortion q ≡ true
+    → represents e p u ≡ true → represents f q u ≡ true → (clash e f ≡ true) × (p ≡ q)
+represents-one e f p q u s a b t w =
+    let i = represents-told e p u t in
+    let j = represents-told f q u w in
     let z : octets (i .identifier ++ spaceByte ∷ p) ≡ octets (j .identifier ++ spaceByte ∷ q) = sym (i .spelt) ∙ ap (λ (x : Side). nameOn x u) s ∙ j .spelt in
     let y : i .identifier ++ spaceByte ∷ p ≡ j .identifier ++ spaceByte ∷ q = cc in
     let r = joined-parts (i .identifier) (j .identifier) p q a b y in

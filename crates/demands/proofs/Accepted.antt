@@ -1,5 +1,5 @@
--- What a crate that is built upon the check may know of a stream that the check accepts: its items can be met one after another (`fine`), there are as many
--- as rows, and what the table holds. The number of a refusal is one of 1 to 16. Assumes nothing.
+-- For a crate that is built upon the check: what it may know of a stream that the check accepts. Its items can be met one after another (`fine`,
+-- which `runs::meet` requires), there are as many as rows, and the table is the finished one. The number of a refusal is one of 1 to 16. Assumes nothing.
 use mathlib.Core.Path.{_≡_, refl, ap, sym, _∙_}
 use mathlib.Core.Bool.{Bool, true, false, cond}
 use mathlib.Core.List.{List}

@@ -1,4 +1,4 @@
--- What the order rules look at: an element's kind, whether it has an identifier, the portions that it lists, and which text unit answers
+-- What the order rules look at: an element's kind, whether it has an identifier, the portions that it lists, and which text unit represents
 -- which of them. And what elements are such as a letter has, limits aside. W-207. Definitions only: assumes nothing.
 use Prim.Native.Nat.{ℕ, _≤_}
 use mathlib.Core.Path.{_≡_}
@@ -41,21 +41,21 @@ named e = present (e .identifier)
 abbrev pub sideOf : Element → Side
 sideOf e = cond (isIn (e .kind) (kindsOf Layout)) Layout Logical
 
--- a unit answers a portion of an element: the three are a match, on the element's side
-unfoldable pub answers : (element : Element) → (portion : List ℕ) → (unit : Element) → Bool
-answers e portion unit = joins (sideOf e) e portion unit
+-- a unit represents a portion of an element (7.4): the three are a match, on the element's side
+unfoldable pub represents : (element : Element) → (portion : List ℕ) → (unit : Element) → Bool
+represents e portion unit = joins (sideOf e) e portion unit
 
--- a unit is one of the element's own: it answers a portion that the element lists
-unfoldable pub owns : (element unit : Element) → Bool
-owns e unit = any (map (λ portion. answers e portion unit) (e .portions))
+-- a unit is associated with an element (7.3, "the associated text units"): it represents a portion that the element lists
+unfoldable pub isAssociated : (element unit : Element) → Bool
+isAssociated e unit = any (map (λ portion. represents e portion unit) (e .portions))
 
--- one of these answers the portion
-unfoldable pub isAnswered : (among : List Element) → Element → (portion : List ℕ) → Bool
-isAnswered among e portion = any (map (answers e portion) among)
+-- one of these represents the portion
+unfoldable pub isRepresented : (among : List Element) → Element → (portion : List ℕ) → Bool
+isRepresented among e portion = any (map (represents e portion) among)
 
--- every portion that the element lists is answered by one of these
-unfoldable pub allAnswered : (among : List Element) → Element → Bool
-allAnswered among e = all (map (isAnswered among e) (e .portions))
+-- every portion that the element lists is represented by one of these
+unfoldable pub allRepresented : (among : List Element) → Element → Bool
+allRepresented among e = all (map (isRepresented among e) (e .portions))
 
 -- a portion that an element lists
 pub record Listed : Type 0 where
@@ -105,7 +105,9 @@ abbrev pub NoClash : List Element → Type 0
 NoClash [] = Unit {0}
 NoClash (d ∷ es) = ((e : Element) → e ∈ es → clash d e ≡ false) × NoClash es
 
--- elements such as a letter has, limits aside: no limit on how many they are, how long their identifiers, how many octets in all
+-- elements such as a letter has, limits aside: no limit on how many they are, how long their identifiers, how many octets in all. An edition asks
+-- more of an element (a class without 41 is none, nor a kind of 1993 in 1988). It makes no difference: if any run in order starts with a front,
+-- then so does the front with one text unit for each portion that waits (specs/Missing), and both editions take such units.
 pub record LimitsAside (elements : List Element) : Type 0 where
   pub fit : (e : Element) → e ∈ elements → FitAside e
   pub apart : NoClash elements
