@@ -159,7 +159,7 @@ abbrev pub piecesAlone : Content → Bool
 piecesAlone (single value) = true
 piecesAlone (inPieces run) = octetPieces run
 
--- the same of a bit string in pieces
+-- nothing but 03 and 23 items stands among the pieces of a sealed profile's bit string
 abbrev pub sealAlone : Option ℕ → Tree → Bool
 sealAlone none run = true
 sealAlone (some octet) run = bitPieces (firstRun octet run)
