@@ -10,7 +10,9 @@ use Rattle.letters.specs.Letter.{Letter, letter, refusal}
 use Rattle.reading.specs.declared.Side.{Side}
 use Rattle.order.specs.declared.Class.{Class}
 use Rattle.order.specs.declared.Ordered.{Ordered}
+use Rattle.order.specs.Question.{OrderIs}
 use Rattle.order.specs.Computed.{orderIn}
+use Rattle.order.proofs.Letters.{computed-is}
 use Rattle.orders.proofs.Refusing.{ordered-refused}
 use Rattle.answers.specs.declared.Checked.{Checked}
 use Rattle.answers.specs.declared.Listed.{Listed}
@@ -159,8 +161,8 @@ module _ {edition : Edition} {s table flat out : List ℕ} {told : Told} {tableA
       subst (λ (r : Listed). ListsFlat edition side s table room r tableAfter flatAfter) (sym e)
       (record { answered = ap listedOf (l .answered); tabled = l .tabled; stored = b .stored; fits = b .fits; enough = b .enough })
 
-  pub order-left : {class : Class} → Leaves edition (Order class) s table flat out told tableAfter flatAfter outAfter → orderedOf told ≡ orderIn edition class s
-  order-left l = ap orderedOf (l .answered)
+  pub order-left : {class : Class} → Leaves edition (Order class) s table flat out told tableAfter flatAfter outAfter → OrderIs edition class s (orderedOf told)
+  order-left {class} l = subst (OrderIs edition class s) (sym (ap orderedOf (l .answered))) (computed-is edition class s)
 
   pub children-left : {row : ℕ} → Leaves edition (Children row (length flat)) s table flat out told tableAfter flatAfter outAfter
       → ChildrenOutcome edition s table row flat (relatedOf told) tableAfter flatAfter

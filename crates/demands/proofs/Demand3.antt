@@ -21,7 +21,7 @@ use Rattle.letters.proofs.Apart.{accepted-apart}
 use Rattle.reading.specs.declared.Match.{Match}
 use Rattle.reading.specs.declared.Side.{Side}
 use Rattle.reading.specs.Match.{matches, IsMatch, Before, units, portionsOn}
-use Rattle.reading.proofs.Lists.{Sorted}
+use Rattle.reading.specs.Lists.{Sorted}
 use Rattle.reading.proofs.Matches.{matches-are, matches-all, matches-sorted}
 use Rattle.reading.proofs.Single.{no-more-than-portions, no-more-than-units}
 use Rattle.answers.proofs.Letters.{letter-found}

@@ -19,7 +19,7 @@ use Rattle.elements.specs.Judge.{Element, shares, clash}
 use Rattle.reading.specs.declared.Side.{Side}
 use Rattle.reading.specs.declared.Side.the-variants.{Layout, Logical}
 use Rattle.reading.specs.Match.{nameOn}
-use Rattle.reading.proofs.Lists.{Once}
+use Rattle.reading.specs.Lists.{Once}
 use Rattle.reading.proofs.Lists.{once-fits}
 use Rattle.order.specs.Represents.{_∈_, sideOf, represents, isAssociated, isRepresented, allRepresented, FitAside, NoClash}
 use Rattle.order.proofs.Tests.{all-in, any-of}

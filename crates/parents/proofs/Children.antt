@@ -10,7 +10,8 @@ use lib.ListN.{length, getElem?}
 use borrow.Author.Tests.{eqb-true, eq-eqb}
 use Rattle.elements.specs.Judge.{Element}
 use Rattle.reading.specs.Match.{forEach, only}
-use Rattle.reading.proofs.Lists.{Sorted, Once, sorted-once}
+use Rattle.reading.specs.Lists.{Sorted, Once}
+use Rattle.reading.proofs.Lists.{sorted-once}
 use Rattle.reading.proofs.Each.{only-in, only-out, only-sorted, each-out, each-in, each-sorted, each-few}
 use Rattle.parents.specs.Parent.{parentOf, parent, isRow, children}
 

@@ -10,7 +10,8 @@ use native.Mathlib.Omega.{arith}
 use lib.ListN.{length, getElem?, length-append}
 use borrow.Table.Steps.{cases}
 use Rattle.reading.specs.Match.{forEach, only}
-use Rattle.reading.proofs.Lists.{Sorted, sorted-append}
+use Rattle.reading.specs.Lists.{Sorted}
+use Rattle.reading.proofs.Lists.{sorted-append}
 
 module _ {B : Type 0} where
   pub only-in : (test : Bool) (y : B) → test ≡ true → List·Memᴰ y (only test y)

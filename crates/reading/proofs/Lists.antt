@@ -6,6 +6,7 @@ use mathlib.Core.List.{List, [], _∷_, _++_, map, List·Memᴰ, List·Memᴰ·h
 use Prim.Native.Nat.{ℕ, zero, suc, _<_, _≤_}
 use native.Mathlib.Omega.{arith}
 use lib.ListN.{length, getElem?, getD}
+use Rattle.reading.specs.Lists.{Sorted, Once}
 
 module _ {A : Type 0} where
   -- what stands at a place within the list
@@ -13,11 +14,6 @@ module _ {A : Type 0} where
   at-getD [] k d l = absurd (omega arith)
   at-getD (y ∷ xs) zero d l = refl
   at-getD (y ∷ xs) (suc k) d l = at-getD xs k d (omega arith)
-
-  -- each stands before all after it
-  abbrev pub Sorted : (A → A → Type 0) → List A → Type 0
-  Sorted R [] = Unit {0}
-  Sorted R (x ∷ xs) = ((y : A) → List·Memᴰ y xs → R x y) × Sorted R xs
 
   module _ (R : A → A → Type 0) where
     before-either : (x y : A) (xs ys : List A) → (List·Memᴰ y xs → R x y) → (List·Memᴰ y ys → R x y) → List·Memᴰ y xs ⊎ List·Memᴰ y ys → R x y
@@ -30,11 +26,6 @@ module _ {A : Type 0} where
       λ y m. before-either x y xs ys (p .0 y) (b x y (List·Memᴰ·head refl)) (List·Memᴰ·append-cases xs m),
       sorted-append xs ys (p .1) q (λ z y m. b z y (List·Memᴰ·tail m)),
     )
-
-  -- nothing stands twice
-  abbrev pub Once : List A → Type 0
-  Once [] = Unit {0}
-  Once (x ∷ xs) = (List·Memᴰ x xs → ⊥) × Once xs
 
   pub sorted-once : (R : A → A → Type 0) → ((x : A) → R x x → ⊥) → (xs : List A) → Sorted R xs → Once xs
   sorted-once R irr [] s = tt

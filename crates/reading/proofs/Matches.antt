@@ -17,7 +17,8 @@ use Rattle.elements.specs.Judge.{Element}
 use Rattle.reading.specs.declared.Match.{Match}
 use Rattle.reading.specs.declared.Side.{Side}
 use Rattle.reading.specs.Match.{unitKind, kindsOf, nameOn, spells, joins, only, portionMatches, elementMatches, matches, Joined, IsMatch, Before}
-use Rattle.reading.proofs.Lists.{Sorted, Once, sorted-once}
+use Rattle.reading.specs.Lists.{Sorted, Once}
+use Rattle.reading.proofs.Lists.{sorted-once}
 use Rattle.reading.proofs.Each.{only-in, only-out, only-sorted, each-out, each-in, each-sorted}
 
 -- the test of the definition is what it is to be joined

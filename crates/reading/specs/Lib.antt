@@ -1,5 +1,6 @@
--- Match: the matches of a side, and what is promised of them. For the code alone, Records: the lent list as numbers; Ready: what is
--- known when matches are looked up.
+-- Match: the matches of a side, and what is promised of them. Lists: lists in order, and with nothing twice. For the code alone, Records: the
+-- lent list as numbers; Ready: what is known when matches are looked up.
 pub mod Match
+pub mod Lists
 pub mod Records
 pub mod Ready

@@ -23,7 +23,8 @@ use Rattle.reading.specs.declared.Match.{Match}
 use Rattle.reading.specs.declared.Side.{Side}
 use Rattle.reading.specs.Match.{unitKind, matches, IsMatch}
 use Rattle.reading.specs.Ready.{noElement, elementAt}
-use Rattle.reading.proofs.Lists.{Once, once-map}
+use Rattle.reading.specs.Lists.{Once}
+use Rattle.reading.proofs.Lists.{once-map}
 use Rattle.reading.proofs.Matches.{matches-are, matches-once}
 use Rattle.reading.proofs.Single.{unit-one-match}
 use Rattle.texts.specs.Texts.{Text, textsOf}

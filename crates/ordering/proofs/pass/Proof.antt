@@ -10,7 +10,6 @@ use lib.ListN.{length}
 use Rattle.elements.specs.Judge.{Element}
 use Rattle.reading.specs.Ready.{RowsTell}
 use Rattle.order.specs.Represents.{LimitsAside}
-use Rattle.order.specs.declared.Fault.{Fault}
 use Rattle.order.specs.declared.Fault.the-variants.{Nowhere, At}
 use Rattle.ordering.specs.Steps.{stateOf, stepOf}
 use Rattle.ordering.proofs.Passing.{passFrom, pass-stops, pass-goes, pass-ends}
