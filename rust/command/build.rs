@@ -17,12 +17,15 @@ fn main() {
         println!("cargo::rerun-if-changed={}", here.join(log).display());
     }
     let commit = output("git", &["-C", &here.display().to_string(), "rev-parse", "HEAD"]);
+    let date = output("git", &["-C", &here.display().to_string(), "show", "-s", "--format=%cs", "HEAD"]);
     let toolchain = output("rt", &["version"]);
     let hash = output("sha256sum", &[&library.display().to_string()]);
     let hash = hash.as_deref().and_then(|line| line.split(' ').next());
     for (name, value) in [("COMMIT", commit.as_deref()), ("TOOLCHAIN", toolchain.as_deref()), ("LIBRARY", hash)] {
         println!("cargo::rustc-env=ODIF_{name}={}", value.unwrap_or("not known"));
     }
+    // The manual page's: of the commit, so that it is the same wherever it is built.
+    println!("cargo::rustc-env=ODIF_DATE={}", date.unwrap_or_default());
 }
 
 /// The first line that a command writes, if it can be run and ends well.

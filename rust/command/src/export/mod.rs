@@ -10,7 +10,7 @@ use clap::Args;
 use sha2::{Digest, Sha256};
 
 use self::manifest::{COLUMNS, Journal, Line};
-use crate::args::By;
+use crate::asked::By;
 use crate::beside;
 use crate::faults::Fault;
 use crate::files::{Entry, Places, at_least_one};
