@@ -4,6 +4,7 @@ mod blocks;
 mod check;
 mod date;
 mod editions;
+mod examples;
 mod export;
 mod faults;
 mod help;
