@@ -1,10 +1,13 @@
-# Builds and installs the library, the command and their pages. `make` needs rt (for the proved library), gcc and cargo.
+# Builds and installs the library, the command and their pages.
 #
 #   make                                      build all under target/install
-#   make install PREFIX=/usr DESTDIR=stage    headers, archives, shared library, odif.pc, command, manual pages, completions
+#   make install PREFIX=/usr DESTDIR=stage    headers, archives, shared libraries, odif.pc, pm1.pc, command, manual pages, completions
+#   make install-lib                          the same without the command: it needs rt, for the proved library, and a C compiler alone
 #   make uninstall                            take away what install put there
 #
-# The archive is the proved one with odif_sentence beside it; the shared library is made of the same two.
+# The command needs cargo and the crates that it uses besides; where they are Debian's, rust/packages makes them ready first. `make` installs no
+# packages. An installed archive is the proved one with a small member of C beside it (odif_sentence, pm1_identity), and a shared library is made
+# of these two. Where a shared library is new in a folder that the system's loader looks into, let root run ldconfig after `make install`.
 
 PREFIX  ?= /usr/local
 DESTDIR ?=
@@ -22,71 +25,80 @@ out     := target/install
 to      := $(DESTDIR)$(PREFIX)
 # where bash, zsh and fish look for them
 completions := $(addprefix $(to)/share/,bash-completion/completions zsh/site-functions fish/vendor_completions.d)
+shared  := -shared -Wl,-z,defs -Wl,-z,text -Wl,-z,relro -Wl,-z,now
+sha256   = $(shell sha256sum $(1) | cut -d' ' -f1)
 
-.PHONY: all install uninstall clean
-all: $(out)/libodif.a $(out)/libpm1.a $(out)/libodif.so $(out)/odif.pc $(out)/odif $(out)/odif.3
+.PHONY: all lib install install-lib uninstall clean FORCE
+all: lib $(out)/odif
+lib: $(addprefix $(out)/,libodif.a libpm1.a libodif.so libpm1.so odif.pc pm1.pc odif.3 pm1.3)
 
-$(proved):
-	rt staticlib odif
-
-$(desk):
-	rt staticlib pm1
+# asked each time, since only packaging/archive knows whether an archive is of these sources; it leaves one that is as it stands
+$(proved) $(desk): target/staticlib/lib%.a: FORCE
+	packaging/archive $*
 
 $(out):
 	mkdir -p $@
 
-$(out)/odif_sentence.o: include/odif_sentence.c include/odif.h | $(out)
-	$(CC) $(CFLAGS) -fPIC -Iinclude -c $< -o $@
+$(out)/odif_sentence.o: include/odif_sentence.c include/odif.h $(proved) | $(out)
+	$(CC) $(CFLAGS) -fPIC -Iinclude -DODIF_ARCHIVE_SHA256='"$(call sha256,$(proved))"' -c $< -o $@
 
 $(out)/libodif.a: $(proved) $(out)/odif_sentence.o
 	cp $(proved) $@
 	$(AR) rs $@ $(out)/odif_sentence.o
 
-$(out)/libpm1.a: $(desk) | $(out)
+$(out)/pm1_identity.o: include/pm1_identity.c include/pm1.h $(desk) | $(out)
+	$(CC) $(CFLAGS) -fPIC -Iinclude -DPM1_ARCHIVE_SHA256='"$(call sha256,$(desk))"' -c $< -o $@
+
+$(out)/libpm1.a: $(desk) $(out)/pm1_identity.o
 	cp $(desk) $@
+	$(AR) rs $@ $(out)/pm1_identity.o
 
 $(out)/libodif.so: $(proved) $(out)/odif_sentence.o
-	$(CC) -shared -Wl,-soname,libodif.so.$(series) -Wl,-z,defs -Wl,-z,text -Wl,-z,relro -Wl,-z,now \
-	    $(out)/odif_sentence.o -Wl,--whole-archive $(proved) -Wl,--no-whole-archive -o $@
+	$(CC) $(shared) -Wl,-soname,libodif.so.$(series) $(out)/odif_sentence.o -Wl,--whole-archive $(proved) -Wl,--no-whole-archive -o $@
 
-# PREFIX may differ from the last time, so this one is made anew each time
-.PHONY: $(out)/odif.pc
-$(out)/odif.pc: packaging/odif.pc.in | $(out)
+$(out)/libpm1.so: $(desk) $(out)/pm1_identity.o
+	$(CC) $(shared) -Wl,-soname,libpm1.so.$(series) $(out)/pm1_identity.o -Wl,--whole-archive $(desk) -Wl,--no-whole-archive -o $@
+
+# PREFIX may differ from the last time, so these are made anew each time
+$(out)/odif.pc $(out)/pm1.pc: $(out)/%.pc: packaging/%.pc.in FORCE | $(out)
 	sed -e 's|@PREFIX@|$(PREFIX)|' -e 's|@VERSION@|$(version)|' $< > $@
 
-# rust/packages makes the crates ready that the command uses, and cargo knows what has changed; the command writes its own
-# manual page and completions
-.PHONY: $(out)/odif
-$(out)/odif: $(proved) $(desk) | $(out)
-	cd rust && ./packages && cargo build --release --locked --workspace --bin odif
+# cargo knows what has changed; the command writes its own manual page and completions
+$(out)/odif: $(proved) $(desk) FORCE | $(out)
+	cd rust && ./packages --look && cargo build --release --locked --workspace --bin odif
 	cp rust/target/release/odif $@
 	$@ man > $@.1
 	for shell in bash zsh fish; do $@ completions $$shell > $@.$$shell || exit 1; done
 
-$(out)/odif.3: include/odif.h packaging/odif.3.in packaging/manual | $(out)
-	packaging/manual $(version) > $@
+$(out)/odif.3 $(out)/pm1.3: $(out)/%.3: include/%.h packaging/%.3.in packaging/manual | $(out)
+	packaging/manual $* $(version) > $@
 
-install: all
-	$(INSTALL) -d $(to)/include $(to)/lib/pkgconfig $(to)/bin $(to)/share/man/man1 $(to)/share/man/man3 $(completions)
-	$(INSTALL) -m 644 include/odif.h $(to)/include/odif.h
-	$(INSTALL) -m 644 include/pm1.h $(to)/include/pm1.h
-	$(INSTALL) -m 644 $(out)/libodif.a $(to)/lib/libodif.a
-	$(INSTALL) -m 644 $(out)/libpm1.a $(to)/lib/libpm1.a
-	$(INSTALL) -m 755 $(out)/libodif.so $(to)/lib/libodif.so.$(version)
-	ln -sf libodif.so.$(version) $(to)/lib/libodif.so.$(series)
-	ln -sf libodif.so.$(series) $(to)/lib/libodif.so
-	$(INSTALL) -m 644 $(out)/odif.pc $(to)/lib/pkgconfig/odif.pc
+install-lib: lib
+	$(INSTALL) -d $(to)/include $(to)/lib/pkgconfig $(to)/share/man/man3
+	for name in odif pm1; do \
+	    $(INSTALL) -m 644 include/$$name.h $(to)/include/$$name.h && \
+	    $(INSTALL) -m 644 $(out)/lib$$name.a $(to)/lib/lib$$name.a && \
+	    $(INSTALL) -m 755 $(out)/lib$$name.so $(to)/lib/lib$$name.so.$(version) && \
+	    ln -sf lib$$name.so.$(version) $(to)/lib/lib$$name.so.$(series) && \
+	    ln -sf lib$$name.so.$(series) $(to)/lib/lib$$name.so && \
+	    $(INSTALL) -m 644 $(out)/$$name.pc $(to)/lib/pkgconfig/$$name.pc && \
+	    $(INSTALL) -m 644 $(out)/$$name.3 $(to)/share/man/man3/$$name.3 || exit 1; \
+	done
+
+install: all install-lib
+	$(INSTALL) -d $(to)/bin $(to)/share/man/man1 $(completions)
 	$(INSTALL) -m 755 -s $(out)/odif $(to)/bin/odif
 	$(INSTALL) -m 644 $(out)/odif.1 $(to)/share/man/man1/odif.1
-	$(INSTALL) -m 644 $(out)/odif.3 $(to)/share/man/man3/odif.3
 	$(INSTALL) -m 644 $(out)/odif.bash $(word 1,$(completions))/odif
 	$(INSTALL) -m 644 $(out)/odif.zsh $(word 2,$(completions))/_odif
 	$(INSTALL) -m 644 $(out)/odif.fish $(word 3,$(completions))/odif.fish
 
 uninstall:
-	rm -f $(to)/include/odif.h $(to)/lib/libodif.a $(to)/lib/libodif.so $(to)/lib/libodif.so.$(series) \
-	    $(to)/lib/libodif.so.$(version) $(to)/lib/pkgconfig/odif.pc $(to)/bin/odif \
-	    $(to)/include/pm1.h $(to)/lib/libpm1.a $(to)/share/man/man1/odif.1 $(to)/share/man/man3/odif.3 \
+	for name in odif pm1; do \
+	    rm -f $(to)/include/$$name.h $(to)/lib/lib$$name.a $(to)/lib/lib$$name.so $(to)/lib/lib$$name.so.$(series) \
+	        $(to)/lib/lib$$name.so.$(version) $(to)/lib/pkgconfig/$$name.pc $(to)/share/man/man3/$$name.3; \
+	done
+	rm -f $(to)/bin/odif $(to)/share/man/man1/odif.1 \
 	    $(word 1,$(completions))/odif $(word 2,$(completions))/_odif $(word 3,$(completions))/odif.fish
 
 clean:

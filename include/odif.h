@@ -18,13 +18,14 @@
    question takes up to 40 KiB of it, the two lists up to 88 KiB and the two whole readings up to 120 KiB; of any other
    up to 256 KiB, the lists up to 304 KiB and the whole readings up to 336 KiB. It clears 31 kB of that for a small
    stream and 246 kB for any other, the lists and the whole readings somewhat more. Mind it where threads are started
-   with small stacks: 128 KiB are enough for small streams alone.
+   with small stacks: 128 KiB are enough for small streams alone. Whether a stream is small can be asked with less than
+   2 KiB: one of which odif_blocks_close counts up to 512 headers has no more elements than that, and is small.
 
    A question reads by the edition of 1988, and its twin with _1993 at its end by that of 1993. The octet rules are the
    same. In 1993 a text unit may have no content, or content in tiles, and there are four elements more, the protected
    parts: a sealed document profile, A9, an enciphered one, AA, and body parts that were enciphered before or after the
    layout, AB and AC. Every letter of 1988 is one of 1993 with the same rows and matches. A letter with a protected part
-   is none of 1988: it is refused by 10 there.
+   is none of 1988: it is refused by 10 there, at the first such part, unless something before it is refused.
 
    Every answer begins with a number and, but for odif_taken, a place. Number 0 is accepted or answered, with place 0.
    Any other number is a refusal; places count octets of the stream from 0.
@@ -101,8 +102,18 @@ extern "C" {
 #define ODIF_APART
 #endif
 
-#define ODIF_VERSION        "0.1.0"
-#define ODIF_VERSION_NUMBER 100    /* 10,000 times the first number, 100 times the second, and the third */
+/* A function whose body stands in this header. C before 1999 has no word for that, and gcc has one of its own. */
+#if defined __cplusplus || defined __STDC_VERSION__ && __STDC_VERSION__ >= 199901L
+#define ODIF_INLINE static inline
+#elif defined __GNUC__
+#define ODIF_INLINE static __inline__
+#else
+#define ODIF_INLINE static
+#endif
+
+/* The second number changes with what a caller is compiled against: a struct, a number, the row's width (before 1.0.0). */
+#define ODIF_VERSION        "0.2.0"
+#define ODIF_VERSION_NUMBER 200    /* 10,000 times the first number, 100 times the second, and the third */
 
 #define ODIF_STREAM_LIMIT  1048576 /* the most octets of a stream, and of a normal form */
 #define ODIF_MOST_ELEMENTS 4096    /* so many rows are always enough */
@@ -144,10 +155,13 @@ enum {
     ODIF_PORTIONS_FIRST   = 8,  /* the portions of a class or object */
     ODIF_PORTIONS_PAST    = 9,
     ODIF_CONTENT_FIRST    = 10, /* a text unit's content; if it is in pieces or tiles, the value of the 24 or 30 that
-                                   holds them, with their headers; of kinds 10 to 12 the enciphered information */
+                                   holds them, with their headers; of kinds 10 to 12 the same of
+                                   the enciphered information */
     ODIF_CONTENT_PAST     = 11,
-    ODIF_PARENT           = 12  /* the row of the class or object of the same side whose identifier is this one's
-                                   without its last space and digits, which may come later; or ODIF_NO_PARENT */
+    ODIF_PARENT           = 12  /* of kinds 1, 2, 5 and 6 the row of the class or object of the same side whose
+                                   identifier is this one's without its last space and digits, which may come later;
+                                   where nobody carries that one, and of every other kind, ODIF_NO_PARENT. The block
+                                   of a text unit is in its match */
 };
 
 typedef struct {
@@ -289,7 +303,8 @@ odif_shown odif_logical_text_numbers(const uint8_t *ODIF_APART stream, size_t st
                                      uint8_t *ODIF_APART out, size_t out_len);
 
 /* Writes the normal form of a stream of at most 65,535 octets, for machines with little memory: 1 is given where the
-   stream is longer, and never 17. There the normal form is never longer than the stream. */
+   stream is longer, and never 17. There the normal form is never longer than the stream. A program that asks no other
+   question and is linked with --gc-sections has no code for 17. */
 odif_written odif_normal_short(const uint8_t *ODIF_APART stream, size_t stream_len,
                                uint8_t *ODIF_APART out, size_t out_len);
 
@@ -357,31 +372,31 @@ odif_shown odif_logical_text_numbers_1993(const uint8_t *ODIF_APART stream, size
                                           uint8_t *ODIF_APART out, size_t out_len);
 
 /* The whole readings with so many lines. */
-static inline odif_shown odif_layout_text(const uint8_t *ODIF_APART stream, size_t stream_len,
-                                          uint32_t *ODIF_APART table, size_t table_len,
-                                          odif_line *ODIF_APART lines, size_t lines_len,
-                                          uint8_t *ODIF_APART out, size_t out_len) {
+ODIF_INLINE odif_shown odif_layout_text(const uint8_t *ODIF_APART stream, size_t stream_len,
+                                        uint32_t *ODIF_APART table, size_t table_len,
+                                        odif_line *ODIF_APART lines, size_t lines_len,
+                                        uint8_t *ODIF_APART out, size_t out_len) {
     return odif_layout_text_numbers(stream, stream_len, table, table_len, (uint32_t *)lines, 5 * lines_len,
         out, out_len);
 }
-static inline odif_shown odif_logical_text(const uint8_t *ODIF_APART stream, size_t stream_len,
-                                           uint32_t *ODIF_APART table, size_t table_len,
-                                           odif_line *ODIF_APART lines, size_t lines_len,
-                                           uint8_t *ODIF_APART out, size_t out_len) {
+ODIF_INLINE odif_shown odif_logical_text(const uint8_t *ODIF_APART stream, size_t stream_len,
+                                         uint32_t *ODIF_APART table, size_t table_len,
+                                         odif_line *ODIF_APART lines, size_t lines_len,
+                                         uint8_t *ODIF_APART out, size_t out_len) {
     return odif_logical_text_numbers(stream, stream_len, table, table_len, (uint32_t *)lines, 5 * lines_len,
         out, out_len);
 }
-static inline odif_shown odif_layout_text_1993(const uint8_t *ODIF_APART stream, size_t stream_len,
-                                               uint32_t *ODIF_APART table, size_t table_len,
-                                               odif_line *ODIF_APART lines, size_t lines_len,
-                                               uint8_t *ODIF_APART out, size_t out_len) {
+ODIF_INLINE odif_shown odif_layout_text_1993(const uint8_t *ODIF_APART stream, size_t stream_len,
+                                             uint32_t *ODIF_APART table, size_t table_len,
+                                             odif_line *ODIF_APART lines, size_t lines_len,
+                                             uint8_t *ODIF_APART out, size_t out_len) {
     return odif_layout_text_numbers_1993(stream, stream_len, table, table_len, (uint32_t *)lines, 5 * lines_len,
         out, out_len);
 }
-static inline odif_shown odif_logical_text_1993(const uint8_t *ODIF_APART stream, size_t stream_len,
-                                                uint32_t *ODIF_APART table, size_t table_len,
-                                                odif_line *ODIF_APART lines, size_t lines_len,
-                                                uint8_t *ODIF_APART out, size_t out_len) {
+ODIF_INLINE odif_shown odif_logical_text_1993(const uint8_t *ODIF_APART stream, size_t stream_len,
+                                              uint32_t *ODIF_APART table, size_t table_len,
+                                              odif_line *ODIF_APART lines, size_t lines_len,
+                                              uint8_t *ODIF_APART out, size_t out_len) {
     return odif_logical_text_numbers_1993(stream, stream_len, table, table_len, (uint32_t *)lines, 5 * lines_len,
         out, out_len);
 }
@@ -397,9 +412,9 @@ odif_written odif_make_numbers(const uint8_t *ODIF_APART buffer, size_t buffer_l
                                uint8_t *ODIF_APART out, size_t out_len);
 
 /* The same of so many entries. */
-static inline odif_written odif_make(const uint8_t *ODIF_APART buffer, size_t buffer_len,
-                                     const odif_entry *ODIF_APART entries, size_t entries_len,
-                                     uint8_t *ODIF_APART out, size_t out_len) {
+ODIF_INLINE odif_written odif_make(const uint8_t *ODIF_APART buffer, size_t buffer_len,
+                                   const odif_entry *ODIF_APART entries, size_t entries_len,
+                                   uint8_t *ODIF_APART out, size_t out_len) {
     return odif_make_numbers(buffer, buffer_len, (const uint32_t *)entries, 6 * entries_len, out, out_len);
 }
 
@@ -412,13 +427,13 @@ static inline odif_written odif_make(const uint8_t *ODIF_APART buffer, size_t bu
        odif_walked walked = odif_blocks_close(now.state);
 
    The state is this struct and nothing else, with no pointer in it: copy it, keep it, go on from a copy. Its numbers
-   are the engine's own. A caller who makes one up is answered too: where it can't be gone on with, 28 with that state,
-   and 29. The three functions take less than 2 KiB of stack. */
+   are the engine's own. A caller who makes one up is answered too: where it can't be gone on with, as with a finding that
+   is none of 1 to 8, 28 with that state, and 29. The three functions take less than 2 KiB of stack. */
 typedef struct {
-    size_t   total;    /* the octets told, and those that have come */
-    size_t   taken;
-    size_t   at;       /* where the next header stands, and how many items are open there */
-    size_t   level;
+    uint64_t total;    /* the octets told, and those that have come */
+    uint64_t taken;
+    uint64_t at;       /* where the next header stands, and how many items are open there */
+    uint64_t level;
     uint32_t headers;  /* the items that passed 2 to 8 */
     uint32_t number;   /* the finding, 1 to 8, and its place; 0 if there is none yet */
     uint32_t place;
@@ -427,7 +442,7 @@ typedef struct {
     uint8_t  begun[8];
 } odif_blocks;
 
-#define ODIF_BLOCKS_SIZE 120 /* the octets of an odif_blocks */
+#define ODIF_BLOCKS_SIZE 120 /* the octets of an odif_blocks, on every machine */
 
 typedef struct {
     uint32_t    number; /* 0; 1 from the start; 28 from a block */
@@ -452,10 +467,19 @@ odif_taken odif_blocks_take(odif_blocks state, const uint8_t *block, size_t bloc
    with. */
 odif_walked odif_blocks_close(odif_blocks state);
 
-/* The sentence of a number of the list above, without a full stop; 0 and numbers past the list have one too. It is no
-   part of the proved archive: compile odif_sentence.c, which stands beside this header, with your program, or link with
-   an installed library. */
+/* The sentence of a number of the list above, without a full stop; 0 and numbers past the list have one too. This function
+   and the two after it are C and no part of the proved archive: compile odif_sentence.c, which stands beside this header,
+   with your program, or link with an installed library. */
 const char *odif_sentence(uint32_t number);
+
+/* ODIF_VERSION as the library has it. A program that loads a shared library compares it with the ODIF_VERSION that it was
+   compiled with: where the first two numbers differ, structs or rows do. */
+const char *odif_version(void);
+
+/* The SHA-256 of the proved archive that an installed library is made of, as 64 hexadecimal digits; an empty string where
+   odif_sentence.c was compiled without being told it. The archive is reproducible: `rt staticlib odif` of one state of the
+   sources gives one archive, octet for octet, in any folder. */
+const char *odif_identity(void);
 
 #ifdef __cplusplus
 }

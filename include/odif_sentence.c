@@ -1,5 +1,11 @@
-/* odif_sentence, which odif.h declares: compile it with your program. Installed libraries have it in them. */
+/* odif_sentence, odif_version and odif_identity, which odif.h declares: compile them with your program. Installed
+   libraries have them in them. */
 #include "odif.h"
+
+/* The SHA-256 of the proved archive, as a string. `make` tells it; who compiles this file by hand need not. */
+#ifndef ODIF_ARCHIVE_SHA256
+#define ODIF_ARCHIVE_SHA256 ""
+#endif
 
 static const char *const sentences[] = {
     [0] = "accepted",
@@ -39,3 +45,10 @@ const char *odif_sentence(uint32_t number) {
     const char *known = number < sizeof sentences / sizeof *sentences ? sentences[number] : NULL;
     return known ? known : "a rule that is newer than this program";
 }
+
+/* One string, so that a tool which does not load a library finds it among its octets too. */
+static const char identity[] = "libodif.a sha256 " ODIF_ARCHIVE_SHA256;
+
+const char *odif_version(void) { return ODIF_VERSION; }
+
+const char *odif_identity(void) { return identity + sizeof "libodif.a sha256 " - 1; }

@@ -2,7 +2,7 @@
    10), proved to its contract.
 
    Link with target/staticlib/libpm1.a, and with libodif.a beside it, in either order, if the questions of odif.h are
-   asked too: each archive shows the names of its own header alone. What odif.h says of its functions holds for these:
+   asked too: each archive shows the names of its own header alone. Installed, `pkg-config --libs pm1` names both. What odif.h says of its functions holds for these:
    no state, nothing allocated, any octets whatever, and what is lent is valid, aligned and apart. On the stack they
    take 32 KiB besides what odif_check takes.
 
@@ -31,17 +31,17 @@ enum {
     PM1_NOT_FIXED     = 4  /* anything but two fixed numbers, or a second A4 */
 };
 
-/* One record of the list: a row of the table, and the verdict on it. */
+/* One record of the list: a page, and the verdict on it. */
 typedef struct {
-    uint32_t element;
-    uint32_t verdict;
+    uint32_t element;  /* its row in the table, from 0 */
+    uint32_t verdict;  /* one of the five above */
 } pm1_page;
 
 typedef struct {
-    uint32_t number;
-    uint32_t place;
-    uint32_t elements;
-    uint32_t pages;
+    uint32_t number;   /* 0, or the refusal: 1 to 16, 30 */
+    uint32_t place;    /* the refusal's place */
+    uint32_t elements; /* the rows filled, also with 30 */
+    uint32_t pages;    /* the records filled */
 } pm1_listed;
 
 #define PM1_LIST_TOO_SHORT 30 /* the refusal of a list that is shorter than the pages */
@@ -52,6 +52,10 @@ pm1_listed pm1_pages(const uint8_t *ODIF_APART stream, size_t stream_len, uint32
                      pm1_page *ODIF_APART list, size_t list_len);
 pm1_listed pm1_pages_1993(const uint8_t *ODIF_APART stream, size_t stream_len, uint32_t *ODIF_APART table,
                           size_t table_len, pm1_page *ODIF_APART list, size_t list_len);
+
+/* What odif_identity is to libodif: the SHA-256 of the proved archive libpm1.a. It is C and no part of that archive: an
+   installed library has it, and pm1_identity.c stands beside this header. */
+const char *pm1_identity(void);
 
 #ifdef __cplusplus
 }

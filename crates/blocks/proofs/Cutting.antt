@@ -16,10 +16,10 @@ use Rattle.laws.proofs.Tests.{cond-holds}
 use Rattle.octets.specs.declared.Outcome.{Outcome}
 use Rattle.octets.specs.declared.Outcome.the-variants.{Refused}
 use Rattle.octets.specs.Walk.{run, answer, walkOf}
-use Rattle.octets.specs.Further.{Told, told}
+use Rattle.octets.specs.Further.{told}
 use Rattle.octets.proofs.Turns.{plus-zero}
 use Rattle.blocks.specs.Engine.{Standing, reading, found, State, onward, step, feed, fresh, stateAfter}
-use Rattle.blocks.specs.Blocks.{Taken, start, take, toldOf, close, takes, kept}
+use Rattle.blocks.specs.Blocks.{start, takeBlock, toldOf, close, takeBlocks, kept, atClose}
 use Rattle.blocks.specs.Resume.{outlook}
 use Rattle.blocks.proofs.Stands.{Reads, Good, onward-good, good-end}
 
@@ -34,7 +34,7 @@ unfolding step
 feed-total s [] = refl
 feed-total s (x ∷ xs) = feed-total (step s x) xs
 
--- "cutting does not matter"
+-- no cutting matters
 pub feed-append : (s : State) (xs ys : List ℕ) → feed s (xs ++ ys) ≡ feed (feed s xs) ys
 feed-append s xs ys = foldl-append step s xs ys
 
@@ -85,13 +85,13 @@ answers xs =
     rw (eq-eqb (s .taken) (s .total) t) (good-end xs (walkOf xs) (s .standing) (all-good xs))
 
 -- Blocks, taken and refused.
-pub take-fits : (s : State) (block : List ℕ) → s .taken + length block ≤ s .total → take s block ≡ record { number = 0; state = feed s block }
-unfolding take
+pub take-fits : (s : State) (block : List ℕ) → s .taken + length block ≤ s .total → takeBlock s block ≡ record { number = 0; state = feed s block }
+unfolding takeBlock
 take-fits s block h = rw (le-leb (s .taken + length block) (s .total) h)
 
 -- "28 a block past the total, state unchanged", whatever was found
-pub take-past : (s : State) (block : List ℕ) → s .total < s .taken + length block → take s block ≡ record { number = 28; state = s }
-unfolding take
+pub take-past : (s : State) (block : List ℕ) → s .total < s .taken + length block → takeBlock s block ≡ record { number = 28; state = s }
+unfolding takeBlock
 take-past s block h = rw (lt-leb (s .taken + length block) (s .total) h)
 
 -- "29 closing early", whatever was found
@@ -101,11 +101,11 @@ close-early s h = rw (ne-eqb (s .taken) (s .total) (λ e. omega arith))
 
 -- the state after blocks is the state after the octets of those that are not refused
 abbrev Kept : List (List ℕ) → Type 0
-Kept blocks = (s : State) → s .taken ≤ s .total → takes s blocks ≡ feed s (kept (s .total - s .taken) blocks)
+Kept blocks = (s : State) → s .taken ≤ s .total → takeBlocks s blocks ≡ feed s (kept (s .total - s .taken) blocks)
 
 kept-more : (block : List ℕ) (blocks : List (List ℕ)) → Kept blocks → (s : State) → s .taken ≤ s .total
     → (b : Bool) → leb (length block) (s .total - s .taken) ≡ b
-    → takes (take s block .state) blocks ≡ feed s (cond b (block ++ kept (s .total - s .taken - length block) blocks) (kept (s .total - s .taken) blocks))
+    → takeBlocks (takeBlock s block .state) blocks ≡ feed s (cond b (block ++ kept (s .total - s .taken - length block) blocks) (kept (s .total - s .taken) blocks))
 kept-more block blocks more s l true e =
     let fits = leb-true (length block) (s .total - s .taken) e in
     let n = feed-taken s block in
@@ -122,15 +122,11 @@ takes-kept [] s l = refl
 takes-kept (block ∷ blocks) s l = kept-more block blocks (takes-kept blocks) s l (leb (length block) (s .total - s .taken)) refl
 
 -- After any blocks, some of them refused, the state is that after the octets of the others.
-pub any-blocks : (total : ℕ) (blocks : List (List ℕ)) → takes (start total .state) blocks ≡ stateAfter total (kept total blocks)
+pub any-blocks : (total : ℕ) (blocks : List (List ℕ)) → takeBlocks (start total .state) blocks ≡ stateAfter total (kept total blocks)
 unfolding fresh start
 any-blocks total blocks =
     let e : total - 0 ≡ total = omega arith in
     takes-kept blocks (fresh total) (omega arith) ∙ rw e
-
--- what the close tells, after octets of a letter of so many
-abbrev pub atClose : (total : ℕ) → (octets : List ℕ) → Told
-atClose total octets = cond (eqb (length octets) total) (told (walkOf octets)) (record { number = 29; place = 0; headers = 0 })
 
 closes : (total : ℕ) (xs : List ℕ) → close (stateAfter total xs) ≡ atClose total xs
 unfolding close fresh
@@ -147,7 +143,7 @@ closes total xs = go (eqb (length xs) total) refl
     go false e = rw (counted, feed-total (fresh total) xs, e)
 
 -- The close tells the walk of the octets that were taken if they are all, and 29 else.
-pub any-close : (total : ℕ) (blocks : List (List ℕ)) → close (takes (start total .state) blocks) ≡ atClose total (kept total blocks)
+pub any-close : (total : ℕ) (blocks : List (List ℕ)) → close (takeBlocks (start total .state) blocks) ≡ atClose total (kept total blocks)
 any-close total blocks = ap close (any-blocks total blocks) ∙ closes total (kept total blocks)
 
 -- no block is refused where they are no longer than what is left
@@ -159,7 +155,7 @@ all-kept left (block ∷ blocks) l =
     rw (le-leb (length block) left (omega arith)) (ap (λ (r : List ℕ). block ++ r) (all-kept (left - length block) blocks (omega arith)))
 
 -- For any cutting of a letter into blocks, none and empty ones included, the close tells what the walk of the letter tells.
-pub any-cutting : (blocks : List (List ℕ)) → close (takes (start (length (flatten blocks)) .state) blocks) ≡ told (walkOf (flatten blocks))
+pub any-cutting : (blocks : List (List ℕ)) → close (takeBlocks (start (length (flatten blocks)) .state) blocks) ≡ told (walkOf (flatten blocks))
 any-cutting blocks =
     let n = length (flatten blocks) in
     any-close n blocks ∙ rw (all-kept n blocks (omega arith), eq-eqb n n refl)

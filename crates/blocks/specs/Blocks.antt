@@ -4,22 +4,22 @@ use mathlib.Core.Bool.{Bool, cond}
 use mathlib.Core.List.{List, [], _∷_, _++_}
 use lib.ListN.{length}
 use lib.Dec.{eqb, leb}
-use Rattle.octets.specs.Walk.{streamLimit}
-use Rattle.octets.specs.Further.{Told}
+use Rattle.octets.specs.Walk.{streamLimit, walkOf}
+use Rattle.octets.specs.Further.{Told, told}
 use Rattle.blocks.specs.Engine.{Standing, reading, found, State, feed, fresh}
 
 -- a number and a state: what the start gives, and what taking a block gives
-pub record Taken : Type 0 where
+pub record AfterBlock : Type 0 where
   pub number : ℕ
   pub state : State
 
 -- "1 at the start, for the total told"; the state has that finding, so blocks are counted and the close tells it
-unfoldable pub start : (total : ℕ) → Taken
+unfoldable pub start : (total : ℕ) → AfterBlock
 start total = record { number = cond (leb total streamLimit) 0 1; state = fresh total }
 
 -- "28 a block past the total, state unchanged"
-unfoldable pub take : State → List ℕ → Taken
-take s block =
+unfoldable pub takeBlock : State → List ℕ → AfterBlock
+takeBlock s block =
     cond (leb (s .taken + length block) (s .total))
     (record { number = 0; state = feed s block })
     (record { number = 28; state = s })
@@ -34,11 +34,15 @@ unfoldable pub close : State → Told
 close s = cond (eqb (s .taken) (s .total)) (toldOf (s .standing)) (record { number = 29; place = 0; headers = 0 })
 
 -- one block after another
-abbrev pub takes : State → List (List ℕ) → State
-takes s [] = s
-takes s (block ∷ blocks) = takes (take s block .state) blocks
+abbrev pub takeBlocks : State → List (List ℕ) → State
+takeBlocks s [] = s
+takeBlocks s (block ∷ blocks) = takeBlocks (takeBlock s block .state) blocks
 
 -- the octets of the blocks that are not refused, where so many are left to come
 abbrev pub kept : (left : ℕ) → List (List ℕ) → List ℕ
 kept left [] = []
 kept left (block ∷ blocks) = cond (leb (length block) left) (block ++ kept (left - length block) blocks) (kept left blocks)
+
+-- What the close tells, after these octets of a letter of so many: what the walk of them tells, or 29 if they are not all.
+abbrev pub atClose : (total : ℕ) → (octets : List ℕ) → Told
+atClose total octets = cond (eqb (length octets) total) (told (walkOf octets)) (record { number = 29; place = 0; headers = 0 })

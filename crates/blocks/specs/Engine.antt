@@ -101,7 +101,8 @@ inHeader total taken headers opens at begun =
     (decide taken headers opens at (moved at (headAt begun 0 left (markedOf opens) (roomOf opens))))
     (reading headers opens at begun)
 
--- One octet more, with which `taken` have come: an octet of a value, which is only counted, or of a header. "A finding stays".
+-- One octet more, with which `taken` have come: an octet of a value, which is only counted, or of a header. A finding of 1 to 8 "stays
+-- while later bytes are counted".
 abbrev pub onward : (total taken : ℕ) → (octet : ℕ) → Standing → Standing
 onward total taken octet (found number place headers) = found number place headers
 onward total taken octet (reading headers opens at begun) =

@@ -9,10 +9,10 @@ use native.Mathlib.Omega.{arith}
 use lib.Dec.{eqb, leb}
 use lib.ListN.{length, take, getElem?}
 use lib.Seq.{length-take-le}
-use borrow.Author.Tests.{eqb-true, leb-true, not-true, not-false}
+use borrow.Author.Tests.{eqb-true, ne-eqb, leb-true, not-true, not-false}
 use borrow.Table.Steps.{cases}
 use Rattle.laws.proofs.Tests.{cond-holds}
-use Rattle.headers.specs.Head.{constructed, codeOf, typeField}
+use Rattle.headers.specs.Head.{constructed, codeOf, typeField, isIn}
 use Rattle.octets.specs.declared.Outcome.{Outcome}
 use Rattle.octets.specs.declared.Outcome.the-variants.{Ended, Refused}
 use Rattle.octets.specs.Walk.{Items, none, item, End, ends, stops, walkOf}
@@ -29,6 +29,8 @@ use Rattle.elements.specs.Rows.{bodyIn, contentOctet, rowOf, rowsOf, placeOf}
 use Rattle.letters.specs.Letter.{Letter, letter, refusal, itemsOfStream, afterWalk, byWalk, letterOf}
 use Rattle.reading.specs.declared.Match.{Match}
 use Rattle.reading.specs.declared.Side.{Side}
+use Rattle.reading.specs.declared.Side.the-variants.{Layout, Logical}
+use Rattle.reading.specs.Match.{kindsOf, IsMatch}
 use Rattle.judging.proofs.Lists.{below-length}
 use Rattle.fronts.specs.First.{walkFirst}
 use Rattle.answers.specs.Answers.{fetchedBy, allOf, matchesBy, matchesIn}
@@ -410,6 +412,39 @@ unnamed s headers elements e j element there above =
     let (top, says) = made-from (topItems (treeOf s)) j element (sym (ap (λ (es : List Element). getElem? es j) all-said) ∙ there) in
     subst Unnamed says (no-names (top .type) (top .run) (subst (λ (x : Element). 8 < x .kind) (sym says) above))
 
+-- no kind of a side is above 8
+side-low : (side : Side) (kind : ℕ) → isIn kind (kindsOf side) ≡ true → 8 < kind → ⊥
+side-low Layout kind e above =
+    let one = ne-eqb kind 1 (λ z. omega arith) in
+    let two = ne-eqb kind 2 (λ z. omega arith) in
+    let none : isIn kind (kindsOf Layout) ≡ false = rw (one, two) in
+    true≢false (sym e ∙ none)
+side-low Logical kind e above =
+    let five = ne-eqb kind 5 (λ z. omega arith) in
+    let six = ne-eqb kind 6 (λ z. omega arith) in
+    let none : isIn kind (kindsOf Logical) ≡ false = rw (five, six) in
+    true≢false (sym e ∙ none)
+
+-- what stands at one place is one element
+one-there : (elements : List Element) {i j : ℕ} {d e : Element} → getElem? elements i ≡ some d → i ≡ j → getElem? elements j ≡ some e → d ≡ e
+one-there elements {i} {j} {d} {e} p q r =
+    let same : some d ≡ some e = sym p ∙ ap (getElem? elements) q ∙ r in
+    let told : d ≡ e = cc in
+    told
+
+unmatched : (elements : List Element) (j : ℕ) (element : Element) → getElem? elements j ≡ some element → 8 < element .kind
+    → (side : Side) (m : Match) → IsMatch side elements m → (m .element ≡ j → ⊥) × (m .unit ≡ j → ⊥)
+unmatched elements j element there above side m is-match = (
+  λ e.
+      let same = one-there elements (is-match .element-there) e there in
+      side-low side (is-match .element .kind) (is-match .joined .on-side) (subst (λ (x : Element). 8 < x .kind) (sym same) above),
+  λ e.
+      let same = one-there elements (is-match .unit-there) e there in
+      let unit-above : 8 < is-match .unit .kind = subst (λ (x : Element). 8 < x .kind) (sym same) above in
+      let unit-kind : is-match .unit .kind ≡ 3 = is-match .joined .of-unit in
+      omega arith,
+)
+
 -- 10 at the first protected part
 module _ (s : List ℕ) (j : ℕ) (top : TopItem) (there : getElem? (topItems (treeOf s)) j ≡ some top) (is-protected : isProtected (top .type) ≡ true) where
   abbrev tops : List TopItem
@@ -453,6 +488,7 @@ editions = record {
   alike = λ s e. same-answers s (letters-agree s (agree-alike (treeOf s) e));
   first-alike = first-alike;
   unnamed = unnamed;
+  unmatched = unmatched;
   ten = λ s at headers j top walked there protected before few. ten s j top there protected at headers walked before few;
   no-row = λ s j top there protected table. fills-none s j top there protected table (letterIn Of1988 s) refl;
 }

@@ -16,7 +16,7 @@ use Rattle.contents.specs.declared.Slot.{Slot}
 use Rattle.contents.specs.Search.{is, amount, ends, slot, inOrder}
 use Rattle.elements.specs.declared.Edition.{Edition}
 use Rattle.elements.specs.declared.Edition.the-variants.{Of1988, Of1993}
-use Rattle.elements.specs.Shape.{entry, unit, holders1988, holders1993, Shape, shapeOf}
+use Rattle.elements.specs.Shape.{entry, unit, Shape, shapeOf}
 use Rattle.elements.specs.Judge.{required, optional, noneOf, Content, bodyOf, contentOf, Element, elementOf, ordered, asTabled, namesFit, clash, twice, mostElements, profileOctet, refusalOf}
 use Rattle.demands.specs.Editions.{isProtected}
 
@@ -160,7 +160,7 @@ pub record Holds (run : Tree) : Type 0 where
 held-codes : {run : Tree} → Holds run → Held (codes run)
 held-codes {run} h z = h .some-item (omega (arith, amount-codes 0x04 run, amount-codes 0x24 run))
 
-ordered-agree : (run : Tree) → Holds run → ordered (unit false holders1993) run ≡ ordered (unit true holders1988) run
+ordered-agree : (run : Tree) → Holds run → ordered (unit false true) run ≡ ordered (unit true false) run
 unfolding ordered
 ordered-agree run h =
     rw (
@@ -172,17 +172,17 @@ ordered-agree run h =
     )
     (rows-agree (codes run) (held-codes h))
 
-in-row : (run : Tree) → ordered (unit true holders1988) run ≡ true → row1988 (codes run) ≡ true
+in-row : (run : Tree) → ordered (unit true false) run ≡ true → row1988 (codes run) ≡ true
 unfolding ordered
 in-row run o = rw (order-codes (optional 0x31) (required 0x24) run, order-codes (optional 0x31) (required 0x04) run) at o
 
-pub ordered-holds : (run : Tree) → ordered (unit true holders1988) run ≡ true → Holds run
+pub ordered-holds : (run : Tree) → ordered (unit true false) run ≡ true → Holds run
 ordered-holds run o = record { some-item = λ z. row-held (codes run) (in-row run o) (omega (arith, amount-codes 0x04 run, amount-codes 0x24 run)) }
 
-pub ordered-untiled : (run : Tree) → ordered (unit true holders1988) run ≡ true → noneOf 0x30 run ≡ true
+pub ordered-untiled : (run : Tree) → ordered (unit true false) run ≡ true → noneOf 0x30 run ≡ true
 ordered-untiled run o = eq-eqb (amount 0x30 run) 0 (amount-codes 0x30 run ∙ row-untiled (codes run) (in-row run o))
 
-content-agrees : (run : Tree) → noneOf 0x30 run ≡ true → contentOf (unit false holders1993) run ≡ contentOf (unit true holders1988) run
+content-agrees : (run : Tree) → noneOf 0x30 run ≡ true → contentOf (unit false true) run ≡ contentOf (unit true false) run
 unfolding contentOf
 content-agrees run n = rw n
 
@@ -191,14 +191,14 @@ first-test : (a b : Bool) → a && b ≡ true → a ≡ true
 first-test true b e = refl
 first-test false b e = absurd (false≢true e)
 
-pub tabled-ordered : (run : Tree) → asTabled (unit true holders1988) run ≡ true → ordered (unit true holders1988) run ≡ true
+pub tabled-ordered : (run : Tree) → asTabled (unit true false) run ≡ true → ordered (unit true false) run ≡ true
 unfolding asTabled
-tabled-ordered run e = first-test (ordered (unit true holders1988) run) _ e
+tabled-ordered run e = first-test (ordered (unit true false) run) _ e
 
-tabled-agrees : (run : Tree) → Holds run → asTabled (unit false holders1993) run ≡ asTabled (unit true holders1988) run
+tabled-agrees : (run : Tree) → Holds run → asTabled (unit false true) run ≡ asTabled (unit true false) run
 unfolding asTabled bodyOf
 tabled-agrees run h =
-    cases (ordered (unit true holders1988) run)
+    cases (ordered (unit true false) run)
     (λ o. rw (ordered-agree run h, o, content-agrees run (ordered-untiled run o)))
     (λ o. rw (ordered-agree run h, o))
 
@@ -215,12 +215,12 @@ tabled edition done type run =
     cond-holds P (not (asTabled (shape .contents) run)) (λ _ z. absurd (omega arith)) (λ t _. not-false (asTabled (shape .contents) run) t))))
 
 -- the same of a text unit of 1988
-text-unit : (type : List ℕ) → is 0xA3 type ≡ true → shapeOf Of1988 type ≡ entry 0xA3 (unit true holders1988)
+text-unit : (type : List ℕ) → is 0xA3 type ≡ true → shapeOf Of1988 type ≡ entry 0xA3 (unit true false)
 unfolding shapeOf
 text-unit type t = let e : codeOf type ≡ 0xA3 = eqb-true (codeOf type) 0xA3 t in rw e
 
 pub unit-tabled : (done : List Element) (type : List ℕ) (run : Tree) → is 0xA3 type ≡ true → refusalOf Of1988 done type run ≡ 0
-    → asTabled (unit true holders1988) run ≡ true
+    → asTabled (unit true false) run ≡ true
 unit-tabled done type run t z = subst (λ (shape : Shape). asTabled (shape .contents) run ≡ true) (text-unit type t) (tabled Of1988 done type run z)
 
 -- both editions read an element alike

@@ -30,7 +30,7 @@ use Rattle.elements.specs.declared.Row.{Row}
 use Rattle.elements.specs.declared.Edition.{Edition}
 use Rattle.elements.specs.Shape.{ContentItem, whole, pieced, Contents, profile, described, unit, style, protected, Shape, shapeOf}
 use Rattle.elements.specs.Judge.{bodyOf, identifierOctet, identifierNeeded, logicalOctet, portionsOctet, barred, holdersOf, valueAt, runAt, amountAt, noneOf}
-use Rattle.elements.specs.Judge.{contentIn, contentOf, piecesAlone, Element, elementOf, ordered, asTabled, accepted, judge}
+use Rattle.elements.specs.Judge.{contentIn, contentOf, piecesAlone, sealOctet, sealAlone, Element, elementOf, ordered, asTabled, accepted, judge}
 use Rattle.elements.specs.WellMade.{Formed}
 use Rattle.elements.proofs.Made.{formed as holders-formed}
 use Rattle.letters.proofs.Nested.{past-between, stays}
@@ -164,7 +164,7 @@ module _ (s : List ℕ) where
   unfolding bodyIn bodyOf
   body-at profile i = refl
   body-at (described needed types) i = run-at 0x31 refl i
-  body-at (unit needed holders) i = run-at 0x31 refl i
+  body-at (unit needed tiled) i = run-at 0x31 refl i
   body-at style i = refl
   body-at (protected enciphered) i = refl
 
@@ -172,7 +172,7 @@ module _ (s : List ℕ) where
   unfolding bodyIn
   body-proper profile p = (0, no-more)
   body-proper (described needed types) {room} p = (room - 1, inside-proper 0x31 p)
-  body-proper (unit needed holders) {room} p = (room - 1, inside-proper 0x31 p)
+  body-proper (unit needed tiled) {room} p = (room - 1, inside-proper 0x31 p)
   body-proper style {room} p = (room, p)
   body-proper (protected enciphered) p = (0, no-more)
 
@@ -181,7 +181,7 @@ module _ (s : List ℕ) where
       → TellsValue s (boundsAt (identifierOctet contents) i) (valueAt (identifierOctet contents) (plain s i))
   identifier-at profile p = refl
   identifier-at (described needed types) p = value-at 0x41 refl p
-  identifier-at (unit needed holders) p = value-at 0x40 refl p
+  identifier-at (unit needed tiled) p = value-at 0x40 refl p
   identifier-at style p = value-at 0x45 refl p
   identifier-at (protected enciphered) p = refl
 
@@ -189,7 +189,7 @@ module _ (s : List ℕ) where
       → TellsValue s (boundsAt (logicalOctet contents) i) (valueAt (logicalOctet contents) (plain s i))
   logical-at profile p = refl
   logical-at (described needed types) p = refl
-  logical-at (unit needed holders) p = value-at 0x84 refl p
+  logical-at (unit needed tiled) p = value-at 0x84 refl p
   logical-at style p = refl
   logical-at (protected enciphered) p = refl
 
@@ -197,7 +197,7 @@ module _ (s : List ℕ) where
       → (boundsAt (portionsOctet contents) i ≡ noSpan) ↔ (amountAt (portionsOctet contents) (plain s i) ≡ 0)
   no-portions-at profile p = (λ _. refl, λ _. refl)
   no-portions-at (described needed types) p = there-at 0xA1 p
-  no-portions-at (unit needed holders) p = (λ _. refl, λ _. refl)
+  no-portions-at (unit needed tiled) p = (λ _. refl, λ _. refl)
   no-portions-at style p = (λ _. refl, λ _. refl)
   no-portions-at (protected enciphered) p = (λ _. refl, λ _. refl)
 
@@ -255,7 +255,7 @@ module _ (s : List ℕ) where
       → Codes 1 (portionItems (values (runAt (portionsOctet contents) (plain s i)))) (bytesIn s (boundsAt (portionsOctet contents) i))
   portions-at profile p only = no-list
   portions-at (described needed types) p only = listed-at 0xA1 refl p only
-  portions-at (unit needed holders) p only = no-list
+  portions-at (unit needed tiled) p only = no-list
   portions-at style p only = no-list
   portions-at (protected enciphered) p only = no-list
 
@@ -296,7 +296,7 @@ module _ (edition : Edition) (s : List ℕ) where
             (portions-at s contents q (subst (λ (t : Tree). allPortions (runAt (portionsOctet contents) t) ≡ true) (sym same) only));
         no-portions = subst (λ (t : Tree). (boundsAt (portionsOctet contents) body ≡ noSpan) ↔ (amountAt (portionsOctet contents) t ≡ 0)) same
             (no-portions-at s contents q);
-        content = content-at s (holdersOf contents) (holders-formed edition (typeField octet)) p;
+        content = content-at s (holdersOf contents) (holders-formed contents) p;
       }
 
   -- an element stands in the tree as the items inside its own
@@ -358,12 +358,13 @@ tabled-portions contents run e =
     let identifiers = amountAt (identifierOctet contents) body in
     all-at (ordered contents run
     ∷ piecesAlone (contentOf contents run)
+    ∷ sealAlone (sealOctet contents) run
     ∷ not (identifierNeeded contents && eqb identifiers 0)
     ∷ leb identifiers 1
     ∷ leb (amountAt (logicalOctet contents) body) 1
     ∷ leb (amountAt (portionsOctet contents) body) 1
     ∷ allPortions (runAt (portionsOctet contents) body)
-    ∷ map (λ octet. noneOf octet body) (barred contents)) e 6 (allPortions (runAt (portionsOctet contents) body)) refl
+    ∷ map (λ octet. noneOf octet body) (barred contents)) e 7 (allPortions (runAt (portionsOctet contents) body)) refl
 
 module _ (edition : Edition) (s : List ℕ) {i : Items} (p : Proper s deepest i) (elements : List Element) (judged : judge edition (plain s i) ≡ accepted elements) where
   pub tops-counted : length (topItems (plain s i)) ≡ length elements

@@ -17,6 +17,7 @@ use Rattle.elements.specs.Rows.{placeOf}
 use Rattle.letters.specs.Letter.{letter, refusal, itemsOfStream}
 use Rattle.reading.specs.declared.Match.{Match}
 use Rattle.reading.specs.declared.Side.{Side}
+use Rattle.reading.specs.Match.{IsMatch}
 use Rattle.answers.specs.Answers.{letterIn, rowsIn, checked, checkedTable, written, writtenOutput, listed, listedTable, matchesIn, listedList, fetched, located}
 use Rattle.answers.specs.Answers.{copied, copiedOutput}
 use Rattle.answers.specs.Related.{related, relatedTable, relatedList}
@@ -94,6 +95,9 @@ pub record Editions : Type 0 where
   -- "Protected parts have kinds above 8 .. no identifier in the row or in rules 14 and 15"
   pub unnamed : (s : List ℕ) (headers : ℕ) (elements : List Element) → letterIn Of1993 s ≡ letter headers elements
       → (j : ℕ) (element : Element) → getElem? elements j ≡ some element → 8 < element .kind → Unnamed element
+  -- they "join no match": neither as the element of one nor as its unit
+  pub unmatched : (elements : List Element) (j : ℕ) (element : Element) → getElem? elements j ≡ some element → 8 < element .kind
+      → (side : Side) (m : Match) → IsMatch side elements m → (m .element ≡ j → ⊥) × (m .unit ≡ j → ⊥)
   -- "The 1988 question still gives 10 for them": at the first of them, if no rule refuses earlier,
   pub ten : (s : List ℕ) (at headers j : ℕ) (item : TopItem) → walkOf s ≡ Ended at headers → getElem? (topItems (treeOf s)) j ≡ some item
       → isProtected (item .type) ≡ true → PassedBefore s j → j < mostElements → letterIn Of1988 s ≡ refusal 10 (placeOf j (itemsOfStream s)) headers

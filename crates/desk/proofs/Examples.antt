@@ -31,6 +31,7 @@ bodies =
     ∷ sized (0x36 ∷ 0xCE ∷ []) (0x4D ∷ 0x80 ∷ [])
     ∷ sized (0x4D ∷ 0x80 ∷ []) (0x36 ∷ 0xCE ∷ [])
     ∷ sized (0x36 ∷ 0xCF ∷ []) (0x4D ∷ 0x80 ∷ [])
+    ∷ sized (0x36 ∷ 0xCE ∷ []) (0x4D ∷ 0x81 ∷ [])
     ∷ sized (0x01 ∷ []) (0x00 ∷ 0x80 ∷ [])
     ∷ sized (0x00 ∷ []) (0x30 ∷ 0x70 ∷ [])
     ∷ sized (0x24 ∷ 0x18 ∷ []) (0xFF ∷ [])
@@ -45,6 +46,6 @@ bodies =
     ∷ dimensions (fixed (0x01 ∷ []) (fixed (0x01 ∷ []) empty)) (sized (0x24 ∷ 0x19 ∷ []) (0x30 ∷ 0x70 ∷ []))
     ∷ []
 
-pub judged : map verdictOfBody bodies ≡ 0 ∷ 1 ∷ 1 ∷ 2 ∷ 2 ∷ 2 ∷ 2 ∷ 2 ∷ 3 ∷ 1 ∷ 3 ∷ 3 ∷ 4 ∷ 4 ∷ 4 ∷ 4 ∷ 4 ∷ 4 ∷ 4 ∷ 4 ∷ 4 ∷ []
+pub judged : map verdictOfBody bodies ≡ 0 ∷ 1 ∷ 1 ∷ 2 ∷ 2 ∷ 2 ∷ 2 ∷ 2 ∷ 3 ∷ 3 ∷ 1 ∷ 3 ∷ 3 ∷ 4 ∷ 4 ∷ 4 ∷ 4 ∷ 4 ∷ 4 ∷ 4 ∷ 4 ∷ 4 ∷ []
 unfolding amount firstRun bigEndianFrom shortest isInteger isNegative sizeOf integerOf within verdictOfSizes verdictOfTwo verdictOfItems verdictOfBody
 judged = refl

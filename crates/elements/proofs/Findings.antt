@@ -13,6 +13,7 @@ use Rattle.runs.specs.Runs.{treeIn}
 use Rattle.contents.specs.declared.Gathered.{Gathered}
 use Rattle.contents.specs.Search.{firstValue, firstRun}
 use Rattle.contents.specs.Gather.{Gathers}
+use Rattle.pieces.specs.Pieces.{bitPieces}
 use Rattle.portions.specs.declared.PortionList.{PortionList}
 use Rattle.portions.specs.Lists.{ListsPortions}
 use Rattle.portions.specs.Portions.{values}
@@ -34,6 +35,7 @@ pub record Findings (s : List ℕ) (shape : Slots) (r : Run) (frame : Frame) (g 
   pub made : WellMade shape
   pub framed : Framed s shape r frame
   pub alone : piecesAlone (slotContent shape (treeIn s r)) ≡ true
+  pub seal-alone : bitPieces (firstRun (shape .seal) (treeIn s r)) ≡ true
   pub gathers : Gathers s (frame .body) (soughtOf shape) g
   pub lists : ListsPortions s (g .list) listed numbers
   pub types : Types (shape .types) (firstValue (shape .object) (treeIn s r)) typed
@@ -66,6 +68,7 @@ module _ {s : List ℕ} {shape : Slots} {r : Run} {frame : Frame} {g : Gathered}
       rw (
         f .framed .ordered-is,
         f .alone,
+        f .seal-alone,
         ← f .framed .tree,
         f .gathers .identifier .amount-is,
         f .gathers .logical .amount-is,

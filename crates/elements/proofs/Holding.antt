@@ -1,4 +1,5 @@
--- What holds the content of an element: an item with pieces, if there is one, or else one with tiles, or else the item with the content. Assumes nothing.
+-- What holds the content of an element: an item with pieces, if there is one, or else one with tiles, or else the item with the content. And
+-- what stands among the pieces of a content, or of a seal. Assumes nothing.
 use mathlib.Core.Path.{_≡_, refl, sym, ap, _∙_}
 use mathlib.Core.Bool.{Bool, true, false, true≢false}
 use mathlib.Core.List.{List}
@@ -10,9 +11,9 @@ use Rattle.runs.specs.declared.Run.{Run}
 use Rattle.runs.specs.Runs.{treeIn, definiteRun}
 use Rattle.contents.specs.declared.Part.{Part}
 use Rattle.contents.specs.declared.Span.{Span}
-use Rattle.contents.specs.Search.{amount}
+use Rattle.contents.specs.Search.{amount, firstRun}
 use Rattle.contents.specs.First.{spanOf, IsFirst, Lacks}
-use Rattle.pieces.specs.Pieces.{onlyPieces}
+use Rattle.pieces.specs.Pieces.{onlyPieces, octetPieces, bitPieces}
 use Rattle.elements.specs.declared.Holder.{Holder}
 use Rattle.elements.specs.declared.Slots.{Slots}
 use Rattle.elements.specs.Judge.{Content, single, inPieces, piecesAlone}
@@ -62,6 +63,16 @@ module _ {s : List ℕ} {shape : Slots} {r : Run} (made : WellMade shape) where
         held = rw (none, no-tiles) (record { pieced = refl; bounds = b .value (made .content) });
       }
 
+  -- a seal in pieces is there
+  pub sealed-alone : {p : Part} → IsFirst s r (shape .seal) p → {b : Bool} → b ≡ bitPieces (treeIn s (p .inner))
+      → b ≡ bitPieces (firstRun (shape .seal) (treeIn s r))
+  sealed-alone h e = e ∙ ap bitPieces (sym (h .tree (constructed-by h (made .seal))))
+
+-- none is there
+pub unsealed-alone : {s : List ℕ} {r : Run} {octet : ℕ} → Lacks s r octet → true ≡ bitPieces (firstRun octet (treeIn s r))
+unfolding onlyPieces
+unsealed-alone l = rw (l .tree)
+
 module _ (s : List ℕ) (holder : Holder) where
   -- the pair of a holder bounds the content
   pub held-contains : Placed s (holder .value) → (content : Content) → HoldsContent s holder content → Contains s (holder .value) content
@@ -73,7 +84,7 @@ module _ (s : List ℕ) (holder : Holder) where
   whole-alone e (single value) held = refl
   whole-alone e (inPieces run) held = absurd (true≢false (sym (held .pieced) ∙ e))
 
-  pub pieced-alone : holder .pieced ≡ true → (b : Bool) → b ≡ onlyPieces (treeIn s (holder .pieces))
+  pub pieced-alone : holder .pieced ≡ true → (b : Bool) → b ≡ octetPieces (treeIn s (holder .pieces))
       → (content : Content) → HoldsContent s holder content → b ≡ piecesAlone content
   pieced-alone e b only (single value) held = absurd (true≢false (sym e ∙ held .pieced))
-  pieced-alone e b only (inPieces run) held = only ∙ ap onlyPieces (held .tree)
+  pieced-alone e b only (inPieces run) held = only ∙ ap octetPieces (held .tree)

@@ -1,21 +1,17 @@
--- The slots of every shape are well made, by a test that says so. Of a text unit they are those of its items that hold content, in every
--- edition. Assumes nothing.
-use mathlib.Core.Path.{_≡_, refl, sym, subst}
-use mathlib.Core.Bool.{Bool, true, false, cond, not, _||_, true≢false, false≢true}
+-- The slots of every shape are well made, by a test that says so, and so are the items that may hold content. Assumes nothing.
+use mathlib.Core.Path.{_≡_, refl}
+use mathlib.Core.Bool.{Bool, true, false, not, _||_, true≢false, false≢true}
 use mathlib.Core.List.{List, [], _∷_}
 use mathlib.Core.Logic.{_⊎_, inl, inr}
 use Prim.Native.Nat.{ℕ}
 use lib.Dec.{eqb}
 use borrow.Author.Tests.{eqb-true, not-true}
-use Rattle.headers.specs.Head.{constructed, typeField}
-use Rattle.contents.specs.Search.{is}
+use Rattle.headers.specs.Head.{constructed}
 use Rattle.portions.specs.Portions.{all}
 use Rattle.elements.specs.declared.Slots.{Slots}
-use Rattle.elements.specs.declared.Edition.{Edition}
-use Rattle.elements.specs.declared.Edition.the-variants.{Of1988, Of1993}
-use Rattle.elements.specs.Shape.{Contents, profile, described, unit, style, protected, Shape, Shapes, shapesOf, shapeIn, shapeOf}
+use Rattle.elements.specs.Shape.{Contents, profile, described, unit, style, protected, Shape}
 use Rattle.elements.specs.Judge.{holdersOf}
-use Rattle.elements.specs.Slots.{slotsBy, slotsOf, Slotted}
+use Rattle.elements.specs.Slots.{slotsBy, slotsOf}
 use Rattle.elements.specs.WellMade.{WellMade, Formed}
 
 -- the fields of `WellMade` as tests
@@ -34,6 +30,7 @@ tests shape =
     ∷ (eqb (shape .portions) 0 || constructed (shape .portions))
     ∷ (eqb (shape .pieces) 0 || constructed (shape .pieces))
     ∷ (eqb (shape .tiles .octet) 0 || constructed (shape .tiles .octet))
+    ∷ (eqb (shape .seal) 0 || constructed (shape .seal))
     ∷ []
 
 -- all of some tests hold
@@ -75,13 +72,14 @@ well-made shape e =
       portions = either (shape .portions) (eqb (shape .portions) 0) (constructed (shape .portions)) refl (k .1 .1 .1 .1 .1 .1 .1 .1 .1 .1 .0);
       pieces = either (shape .pieces) (eqb (shape .pieces) 0) (constructed (shape .pieces)) refl (k .1 .1 .1 .1 .1 .1 .1 .1 .1 .1 .1 .0);
       tiles = either (shape .tiles .octet) (eqb (shape .tiles .octet) 0) (constructed (shape .tiles .octet)) refl (k .1 .1 .1 .1 .1 .1 .1 .1 .1 .1 .1 .1 .0);
+      seal = either (shape .seal) (eqb (shape .seal) 0) (constructed (shape .seal)) refl (k .1 .1 .1 .1 .1 .1 .1 .1 .1 .1 .1 .1 .1 .0);
     }
 
 made-by : (octet : ℕ) (contents : Contents) → WellMade (slotsBy octet contents)
 made-by octet profile = well-made (slotsBy octet profile) refl
 made-by octet (described needed types) = well-made (slotsBy octet (described needed types)) refl
-made-by octet (unit true holders) = well-made (slotsBy octet (unit true holders)) refl
-made-by octet (unit false holders) = well-made (slotsBy octet (unit false holders)) refl
+made-by octet (unit needed true) = well-made (slotsBy octet (unit needed true)) refl
+made-by octet (unit needed false) = well-made (slotsBy octet (unit needed false)) refl
 made-by octet style = well-made (slotsBy octet style) refl
 made-by octet (protected true) = well-made (slotsBy octet (protected true)) refl
 made-by octet (protected false) = well-made (slotsBy octet (protected false)) refl
@@ -89,35 +87,11 @@ made-by octet (protected false) = well-made (slotsBy octet (protected false)) re
 pub made : (shape : Shape) → WellMade (slotsOf shape)
 made shape = made-by (shape .octet) (shape .contents)
 
--- all of some shapes have their slots
-abbrev AllSlotted : Shapes → Type 0
-AllSlotted [] = Unit {0}
-AllSlotted (shape ∷ shapes) = Slotted (shape .contents) × AllSlotted shapes
-
-one-of : (b : Bool) (x y : Shape) → Slotted (x .contents) → Slotted (y .contents) → Slotted (cond b x y .contents)
-one-of true x y p q = p
-one-of false x y p q = q
-
-among : (shapes : Shapes) → AllSlotted shapes → (type : List ℕ) → Slotted (shapeIn shapes type .contents)
-among [] m type = tt
-among (shape ∷ shapes) m type = one-of (is (shape .octet) type) shape (shapeIn shapes type) (m .0) (among shapes (m .1) type)
-
-all-slotted : (edition : Edition) → AllSlotted (shapesOf edition)
-all-slotted Of1988 = (tt, (tt, (tt, (refl, (tt, (tt, (tt, (tt, tt))))))))
-all-slotted Of1993 = (refl, (tt, (tt, (tt, (tt, (tt, (tt, (tt, (refl, (tt, (tt, (tt, (tt, tt)))))))))))))
-
-pub slotted : (edition : Edition) (type : List ℕ) → Slotted (shapeOf edition type .contents)
-unfolding shapeOf
-slotted edition type = among (shapesOf edition) (all-slotted edition) type
-
-formed-by : (contents : Contents) → Slotted contents → Formed (holdersOf contents)
-formed-by profile w = tt
-formed-by (described needed types) w = tt
-formed-by (unit true holders) w = subst Formed (sym w) (refl, (refl, tt))
-formed-by (unit false holders) w = subst Formed (sym w) (refl, (refl, (refl, tt)))
-formed-by style w = tt
-formed-by (protected true) w = (refl, tt)
-formed-by (protected false) w = tt
-
-pub formed : (edition : Edition) (type : List ℕ) → Formed (holdersOf (shapeOf edition type .contents))
-formed edition type = formed-by (shapeOf edition type .contents) (slotted edition type)
+pub formed : (contents : Contents) → Formed (holdersOf contents)
+formed profile = tt
+formed (described needed types) = tt
+formed (unit needed true) = (refl, (refl, (refl, tt)))
+formed (unit needed false) = (refl, (refl, tt))
+formed style = tt
+formed (protected true) = (refl, (refl, tt))
+formed (protected false) = tt

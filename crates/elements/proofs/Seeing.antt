@@ -12,6 +12,8 @@ use Rattle.runs.specs.declared.Run.{Run}
 use Rattle.runs.specs.Runs.{treeIn}
 use Rattle.contents.specs.declared.Gathered.{Gathered}
 use Rattle.contents.specs.declared.Span.{Span}
+use Rattle.contents.specs.Search.{firstRun}
+use Rattle.pieces.specs.Pieces.{bitPieces}
 use Rattle.portions.specs.declared.PortionList.{PortionList}
 use Rattle.elements.specs.declared.Frame.{Frame}
 use Rattle.elements.specs.declared.Row.{Row}
@@ -31,7 +33,7 @@ no-row-placed s =
     let none = no-span-placed s in
     record { kind = omega arith; object = omega arith; whole = none; identifier = none; logical = none; portions = none; content = none }
 
--- contents not as tabled: items out of order, or another item among the pieces
+-- contents not as tabled: items out of order, or another item among the pieces of the content or of a seal
 untabled : (s : List ℕ) (shape : Slots) (r : Run) (first past : ℕ) (numbers : List ℕ)
     → slotTabled shape (treeIn s r) ≡ false → SeesSlots s shape r first past numbers (refusedBy 12)
 unfolding slotRefusal
@@ -45,6 +47,12 @@ module _ (s : List ℕ) (shape : Slots) (r : Run) (first past : ℕ) (numbers : 
   pub sees-others : piecesAlone (slotContent shape (treeIn s r)) ≡ false → SeesSlots s shape r first past numbers (refusedBy 12)
   unfolding slotTabled
   sees-others e = untabled s shape r first past numbers (rw (e, and-false (slotOrdered shape (treeIn s r))))
+
+  pub sees-seal : bitPieces (firstRun (shape .seal) (treeIn s r)) ≡ false → SeesSlots s shape r first past numbers (refusedBy 12)
+  unfolding slotTabled
+  sees-seal e =
+      untabled s shape r first past numbers
+      (rw (e, and-false (piecesAlone (slotContent shape (treeIn s r))), and-false (slotOrdered shape (treeIn s r))))
 
 -- none of the rules refuses
 all-well : (a b c : Bool) → numberOf a b c ≡ 0 → (a ≡ true) × (b ≡ true) × (c ≡ true)

@@ -14,17 +14,18 @@ use Rattle.runs.specs.declared.Run.{Run}
 use Rattle.runs.specs.Runs.{itemsOf, treeIn, Fine}
 use Rattle.contents.specs.declared.Span.{Span}
 use Rattle.contents.specs.Search.{is, absent, amount, firstValue, firstRun, boundsOf, itemsIn, ends, slot, inOrder}
+use Rattle.pieces.specs.Pieces.{onlyPieces}
 use Rattle.portions.specs.Portions.{allPortions, values}
 use Rattle.elements.specs.declared.Holder.{Holder}
 use Rattle.elements.specs.declared.Row.{Row}
 use Rattle.elements.specs.declared.Seen.{Seen}
 use Rattle.contents.specs.declared.Slot.{Slot}
 use Rattle.elements.specs.Shape.{Contents, profile, described, unit, style, protected, Shape}
-use Rattle.elements.specs.Judge.{required, optional, asked, protectedOctet, noneOf, typeOctet, typesOf, valueAt, Content, single, inPieces, contentOf, Element, bodyOf, elementOf, ordered, asTabled, typeFits, namesFit, shapeRefusal}
+use Rattle.elements.specs.Judge.{required, optional, asked, noneOf, typeOctet, typesOf, valueAt, Content, single, inPieces, contentOf, Element, bodyOf, elementOf, ordered, asTabled, typeFits, namesFit, shapeRefusal}
 use Rattle.elements.specs.Rows.{bodyIn, contentOctet, boundsAt, rowOf, noSpan}
 use Rattle.elements.specs.Frames.{Holding, HoldingShape, HoldingSlots}
 use Rattle.elements.specs.Sees.{Sees, SeesShape, SeesSlots}
-use Rattle.elements.specs.Slots.{noItem, tilesOctet, slotsBy, slotsOf, Slotted, slotBody, slotItems, slotContent, slotOctet, slotElement, slotOrdered, slotTabled, slotRefusal, slotRow}
+use Rattle.elements.specs.Slots.{noItem, slotsBy, slotsOf, slotBody, slotItems, slotContent, slotOctet, slotElement, slotOrdered, slotTabled, slotRefusal, slotRow}
 use Rattle.elements.proofs.Bounding.{none-bounds}
 use Rattle.elements.proofs.Zero.{no-zero, no-zero-inside, no-zero-items}
 
@@ -92,9 +93,10 @@ or-last false false false = refl
 octet-by : (octet : ℕ) (contents : Contents) → slotsBy octet contents .octet ≡ octet
 octet-by octet profile = refl
 octet-by octet (described needed types) = refl
-octet-by octet (unit needed holders) = refl
+octet-by octet (unit needed tiled) = refl
 octet-by octet style = refl
-octet-by octet (protected enciphered) = refl
+octet-by octet (protected true) = refl
+octet-by octet (protected false) = refl
 
 pub octet-same : (shape : Shape) → slotsOf shape .octet ≡ shape .octet
 octet-same shape = octet-by (shape .octet) (shape .contents)
@@ -104,17 +106,19 @@ body-same : (octet : ℕ) (contents : Contents) (run : Tree) → slotBody (slots
 unfolding slotBody bodyOf
 body-same octet profile run = refl
 body-same octet (described needed types) run = refl
-body-same octet (unit needed holders) run = refl
+body-same octet (unit needed tiled) run = refl
 body-same octet style run = refl
-body-same octet (protected enciphered) run = refl
+body-same octet (protected true) run = refl
+body-same octet (protected false) run = refl
 
 items-same : (octet : ℕ) (contents : Contents) (items : Items) → slotItems (slotsBy octet contents) items ≡ bodyIn contents items
 unfolding slotItems bodyIn
 items-same octet profile items = refl
 items-same octet (described needed types) items = refl
-items-same octet (unit needed holders) items = refl
+items-same octet (unit needed tiled) items = refl
 items-same octet style items = refl
-items-same octet (protected enciphered) items = refl
+items-same octet (protected true) items = refl
+items-same octet (protected false) items = refl
 
 -- a content that is one value, whether or not its item is there
 one-value : (octet : ℕ) (t : Tree) → single (firstValue octet t) ≡ cond (noneOf octet t) (single absent) (single (firstValue octet t))
@@ -125,33 +129,37 @@ no-content : (t : Tree) → amount 0 t ≡ 0
     → cond (noneOf 0 t) (cond (noneOf 0 t) (single (firstValue 0 t)) (inPieces (firstRun 0 t))) (inPieces (firstRun 0 t)) ≡ single absent
 no-content t z = rw z (ap single (no-value 0 t z))
 
-content-same : (octet : ℕ) (contents : Contents) → Slotted contents → (run : Tree) → amount 0 run ≡ 0
+content-same : (octet : ℕ) (contents : Contents) (run : Tree) → amount 0 run ≡ 0
     → slotContent (slotsBy octet contents) run ≡ contentOf contents run
 unfolding slotContent contentOf
-content-same octet profile w run z = no-content run z
-content-same octet (described needed types) w run z = no-content run z
-content-same octet (unit true holders) w run z =
-    rw (w, z) (ap (λ (c : Content). cond (noneOf 0x24 run) c (inPieces (firstRun 0x24 run))) (one-value 0x04 run))
-content-same octet (unit false holders) w run z =
-    rw w
+content-same octet profile run z = no-content run z
+content-same octet (described needed types) run z = no-content run z
+content-same octet (unit needed false) run z =
+    rw z (ap (λ (c : Content). cond (noneOf 0x24 run) c (inPieces (firstRun 0x24 run))) (one-value 0x04 run))
+content-same octet (unit needed true) run z =
     (ap (λ (c : Content). cond (noneOf 0x24 run) (cond (noneOf 0x30 run) c (inPieces (firstRun 0x30 run))) (inPieces (firstRun 0x24 run)))
     (one-value 0x04 run))
-content-same octet style w run z = no-content run z
-content-same octet (protected true) w run z = rw z (one-value 0x04 run)
-content-same octet (protected false) w run z = no-content run z
+content-same octet style run z = no-content run z
+content-same octet (protected true) run z =
+    rw z (ap (λ (c : Content). cond (noneOf 0x24 run) c (inPieces (firstRun 0x24 run))) (one-value 0x04 run))
+content-same octet (protected false) run z = no-content run z
 
-ordered-same : (octet : ℕ) (contents : Contents) → Slotted contents → (run : Tree) → amount 0 run ≡ 0
+ordered-same : (octet : ℕ) (contents : Contents) (run : Tree) → amount 0 run ≡ 0
     → slotOrdered (slotsBy octet contents) run ≡ ordered contents run
 unfolding slotOrdered ordered
-ordered-same octet profile w run z = refl
-ordered-same octet (described needed types) w run z = rw (no-order (asked needed 0x02) run z) (or-same _)
-ordered-same octet (unit true holders) w run z =
-    rw (w, no-order (optional 0x31) run z) (or-turned (inOrder (optional 0x31) (required 0x04) run) (inOrder (optional 0x31) (required 0x24) run))
-ordered-same octet (unit false holders) w run z =
-    rw w
-    (or-last (inOrder (optional 0x31) (optional 0x04) run) (inOrder (optional 0x31) (optional 0x24) run) (inOrder (optional 0x31) (optional 0x30) run))
-ordered-same octet style w run z = refl
-ordered-same octet (protected enciphered) w run z = rw (no-order (required 0x47) run z) (or-same _)
+ordered-same octet profile run z = refl
+ordered-same octet (described needed types) run z = rw (no-order (asked needed 0x02) run z) (or-same _)
+ordered-same octet (unit needed false) run z =
+    rw (no-order (optional 0x31) run z)
+    (or-turned (inOrder (optional 0x31) (asked needed 0x04) run) (inOrder (optional 0x31) (asked needed 0x24) run))
+ordered-same octet (unit needed true) run z =
+    or-last (inOrder (optional 0x31) (asked needed 0x04) run) (inOrder (optional 0x31) (asked needed 0x24) run)
+    (inOrder (optional 0x31) (asked needed 0x30) run)
+ordered-same octet style run z = refl
+ordered-same octet (protected true) run z =
+    rw (no-order (required 0x47) run z) (or-turned (inOrder (required 0x47) (required 0x04) run) (inOrder (required 0x47) (required 0x24) run))
+ordered-same octet (protected false) run z =
+    rw (no-order (required 0x47) run z) (or-turned (inOrder (required 0x47) (required 0x03) run) (inOrder (required 0x47) (required 0x23) run))
 
 -- the last of three tests before the others
 last-first : (a b c : Bool) → a && (b && (c && true)) ≡ c && (a && (b && true))
@@ -162,36 +170,45 @@ last-first false b true = refl
 last-first false b false = refl
 
 -- 12
-tabled-same : (octet : ℕ) (contents : Contents) → Slotted contents → (run : Tree) → amount 0 run ≡ 0 → amount 0 (bodyOf contents run) ≡ 0
+tabled-same : (octet : ℕ) (contents : Contents) (run : Tree) → amount 0 run ≡ 0 → amount 0 (bodyOf contents run) ≡ 0
     → slotTabled (slotsBy octet contents) run ≡ asTabled contents run
-unfolding slotTabled asTabled bodyOf slotBody amount firstRun allPortions
-tabled-same octet profile w run z y = rw (ordered-same octet profile w run z, content-same octet profile w run z)
-tabled-same octet (described needed types) w run z y =
+unfolding slotTabled asTabled bodyOf slotBody amount firstRun allPortions onlyPieces
+tabled-same octet profile run z y = rw (ordered-same octet profile run z, content-same octet profile run z, no-run 0 run z)
+tabled-same octet (described needed types) run z y =
     let contents = described needed types in
     let body = firstRun 0x31 run in
     rw (
-      ordered-same octet contents w run z,
-      content-same octet contents w run z,
+      ordered-same octet contents run z,
+      content-same octet contents run z,
+      no-run 0 run z,
       y,
       last-first (noneOf 0x61 body) (noneOf 0x81 body) (allPortions (firstRun 0xA1 body)),
     )
-tabled-same octet (unit needed holders) w run z y =
-    rw (ordered-same octet (unit needed holders) w run z, content-same octet (unit needed holders) w run z, y, no-run 0 (firstRun 0x31 run) y)
-tabled-same octet style w run z y = rw (ordered-same octet style w run z, content-same octet style w run z, y, no-run 0 run y)
-tabled-same octet (protected enciphered) w run z y =
-    rw (ordered-same octet (protected enciphered) w run z, content-same octet (protected enciphered) w run z)
+tabled-same octet (unit needed tiled) run z y =
+    rw (
+      ordered-same octet (unit needed tiled) run z,
+      content-same octet (unit needed tiled) run z,
+      no-run 0 run z,
+      y,
+      no-run 0 (firstRun 0x31 run) y,
+    )
+tabled-same octet style run z y = rw (ordered-same octet style run z, content-same octet style run z, y, no-run 0 run y)
+tabled-same octet (protected true) run z y =
+    rw (ordered-same octet (protected true) run z, content-same octet (protected true) run z, no-run 0 run z)
+tabled-same octet (protected false) run z y = rw (ordered-same octet (protected false) run z, content-same octet (protected false) run z)
 
 -- what the element says
-element-same : (octet : ℕ) (contents : Contents) → Slotted contents → (run : Tree) → amount 0 run ≡ 0 → amount 0 (bodyOf contents run) ≡ 0
+element-same : (octet : ℕ) (contents : Contents) (run : Tree) → amount 0 run ≡ 0 → amount 0 (bodyOf contents run) ≡ 0
     → slotElement (slotsBy octet contents) run ≡ elementOf (record { octet = octet; contents = contents }) run
 unfolding slotElement elementOf bodyOf slotBody firstValue firstRun values
-element-same octet profile w run z y = rw (content-same octet profile w run z, no-value 0 run z)
-element-same octet (described needed types) w run z y =
-    rw (content-same octet (described needed types) w run z, no-value 0 (firstRun 0x31 run) y)
-element-same octet (unit needed holders) w run z y =
-    rw (content-same octet (unit needed holders) w run z, no-value 0 run z, no-run 0 (firstRun 0x31 run) y)
-element-same octet style w run z y = rw (content-same octet style w run z, no-value 0 run y, no-run 0 run y)
-element-same octet (protected enciphered) w run z y = rw (content-same octet (protected enciphered) w run z, no-value 0 run z)
+element-same octet profile run z y = rw (content-same octet profile run z, no-value 0 run z)
+element-same octet (described needed types) run z y =
+    rw (content-same octet (described needed types) run z, no-value 0 (firstRun 0x31 run) y)
+element-same octet (unit needed tiled) run z y =
+    rw (content-same octet (unit needed tiled) run z, no-value 0 run z, no-run 0 (firstRun 0x31 run) y)
+element-same octet style run z y = rw (content-same octet style run z, no-value 0 run y, no-run 0 run y)
+element-same octet (protected true) run z y = rw (content-same octet (protected true) run z, no-value 0 run z)
+element-same octet (protected false) run z y = rw (content-same octet (protected false) run z, no-value 0 run z)
 
 -- 13
 object-same : (octet : ℕ) (contents : Contents) (run : Tree) → amount 0 run ≡ 0
@@ -199,27 +216,25 @@ object-same : (octet : ℕ) (contents : Contents) (run : Tree) → amount 0 run 
     ≡ typeFits (typesOf contents) (valueAt (typeOctet contents) run)
 object-same octet profile run z = rw (no-value 0 run z)
 object-same octet (described needed types) run z = refl
-object-same octet (unit needed holders) run z = rw (no-value 0 run z)
+object-same octet (unit needed tiled) run z = rw (no-value 0 run z)
 object-same octet style run z = rw (no-value 0 run z)
-object-same octet (protected enciphered) run z = rw (no-value 0 run z)
+object-same octet (protected true) run z = rw (no-value 0 run z)
+object-same octet (protected false) run z = rw (no-value 0 run z)
 
 -- the fields of the content
-fields-same : (octet : ℕ) (contents : Contents) → Slotted contents → (s : List ℕ) (items : Items) → amount 0 (plain s items) ≡ 0
+fields-same : (octet : ℕ) (contents : Contents) (s : List ℕ) (items : Items) → amount 0 (plain s items) ≡ 0
     → boundsOf (slotOctet (slotsBy octet contents) (plain s items)) items ≡ boundsAt (contentOctet contents (plain s items)) items
 unfolding slotOctet contentOctet
-fields-same octet profile w s items z = rw z (none-bounds s 0 items z)
-fields-same octet (described needed types) w s items z = rw z (none-bounds s 0 items z)
-fields-same octet (unit true holders) w s items z =
+fields-same octet profile s items z = rw z (none-bounds s 0 items z)
+fields-same octet (described needed types) s items z = rw z (none-bounds s 0 items z)
+fields-same octet (unit needed false) s items z =
     let run = plain s items in
-    rw w (
     cases (noneOf 0x24 run)
     (λ e.
     cases (noneOf 0x04 run) (λ f. rw (e, z, f) (none-bounds s 0x04 items (eqb-true (amount 0x04 run) 0 f))) (λ f. rw (e, z, f)))
     (λ e. rw e)
-    )
-fields-same octet (unit false holders) w s items z =
+fields-same octet (unit needed true) s items z =
     let run = plain s items in
-    rw w (
     cases (noneOf 0x24 run)
     (λ e.
     cases (noneOf 0x30 run)
@@ -227,45 +242,49 @@ fields-same octet (unit false holders) w s items z =
     cases (noneOf 0x04 run) (λ f. rw (e, d, f) (none-bounds s 0x04 items (eqb-true (amount 0x04 run) 0 f))) (λ f. rw (e, d, f)))
     (λ d. rw (e, d)))
     (λ e. rw e)
-    )
-fields-same octet style w s items z = rw z (none-bounds s 0 items z)
-fields-same octet (protected true) w s items z =
+fields-same octet style s items z = rw z (none-bounds s 0 items z)
+fields-same octet (protected true) s items z =
     let run = plain s items in
-    cases (noneOf 0x04 run) (λ f. rw (z, f) (none-bounds s 0x04 items (eqb-true (amount 0x04 run) 0 f))) (λ f. rw (z, f))
-fields-same octet (protected false) w s items z = rw z (none-bounds s 0 items z)
+    cases (noneOf 0x24 run)
+    (λ e.
+    cases (noneOf 0x04 run) (λ f. rw (e, z, f) (none-bounds s 0x04 items (eqb-true (amount 0x04 run) 0 f))) (λ f. rw (e, z, f)))
+    (λ e. rw e)
+fields-same octet (protected false) s items z = rw z (none-bounds s 0 items z)
 
 -- its row
-row-same : (octet : ℕ) (contents : Contents) → Slotted contents → (s : List ℕ) (first past : ℕ) (items : Items) → amount 0 (plain s items) ≡ 0
+row-same : (octet : ℕ) (contents : Contents) (s : List ℕ) (first past : ℕ) (items : Items) → amount 0 (plain s items) ≡ 0
     → amount 0 (bodyOf contents (plain s items)) ≡ 0 → amount 0 (plain s (bodyIn contents items)) ≡ 0
     → slotRow (slotsBy octet contents) s first past items ≡ rowOf (record { octet = octet; contents = contents }) s first past items
 unfolding slotRow rowOf slotItems bodyIn boundsOf
-row-same octet profile w s first past items z y x =
-    rw (element-same octet profile w (plain s items) z y, fields-same octet profile w s items z)
-row-same octet (described needed types) w s first past items z y x =
+row-same octet profile s first past items z y x =
+    rw (element-same octet profile (plain s items) z y, fields-same octet profile s items z)
+row-same octet (described needed types) s first past items z y x =
     let contents = described needed types in
     rw (
-      element-same octet contents w (plain s items) z y,
-      fields-same octet contents w s items z,
+      element-same octet contents (plain s items) z y,
+      fields-same octet contents s items z,
       none-bounds s 0 (itemsIn 0x31 items) x,
     )
-row-same octet (unit needed holders) w s first past items z y x =
-    let contents = unit needed holders in
+row-same octet (unit needed tiled) s first past items z y x =
+    let contents = unit needed tiled in
     rw (
-      element-same octet contents w (plain s items) z y,
-      fields-same octet contents w s items z,
+      element-same octet contents (plain s items) z y,
+      fields-same octet contents s items z,
       none-bounds s 0 (itemsIn 0x31 items) x,
     )
-row-same octet style w s first past items z y x =
-    rw (element-same octet style w (plain s items) z y, fields-same octet style w s items z, none-bounds s 0 items x)
-row-same octet (protected enciphered) w s first past items z y x =
-    rw (element-same octet (protected enciphered) w (plain s items) z y, fields-same octet (protected enciphered) w s items z)
+row-same octet style s first past items z y x =
+    rw (element-same octet style (plain s items) z y, fields-same octet style s items z, none-bounds s 0 items x)
+row-same octet (protected true) s first past items z y x =
+    rw (element-same octet (protected true) (plain s items) z y, fields-same octet (protected true) s items z)
+row-same octet (protected false) s first past items z y x =
+    rw (element-same octet (protected false) (plain s items) z y, fields-same octet (protected false) s items z)
 
 module _ {s : List ℕ} {r : Run} (fine : Fine s r) where
   body-zero : (contents : Contents) → amount 0 (bodyOf contents (treeIn s r)) ≡ 0
   unfolding bodyOf amount
   body-zero profile = refl
   body-zero (described needed types) = no-zero-inside fine 0x31
-  body-zero (unit needed holders) = no-zero-inside fine 0x31
+  body-zero (unit needed tiled) = no-zero-inside fine 0x31
   body-zero style = no-zero fine
   body-zero (protected enciphered) = refl
 
@@ -273,11 +292,11 @@ module _ {s : List ℕ} {r : Run} (fine : Fine s r) where
   unfolding bodyIn amount
   items-zero profile = refl
   items-zero (described needed types) = no-zero-items fine 0x31
-  items-zero (unit needed holders) = no-zero-items fine 0x31
+  items-zero (unit needed tiled) = no-zero-items fine 0x31
   items-zero style = no-zero fine
   items-zero (protected enciphered) = refl
 
-  module _ (shape : Shape) (w : Slotted (shape .contents)) where
+  module _ (shape : Shape) where
     abbrev its-octet : ℕ
     its-octet = shape .octet
 
@@ -285,13 +304,13 @@ module _ {s : List ℕ} {r : Run} (fine : Fine s r) where
     its-contents = shape .contents
 
     says-same : slotElement (slotsOf shape) (treeIn s r) ≡ elementOf shape (treeIn s r)
-    says-same = element-same its-octet its-contents w (treeIn s r) (no-zero fine) (body-zero its-contents)
+    says-same = element-same its-octet its-contents (treeIn s r) (no-zero fine) (body-zero its-contents)
 
     refusal-same : slotRefusal (slotsOf shape) (treeIn s r) ≡ shapeRefusal shape (treeIn s r)
     unfolding slotRefusal shapeRefusal
     refusal-same =
         rw (
-          tabled-same its-octet its-contents w (treeIn s r) (no-zero fine) (body-zero its-contents),
+          tabled-same its-octet its-contents (treeIn s r) (no-zero fine) (body-zero its-contents),
           object-same its-octet its-contents (treeIn s r) (no-zero fine),
           says-same,
         )
@@ -300,7 +319,7 @@ module _ {s : List ℕ} {r : Run} (fine : Fine s r) where
     pub sees-shape : (first past : ℕ) {bounds : List ℕ} {seen : Seen} → SeesSlots s (slotsOf shape) r first past bounds seen
         → SeesShape s shape r first past bounds seen
     sees-shape first past {bounds} {seen} h =
-        let same-row = row-same its-octet its-contents w s first past (itemsOf s r) (no-zero fine) (body-zero its-contents) (items-zero its-contents) in
+        let same-row = row-same its-octet its-contents s first past (itemsOf s r) (no-zero fine) (body-zero its-contents) (items-zero its-contents) in
         subst (λ (n : ℕ). Sees s n (rowOf shape s first past (itemsOf s r)) (elementOf shape (treeIn s r)) bounds seen) refusal-same
         (subst (λ (row : Row). Sees s (slotRefusal (slotsOf shape) (treeIn s r)) row (elementOf shape (treeIn s r)) bounds seen) same-row
         (subst (λ (e : Element). Sees s (slotRefusal (slotsOf shape) (treeIn s r)) (slotRow (slotsOf shape) s first past (itemsOf s r)) e bounds seen)
@@ -309,6 +328,6 @@ module _ {s : List ℕ} {r : Run} (fine : Fine s r) where
     pub holding-shape : {holder : Holder} → HoldingSlots s (slotsOf shape) r holder → HoldingShape s shape r holder
     holding-shape {holder} h =
         subst (λ (v : Span). Holding s v (contentOf its-contents (treeIn s r)) holder)
-        (fields-same its-octet its-contents w s (itemsOf s r) (no-zero fine))
+        (fields-same its-octet its-contents s (itemsOf s r) (no-zero fine))
         (subst (λ (c : Content). Holding s (boundsOf (slotOctet (slotsOf shape) (treeIn s r)) (itemsOf s r)) c holder)
-        (content-same its-octet its-contents w (treeIn s r) (no-zero fine)) h)
+        (content-same its-octet its-contents (treeIn s r) (no-zero fine)) h)

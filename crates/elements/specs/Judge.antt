@@ -12,16 +12,17 @@ use Rattle.names.specs.Names.{isIdentifier, same}
 use Rattle.index.specs.Rows.{nameSpaceOf}
 use Rattle.contents.specs.Search.{Value, firstRun, absent, firstValue, amount, octets, inOrder, is}
 use Rattle.contents.specs.declared.Slot.{Slot}
-use Rattle.pieces.specs.Pieces.{joined, onlyPieces}
+use Rattle.pieces.specs.Pieces.{joined, octetPieces, bitPieces}
 use Rattle.portions.specs.Portions.{all, any, allPortions, values, wellSpelt, repeats}
 use Rattle.elements.specs.declared.Edition.{Edition}
-use Rattle.elements.specs.Shape.{ContentItem, whole, pieced, Contents, profile, described, unit, style, protected, Shape, shapeOf}
+use Rattle.elements.specs.Shape.{ContentItem, whole, pieced, octetString, octetStringOrTiles}
+use Rattle.elements.specs.Shape.{Contents, profile, described, unit, style, protected, Shape, shapeOf}
 
 -- where the items stand that name an element: nowhere, "in the 31", or "in a style" among its own items
 unfoldable pub bodyOf : Contents → Tree → Tree
 bodyOf profile run = empty
 bodyOf (described needed types) run = firstRun 0x31 run
-bodyOf (unit needed holders) run = firstRun 0x31 run
+bodyOf (unit needed tiled) run = firstRun 0x31 run
 bodyOf style run = run
 bodyOf (protected enciphered) run = empty
 
@@ -29,7 +30,7 @@ bodyOf (protected enciphered) run = empty
 abbrev pub identifierOctet : Contents → Option ℕ
 identifierOctet profile = none
 identifierOctet (described needed types) = some 0x41
-identifierOctet (unit needed holders) = some 0x40
+identifierOctet (unit needed tiled) = some 0x40
 identifierOctet style = some 0x45
 identifierOctet (protected enciphered) = none
 
@@ -37,7 +38,7 @@ identifierOctet (protected enciphered) = none
 abbrev pub identifierNeeded : Contents → Bool
 identifierNeeded profile = false
 identifierNeeded (described needed types) = needed
-identifierNeeded (unit needed holders) = false
+identifierNeeded (unit needed tiled) = false
 identifierNeeded style = true
 identifierNeeded (protected enciphered) = false
 
@@ -45,7 +46,7 @@ identifierNeeded (protected enciphered) = false
 abbrev pub logicalOctet : Contents → Option ℕ
 logicalOctet profile = none
 logicalOctet (described needed types) = none
-logicalOctet (unit needed holders) = some 0x84
+logicalOctet (unit needed tiled) = some 0x84
 logicalOctet style = none
 logicalOctet (protected enciphered) = none
 
@@ -53,7 +54,7 @@ logicalOctet (protected enciphered) = none
 abbrev pub portionsOctet : Contents → Option ℕ
 portionsOctet profile = none
 portionsOctet (described needed types) = some 0xA1
-portionsOctet (unit needed holders) = none
+portionsOctet (unit needed tiled) = none
 portionsOctet style = none
 portionsOctet (protected enciphered) = none
 
@@ -61,7 +62,7 @@ portionsOctet (protected enciphered) = none
 abbrev pub barred : Contents → List ℕ
 barred profile = []
 barred (described needed types) = 0x61 ∷ 0x81 ∷ []
-barred (unit needed holders) = 0x60 ∷ 0xA4 ∷ []
+barred (unit needed tiled) = 0x60 ∷ 0xA4 ∷ []
 barred style = 0x65 ∷ []
 barred (protected enciphered) = []
 
@@ -69,14 +70,14 @@ barred (protected enciphered) = []
 abbrev pub typeOctet : Contents → Option ℕ
 typeOctet profile = none
 typeOctet (described needed types) = some 0x02
-typeOctet (unit needed holders) = none
+typeOctet (unit needed tiled) = none
 typeOctet style = none
 typeOctet (protected enciphered) = none
 
 abbrev pub typesOf : Contents → ℕ
 typesOf profile = 0
 typesOf (described needed types) = types
-typesOf (unit needed holders) = 0
+typesOf (unit needed tiled) = 0
 typesOf style = 0
 typesOf (protected enciphered) = 0
 
@@ -84,9 +85,17 @@ typesOf (protected enciphered) = 0
 abbrev pub holdersOf : Contents → List ContentItem
 holdersOf profile = []
 holdersOf (described needed types) = []
-holdersOf (unit needed holders) = holders
+holdersOf (unit needed tiled) = cond tiled octetStringOrTiles octetString
 holdersOf style = []
-holdersOf (protected enciphered) = cond enciphered (whole 0x04 ∷ []) []
+holdersOf (protected enciphered) = cond enciphered octetString []
+
+-- the item that holds the bit string of a sealed profile in pieces, 23; it is no content
+abbrev pub sealOctet : Contents → Option ℕ
+sealOctet profile = none
+sealOctet (described needed types) = none
+sealOctet (unit needed tiled) = none
+sealOctet style = none
+sealOctet (protected enciphered) = cond enciphered none (some 0x23)
 
 abbrev pub octetOf : ContentItem → ℕ
 octetOf (whole octet) = octet
@@ -148,7 +157,12 @@ joinedContent (inPieces run) = joined run
 -- "12 for any other item among the pieces" (W-201)
 abbrev pub piecesAlone : Content → Bool
 piecesAlone (single value) = true
-piecesAlone (inPieces run) = onlyPieces run
+piecesAlone (inPieces run) = octetPieces run
+
+-- the same of a bit string in pieces
+abbrev pub sealAlone : Option ℕ → Tree → Bool
+sealAlone none run = true
+sealAlone (some octet) run = bitPieces (firstRun octet run)
 
 -- What an element says: "kind (the number bits of the element's octet ..), object type", its identifier (a unit's layout one), a unit's
 -- logical identifier, its portions and its content.
@@ -184,17 +198,21 @@ optional octet = record { octet = octet; needed = false }
 abbrev pub asked : (needed : Bool) → ℕ → Slot
 asked needed octet = record { octet = octet; needed = needed }
 
--- the second item of a protected part: what is sealed is told by 03, what is enciphered is in 04
-abbrev pub protectedOctet : (enciphered : Bool) → ℕ
-protectedOctet enciphered = cond enciphered 0x04 0x03
+-- of two items in order, the second is one of some
+abbrev pub inOrderWith : (one : Slot) (needed : Bool) → List ℕ → Tree → Bool
+inOrderWith one needed seconds run = any (map (λ octet. inOrder one (asked needed octet) run) seconds)
+
+-- the second item of a protected part: what is sealed is told by a bit string, what is enciphered is in an octet string
+abbrev pub protectedOctets : (enciphered : Bool) → List ℕ
+protectedOctets enciphered = cond enciphered (0x24 ∷ 0x04 ∷ []) (0x23 ∷ 0x03 ∷ [])
 
 -- "02, then 31", "02 or nothing, then 31 or nothing", "31 or nothing, then 04"; 47, then one more; or the items are free
 unfoldable pub ordered : Contents → Tree → Bool
 ordered profile run = true
 ordered (described needed types) run = inOrder (asked needed 0x02) (asked needed 0x31) run
-ordered (unit needed holders) run = any (map (λ item. inOrder (optional 0x31) (asked needed (octetOf item)) run) holders)
+ordered (unit needed tiled) run = inOrderWith (optional 0x31) needed (map octetOf (holdersOf (unit needed tiled))) run
 ordered style run = true
-ordered (protected enciphered) run = inOrder (required 0x47) (required (protectedOctet enciphered)) run
+ordered (protected enciphered) run = inOrderWith (required 0x47) true (protectedOctets enciphered) run
 
 -- 12 "contents not as tabled"
 unfoldable pub asTabled : Contents → Tree → Bool
@@ -203,6 +221,7 @@ asTabled contents run =
     let identifiers = amountAt (identifierOctet contents) body in
     all (ordered contents run
     ∷ piecesAlone (contentOf contents run)
+    ∷ sealAlone (sealOctet contents) run
     ∷ not (identifierNeeded contents && eqb identifiers 0)
     ∷ leb identifiers 1
     ∷ leb (amountAt (logicalOctet contents) body) 1

@@ -29,7 +29,7 @@ bytesIn s v = slice (v .first) (v .past) s
 unfoldable pub bodyIn : Contents → Items → Items
 bodyIn profile items = none
 bodyIn (described needed types) items = itemsIn 0x31 items
-bodyIn (unit needed holders) items = itemsIn 0x31 items
+bodyIn (unit needed tiled) items = itemsIn 0x31 items
 bodyIn style items = items
 bodyIn (protected enciphered) items = none
 

@@ -20,11 +20,11 @@ pub data Contents : Type 0 where
   -- A class, of which the items are needed: "02, then 31; 41 required in the 31". Or an object: "02 or nothing, then 31 or nothing".
   -- "The 02 has one value octet", which is one of so many.
   described : (needed : Bool) (types : ℕ) → Contents
-  -- "text unit: 31 or nothing, then" one item that may hold content, which is needed or not
-  unit : (needed : Bool) → List ContentItem → Contents
+  -- "text unit: 31 or nothing, then" one item that may hold content, which is needed or not, and may be tiled or not
+  unit : (needed tiled : Bool) → Contents
   -- "presentation style, layout style: exactly one 45, other items free"
   style : Contents
-  -- a protected part (7.15 of 1993): 47, then 03; or 47, then 04, which is enciphered information
+  -- a protected part (7.15 of 1993): 47, then a bit string; or 47, then an octet string, which is enciphered information
   protected : (enciphered : Bool) → Contents
 
 pub record Shape : Type 0 where
@@ -48,9 +48,13 @@ layoutTypes = 5
 abbrev pub logicalTypes : ℕ
 logicalTypes = 3
 
--- "24 holding 04 and 24 items down to the level limit" (W-201); "Content is primitive 04"
-abbrev pub holders1988 : List ContentItem
-holders1988 = pieced 0x24 ∷ whole 0x04 ∷ []
+-- an octet string: "24 holding 04 and 24 items down to the level limit" (W-201); "Content is primitive 04"
+abbrev pub octetString : List ContentItem
+octetString = pieced 0x24 ∷ whole 0x04 ∷ []
+
+-- in 1993 content may besides be tiled: 30, "SEQUENCE OF OCTET STRING" (7.13)
+abbrev pub octetStringOrTiles : List ContentItem
+octetStringOrTiles = pieced 0x24 ∷ pieced 0x30 ∷ whole 0x04 ∷ []
 
 -- the elements of 1988
 abbrev pub shapes1988 : Shapes
@@ -58,22 +62,18 @@ shapes1988 =
     entry 0xA0 profile
     ∷ entry 0xA1 (described true layoutTypes)
     ∷ entry 0xA2 (described false layoutTypes)
-    ∷ entry 0xA3 (unit true holders1988)
+    ∷ entry 0xA3 (unit true false)
     ∷ entry 0xA5 (described true logicalTypes)
     ∷ entry 0xA6 (described false logicalTypes)
     ∷ entry 0xA7 style
     ∷ entry 0xA8 style
     ∷ []
 
--- in 1993 content may besides be tiled: 30, "SEQUENCE OF OCTET STRING" (7.13)
-abbrev pub holders1993 : List ContentItem
-holders1993 = pieced 0x24 ∷ pieced 0x30 ∷ whole 0x04 ∷ []
-
--- what 1993 has of its own: a text unit may have no content, and there are a sealed profile, an enciphered profile, and body parts that were
--- enciphered before or after the layout (7.6, 7.13, 7.15)
+-- what 1993 has of its own: a text unit may have no content, or tiles, and there are a sealed profile, an enciphered profile, and body parts
+-- that were enciphered before or after the layout (7.6, 7.13, 7.15)
 abbrev pub added1993 : Shapes
 added1993 =
-    entry 0xA3 (unit false holders1993)
+    entry 0xA3 (unit false true)
     ∷ entry 0xA9 (protected false)
     ∷ entry 0xAA (protected true)
     ∷ entry 0xAB (protected true)

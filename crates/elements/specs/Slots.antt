@@ -2,7 +2,6 @@
 -- element says and is refused by, by its slots; `Slotting` among the proofs says that this is what the shape says.
 -- Definitions only: assumes nothing.
 use Prim.Native.Nat.{ℕ, _%_}
-use mathlib.Core.Path.{_≡_}
 use mathlib.Core.Bool.{Bool, true, false, cond, not, _&&_, _||_}
 use mathlib.Core.List.{List, [], _∷_}
 use lib.Dec.{eqb}
@@ -10,11 +9,12 @@ use Rattle.octets.specs.Walk.{Items, none}
 use Rattle.tree.specs.Tree.{Tree, empty, plain}
 use Rattle.contents.specs.declared.Slot.{Slot}
 use Rattle.contents.specs.Search.{firstValue, firstRun, boundsOf, itemsIn, inOrder}
+use Rattle.pieces.specs.Pieces.{bitPieces}
 use Rattle.portions.specs.Portions.{all, allPortions, values}
 use Rattle.elements.specs.declared.Row.{Row}
 use Rattle.elements.specs.declared.Slots.{Slots}
-use Rattle.elements.specs.Shape.{ContentItem, Contents, profile, described, unit, style, protected, Shape, holders1988, holders1993}
-use Rattle.elements.specs.Judge.{required, optional, asked, protectedOctet, typeOf, atMostOne, noneOf, Content, single, inPieces, piecesAlone}
+use Rattle.elements.specs.Shape.{Contents, profile, described, unit, style, protected, Shape}
+use Rattle.elements.specs.Judge.{required, optional, asked, typeOf, atMostOne, noneOf, Content, single, inPieces, piecesAlone}
 use Rattle.elements.specs.Judge.{Element, typeFits, namesFit, firstOf, contentsRules}
 
 -- no item, and one that is needed and that no element has
@@ -44,6 +44,7 @@ profileSlots octet = record {
   types = 0;
   content = 0;
   pieces = 0;
+  seal = 0;
 }
 
 -- a class or an object
@@ -66,10 +67,11 @@ describedSlots octet needed types = record {
   types = types;
   content = 0;
   pieces = 0;
+  seal = 0;
 }
 
 -- a text unit
-abbrev pub unitSlots : (octet : ℕ) (needed : Bool) (tiles : ℕ) → Slots
+abbrev pub unitSlots : (octet : ℕ) (needed : Bool) (tiles : Slot) → Slots
 unitSlots octet needed tiles = record {
   octet = octet;
   looked = true;
@@ -77,7 +79,7 @@ unitSlots octet needed tiles = record {
   one = optional 0x31;
   two = asked needed 0x04;
   instead = asked needed 0x24;
-  tiles = asked needed tiles;
+  tiles = tiles;
   within = 0x31;
   identifier = optional 0x40;
   logical = 0x84;
@@ -88,6 +90,7 @@ unitSlots octet needed tiles = record {
   types = 0;
   content = 0x04;
   pieces = 0x24;
+  seal = 0;
 }
 
 -- a style
@@ -110,17 +113,18 @@ styleSlots octet = record {
   types = 0;
   content = 0;
   pieces = 0;
+  seal = 0;
 }
 
--- a protected part: nothing names it
-abbrev pub protectedSlots : (octet second content : ℕ) → Slots
-protectedSlots octet second content = record {
+-- a protected part: nothing names it. Its second item is a string, which is content, or a seal
+abbrev pub protectedSlots : (octet second instead content pieces seal : ℕ) → Slots
+protectedSlots octet second instead content pieces seal = record {
   octet = octet;
   looked = false;
   free = false;
   one = required 0x47;
   two = required second;
-  instead = required second;
+  instead = required instead;
   tiles = noItem;
   within = 0;
   identifier = nothing;
@@ -131,38 +135,27 @@ protectedSlots octet second content = record {
   object = 0;
   types = 0;
   content = content;
-  pieces = 0;
+  pieces = pieces;
+  seal = seal;
 }
 
--- where content is needed, as in 1988, none is tiled
-abbrev pub tilesOctet : (needed : Bool) → ℕ
-tilesOctet needed = cond needed 0 0x30
+-- an octet string that is content, and a bit string
+abbrev pub encipheredSlots : (octet : ℕ) → Slots
+encipheredSlots octet = protectedSlots octet 0x04 0x24 0x04 0x24 0
 
--- the item with enciphered information
-abbrev pub encipheredOctet : (enciphered : Bool) → ℕ
-encipheredOctet enciphered = cond enciphered 0x04 0
+abbrev pub sealedSlots : (octet : ℕ) → Slots
+sealedSlots octet = protectedSlots octet 0x03 0x23 0 0 0x23
 
 -- the slots of a shape
 abbrev pub slotsBy : (octet : ℕ) → Contents → Slots
 slotsBy octet profile = profileSlots octet
 slotsBy octet (described needed types) = describedSlots octet needed types
-slotsBy octet (unit needed holders) = unitSlots octet needed (tilesOctet needed)
+slotsBy octet (unit needed tiled) = unitSlots octet needed (cond tiled (asked needed 0x30) noItem)
 slotsBy octet style = styleSlots octet
-slotsBy octet (protected enciphered) = protectedSlots octet (protectedOctet enciphered) (encipheredOctet enciphered)
+slotsBy octet (protected enciphered) = cond enciphered (encipheredSlots octet) (sealedSlots octet)
 
 abbrev pub slotsOf : Shape → Slots
 slotsOf shape = slotsBy (shape .octet) (shape .contents)
-
--- The slots of a text unit are those of the items that hold content: in 1988, where it is needed, and in 1993, where it is not.
-abbrev pub slotHolders : (needed : Bool) → List ContentItem
-slotHolders needed = cond needed holders1988 holders1993
-
-abbrev pub Slotted : Contents → Type 0
-Slotted profile = Unit {0}
-Slotted (described needed types) = Unit {0}
-Slotted (unit needed holders) = holders ≡ slotHolders needed
-Slotted style = Unit {0}
-Slotted (protected enciphered) = Unit {0}
 
 -- where the items stand that name an element: nowhere, among its own items, or in one of them
 unfoldable pub slotBody : Slots → Tree → Tree
@@ -207,6 +200,7 @@ slotTabled shape run =
     let body = slotBody shape run in
     all (slotOrdered shape run
     ∷ piecesAlone (slotContent shape run)
+    ∷ bitPieces (firstRun (shape .seal) run)
     ∷ not (shape .identifier .needed && noneOf (shape .identifier .octet) body)
     ∷ atMostOne (shape .identifier .octet) body
     ∷ atMostOne (shape .logical) body

@@ -17,7 +17,7 @@ pub record WellMade (shape : Slots) : Type 0 where
   pub no-content : shape .free ≡ true → shape .content ≡ 0
   pub no-pieces : shape .free ≡ true → shape .pieces ≡ 0
   pub no-tiles : shape .free ≡ true → shape .tiles .octet ≡ 0
-  -- values are of primitive items, portions, pieces and tiles in a constructed one
+  -- values are of primitive items; portions, pieces, tiles and a seal in pieces are in a constructed one
   pub identifier : constructed (shape .identifier .octet) ≡ false
   pub logical : constructed (shape .logical) ≡ false
   pub object : constructed (shape .object) ≡ false
@@ -25,6 +25,7 @@ pub record WellMade (shape : Slots) : Type 0 where
   pub portions : (shape .portions ≡ 0) ⊎ (constructed (shape .portions) ≡ true)
   pub pieces : (shape .pieces ≡ 0) ⊎ (constructed (shape .pieces) ≡ true)
   pub tiles : (shape .tiles .octet ≡ 0) ⊎ (constructed (shape .tiles .octet) ≡ true)
+  pub seal : (shape .seal ≡ 0) ⊎ (constructed (shape .seal) ≡ true)
 
 -- among the items that may hold content, those with a value are primitive, and those with pieces are constructed
 abbrev pub Formed : List ContentItem → Type 0

@@ -14,7 +14,9 @@ ghost use Prim.Native.Nat.{ℕ, _≤_};
 ghost use Rattle.headers.specs.Head.{constructed};
 ghost use Rattle.runs.specs.Runs.{treeIn, definiteRun, Fine};
 ghost use Rattle.contents.specs.First.{Lacks};
+ghost use Rattle.contents.specs.Search.{firstRun};
 ghost use Rattle.contents.specs.Opening.{Opens, FoundIn};
+ghost use Rattle.pieces.specs.Pieces.{bitPieces};
 ghost use Rattle.elements.specs.Judge.{Content, piecesAlone};
 ghost use Rattle.elements.specs.Slots.{slotOrdered};
 ghost use Rattle.elements.specs.WellMade.{WellMade};
@@ -213,5 +215,19 @@ pub fn pieces_alone(s: &[u8], holder: Holder) -> bool
         return true;
     }
     let run = holder.pieces;
-    pieces::are_pieces(s, run)
+    pieces::are_pieces(s, run, 0x04, 0x24)
+}
+
+// Whether nothing else stands among the pieces of a seal. Few shapes have one, and of the others nothing more is read.
+pub fn seal_alone(s: &[u8], shape: Slots, r: Run) -> bool
+    requires { ⌜ Fine (now s) r × WellMade shape ⌝ }
+    ensures { λ b. ⌜ b ≡ bitPieces (firstRun (shape .seal) (treeIn (now (s .entry)) r)) ⌝ }
+{
+    if shape.seal == 0 {
+        return true;
+    }
+    match contents::first_with(s, r, shape.seal) {
+        PartFound::At(p) => pieces::are_pieces(s, p.inner, 0x03, 0x23),
+        PartFound::Missing => true,
+    }
 }

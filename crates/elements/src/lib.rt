@@ -11,6 +11,8 @@ ghost use Prim.Native.Nat.{_≤_};
 ghost use lib.ListN.{length};
 ghost use Rattle.octets.specs.Walk.{none, streamLimit};
 ghost use Rattle.runs.specs.Runs.{itemsOf, treeIn, Fine};
+ghost use Rattle.contents.specs.Search.{firstRun};
+ghost use Rattle.pieces.specs.Pieces.{bitPieces};
 ghost use Rattle.portions.specs.Lists.{ListsPortions};
 ghost use Rattle.elements.specs.Judge.{piecesAlone};
 ghost use Rattle.elements.specs.Slots.{slotContent};
@@ -60,6 +62,8 @@ pub struct Slots {
     pub types: usize,
     pub content: usize,
     pub pieces: usize,
+    // the item with a seal in pieces, which is no content
+    pub seal: usize,
 }
 
 // A table row.
@@ -187,6 +191,7 @@ fn row_of(shape: Slots, frame: Frame, object: usize, g: Gathered, whole: Span) -
 fn see_body(s: &[u8], shape: Slots, frame: Frame, whole: Span, bounds: &mut [u32]) -> Seen
     requires { ⌜ Lookable (now s) shape frame whole × (128 ≤ length (now bounds)) ⌝ }
     ensures { λ seen. ⌜ ((r : Run) → Framed (now (s .entry)) shape r frame → piecesAlone (slotContent shape (treeIn (now (s .entry)) r)) ≡ true
+        → bitPieces (firstRun (shape .seal) (treeIn (now (s .entry)) r)) ≡ true
         → SeesSlots (now (s .entry)) shape r (whole .first) (whole .past) (now (bounds .exit)) seen) ⌝ }
 {
     let body = frame.body;
@@ -213,6 +218,9 @@ pub fn see(s: &[u8], shape: Slots, r: Run, first: usize, past: usize, bounds: &m
         return refused(12);
     }
     if !frames::pieces_alone(s, frame.content) {
+        return refused(12);
+    }
+    if !frames::seal_alone(s, shape, r) {
         return refused(12);
     }
     see_body(s, shape, frame, Span { first, past }, bounds)

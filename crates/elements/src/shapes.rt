@@ -5,7 +5,7 @@ use contents::Slot;
 ghost use mathlib.Core.Path.{_≡_};
 ghost use Rattle.headers.specs.Head.{typeField};
 ghost use Rattle.elements.specs.Shape.{shapes1988, shapes1993, shapeIn, shapeOf};
-ghost use Rattle.elements.specs.Slots.{profileSlots, describedSlots, unitSlots, styleSlots, protectedSlots, slotsOf};
+ghost use Rattle.elements.specs.Slots.{profileSlots, describedSlots, unitSlots, styleSlots, encipheredSlots, sealedSlots, slotsOf};
 
 const NO_ITEM: Slot = Slot {
     octet: 0,
@@ -16,6 +16,12 @@ const NO_ITEM: Slot = Slot {
 const NEVER: Slot = Slot {
     octet: 0,
     needed: true,
+};
+
+// Content in tiles, which is not needed.
+const TILES: Slot = Slot {
+    octet: 0x30,
+    needed: false,
 };
 
 const LAYOUT_TYPES: usize = 5;
@@ -43,6 +49,7 @@ fn profile_slots(octet: usize) -> Slots
         types: 0,
         content: 0,
         pieces: 0,
+        seal: 0,
     }
 }
 
@@ -80,11 +87,12 @@ fn described_slots(octet: usize, needed: bool, types: usize) -> Slots
         types,
         content: 0,
         pieces: 0,
+        seal: 0,
     }
 }
 
-// A text unit, of which content is needed or not, and may be in tiles if their item has an octet.
-fn unit_slots(octet: usize, needed: bool, tiles: usize) -> Slots
+// A text unit, of which content is needed or not, and may stand in an item with tiles.
+fn unit_slots(octet: usize, needed: bool, tiles: Slot) -> Slots
     ensures { λ r. ⌜ r ≡ unitSlots octet needed tiles ⌝ }
 {
     Slots {
@@ -103,10 +111,7 @@ fn unit_slots(octet: usize, needed: bool, tiles: usize) -> Slots
             octet: 0x24,
             needed,
         },
-        tiles: Slot {
-            octet: tiles,
-            needed,
-        },
+        tiles,
         within: 0x31,
         identifier: Slot {
             octet: 0x40,
@@ -120,6 +125,7 @@ fn unit_slots(octet: usize, needed: bool, tiles: usize) -> Slots
         types: 0,
         content: 0x04,
         pieces: 0x24,
+        seal: 0,
     }
 }
 
@@ -147,12 +153,13 @@ fn style_slots(octet: usize) -> Slots
         types: 0,
         content: 0,
         pieces: 0,
+        seal: 0,
     }
 }
 
-// A protected part: 47, then `second`. Nothing names it. `content` is the octet of enciphered information, or 0.
-fn protected_slots(octet: usize, second: usize, content: usize) -> Slots
-    ensures { λ r. ⌜ r ≡ protectedSlots octet second content ⌝ }
+// A part that is enciphered: 47, then an octet string, which is its content. Nothing names it.
+fn enciphered_slots(octet: usize) -> Slots
+    ensures { λ r. ⌜ r ≡ encipheredSlots octet ⌝ }
 {
     Slots {
         octet,
@@ -163,11 +170,11 @@ fn protected_slots(octet: usize, second: usize, content: usize) -> Slots
             needed: true,
         },
         two: Slot {
-            octet: second,
+            octet: 0x04,
             needed: true,
         },
         instead: Slot {
-            octet: second,
+            octet: 0x24,
             needed: true,
         },
         tiles: NEVER,
@@ -179,8 +186,44 @@ fn protected_slots(octet: usize, second: usize, content: usize) -> Slots
         neither: 0,
         object: 0,
         types: 0,
-        content,
+        content: 0x04, // enciphered information
+        pieces: 0x24, // enciphered information in pieces
+        seal: 0,
+    }
+}
+
+// A part that is sealed: 47, then a bit string, which is no content. Nothing names it.
+fn sealed_slots(octet: usize) -> Slots
+    ensures { λ r. ⌜ r ≡ sealedSlots octet ⌝ }
+{
+    Slots {
+        octet,
+        looked: false,
+        free: false,
+        one: Slot {
+            octet: 0x47,
+            needed: true,
+        },
+        two: Slot {
+            octet: 0x03,
+            needed: true,
+        },
+        instead: Slot {
+            octet: 0x23,
+            needed: true,
+        },
+        tiles: NEVER,
+        within: 0,
+        identifier: NO_ITEM,
+        logical: 0,
+        portions: 0,
+        never: 0,
+        neither: 0,
+        object: 0,
+        types: 0,
+        content: 0,
         pieces: 0,
+        seal: 0x23,
     }
 }
 
@@ -191,7 +234,7 @@ fn shape_1988(octet: usize) -> Slots
         0xA0 => profile_slots(0xA0),
         0xA1 => described_slots(0xA1, true, LAYOUT_TYPES),
         0xA2 => described_slots(0xA2, false, LAYOUT_TYPES),
-        0xA3 => unit_slots(0xA3, true, 0),
+        0xA3 => unit_slots(0xA3, true, NEVER),
         0xA5 => described_slots(0xA5, true, LOGICAL_TYPES),
         0xA6 => described_slots(0xA6, false, LOGICAL_TYPES),
         0xA7 => style_slots(0xA7),
@@ -205,11 +248,11 @@ fn shape_1993(octet: usize) -> Slots
     ensures { λ r. ⌜ r ≡ slotsOf (shapeIn shapes1993 (typeField octet)) ⌝ }
 {
     match octet {
-        0xA3 => unit_slots(0xA3, false, 0x30),
-        0xA9 => protected_slots(0xA9, 0x03, 0),
-        0xAA => protected_slots(0xAA, 0x04, 0x04),
-        0xAB => protected_slots(0xAB, 0x04, 0x04),
-        0xAC => protected_slots(0xAC, 0x04, 0x04),
+        0xA3 => unit_slots(0xA3, false, TILES),
+        0xA9 => sealed_slots(0xA9),
+        0xAA => enciphered_slots(0xAA),
+        0xAB => enciphered_slots(0xAB),
+        0xAC => enciphered_slots(0xAC),
         _ => shape_1988(octet),
     }
 }

@@ -16,7 +16,7 @@ use Rattle.headers.proofs.Lies.{HeadOk, head-ok}
 use Rattle.blocks.specs.Engine.{Open, Standing, reading, State, limitOf, markedOf, roomOf, wanted, whole, moved, decide, feed}
 use Rattle.blocks.proofs.Headers.{Ends, same-head, as-wanted, two-wanted, eight-wanted, same-wanted, told-wanted}
 use Rattle.blocks.proofs.Goes.{header-octets}
-use Rattle.engine.specs.Stored.{Numbered, atHeader, back, Ahead, Seen}
+use Rattle.engine.specs.Skimming.{Numbered, atHeader, back, Ahead, Seen}
 use Rattle.engine.proofs.Stores.{numbered}
 
 back-moved : (i at : ℕ) (h : Head) → moved at h ≡ back i at (moved i h)

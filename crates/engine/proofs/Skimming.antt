@@ -20,7 +20,8 @@ use Rattle.blocks.proofs.Cutting.{feed-append}
 use Rattle.engine.specs.declared.Blocks.{Blocks}
 use Rattle.engine.specs.declared.skim.Seat.{Seat}
 use Rattle.engine.specs.declared.skim.Skim.{Skim}
-use Rattle.engine.specs.Stored.{openOf, opensOf, stateOf, Sound, atHeader, back, Seen, Turns, placeOf, InRun, GoesOn, Seated, Reads, Skims, Before, Settles, leftBy}
+use Rattle.engine.specs.Stored.{openOf, opensOf, stateOf}
+use Rattle.engine.specs.Skimming.{FineIfReading, atHeader, back, Seen, Turns, placeOf, InRun, GoesOn, Seated, Reads, Skims, Before, Settles, leftBy}
 use Rattle.engine.proofs.Stores.{innermost, settle-going, others, pushed, level-is}
 use Rattle.engine.proofs.Turning.{values}
 use Rattle.engine.proofs.Seeing.{seen}
@@ -220,8 +221,8 @@ pub ready : (b : Blocks) → b .number ≡ 0 → b .have ≡ 0 → b .at ≡ b .
 ready b z h t = rw (eq-eqb (b .number) 0 z, h, ← t)
 
 -- nothing was taken
-pub none-turn : (b : Blocks) (block : List ℕ) (start : ℕ) → Sound b → start ≤ length block → b .taken + (length block - start) ≤ b .total → Turns b block start b start
-none-turn b block start s l f = record { further = omega arith; within = l; fits = f; total = refl; sound = s; state = refl }
+pub none-turn : (b : Blocks) (block : List ℕ) (start : ℕ) → FineIfReading b → start ≤ length block → b .taken + (length block - start) ≤ b .total → Turns b block start b start
+none-turn b block start s l f = record { further = omega arith; within = l; fits = f; total = refl; fine = s; state = refl }
 
 -- before the limit no item ends
 pub settle-open : (total n : ℕ) (ends : List ℕ) (at k : ℕ) → at < limitOf total (opensOf n ends) → settle k (opensOf n ends) at ≡ reading k (opensOf n ends) at []
@@ -466,18 +467,18 @@ goes b block start seat ends s v p after r t =
 abbrev pub seatOf : Blocks → (block : List ℕ) → (start : ℕ) → Seat
 seatOf b block start = record { total = b .total; base = b .at; from = start; size = length block }
 
-module _ (b : Blocks) (block : List ℕ) (start : ℕ) (sound : Sound b) (z : b .number ≡ 0) (h : b .have ≡ 0) (t : b .at ≡ b .taken) (l : start ≤ length block)
+module _ (b : Blocks) (block : List ℕ) (start : ℕ) (fine : FineIfReading b) (z : b .number ≡ 0) (h : b .have ≡ 0) (t : b .at ≡ b .taken) (l : start ≤ length block)
     (fits : b .taken + (length block - start) ≤ b .total) (short : length block ≤ b .total) where
   pub begins : (s : Skim) → length (b .ends) ≡ 16 → GoesOn (seatOf b block start) (b .ends) (b .level) start (b .headers) s → start < s .stop
       → Skimming b block start (seatOf b block start) (b .ends) s
   begins s sixteen g before =
-      let fine = sound z in
+      let now = fine z in
       let level = g .inside in
       let i = g .at in
       let headers = g .passed in
-      let small = fine .small in
-      let deep = fine .depth in
-      let more = fine .counted in
+      let small = now .small in
+      let deep = now .depth in
+      let more = now .counted in
       let m : min (s .i) (length block) ≡ start = omega arith in
       let y : start - start ≡ 0 = omega arith in
       let x : b .at + 0 ≡ b .at = omega arith in
@@ -510,7 +511,7 @@ module _ (b : Blocks) (block : List ℕ) (start : ℕ) (sound : Sound b) (z : b 
       → r ≡ leftBy (seatOf b block start) begun ends s → j ≡ min (s .i) (length block) → Turns b block start r j
   ends-turn ends begun s v r j e q =
       let from = v .from in
-      let small = sound z .small in
+      let small = fine z .small in
       let m : min (s .i) (length block) ≤ length block = omega arith in
       let f : start ≤ min (s .i) (length block) = omega arith in
       let rest : b .at + (min (s .i) (length block) - start) + (length block - min (s .i) (length block)) ≤ b .total = omega arith in
@@ -518,7 +519,7 @@ module _ (b : Blocks) (block : List ℕ) (start : ℕ) (sound : Sound b) (z : b 
       (record {
         further = f;
         within = m;
-        sound = λ n. record { depth = v .depth; kept = omega arith; counted = v .counted n; small = small };
+        fine = λ n. record { depth = v .depth; kept = omega arith; counted = v .counted n; small = small };
         fits = rest;
         total = refl;
         state = v .state;

@@ -13,12 +13,13 @@ use Rattle.headers.specs.declared.Header.{Header}
 use Rattle.headers.specs.declared.Head.{Head}
 use Rattle.headers.specs.declared.Head.the-variants.{Item, ClosingMark, Refusal}
 use Rattle.headers.specs.Head.{constructed, misfits, bigEndian, octetAt, definiteAt, indefiniteAt, longAt, byFirst, lengthAt, closingAt, headAt}
-use Rattle.headers.proofs.Lies.{HeadOk, item-holds}
+use Rattle.headers.proofs.Lies.{HeadOk, head-ok, item-holds}
 use Rattle.laws.proofs.Tests.{cond-holds}
 use Rattle.blocks.proofs.Headers.{same-head}
 use Rattle.blocks.specs.Engine.{Open, Standing, reading, found, settle, limitOf, markedOf, roomOf, further, fieldSize, wanted, whole, moved, decide, inHeader}
 use Rattle.engine.specs.declared.Blocks.{Blocks}
-use Rattle.engine.specs.Stored.{openOf, opensOf, opens, stateOf, stands, Numbered}
+use Rattle.engine.specs.Stored.{openOf, opensOf, stateOf}
+use Rattle.engine.specs.Skimming.{opens, withStanding, Lying, Numbered}
 
 pub innermost : (n : ℕ) (ends : List ℕ) → 0 < n → opensOf n ends ≡ openOf (getD ends (n - 1) 0) ∷ opensOf (n - 1) ends
 innermost zero ends h = absurd (omega arith)
@@ -48,19 +49,24 @@ others (suc n) i ends v h =
 pub pushed : (n : ℕ) (ends : List ℕ) (e : ℕ) (o : Open) → n < length ends → openOf e ≡ o → opensOf (n + 1) (set ends n e) ≡ o ∷ opensOf n ends
 pushed n ends e o h q = rw (add-one n, getD-set-same ends n e 0 h, others n n ends e (omega arith), q)
 
+lying-of : (left room : ℕ) (head : Head) → HeadOk 0 left room head → Lying left room head
+lying-of left room (Item h) o = (o .header, o .order, o .within, o .deep)
+lying-of left room ClosingMark o = o
+lying-of left room (Refusal number place) o = tt
+
+pub lying : (octets : List ℕ) (left room : ℕ) (marked : Bool) → Lying left room (headAt octets 0 left marked room)
+lying octets left room marked = lying-of left room (headAt octets 0 left marked room) (head-ok octets 0 left room marked)
+
 -- a header that was read lies before the limit
-pub item-fits : (limit at room : ℕ) (head : Head) (h : Header) → head ≡ Item h → HeadOk 0 (limit - at) room head
+pub item-fits : (limit at room : ℕ) (head : Head) (h : Header) → head ≡ Item h → Lying (limit - at) room head
     → (at + h .start ≤ limit) × (at + h .bound ≤ limit) × (0 < room)
 item-fits limit at room head h e o =
-    let l : HeadOk 0 (limit - at) room (Item h) = subst (HeadOk 0 (limit - at) room) e o in
-    let a = l .header in
-    let b = l .order in
-    let c = l .within in
-    (omega arith, omega arith, l .deep)
+    let (a, b, c, deep) : Lying (limit - at) room (Item h) = subst (Lying (limit - at) room) e o in
+    (omega arith, omega arith, deep)
 
-pub mark-fits : (limit at room : ℕ) (head : Head) → head ≡ ClosingMark → HeadOk 0 (limit - at) room head → at + 2 ≤ limit
+pub mark-fits : (limit at room : ℕ) (head : Head) → head ≡ ClosingMark → Lying (limit - at) room head → at + 2 ≤ limit
 mark-fits limit at room head e o =
-    let l : HeadOk 0 (limit - at) room ClosingMark = subst (HeadOk 0 (limit - at) room) e o in
+    let l : Lying (limit - at) room ClosingMark = subst (Lying (limit - at) room) e o in
     omega arith
 
 pub refusal-numbered : (head : Head) (number place : ℕ) → head ≡ Refusal number place → Numbered head → (0 < number) × (number ≤ 8) × (place ≡ 0)
@@ -192,7 +198,7 @@ module _ (b : Blocks) (x : ℕ) (l : b .have < length (b .begun)) (left : ℕ) (
   next = take (b .have) (b .begun) ++ (x ∷ [])
 
   pub part-octet : b .number ≡ 0 → whole (take (b .have + 1) octets) left ≡ false
-      → stateOf (keeping b x) ≡ stands b (inHeader (b .total) (b .taken) (b .headers) (opens b) (b .at) next)
+      → stateOf (keeping b x) ≡ withStanding b (inHeader (b .total) (b .taken) (b .headers) (opens b) (b .at) next)
   part-octet z w =
       let k = kept-more (b .have) (b .begun) x l in
       let e : whole next (limitOf (b .total) (opens b) - b .at) ≡ false = rw (← k, ← same) w in

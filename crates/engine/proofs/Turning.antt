@@ -12,7 +12,8 @@ use Rattle.blocks.specs.Engine.{Open, Standing, reading, found, State, arrive, 
 use Rattle.blocks.proofs.Goes.{finding-stays, value-octets}
 use Rattle.blocks.proofs.Cutting.{feed-append}
 use Rattle.engine.specs.declared.Blocks.{Blocks}
-use Rattle.engine.specs.Stored.{opens, standingOf, stateOf, Fine, Sound, Turns}
+use Rattle.engine.specs.Stored.{standingOf, stateOf}
+use Rattle.engine.specs.Skimming.{opens, Fine, FineIfReading, Turns}
 
 -- an octet of a header
 pub header-step : (b : Blocks) (x : ℕ) → b .number ≡ 0 → b .at ≤ b .taken → step (stateOf b) x
@@ -43,17 +44,17 @@ module _ (b : Blocks) (block : List ℕ) (i : ℕ) (l : i < length block) (f : b
       record {
         further = omega arith;
         within = omega arith;
-        sound = λ z. absurd (ne (sym n ∙ z));
+        fine = λ z. absurd (ne (sym n ∙ z));
         fits = omega arith;
         total = total;
         state =
             rw (drop-length block) (rw e (rw w (finding-stays (b .total) (b .taken) (b .number) (b .place) (b .headers) (drop i block) ∙ rw size)));
       }
 
-  pub passed-turn : (r : Blocks) (j : ℕ) → b .number ≡ 0 → i < j → j ≤ length block → b .taken + (j - i) ≤ b .at → Sound r
+  pub passed-turn : (r : Blocks) (j : ℕ) → b .number ≡ 0 → i < j → j ≤ length block → b .taken + (j - i) ≤ b .at → FineIfReading r
       → stateOf r ≡ record { total = b .total; taken = b .taken + (j - i); standing = arrive (b .taken + (j - i)) (b .headers) (opens b) (b .at) }
       → Turns b block i r j
-  passed-turn r j z less m far sound e =
+  passed-turn r j z less m far fine e =
       let total : r .total ≡ b .total = ap (λ (t : State). t .total) e in
       let taken : r .taken ≡ b .taken + (j - i) = ap (λ (t : State). t .taken) e in
       let size = length-drop i block in
@@ -66,23 +67,23 @@ module _ (b : Blocks) (block : List ℕ) (i : ℕ) (l : i < length block) (f : b
       record {
         further = omega arith;
         within = m;
-        sound = sound;
+        fine = fine;
         fits = omega arith;
         total = total;
         state =
             ap (feed (stateOf b)) (sym (take-append-drop (j - i) (drop i block))) ∙ feed-append (stateOf b) ys (drop (j - i) (drop i block)) ∙ rw (v, rest);
       }
 
-  pub header-turned : (r : Blocks) → Sound r → stateOf r ≡ step (stateOf b) (getD block i 0) → Turns b block i r (i + 1)
+  pub header-turned : (r : Blocks) → FineIfReading r → stateOf r ≡ step (stateOf b) (getD block i 0) → Turns b block i r (i + 1)
   unfolding step
-  header-turned r sound e =
+  header-turned r fine e =
       let total : r .total ≡ b .total = ap (λ (t : State). t .total) e in
       let taken : r .taken ≡ suc (b .taken) = ap (λ (t : State). t .taken) e in
       let d : drop i block ≡ getD block i 0 ∷ drop (i + 1) block = drop-cons block i 0 l ∙ rw (add-one i) in
       record {
         further = omega arith;
         within = omega arith;
-        sound = sound;
+        fine = fine;
         fits = omega arith;
         total = total;
         state = ap (feed (stateOf b)) d ∙ ap (λ (s : State). feed s (drop (i + 1) block)) (sym e);

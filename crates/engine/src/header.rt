@@ -1,18 +1,18 @@
 // A header that is cut: its octets are kept until it has come, and then it is read as the walk reads it (`headers::read_head`).
 use super::Blocks;
-use super::DEEPEST;
 use super::ends;
 use super::wide;
 use headers::Head;
+use octets::DEEPEST;
 ghost use mathlib.Core.Path.{_≡_};
 ghost use mathlib.Core.Bool.{false};
 ghost use mathlib.Core.List.{[], _∷_, _++_};
 ghost use Prim.Native.Nat.{_+_, _-_, _<_, _≤_};
 ghost use lib.ListN.{length, take};
-ghost use Rattle.headers.proofs.Lies.{HeadOk};
 ghost use Rattle.headers.specs.Head.{octetAt};
 ghost use Rattle.blocks.specs.Engine.{further, fieldSize, wanted, whole, arrive, moved, decide, inHeader};
-ghost use Rattle.engine.specs.Stored.{opens, stateOf, stands, Comes, Numbered};
+ghost use Rattle.engine.specs.Stored.{stateOf};
+ghost use Rattle.engine.specs.Skimming.{opens, withStanding, Comes, Lying, Numbered};
 
 // On the way to the next header, and there.
 pub fn arrived(mut b: Blocks) -> Blocks
@@ -49,8 +49,8 @@ fn open_item(mut b: Blocks, start: usize, bound: usize, marked: bool) -> Blocks
 // What a header that was read from the octets kept does.
 fn decided(mut b: Blocks, limit: usize, head: Head) -> Blocks
     requires { ⌜ (b .number ≡ 0) × (b .level ≤ 16) × (b .headers ≤ 1048576) × (limit ≤ 2147483647)
-        × HeadOk 0 (limit - b .at) (16 - b .level) head × Numbered head × (b .at ≤ 1048576) ⌝ }
-    ensures { λ r. ⌜ (stateOf r ≡ stands b (decide (b .taken) (b .headers) (opens b) (b .at) (moved (b .at) head)))
+        × Lying (limit - b .at) (16 - b .level) head × Numbered head × (b .at ≤ 1048576) ⌝ }
+    ensures { λ r. ⌜ (stateOf r ≡ withStanding b (decide (b .taken) (b .headers) (opens b) (b .at) (moved (b .at) head)))
         × (r .level ≤ 16) × (r .have ≤ 7) × (r .headers ≤ b .headers + 1) ⌝ }
 {
     let at = b.at;
@@ -159,7 +159,7 @@ fn left_of(limit: usize, at: usize) -> usize
 // One octet more of a header, which has been counted.
 pub fn header_octet(mut b: Blocks, octet: u8) -> Blocks
     requires { ⌜ (b .number ≡ 0) × (b .level ≤ 16) × (b .have ≤ 7) × (b .headers ≤ 1048576) × (b .total ≤ 1048576) × (b .at ≤ 1048576) ⌝ }
-    ensures { λ r. ⌜ (stateOf r ≡ stands b (inHeader (b .total) (b .taken) (b .headers) (opens b) (b .at) (take (b .have) (b .begun) ++ (octet ∷ []))))
+    ensures { λ r. ⌜ (stateOf r ≡ withStanding b (inHeader (b .total) (b .taken) (b .headers) (opens b) (b .at) (take (b .have) (b .begun) ++ (octet ∷ []))))
         × (r .level ≤ 16) × (r .have ≤ 7) × (r .headers ≤ b .headers + 1) ⌝ }
 {
     let n = wide(b.have);

@@ -6,7 +6,9 @@ ghost use Prim.Native.Nat.{_+_, _≤_};
 ghost use lib.ListN.{length};
 ghost use Rattle.blocks.specs.Engine.{feed};
 ghost use Rattle.blocks.specs.Blocks.{start};
-ghost use Rattle.engine.specs.Stored.{stateOf, Sound, sound, Starts, Takes, closedOf};
+ghost use Rattle.engine.specs.Stored.{stateOf, sound, Starts, Takes, closedOf};
+ghost use Rattle.engine.specs.Skimming.{FineIfReading};
+use octets::DEEPEST;
 use octets::STREAM_LIMIT;
 
 mod ends; // ends.rt: the open items
@@ -52,9 +54,10 @@ pub struct Moved {
     pub to: usize,
 }
 
-pub const DEEPEST: usize = 16;
-
 const TOO_LONG: u32 = 1;
+
+// The greatest number that a finding has.
+const LAST_FINDING: u32 = 8;
 
 const PAST_TOTAL: u32 = 28;
 
@@ -98,14 +101,17 @@ pub fn start(total: usize) -> Taken
     }
 }
 
-// Whether the engine can go on with a state: every state that it gave is so. With a finding octets are only counted.
+// Whether the engine can go on with a state: every state that it gave is so. With a finding, 1 to 8, octets are only counted.
 fn is_sound(b: Blocks) -> bool
     ensures { λ r. ⌜ r ≡ sound b ⌝ }
 {
+    if LAST_FINDING < b.number {
+        return false;
+    }
     if b.number != 0 {
         return true;
     }
-    if 16 < b.level {
+    if DEEPEST < b.level {
         return false;
     }
     if 7 < b.have {
@@ -119,8 +125,8 @@ fn is_sound(b: Blocks) -> bool
 
 // The state after a block that is not past the total.
 fn fed(b: Blocks, block: &[u8]) -> Blocks
-    requires { ⌜ Sound b × (b .taken + length (now block) ≤ b .total) ⌝ }
-    ensures { λ r. ⌜ Sound r × (stateOf r ≡ feed (stateOf b) (now (block .entry))) ⌝ }
+    requires { ⌜ FineIfReading b × (b .taken + length (now block) ≤ b .total) ⌝ }
+    ensures { λ r. ⌜ FineIfReading r × (stateOf r ≡ feed (stateOf b) (now (block .entry))) ⌝ }
 {
     let n = block.len();
     let first = skim::skim_block(b, block, 0);

@@ -1,17 +1,18 @@
 // The headers that lie in a block one after another, with their values: read where they stand, in one loop, with the state's numbers in locals.
 use super::Blocks;
-use super::DEEPEST;
 use super::Moved;
 use super::ends;
 use headers::Head;
 use headers::Header;
+use octets::DEEPEST;
 ghost use mathlib.Core.Path.{_≡_};
 ghost use mathlib.Core.Bool.{true};
 ghost use Prim.Native.Nat.{_+_, _-_, _<_, _≤_, min};
 ghost use lib.ListN.{length};
 ghost use Rattle.blocks.specs.Engine.{limitOf};
 ghost use Rattle.headers.specs.Head.{headAt};
-ghost use Rattle.engine.specs.Stored.{opensOf, Sound, Turns, GoesOn, Reads, Skims, Before, Settles, leftBy};
+ghost use Rattle.engine.specs.Stored.{opensOf};
+ghost use Rattle.engine.specs.Skimming.{FineIfReading, Turns, GoesOn, Reads, Skims, Before, Settles, leftBy};
 
 // Where a block lies in a letter of so many octets: its place `from` is the letter's place `base`, and it has `size` octets.
 pub struct Seat {
@@ -198,7 +199,7 @@ fn left(b: Blocks, ends: [u32; 16], s: Skim, seat: Seat) -> Moved
 
 // The headers that lie in the block one after another, with their values.
 pub fn skim_block(b: Blocks, block: &[u8], from: usize) -> Moved
-    requires { ⌜ Sound b × (from ≤ length (now block)) × (b .taken + (length (now block) - from) ≤ b .total) × (length (now block) ≤ b .total) ⌝ }
+    requires { ⌜ FineIfReading b × (from ≤ length (now block)) × (b .taken + (length (now block) - from) ≤ b .total) × (length (now block) ≤ b .total) ⌝ }
     ensures { λ r. ⌜ Turns b (now (block .entry)) from (r .state) (r .to) ⌝ }
 {
     if !is_ready(b) {

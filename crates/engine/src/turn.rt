@@ -6,7 +6,8 @@ ghost use mathlib.Core.Path.{_≡_};
 ghost use Prim.Native.Nat.{_+_, _-_, _<_, _≤_};
 ghost use lib.ListN.{length};
 ghost use Rattle.blocks.specs.Engine.{arrive, step};
-ghost use Rattle.engine.specs.Stored.{opens, standingOf, stateOf, Fine, Sound, Turns};
+ghost use Rattle.engine.specs.Stored.{standingOf, stateOf};
+ghost use Rattle.engine.specs.Skimming.{opens, Fine, FineIfReading, Turns};
 
 fn smaller(a: usize, b: usize) -> usize
     ensures { λ r. ⌜ (r ≤ a) × (r ≤ b) × ((0 < a) → (0 < b) → 0 < r) ⌝ }
@@ -29,7 +30,7 @@ fn counted(mut b: Blocks, n: usize, i: usize) -> Blocks
 // The octets of a value that lie in the block.
 fn passed(mut b: Blocks, n: usize, i: usize) -> Moved
     requires { ⌜ Fine b × (b .number ≡ 0) × (i < n) × (b .taken + (n - i) ≤ b .total) × (b .taken < b .at) ⌝ }
-    ensures { λ r. ⌜ (i < r .to) × (r .to ≤ n) × (b .taken + (r .to - i) ≤ b .at) × Sound (r .state)
+    ensures { λ r. ⌜ (i < r .to) × (r .to ≤ n) × (b .taken + (r .to - i) ≤ b .at) × FineIfReading (r .state)
         × (stateOf (r .state) ≡ record {
           total = b .total;
           taken = b .taken + (r .to - i);
@@ -47,7 +48,7 @@ fn passed(mut b: Blocks, n: usize, i: usize) -> Moved
 // One octet of a header.
 fn header_turn(mut b: Blocks, octet: u8) -> Blocks
     requires { ⌜ Fine b × (b .number ≡ 0) × (b .taken < b .total) × (b .at ≤ b .taken) ⌝ }
-    ensures { λ r. ⌜ Sound r × (stateOf r ≡ step (stateOf b) octet) ⌝ }
+    ensures { λ r. ⌜ FineIfReading r × (stateOf r ≡ step (stateOf b) octet) ⌝ }
 {
     b.taken = b.taken + 1;
     header::header_octet(b, octet)
@@ -55,7 +56,7 @@ fn header_turn(mut b: Blocks, octet: u8) -> Blocks
 
 // What stands in the block at i: octets after a finding, of a value, or one of a header.
 pub fn turn(b: Blocks, block: &[u8], i: usize) -> Moved
-    requires { ⌜ Sound b × (i < length (now block)) × (b .taken + (length (now block) - i) ≤ b .total) ⌝ }
+    requires { ⌜ FineIfReading b × (i < length (now block)) × (b .taken + (length (now block) - i) ≤ b .total) ⌝ }
     ensures { λ r. ⌜ (i < r .to) × Turns b (now (block .entry)) i (r .state) (r .to) ⌝ }
 {
     let n = block.len();

@@ -61,7 +61,7 @@ says-nothing-by : (octet : ℕ) (contents : Contents) → elementOf (record { oc
 unfolding elementOf bodyOf contentOf amount firstValue firstRun values
 says-nothing-by octet profile = refl
 says-nothing-by octet (described needed types) = refl
-says-nothing-by octet (unit needed holders) = rw (holds-nothing holders)
+says-nothing-by octet (unit needed tiled) = rw (holds-nothing (holdersOf (unit needed tiled)))
 says-nothing-by octet style = refl
 says-nothing-by octet (protected enciphered) = rw (holds-nothing (holdersOf (protected enciphered)))
 
@@ -73,7 +73,8 @@ row-of-none-by : (octet : ℕ) (contents : Contents) (s : List ℕ) (first past 
 unfolding rowOf bodyIn contentOctet itemsIn boundsOf
 row-of-none-by octet profile s first past = rw (says-nothing-by octet profile)
 row-of-none-by octet (described needed types) s first past = rw (says-nothing-by octet (described needed types))
-row-of-none-by octet (unit needed holders) s first past = rw (says-nothing-by octet (unit needed holders), held-nowhere holders)
+row-of-none-by octet (unit needed tiled) s first past =
+    rw (says-nothing-by octet (unit needed tiled), held-nowhere (holdersOf (unit needed tiled)))
 row-of-none-by octet style s first past = rw (says-nothing-by octet style)
 row-of-none-by octet (protected enciphered) s first past =
     rw (says-nothing-by octet (protected enciphered), held-nowhere (holdersOf (protected enciphered)))

@@ -118,6 +118,6 @@ module _ (from to : ℕ) where
   unfolding bodyIn
   body-within profile i w = tt
   body-within (described needed types) i w = items-within 0x31 i w
-  body-within (unit needed holders) i w = items-within 0x31 i w
+  body-within (unit needed tiled) i w = items-within 0x31 i w
   body-within style i w = w
   body-within (protected enciphered) i w = tt

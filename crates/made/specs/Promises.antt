@@ -1,6 +1,6 @@
 -- What is promised of a letter that is made. W-208: "What is written is accepted, its layout list has the entries in their order and no
 -- others, and each content is the entry's text." A promise is a record, its fields are the clauses, and proofs/ has a value of each:
--- `reads` and `readable` (proofs/Letters), `refuses` (proofs/Refusals). Definitions only: assumes nothing.
+-- `reads` (proofs/Letters), `readable` and `answers` (proofs/Answering), `refuses` (proofs/Refusals). Definitions only: assumes nothing.
 use Prim.Native.Nat.{ℕ, _<_, _≤_}
 use mathlib.Core.Path.{_≡_}
 use mathlib.Core.Bool.{true, false}

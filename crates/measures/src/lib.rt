@@ -131,6 +131,7 @@ fn is_essential(h: usize, v: usize) -> bool
     fits(h, v, 9240, 12400)
 }
 
+// The pairs as the request prints them. The first two lie within the third, and so decide nothing.
 fn is_non_essential(h: usize, v: usize) -> bool
     ensures { λ r. ⌜ r ≡ within h v nonEssentialPairs ⌝ }
 {

@@ -1,24 +1,22 @@
-// Content in pieces: an octet string that is constructed, 24, holding 04 and 24 items down to the level limit. Whether a run holds
-// nothing else, how many octets its pieces have in all, and the pieces joined in order. Each function calls itself for the run inside a
-// 24, a level deeper.
+// A string in pieces: an octet string that is constructed, 24, holding 04 and 24 items down to the level limit; or a bit string, 23, holding 03
+// and 23 items. Whether a run holds nothing else, how many octets its pieces have in all, and the pieces joined in order. Each function
+// calls itself for the run inside a constructed piece, a level deeper.
 use runs::Met;
 use runs::Run;
 ghost use mathlib.Core.Path.{_≡_};
+ghost use mathlib.Core.Bool.{true, false};
 ghost use mathlib.Core.List.{_++_};
 ghost use Prim.Native.Nat.{_≤_};
 ghost use lib.ListN.{length, drop};
+ghost use Rattle.headers.specs.Head.{constructed};
 ghost use Rattle.runs.specs.Runs.{treeIn, Fine};
 ghost use Rattle.pieces.specs.Pieces.{onlyPieces, joined};
 
-// An octet string, and one that is constructed.
-const PIECE: usize = 0x04;
-
-const PIECES: usize = 0x24;
-
-// Whether a run holds pieces and nothing else, at every level. Another item among the pieces of a content is refused by 12.
-pub fn are_pieces(s: &[u8], r: Run) -> bool
-    requires { ⌜ Fine (now s) r ⌝ }
-    ensures { λ b. ⌜ b ≡ onlyPieces (treeIn (now (s .entry)) r) ⌝ }
+// Whether a run holds items with the octet of a piece, and constructed ones that hold such items, and nothing else, at every level.
+// Another item among the pieces is refused by 12.
+pub fn are_pieces(s: &[u8], r: Run, piece: usize, pieces: usize) -> bool
+    requires { ⌜ Fine (now s) r × (constructed piece ≡ false) × (constructed pieces ≡ true) ⌝ }
+    ensures { λ b. ⌜ b ≡ onlyPieces piece pieces (treeIn (now (s .entry)) r) ⌝ }
 {
     let mut cur = r;
     loop {
@@ -32,11 +30,11 @@ pub fn are_pieces(s: &[u8], r: Run) -> bool
                 rest,
             } => {
                 cur = rest;
-                if octet == PIECES {
-                    if !are_pieces(s, inner) {
+                if octet == pieces {
+                    if !are_pieces(s, inner, piece, pieces) {
                         return false;
                     }
-                } else if octet != PIECE {
+                } else if octet != piece {
                     return false;
                 }
             }

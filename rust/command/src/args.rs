@@ -7,7 +7,7 @@ use std::process::ExitCode;
 use clap::{CommandFactory, Parser, Subcommand};
 
 use crate::status::{Failure, Outcome, Status, tell};
-use crate::{check, date, export, list, make, man, normal, order, outline, pages, same, survey, text, tree};
+use crate::{check, date, export, identity, list, make, man, normal, order, outline, pages, same, survey, text, tree};
 
 const EXAMPLES: &str = "\
 Examples:
@@ -26,20 +26,9 @@ read or written, or the command was misused; 3 the independent reader differs, w
 /// The signal of a pipe that no one reads.
 const SIGPIPE: u8 = 13;
 
-/// What `--version` tells: which library this is, and what proved it.
-const VERSION: &str = concat!(
-    env!("CARGO_PKG_VERSION"),
-    "\nlibrary   libodif.a, sha256 ",
-    env!("ODIF_LIBRARY"),
-    "\ncommit    ",
-    env!("ODIF_COMMIT"),
-    "\ntoolchain ",
-    env!("ODIF_TOOLCHAIN")
-);
-
 /// Reads letters in the Open Document Interchange Format (ODIF, 1988 and 1993)
 #[derive(Parser)]
-#[command(name = "odif", version, long_version = VERSION, after_help = EXAMPLES, max_term_width = 100)]
+#[command(name = "odif", version, long_version = identity::version(), after_help = EXAMPLES, max_term_width = 100)]
 pub struct Cli {
     #[command(subcommand)]
     command: Command,

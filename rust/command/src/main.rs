@@ -13,6 +13,8 @@ mod export;
 mod faults;
 mod files;
 mod foreign;
+mod hash;
+mod identity;
 mod input;
 mod items;
 mod list;

@@ -69,10 +69,18 @@ static ELEMENTS: [Field; 12] = [
     items(0xAC, "post-enciphered body part", &ENCIPHERED),
 ];
 
-static SEALED: [Field; 2] =
-    [item(0x47, "protected-part identifier", Text), item(0x03, "sealed attributes", Bits(&PROFILE_ATTRIBUTES))];
-static ENCIPHERED: [Field; 2] =
-    [item(0x47, "protected-part identifier", Text), item(0x04, "enciphered information", Plain)];
+static SEALED: [Field; 3] = [
+    item(0x47, "protected-part identifier", Text),
+    item(0x03, "sealed attributes", Bits(&PROFILE_ATTRIBUTES)),
+    items(0x23, "sealed attributes in pieces", &SEALED_PIECES),
+];
+static SEALED_PIECES: [Field; 2] = [item(0x03, "piece", Plain), items(0x23, "pieces", &SEALED_PIECES)];
+static ENCIPHERED: [Field; 3] = [
+    item(0x47, "protected-part identifier", Text),
+    item(0x04, "enciphered information", Plain),
+    items(0x24, "enciphered information in pieces", &ENCIPHERED_PIECES),
+];
+static ENCIPHERED_PIECES: [Field; 2] = [item(0x04, "piece", Plain), items(0x24, "pieces", &ENCIPHERED_PIECES)];
 
 /// Document-Profile-Attribute-Names of 1993 (7.15), by their bits.
 #[rustfmt::skip]

@@ -6,6 +6,8 @@ use odif::raw::blocks::{self as raw, Blocks, Taken, Walked};
 use crate::rng::Rng;
 use crate::tally::Tally;
 
+/// A finding is 1 to 8.
+const LAST_FINDING: u32 = 8;
 /// What an early close is answered.
 const EARLY: Walked = Walked { number: 29, place: 0, headers: 0 };
 /// Octets past any total.
@@ -31,24 +33,46 @@ pub fn hold_fixed(tally: &mut Tally) {
     let most = raw::start(STREAM_LIMIT);
     tally.expect(most.number == 0, || format!("the largest total: {}", most.number));
     made_up(tally);
+    no_finding(tally);
+}
+
+/// A finding that is none: a state of a letter that has come, but for its number.
+fn no_finding(tally: &mut Tally) {
+    let came = raw::take(raw::start(2).state, &[0xA0, 0x00]).state;
+    for number in [9, 15, 28, 29, 77, u32::MAX] {
+        let state = Blocks { number, ..came };
+        let taken = raw::take(state, &[]);
+        let closed = raw::close(state);
+        let refused = taken == Taken { number: 28, state } && closed == EARLY;
+        tally.expect(refused, || format!("a state with the finding {number}: {taken:?}, closed: {closed:?}"));
+    }
+    for number in 1..=LAST_FINDING {
+        let closed = raw::close(Blocks { number, place: 1, ..came });
+        let told = Walked { number, place: 1, headers: 1 };
+        tally.expect(closed == told, || format!("a state with the finding {number}: {closed:?}"));
+    }
 }
 
 /// States with any numbers are answered: what the engine can't go on with is refused and given back.
 fn made_up(tally: &mut Tally) {
     let mut rng = Rng::new(209);
     for _ in 0..20_000 {
-        let numbers = [0, 1, 2, 7, 8, 15, 16, 17, 100, STREAM_LIMIT, STREAM_LIMIT + 1, u32::MAX as usize, usize::MAX];
+        let limit = STREAM_LIMIT as u64;
+        let numbers = [0, 1, 2, 7, 8, 15, 16, 17, 100, limit, limit + 1, u64::from(u32::MAX), u64::MAX];
         let mut number = || *rng.pick(&numbers);
         let (total, taken, at, level) = (number(), number(), number(), number());
         let [headers, found, place, have] = [number() as u32, number() as u32, number() as u32, number() as u32];
-        let found = if found > 8 { 0 } else { found };
+        let found = if number() < 2 { found } else { found % (LAST_FINDING + 1) };
         let ends = std::array::from_fn(|_| number() as u32);
         let begun = std::array::from_fn(|_| rng.octet());
         let state = Blocks { total, taken, at, level, headers, number: found, place, have, ends, begun };
-        let good = found != 0 || level <= 16 && have <= 7 && headers as usize <= taken && total <= STREAM_LIMIT;
+        let good = match found {
+            0 => level <= 16 && have <= 7 && u64::from(headers) <= taken && total <= limit,
+            number => number <= LAST_FINDING,
+        };
         let block = rng.octets(rng.clone().below(20));
         let answer = raw::take(state, &block);
-        let fits = good && taken <= total && block.len() <= total - taken;
+        let fits = good && taken <= total && block.len() as u64 <= total - taken;
         let holds = if fits { answer.number == 0 } else { answer == Taken { number: 28, state } };
         tally.expect(holds, || format!("{state:?} takes {block:02X?}: {answer:?}"));
         let closed = raw::close(state);

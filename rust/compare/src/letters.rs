@@ -187,14 +187,15 @@ fn unit(edition: Edition, names: &mut Names, rng: &mut Rng) -> Option<Item> {
 fn content(edition: Edition, rng: &mut Rng) -> Option<Item> {
     let sorts = if edition == Edition::Of1993 { 5 } else { 3 };
     match rng.below(sorts) {
-        0 => Some(in_pieces(0x24, rng)),
+        0 => Some(in_pieces(0x24, 0x04, rng)),
         1 | 2 => Some(text(rng)),
-        3 => Some(in_pieces(0x30, rng)),
+        3 => Some(in_pieces(0x30, 0x04, rng)),
         _ => None,
     }
 }
 
-/// A protected part of 1993: its identifier, of any spelling or that of another element, and its information.
+/// A protected part of 1993: its identifier, of any spelling or that of another element, and its information, which may
+/// be in pieces.
 fn protected_part(names: &Names, rng: &mut Rng) -> Item {
     let octet = rng.between(0xA9, 0xAC) as u8;
     let identifier = match rng.below(4) {
@@ -202,8 +203,13 @@ fn protected_part(names: &Names, rng: &mut Rng) -> Item {
         1 => names.objects.iter().min().map_or(Vec::new(), |name| name.clone().into_bytes()),
         _ => digits(rng).into_bytes(),
     };
-    let length = *rng.pick(&[0, 1, 2, 16, 128]);
-    let information = Item::value(if octet == 0xA9 { 0x03 } else { 0x04 }, rng.octets(length));
+    let string = if octet == 0xA9 { 0x03 } else { 0x04 };
+    let information = if rng.one_in(3) {
+        in_pieces(string | 0x20, string, rng)
+    } else {
+        let length = *rng.pick(&[0, 1, 2, 16, 128]);
+        Item::value(string, rng.octets(length))
+    };
     Item::run(octet, vec![Item::value(0x47, identifier), information])
 }
 
@@ -215,32 +221,32 @@ fn text(rng: &mut Rng) -> Item {
     Item::value(0x04, rng.octets(length))
 }
 
-/// Content in pieces, or in tiles: a few of them, empty and nested ones among them, now and then down to the deepest
-/// level.
-fn in_pieces(octet: u8, rng: &mut Rng) -> Item {
+/// A string in pieces of this octet, or tiles: a few of them, empty and nested ones among them, now and then down to the
+/// deepest level.
+fn in_pieces(octet: u8, string: u8, rng: &mut Rng) -> Item {
     let deepest = if rng.one_in(8) { DEEPEST } else { rng.between(3, 6) };
-    Item::run(octet, pieces(rng, 3, deepest))
+    Item::run(octet, pieces(string, rng, 3, deepest))
 }
 
 /// Pieces at this level. Where they are to reach a deep level, one of them leads there.
-fn pieces(rng: &mut Rng, level: usize, deepest: usize) -> Vec<Item> {
+fn pieces(string: u8, rng: &mut Rng, level: usize, deepest: usize) -> Vec<Item> {
     let count = rng.below(4);
-    let mut pieces: Vec<Item> = (0..count).map(|_| piece(rng, level, deepest)).collect();
+    let mut pieces: Vec<Item> = (0..count).map(|_| piece(string, rng, level, deepest)).collect();
     if deepest == DEEPEST && level < DEEPEST {
         let at = rng.below(count + 1);
-        pieces.insert(at, Item::run(0x24, self::pieces(rng, level + 1, deepest)));
+        pieces.insert(at, Item::run(string | 0x20, self::pieces(string, rng, level + 1, deepest)));
     }
     pieces
 }
 
-fn piece(rng: &mut Rng, level: usize, deepest: usize) -> Item {
+fn piece(string: u8, rng: &mut Rng, level: usize, deepest: usize) -> Item {
     if !rng.one_in(3) {
         let length = *rng.pick(&[0, 1, 2, 3, 60]);
-        return Item::value(0x04, rng.octets(length));
+        return Item::value(string, rng.octets(length));
     }
     // Only one of a run goes on to a deep level, so that letters stay short.
-    let inner = if level < deepest.min(6) { pieces(rng, level + 1, deepest.min(6)) } else { Vec::new() };
-    Item::run(0x24, inner)
+    let inner = if level < deepest.min(6) { pieces(string, rng, level + 1, deepest.min(6)) } else { Vec::new() };
+    Item::run(string | 0x20, inner)
 }
 
 fn style(names: &mut Names, rng: &mut Rng) -> Item {
@@ -353,29 +359,29 @@ fn slip_in_element(elements: &mut [Item], rng: &mut Rng) {
     }
 }
 
-/// Somewhere among the pieces of a content, at whatever level, an item that is no piece, or almost one.
+/// Somewhere among the pieces of a content or of a seal, at whatever level, an item that is no piece, or almost one.
 fn slip_among_pieces(elements: &mut [Item], rng: &mut Rng) {
     let contents = elements.iter_mut().filter_map(|element| match element {
-        Item::Constructed(0xA3, run) => run.last_mut(),
+        Item::Constructed(0xA3 | 0xA9..=0xAC, run) => run.last_mut(),
         _ => None,
     });
-    let mut in_pieces: Vec<_> = contents.filter(|content| matches!(octet_of(content), 0x24 | 0x30)).collect();
+    let mut in_pieces: Vec<_> = contents.filter(|content| matches!(octet_of(content), 0x23 | 0x24 | 0x30)).collect();
     if in_pieces.is_empty() {
         return;
     }
     let place = rng.below(in_pieces.len());
     let item = match rng.below(4) {
         0 => free_item(rng, DEEPEST, DEEPEST, &[]),
-        1 => Item::value(*rng.pick(&[0x03, 0x05, 0x12, 0x16, 0x44, 0x84, 0xC4]), Vec::new()),
-        _ => Item::run(*rng.pick(&[0x23, 0x30, 0x31, 0x32, 0x34, 0x64, 0xA4, 0xE4]), Vec::new()),
+        1 => Item::value(*rng.pick(&[0x03, 0x04, 0x05, 0x12, 0x16, 0x44, 0x84, 0xC4]), Vec::new()),
+        _ => Item::run(*rng.pick(&[0x23, 0x24, 0x30, 0x31, 0x32, 0x34, 0x64, 0xA4, 0xE4]), Vec::new()),
     };
     put_among_pieces(in_pieces.swap_remove(place), item, rng);
 }
 
-/// Puts an item into the run of a 24, or into that of a 24 in it.
+/// Puts an item into the run of a 24 or 23, or into that of one in it.
 fn put_among_pieces(pieces: &mut Item, item: Item, rng: &mut Rng) {
     let Item::Constructed(_, run) = pieces else { return };
-    let nested: Vec<usize> = (0..run.len()).filter(|&place| octet_of(&run[place]) == 0x24).collect();
+    let nested: Vec<usize> = (0..run.len()).filter(|&place| matches!(octet_of(&run[place]), 0x23 | 0x24)).collect();
     if nested.is_empty() || rng.one_in(4) {
         run.insert(rng.below(run.len() + 1), item);
     } else {

@@ -19,7 +19,7 @@ streams, and generated letters, good, damaged and noise; letters in the order of
 B, and nearly so; and made letters, which are read again. Its last line is `N passed, M failed`.
 
   --seed N     the generated streams of this seed (1)
-  --streams N  so many of them (100000); with more it runs longer
+  --streams N  so many of them (30000, as the gate does); with more it runs longer
   --from N     begin with this one (0), and leave out what is not generated
   --jobs N     so many threads (as many as there are processors)
 ";
@@ -69,7 +69,7 @@ fn main() -> ExitCode {
 
 fn options(mut words: impl Iterator<Item = String>) -> Result<Option<Options>, String> {
     let processors = thread::available_parallelism().map_or(1, usize::from);
-    let mut options = Options { seed: 1, streams: 100_000, from: None, jobs: processors };
+    let mut options = Options { seed: 1, streams: 30_000, from: None, jobs: processors };
     while let Some(word) = words.next() {
         if word == "--help" || word == "-h" {
             return Ok(None);

@@ -63,7 +63,8 @@ impl Blocks {
 
     /// How many octets are still to come.
     pub fn left(&self) -> usize {
-        self.0.total - self.0.taken
+        // both are octets of one letter, which has no more than a slice may have
+        (self.0.total - self.0.taken) as usize
     }
 
     /// What the walk of the letter tells, if all octets have come.

@@ -75,7 +75,8 @@ fn the_sentences_and_the_version_are_those_of_this_crate() {
     let mut lines = text.lines();
     let parts = env!("CARGO_PKG_VERSION").split('.').map(|part| part.parse::<u32>().unwrap());
     let number = parts.fold(0, |number, part| 100 * number + part);
-    assert_eq!(lines.next().unwrap(), format!("{} {number}", env!("CARGO_PKG_VERSION")));
+    let version = env!("CARGO_PKG_VERSION");
+    assert_eq!(lines.next().unwrap(), format!("{version} {number} {version}"));
     assert_eq!(lines.next(), Some("accepted"));
     for rule in Rule::ALL {
         assert_eq!(lines.next(), Some(rule.sentence()), "{}", rule.number());

@@ -17,9 +17,9 @@ const NO_OBJECT_TYPE: u32 = 255;
 pub(crate) mod octet {
     pub const OBJECT_TYPE: u8 = 0x02;
     pub const SEALED_INFORMATION: u8 = 0x03;
+    pub const SEALED_INFORMATION_IN_PIECES: u8 = 0x23;
     pub const CONTENT: u8 = 0x04;
     pub const CONTENT_IN_PIECES: u8 = 0x24;
-    pub const ENCIPHERED_INFORMATION: u8 = 0x04;
     pub const PORTION: u8 = 0x12;
     pub const TILES: u8 = 0x30;
     pub const DESCRIPTOR: u8 = 0x31;
@@ -175,11 +175,11 @@ fn contents(tree: &Tree, place: usize, kind: u8, edition: Edition) -> Result<Par
         kind::TEXT_UNIT => unit(tree, place, edition),
         kind::PRESENTATION_STYLE | kind::LAYOUT_STYLE => style(tree.run(place)),
         kind::SEALED_PROFILE => {
-            protected(tree.run(place), octet::SEALED_INFORMATION)?;
+            protected(tree, place, is_seal_piece, Why::NotASealPiece)?;
             Ok(Parts::default())
         }
         kind::ENCIPHERED_PROFILE | kind::PREENCIPHERED_PART | kind::POSTENCIPHERED_PART => {
-            let content = protected(tree.run(place), octet::ENCIPHERED_INFORMATION)?;
+            let content = protected(tree, place, is_piece, Why::NotAPiece)?;
             Ok(Parts { content: Some(content), ..Parts::default() })
         }
         kind::LAYOUT_CLASS | kind::LOGICAL_CLASS => {
@@ -260,11 +260,20 @@ fn style(run: Run<'_>) -> Result<Parts<'_>, Why> {
     Ok(Parts { identifier: Some(identifier), ..Parts::default() })
 }
 
-/// "SEQUENCE { Protected-Part-Identifier, .. }": a 47, then the information, both primitive, and nothing else.
-fn protected(mut run: Run<'_>, information: u8) -> Result<(usize, &Item), Why> {
+/// Is it a 03, or a 23 that holds pieces?
+fn is_seal_piece(item: &Item) -> bool {
+    matches!(item.octet(), octet::SEALED_INFORMATION | octet::SEALED_INFORMATION_IN_PIECES)
+}
+
+/// "SEQUENCE { Protected-Part-Identifier, .. }": a 47, then the information, and nothing else. The information is an
+/// "OCTET STRING" or a "BIT STRING", which X.209 lets be constructed: it then holds strings of its own type alone.
+fn protected(tree: &Tree, place: usize, is_string: fn(&Item) -> bool, other: Why) -> Result<(usize, &Item), Why> {
+    let mut run = tree.run(place);
     let is_identifier = |item: &Item| item.octet() == octet::PROTECTED_PART_IDENTIFIER;
     match [run.next(), run.next(), run.next()] {
-        [Some((_, first)), Some(last), None] if is_identifier(first) && last.1.octet() == information => Ok(last),
+        [Some((_, first)), Some((at, string)), None] if is_identifier(first) && is_string(string) => {
+            if tree.inside(at).iter().all(is_string) { Ok((at, string)) } else { Err(other) }
+        }
         [None, ..] => Err(Why::ItemMissing),
         [Some((_, first)), None, _] if is_identifier(first) => Err(Why::ItemMissing),
         _ => Err(Why::ItemOutOfPlace),

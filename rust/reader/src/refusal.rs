@@ -81,6 +81,8 @@ pub enum Why {
     NotAPortion,
     /// 12: an item among the pieces of a content that is neither 04 nor 24.
     NotAPiece,
+    /// 12: an item among the pieces of a sealed profile's bit string that is neither 03 nor 23.
+    NotASealPiece,
     /// 13: an object type that is not one octet.
     ObjectTypeLength,
     /// 13: an object type outside its range.
@@ -137,6 +139,7 @@ impl Why {
             ItemForbidden => (12, "the element has an item that must not stand there"),
             NotAPortion => (12, "an item among the portions is no 12"),
             NotAPiece => (12, "an item among the pieces of the content is neither 04 nor 24"),
+            NotASealPiece => (12, "an item among the pieces of the bit string is neither 03 nor 23"),
             ObjectTypeLength => (13, "the object type is not one octet"),
             ObjectTypeRange => (13, "the object type is outside its range"),
             IdentifierMisspelt => (14, "an identifier is misspelt"),

@@ -1,5 +1,5 @@
--- `elements::see` meets its contract: items that do not stand in order, and another item among the pieces, are refused by 12, and what
--- the others hold is looked into. Assumes nothing.
+-- `elements::see` meets its contract: items that do not stand in order, and another item among the pieces of the content or of a seal, are
+-- refused by 12, and what the others hold is looked into. Assumes nothing.
 use mathlib.Core.Path.{sym, _∙_, subst}
 use borrow.Author.Needs.{needs}
 use borrow.Author.Tests.{not-true, not-false}
@@ -7,7 +7,7 @@ use Rattle.runs.specs.Runs.{treeIn}
 use Rattle.elements.specs.Slots.{slotContent}
 use Rattle.elements.specs.Frames.{Framed}
 use Rattle.elements.specs.Sees.{SeesSlots}
-use Rattle.elements.proofs.Seeing.{sees-unordered, sees-others}
+use Rattle.elements.proofs.Seeing.{sees-unordered, sees-others, sees-seal}
 use Rattle.elements.proofs.see.Statement.{statement}
 use Rattle.elements.proofs.see.Tie as tie
 
@@ -49,9 +49,24 @@ returns-2 c =
     subst (SeesSlots (a .s .now) (a .shape) (a .r) (a .first) (a .past) _) (sym (c .refused2 .ensures))
     (sees-others (a .s .now) (a .shape) (a .r) (a .first) (a .past) _ others)
 
+seal-alone-requires : tie.Need-seal-alone-requires
+seal-alone-requires c κs = search needs
+
+refused-requires-3 : tie.Need-refused-requires-3
+refused-requires-3 c κs = search needs
+
+returns-3 : tie.Need-returns-3
+returns-3 c =
+    let at-seal = c .before .before in
+    let a = at-seal .before .before .before .before .before .before .before .before .args in
+    let seal = at-seal .seal-alone in
+    let others = sym (seal .ensures) ∙ not-true (seal .result) (c .before .if3 .taken) in
+    subst (SeesSlots (a .s .now) (a .shape) (a .r) (a .first) (a .past) _) (sym (c .refused3 .ensures))
+    (sees-seal (a .s .now) (a .shape) (a .r) (a .first) (a .past) _ others)
+
 see-body-requires : tie.Need-see-body-requires
 see-body-requires c κs =
-    let at-else = c .before .before .before in
+    let at-else = c .before .before .before .before .before in
     let start = at-else .before .before .before .before .before in
     let top = framed at-else in (
       record {
@@ -68,17 +83,21 @@ see-body-requires c κs =
 same-length : tie.Need-same-length
 same-length c = search needs
 
-returns-3 : tie.Need-returns-3
-returns-3 c =
+returns-4 : tie.Need-returns-4
+returns-4 c =
     let at-body = c .before .before in
-    let at-if = at-body .before .before in
+    let at-sealed = at-body .before .before in
+    let seal = at-sealed .before .seal-alone in
+    let at-if = at-sealed .before .before in
     let at-else = at-if .before .before in
     let a = at-else .before .before .before .before .before .args in
     let top = framed at-else in
     let alone = at-if .before .pieces-alone in
     at-body .see-body .ensures (a .r) top
     (sym (alone .ensures (slotContent (a .shape) (treeIn (a .s .now) (a .r))) (top .content .held)) ∙ not-false (alone .result) (at-if .if2 .left))
+    (sym (seal .ensures) ∙ not-false (seal .result) (at-sealed .if3 .left))
 
 pub see-spec : {M : Type 1} → statement M
 see-spec =
-    tie.close (tie.spec frame-of-requires refused-requires returns pieces-alone-requires refused-requires-2 returns-2 see-body-requires same-length returns-3)
+    tie.close (tie.spec frame-of-requires refused-requires returns pieces-alone-requires refused-requires-2 returns-2 seal-alone-requires
+    refused-requires-3 returns-3 see-body-requires same-length returns-4)

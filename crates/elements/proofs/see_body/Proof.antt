@@ -64,12 +64,13 @@ returns c =
     let numbers = listed .last .1 .1 .0 in
     let gathers : Gathers s (frame .body) (soughtOf shape) (gather .result) =
     subst (λ (x : Sought). Gathers s (frame .body) x (gather .result)) (at-sought .sought-of .ensures) (gather .ensures) in
-    λ r framed alone.
+    λ r framed alone seal-alone.
     let found : Findings s shape r frame (gather .result) (listed .result) numbers (typed .result) =
     record {
       made = start .pre .0 .made;
       framed = framed;
       alone = alone;
+      seal-alone = seal-alone;
       gathers = gathers;
       lists = listed .ensures (λ z. gathers .list-items ∙ uncounted (gathers .portions) z);
       types = typed .ensures .1 (firstValue (shape .object) (treeIn s r)) (framed .object .value (start .pre .0 .made .object));

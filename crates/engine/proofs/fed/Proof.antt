@@ -6,7 +6,8 @@ use native.Mathlib.Omega.{arith}
 use lib.ListN.{length, drop}
 use lib.Seq.{drop-length}
 use Rattle.blocks.specs.Engine.{State, feed}
-use Rattle.engine.specs.Stored.{stateOf, Sound, Fine, Turns}
+use Rattle.engine.specs.Stored.{stateOf}
+use Rattle.engine.specs.Skimming.{FineIfReading, Fine, Turns}
 use Rattle.engine.proofs.fed.Statement.{statement}
 use Rattle.engine.proofs.fed.Tie as tie
 use Rattle.engine.proofs.fed.Reads as reads
@@ -16,7 +17,7 @@ use Rattle.engine.proofs.turn.turn.Reads as turn-reads
 
 abbrev Inv-loop : tie.InvT-loop
 Inv-loop block n s₀ i₀ s i =
-    (i ≤ length block) × (s .taken + (length block - i) ≤ s .total) × Sound s × (length block ≤ s .total)
+    (i ≤ length block) × (s .taken + (length block - i) ≤ s .total) × FineIfReading s × (length block ≤ s .total)
     × (feed (stateOf s₀) (drop i₀ block) ≡ feed (stateOf s) (drop i block))
 
 abbrev μ-loop : tie.MeasureT-loop
@@ -32,7 +33,7 @@ loop-holds c =
     let k = c .before .skim-block .ensures in
     let s = c .before .before .before in
     let total = k .total in
-    (k .within, k .fits, k .sound, omega arith, refl)
+    (k .within, k .fits, k .fine, omega arith, refl)
 
 turn-requires : tie.Need-turn-requires Inv-loop μ-loop
 turn-requires c κs =
@@ -45,7 +46,7 @@ skim-block-requires-2 c κs =
     let l = c .before .before .loop .inv in
     let total = t .total in
     let enough = l .3 in
-    (t .sound, t .within, t .fits, omega arith)
+    (t .fine, t .within, t .fits, omega arith)
 
 loop-less : tie.Need-loop-less Inv-loop μ-loop
 loop-less c =
@@ -61,7 +62,7 @@ loop-again c =
     let one = t .total in
     let two = k .total in
     let enough = l .3 in
-    (k .within, k .fits, k .sound, omega arith, l .4 ∙ t .state ∙ k .state)
+    (k .within, k .fits, k .fine, omega arith, l .4 ∙ t .state ∙ k .state)
 
 returns : tie.Need-returns Inv-loop μ-loop
 returns c =

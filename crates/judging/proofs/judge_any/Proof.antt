@@ -5,14 +5,13 @@ use Prim.Native.Nat.{ℕ}
 use native.Mathlib.Omega.{arith}
 use borrow.Author.Needs.{needs}
 use lib.ListN.{length}
-use Rattle.headers.specs.Head.{typeField}
 use Rattle.runs.specs.Runs.{treeIn}
 use Rattle.elements.specs.declared.Row.{Row}
 use Rattle.elements.specs.declared.Slots.{Slots}
 use Rattle.elements.specs.Judge.{Element, twice, shapeRefusal}
 use Rattle.elements.specs.WellMade.{WellMade}
 use Rattle.elements.specs.Sees.{SeesShape, SeesSlots}
-use Rattle.elements.proofs.Made.{made, slotted}
+use Rattle.elements.proofs.Made.{made}
 use Rattle.elements.proofs.Slotting.{octet-same, sees-shape}
 use Rattle.judging.specs.Done.{Keeps}
 use Rattle.judging.specs.Judges.{earlyRefusal, shapeBy, elementBy}
@@ -46,7 +45,7 @@ seen-is : (c : tie.After-see) →
     SeesShape (a .s .now) (shapeBy (a .edition) (a .item .octet)) (a .item .inner) (a .item .first) (a .item .past) (c .see .last .1 .1 .1 .1 .1 .0) (c .see .result)
 seen-is c =
     let a = c .before .before .before .before .before .before .before .before .before .before .before .before .args in
-    sees-shape (c .before .before .before .before .before .before .before .before .before .before .before .before .pre .1 .0) (shapeBy (a .edition) (a .item .octet)) (slotted (a .edition) (typeField (a .item .octet))) (a .item .first) (a .item .past)
+    sees-shape (c .before .before .before .before .before .before .before .before .before .before .before .before .pre .1 .0) (shapeBy (a .edition) (a .item .octet)) (a .item .first) (a .item .past)
     (subst (λ (x : Slots). SeesSlots (a .s .now) x (a .item .inner) (a .item .first) (a .item .past) (c .see .last .1 .1 .1 .1 .1 .0) (c .see .result)) (c .before .before .before .before .shape-of .ensures) (c .see .ensures))
 
 later-passed : (c : tie.Else2) →

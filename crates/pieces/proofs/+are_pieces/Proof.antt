@@ -34,10 +34,11 @@ abbrev calls : ℕ → lts.Claims
 calls t = (meet-reads.Asked, meet-reads.Learnt, pre-below t, are-pieces.Post)
 
 abbrev Inv-loop : lts.InvT-loop
-Inv-loop s cur₀ cur = Fine s cur × (cur .room ≡ cur₀ .room) × (onlyPieces (treeIn s cur₀) ≡ onlyPieces (treeIn s cur))
+Inv-loop s piece pieces cur₀ cur =
+    Fine s cur × (cur .room ≡ cur₀ .room) × (onlyPieces piece pieces (treeIn s cur₀) ≡ onlyPieces piece pieces (treeIn s cur))
 
 abbrev μ-loop : lts.MeasureT-loop
-μ-loop s cur₀ cur = cur .limit - cur .at
+μ-loop s piece pieces cur₀ cur = cur .limit - cur .at
 
 module _ (t : ℕ) where
   -- the item that is met
@@ -50,7 +51,7 @@ module _ (t : ℕ) where
       (c .before .before .before .meet .ensures) (c .before .octet .given .1)
 
   loop-holds : lts.Need-loop-holds (calls t) (pre-at t) are-pieces.Post Inv-loop μ-loop
-  loop-holds c = (c .before .pre .1, refl, refl)
+  loop-holds c = (c .before .pre .1 .0, refl, refl)
 
   meet-requires : lts.Need-meet-requires (calls t) (pre-at t) are-pieces.Post Inv-loop μ-loop
   meet-requires c κs = c .loop .inv .0
@@ -60,21 +61,28 @@ module _ (t : ℕ) where
 
   returns : lts.Need-returns (calls t) (pre-at t) are-pieces.Post Inv-loop μ-loop
   returns c =
-      let s = now (c .before .before .before .before .before .args .s) in
+      let a = c .before .before .before .before .before .args in
       let l = c .before .before .before .loop in
-      only-none s (l .cur) (met s (l .cur) (c .before .before .meet .ensures) (c .enum-told .given .1)) ∙ sym (l .inv .2)
+      only-none (a .piece) (a .pieces) (now (a .s)) (l .cur)
+      (met (now (a .s)) (l .cur) (c .before .before .meet .ensures) (c .enum-told .given .1)) ∙ sym (l .inv .2)
 
   enum-known-octet : lts.Need-enum-known-octet (calls t) (pre-at t) are-pieces.Post Inv-loop μ-loop
   enum-known-octet c = search needs
 
   are-pieces-requires : lts.Need-are-pieces-requires (calls t) (pre-at t) are-pieces.Post Inv-loop μ-loop
-  are-pieces-requires c κs = let m = meeting (c .before) in (omega (arith, level-less m), m .inner-fine)
+  are-pieces-requires c κs =
+      let m = meeting (c .before) in
+      let start = c .before .before .before .before .before .before .before in
+      (omega (arith, level-less m), (m .inner-fine, start .pre .1 .1, start .pre .1 .2))
 
   returns-2 : lts.Need-returns-2 (calls t) (pre-at t) are-pieces.Post Inv-loop μ-loop
   returns-2 c =
+      let at-loop = c .before .before .before .before .before .before .before in
+      let start = at-loop .before .before in
       let no = sym (c .before .are-pieces .ensures) ∙ not-true _ (c .if2 .taken) in
-      let e = only-pieces (meeting (c .before .before .before)) (c .before .before .if1 .taken) false no in
-      sym (c .before .before .before .before .before .before .before .loop .inv .2 ∙ e)
+      let m = meeting (c .before .before .before) in
+      let e = only-pieces (start .args .piece) (start .args .pieces) m (start .pre .1 .2) (c .before .before .if1 .taken) false no in
+      sym (at-loop .loop .inv .2 ∙ e)
 
   loop-less : lts.Need-loop-less (calls t) (pre-at t) are-pieces.Post Inv-loop μ-loop
   loop-less c = meeting (c .before .before .before) .less
@@ -82,14 +90,19 @@ module _ (t : ℕ) where
   loop-again : lts.Need-loop-again (calls t) (pre-at t) are-pieces.Post Inv-loop μ-loop
   loop-again c =
       let m = meeting (c .before .before .before) in
-      let l = c .before .before .before .before .before .before .before .loop in
+      let at-loop = c .before .before .before .before .before .before .before in
+      let start = at-loop .before .before in
+      let l = at-loop .loop in
       let yes = sym (c .before .are-pieces .ensures) ∙ not-false _ (c .if2 .left) in
-      (m .rest-fine, m .rest-room ∙ l .inv .1, l .inv .2 ∙ only-pieces m (c .before .before .if1 .taken) true yes)
+      let e = only-pieces (start .args .piece) (start .args .pieces) m (start .pre .1 .2) (c .before .before .if1 .taken) true yes in
+      (m .rest-fine, m .rest-room ∙ l .inv .1, l .inv .2 ∙ e)
 
   returns-3 : lts.Need-returns-3 (calls t) (pre-at t) are-pieces.Post Inv-loop μ-loop
   returns-3 c =
-      let e = only-other (meeting (c .before .before)) (c .if3 .taken) (c .before .if1 .left) in
-      sym (c .before .before .before .before .before .before .loop .inv .2 ∙ e)
+      let at-loop = c .before .before .before .before .before .before in
+      let a = at-loop .before .before .args in
+      let e = only-other (a .piece) (a .pieces) (meeting (c .before .before)) (c .if3 .taken) (c .before .if1 .left) in
+      sym (at-loop .loop .inv .2 ∙ e)
 
   loop-less-2 : lts.Need-loop-less-2 (calls t) (pre-at t) are-pieces.Post Inv-loop μ-loop
   loop-less-2 c = meeting (c .before .before) .less
@@ -97,8 +110,11 @@ module _ (t : ℕ) where
   loop-again-2 : lts.Need-loop-again-2 (calls t) (pre-at t) are-pieces.Post Inv-loop μ-loop
   loop-again-2 c =
       let m = meeting (c .before .before) in
-      let l = c .before .before .before .before .before .before .loop in
-      (m .rest-fine, m .rest-room ∙ l .inv .1, l .inv .2 ∙ only-piece m (c .if3 .left))
+      let at-loop = c .before .before .before .before .before .before in
+      let start = at-loop .before .before in
+      let l = at-loop .loop in
+      let e = only-piece (start .args .piece) (start .args .pieces) m (start .pre .1 .1) (c .if3 .left) in
+      (m .rest-fine, m .rest-room ∙ l .inv .1, l .inv .2 ∙ e)
 
 pub +are-pieces-spec : {M : Type 1} → statement M
 +are-pieces-spec =

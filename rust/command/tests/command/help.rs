@@ -46,12 +46,14 @@ fn every_subcommand_has_help_with_examples() {
 fn the_version() {
     let run = odif(&["--version"]);
     let lines: Vec<&str> = run.text().lines().collect();
-    assert_eq!((lines.len(), lines[0]), (4, concat!("odif ", env!("CARGO_PKG_VERSION"))));
-    let library = std::env::var_os("ODIF_LIB_DIR").map_or_else(|| repository().join("target/staticlib"), PathBuf::from);
-    let hash = Command::new("sha256sum").arg(library.join("libodif.a")).output().unwrap().stdout;
-    let hash = String::from_utf8(hash).unwrap();
-    assert_eq!(lines[1], format!("library   libodif.a, sha256 {}", hash.split(' ').next().unwrap()));
-    assert!(lines[2].starts_with("commit    ") && lines[3].starts_with("toolchain "), "{}", run.text());
+    assert_eq!((lines.len(), lines[0]), (5, concat!("odif ", env!("CARGO_PKG_VERSION"))));
+    let folder = std::env::var_os("ODIF_LIB_DIR").map_or_else(|| repository().join("target/staticlib"), PathBuf::from);
+    for (line, named, archive) in [(1, "library   ", "libodif.a"), (2, "desk      ", "libpm1.a")] {
+        let hash = Command::new("sha256sum").arg(folder.join(archive)).output().unwrap().stdout;
+        let hash = String::from_utf8(hash).unwrap();
+        assert_eq!(lines[line], format!("{named}{archive}, sha256 {}", hash.split(' ').next().unwrap()));
+    }
+    assert!(lines[3].starts_with("commit    ") && lines[4].starts_with("toolchain "), "{}", run.text());
     assert_eq!(odif(&["-V"]).text().lines().count(), 1);
 }
 

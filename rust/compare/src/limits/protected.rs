@@ -1,5 +1,5 @@
-//! Protected parts of 1993: their two items and every other run of items, their names, as many as there can be, and what
-//! stands before and after them.
+//! Protected parts of 1993: their two items and every other run of items, strings in pieces, their names, as many as there
+//! can be, and what stands before and after them.
 
 use odif::MOST_ELEMENTS;
 
@@ -26,7 +26,7 @@ pub fn contents() -> Vec<Case> {
         }
         cases.push(case("contents of an indefinite AA", letter(&[indefinite(0xAA, &run)])));
     }
-    // What is in a constructed one does not make it one of the two.
+    // A constructed string is one of the two if it holds its own pieces; what is in another item does not make it one.
     for octet in OCTETS {
         for (outer, inner) in [(0x67, 0x13), (0x67, 0x47), (0x24, 0x04), (0x23, 0x03), (0x30, 0x04)] {
             let constructed = item(outer, &item(inner, b"1"));
@@ -36,6 +36,51 @@ pub fn contents() -> Vec<Case> {
         }
         cases.push(case(format!("{octet:02X} first of all"), part(octet, b"1", b"")));
         cases.push(case(format!("a primitive {octet:02X}"), letter(&[item(octet & !0x20, &[])])));
+    }
+    cases
+}
+
+/// Strings in pieces: every short run of what may be a piece and what may not, and pieces down to the deepest level and
+/// one past it, with a wrong one at one of the levels.
+pub fn pieces() -> Vec<Case> {
+    let mut cases = Vec::new();
+    let items = [
+        item(0x03, &[]),
+        item(0x03, &[7, 0x80]),
+        item(0x04, &[]),
+        item(0x04, b"xy"),
+        item(0x05, &[]),
+        item(0x23, &[]),
+        indefinite(0x23, &item(0x03, &[0])),
+        item(0x23, &item(0x04, b"x")),
+        item(0x24, &[]),
+        indefinite(0x24, &item(0x04, b"x")),
+        item(0x24, &item(0x03, &[0])),
+        item(0x30, &item(0x04, b"x")),
+    ];
+    for run in runs_of(&items, 3) {
+        for octet in [0xA9, 0xAA, 0xAC] {
+            for string in [item(0x23, &run), indefinite(0x24, &run)] {
+                let inner = [item(0x47, b"1"), string].concat();
+                cases.push(case(format!("pieces in {octet:02X}"), letter(&[item(octet, &inner)])));
+            }
+        }
+    }
+    for (octet, string) in [(0xA9, 0x03), (0xAA, 0x04), (0xAB, 0x04), (0xAC, 0x04)] {
+        for depth in [2, 3, 14, 15, 16] {
+            for wrong in 0..=depth {
+                let mut nested = item(string, &[0]);
+                for level in (2..=depth).rev() {
+                    if level == wrong {
+                        nested.extend(item(string ^ 0x07, &[0]));
+                    }
+                    nested =
+                        if level % 3 == 0 { indefinite(string | 0x20, &nested) } else { item(string | 0x20, &nested) };
+                }
+                let inner = [item(0x47, b"1"), nested].concat();
+                cases.push(case(format!("{octet:02X} in pieces to level {depth}"), letter(&[item(octet, &inner)])));
+            }
+        }
     }
     cases
 }

@@ -6,13 +6,13 @@
 #[derive(Clone, Copy, Debug, PartialEq, Eq)]
 pub struct Blocks {
     /// The octets told.
-    pub total: usize,
+    pub total: u64,
     /// The octets that have come.
-    pub taken: usize,
+    pub taken: u64,
     /// Where the next header stands.
-    pub at: usize,
+    pub at: u64,
     /// How many items are open there.
-    pub level: usize,
+    pub level: u64,
     /// The items that passed 2 to 8.
     pub headers: u32,
     /// The finding, 1 to 8, or 0.

@@ -11,17 +11,17 @@ use Rattle.elements.proofs.shapes.shape_1993.Tie as tie
 unit-slots-requires : tie.Need-unit-slots-requires
 unit-slots-requires c κs = search needs
 
-protected-slots-requires : tie.Need-protected-slots-requires
-protected-slots-requires c κs = search needs
+sealed-slots-requires : tie.Need-sealed-slots-requires
+sealed-slots-requires c κs = search needs
 
-protected-slots-requires-2 : tie.Need-protected-slots-requires-2
-protected-slots-requires-2 c κs = search needs
+enciphered-slots-requires : tie.Need-enciphered-slots-requires
+enciphered-slots-requires c κs = search needs
 
-protected-slots-requires-3 : tie.Need-protected-slots-requires-3
-protected-slots-requires-3 c κs = search needs
+enciphered-slots-requires-2 : tie.Need-enciphered-slots-requires-2
+enciphered-slots-requires-2 c κs = search needs
 
-protected-slots-requires-4 : tie.Need-protected-slots-requires-4
-protected-slots-requires-4 c κs = search needs
+enciphered-slots-requires-3 : tie.Need-enciphered-slots-requires-3
+enciphered-slots-requires-3 c κs = search needs
 
 shape-1988-requires : tie.Need-shape-1988-requires
 shape-1988-requires c κs = search needs
@@ -30,16 +30,16 @@ returns : tie.Need-returns
 returns c = found shapes1993 (c .unit-slots .ensures) (c .before .match .keys1)
 
 returns-2 : tie.Need-returns-2
-returns-2 c = found shapes1993 (c .protected-slots .ensures) (c .before .match .keys2)
+returns-2 c = found shapes1993 (c .sealed-slots .ensures) (c .before .match .keys2)
 
 returns-3 : tie.Need-returns-3
-returns-3 c = found shapes1993 (c .protected-slots2 .ensures) (c .before .match .keys3)
+returns-3 c = found shapes1993 (c .enciphered-slots .ensures) (c .before .match .keys3)
 
 returns-4 : tie.Need-returns-4
-returns-4 c = found shapes1993 (c .protected-slots3 .ensures) (c .before .match .keys4)
+returns-4 c = found shapes1993 (c .enciphered-slots2 .ensures) (c .before .match .keys4)
 
 returns-5 : tie.Need-returns-5
-returns-5 c = found shapes1993 (c .protected-slots4 .ensures) (c .before .match .keys5)
+returns-5 c = found shapes1993 (c .enciphered-slots3 .ensures) (c .before .match .keys5)
 
 returns-6 : tie.Need-returns-6
 returns-6 c = c .shape-1988 .ensures ∙ sym (ap slotsOf (passed (Unit {0}) (c .before .before .args .octet) added1993 shapes1988 (c .before .match .rest)))
@@ -49,10 +49,10 @@ shape-1993-spec =
     tie.close
     (tie.spec
     unit-slots-requires
-    protected-slots-requires
-    protected-slots-requires-2
-    protected-slots-requires-3
-    protected-slots-requires-4
+    sealed-slots-requires
+    enciphered-slots-requires
+    enciphered-slots-requires-2
+    enciphered-slots-requires-3
     shape-1988-requires
     returns
     returns-2

@@ -6,7 +6,8 @@ use mathlib.Core.Bool.{true, false, cond}
 use Prim.Native.Nat.{ℕ, _+_, _-_, _*_, _/_, _%_, _<_, _≤_}
 use native.Mathlib.Omega.{arith}
 use borrow.Author.Tests.{eq-eqb, ne-eqb}
-use Rattle.engine.specs.Stored.{openOf, opensOf, opens, stateOf, stands, Comes}
+use Rattle.engine.specs.Stored.{openOf, opensOf, stateOf}
+use Rattle.engine.specs.Skimming.{opens, withStanding, Comes}
 use Rattle.engine.proofs.Stores.{innermost}
 use borrow.Author.Needs.{needs}
 use Rattle.engine.proofs.header.arrived.Statement.{statement}

@@ -6,10 +6,9 @@ use native.Mathlib.Omega.{arith}
 use lib.ListN.{length, set, take, length-set, length-map}
 use borrow.Author.Tests.{not-true, not-false}
 use Rattle.headers.specs.Head.{headAt}
-use Rattle.headers.proofs.Lies.{head-ok}
 use Rattle.blocks.specs.Engine.{limitOf, markedOf, whole}
-use Rattle.engine.specs.Stored.{opens, stands}
-use Rattle.engine.proofs.Stores.{numbered, part-octet, whole-octet}
+use Rattle.engine.specs.Skimming.{opens, withStanding}
+use Rattle.engine.proofs.Stores.{lying, numbered, part-octet, whole-octet}
 use borrow.Author.Needs.{needs}
 use Rattle.engine.proofs.header.header_octet.Statement.{statement}
 use Rattle.engine.proofs.header.header_octet.Tie as tie
@@ -95,7 +94,7 @@ decided-requires c κs =
       i .pre .1,
       i .pre .3,
       l .ensures .1,
-      rw e (head-ok octets 0 (l .result - b .at) (16 - b .level) marked),
+      rw e (lying octets (l .result - b .at) (16 - b .level) marked),
       rw e (numbered octets (l .result - b .at) marked (16 - b .level)),
       i .pre .5,
     )
@@ -117,7 +116,7 @@ returns-2 c =
     c .before .read-head .ensures ∙ rw (have, c .before .before .before .marked-at .ensures) in
     let all : whole (take (b .have + 1) (set (b .begun) (b .have) x)) (left .result) ≡ true = rw (← have) (sym (w .0) ∙ yes) in
     let d = c .decided .ensures in
-    (d .0 ∙ ap (stands b) (whole-octet b x (omega arith) (left .result) e (c .before .read-head .result) h all), d .1, d .2, d .3)
+    (d .0 ∙ ap (withStanding b) (whole-octet b x (omega arith) (left .result) e (c .before .read-head .result) h all), d .1, d .2, d .3)
 
 pub header-octet-spec : {M : Type 1} → statement M
 header-octet-spec =

@@ -3,7 +3,7 @@ use mathlib.Core.Path.{_≡_, refl, ap, sym, _∙_}
 use Prim.Native.Nat.{ℕ, _<_, _≤_}
 use native.Mathlib.Omega.{arith}
 use lib.ListN.{length, length-map}
-use Rattle.engine.specs.Stored.{Comes}
+use Rattle.engine.specs.Skimming.{Comes}
 use Rattle.engine.proofs.Stores.{pushed}
 use borrow.Author.Needs.{needs}
 use Rattle.engine.proofs.header.open_item.Statement.{statement}

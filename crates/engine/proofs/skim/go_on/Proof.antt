@@ -3,7 +3,7 @@ use mathlib.Core.Path.{_≡_, refl, ap, sym, _∙_, subst}
 use mathlib.Core.Bool.{true, false}
 use Prim.Native.Nat.{ℕ, _+_, _-_, _/_, _%_, _<_, _≤_, min}
 use native.Mathlib.Omega.{arith}
-use Rattle.engine.specs.Stored.{GoesOn}
+use Rattle.engine.specs.Skimming.{GoesOn}
 use borrow.Author.Needs.{needs}
 use Rattle.engine.proofs.skim.go_on.Statement.{statement}
 use Rattle.engine.proofs.skim.go_on.Tie as tie

@@ -3,7 +3,7 @@ use mathlib.Core.Path.{_≡_, refl, ap, sym, _∙_, subst}
 use mathlib.Core.Bool.{true, false}
 use Prim.Native.Nat.{ℕ, _+_, _-_, _/_, _%_, _<_, _≤_, min}
 use native.Mathlib.Omega.{arith}
-use Rattle.engine.specs.Stored.{Settles}
+use Rattle.engine.specs.Skimming.{Settles}
 use Rattle.engine.proofs.Skimming.{settles-inside, settles-found, settles-past, settles-unclosed, settles-on}
 use borrow.Author.Needs.{needs}
 use Rattle.engine.proofs.skim.settled.Statement.{statement}

@@ -8,7 +8,7 @@ use borrow.Author.Tests.{eq-eqb, ne-eqb, not-true}
 use Rattle.headers.specs.declared.Head.the-variants.{Item, ClosingMark, Refusal}
 use Rattle.headers.specs.Head.{constructed}
 use Rattle.engine.specs.declared.skim.Skim.{Skim}
-use Rattle.engine.specs.Stored.{Skims}
+use Rattle.engine.specs.Skimming.{Skims}
 use Rattle.engine.proofs.Skimming.{looked, bounded, skims-open, skims-past, skims-empty, skims-mark, skims-refused}
 use borrow.Author.Needs.{needs}
 use Rattle.engine.proofs.skim.skim_one.Statement.{statement}

@@ -6,7 +6,7 @@ use Rattle.elements.specs.declared.Slots.{Slots}
 use Rattle.elements.specs.Shape.{shapeOf}
 use Rattle.elements.specs.WellMade.{WellMade}
 use Rattle.elements.specs.Frames.{HoldingSlots}
-use Rattle.elements.proofs.Made.{made, slotted}
+use Rattle.elements.proofs.Made.{made}
 use Rattle.elements.proofs.Slotting.{holding-shape}
 use Rattle.letters.specs.Content.{HoldsElement}
 use Rattle.letters.proofs.Fetching.{holds-element}
@@ -38,7 +38,7 @@ returns c =
     let edition = start .args .edition in
     let type = typeField (item .result .octet) in
     let by-slots = subst (λ (shape : Slots). HoldingSlots s shape inner (c .before .holder-in .result)) (at-shape .shape-of .ensures) (c .before .holder-in .ensures) in
-    let holding = holding-shape (item .ensures .fine) (shapeOf edition type) (slotted edition type) by-slots in
+    let holding = holding-shape (item .ensures .fine) (shapeOf edition type) by-slots in
     subst (HoldsElement edition s (start .args .j)) (sym (c .held-by .ensures)) (holds-element (item .ensures) holding)
 
 pub content-of-spec : {M : Type 1} → statement M
