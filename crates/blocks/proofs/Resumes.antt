@@ -14,7 +14,8 @@ use Rattle.octets.specs.declared.Outcome.{Outcome}
 use Rattle.octets.specs.declared.Outcome.the-variants.{Ended, Refused}
 use Rattle.octets.specs.Walk.{run, answer}
 use Rattle.octets.specs.Further.{valueOf}
-use Rattle.octets.proofs.Turns.{plus, plus-plus, closes, refuses, passes, breaks, unclosed, closed}
+use Rattle.octets.specs.Further.{plus}
+use Rattle.octets.proofs.Turns.{plus-plus, closes, refuses, passes, breaks, unclosed, closed}
 use Rattle.blocks.specs.Engine.{Open, limitOf, markedOf, roomOf}
 use Rattle.blocks.specs.Resume.{runIn, leave, resume}
 

@@ -1,5 +1,6 @@
 -- When a stream is refused by each of 1 to 15, said as conditions and not as an order of tests. Document 01, "Numbers given back": "Each is
--- given exactly when its condition holds and no earlier one does." That the tests say the same is `refused-is` (specs/Demands, Demand2).
+-- given exactly when its condition holds and no earlier one does." 2 to 8 are the walk's: their conditions are in headers, specs/Conditions.
+-- That the tests say the same is `refused-is` (specs/Demands, Demand2).
 -- Definitions only: assumes nothing.
 use mathlib.Core.Path.{_≡_}
 use mathlib.Core.Bool.{true, false}
@@ -72,7 +73,8 @@ pub data RefusedBy (edition : Edition) (t : Tree) : (number j : ℕ) → Type 0 
 pub data RefusedWith (edition : Edition) (s : List ℕ) : (number place : ℕ) → Type 0 where
   -- "Refusal 1 comes first."
   too-long : streamLimit < length s → RefusedWith edition s 1 0
-  -- "Then the whole stream is walked for 2 to 8": by the rules of the walk it stops there
+  -- "Then the whole stream is walked for 2 to 8": by the rules of the walk it stops there, where the condition of the number holds and none
+  -- of an earlier one, or at the limit of an item that is unclosed there
   at-fault : {number place : ℕ} {items : Items} → length s ≤ streamLimit → Runs s deepest 0 (length s) false items (stops number place)
       → RefusedWith edition s number place
   -- "Then elements in order, 9 to 15 in order within each": the walk ended, and the place is where the element stands

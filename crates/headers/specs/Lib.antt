@@ -1,1 +1,3 @@
 pub mod Head
+-- 2 to 8 as conditions, a line of the table each
+pub mod Conditions

@@ -14,6 +14,7 @@ use Rattle.headers.specs.Head.{constructed, headAt}
 use Rattle.octets.specs.Walk.{Items, count, End, ends, stops, Walked, ended, stopped, follow, value, onHead, step, runFor, run}
 use Rattle.octets.specs.Rules.{Runs, at-limit, unclosed, closes, refuses, primitive, passes, breaks}
 use Rattle.headers.proofs.Lies.{HeadOk, head-ok}
+use Rattle.headers.proofs.Conditions.{refused-exactly}
 use Rattle.octets.proofs.Walks.{EndOk, WalkOk, RunOk, run-for-ok, run-step}
 
 abbrev walked : Items → End → Walked
@@ -28,7 +29,7 @@ pub derived : {s : List ℕ} {room at limit : ℕ} {marked : Bool} {i : Items} {
 derived {s} (at-limit {room} {at} {limit} p) = sym (run-step room s at limit false (omega arith) ∙ rw (le-leb limit at (omega arith)))
 derived {s} (unclosed {room} {at} {limit} p) = sym (run-step room s at limit true (omega arith) ∙ rw (le-leb limit at (omega arith)))
 derived {s} (closes {room} {at} {limit} {marked} l h) = sym (run-at room s at limit marked ClosingMark l h)
-derived {s} (refuses {room} {at} {limit} {marked} {number} {place} l h) = sym (run-at room s at limit marked (Refusal number place) l h)
+derived {s} (refuses {room} {at} {limit} {marked} {number} {place} l h) = sym (run-at room s at limit marked (Refusal number place) l (refused-exactly s at limit marked room number place .1 h))
 derived {s} (primitive {room} {at} {limit} {marked} {h} {after} {e} l p q r) =
     sym (run-at room s at limit marked (Item h) l p
     ∙ rw (q, ← derived r))
@@ -74,7 +75,7 @@ derives-head s room at limit marked (Item h) l p o f k r more m =
     derives-item s room at limit marked h l p (o .order) (constructed (h .octet)) refl f (k h (o .order)) (r h (o .header) (o .order) (o .within)) more
     (λ next x y. m next (omega arith) (omega arith))
 derives-head s room at limit marked ClosingMark l p o f k r more m = closes l p
-derives-head s room at limit marked (Refusal n q) l p o f k r more m = refuses l p
+derives-head s room at limit marked (Refusal n q) l p o f k r more m = refuses l (refused-exactly s at limit marked room n q .0 p)
 
 derives-step : (s : List ℕ) (room at limit : ℕ) (marked : Bool) (b : Bool) → leb limit at ≡ b → at ≤ limit
     → (f : Header → Walked) → RunOk f

@@ -12,14 +12,9 @@ use Rattle.octets.specs.declared.Outcome.{Outcome}
 use Rattle.octets.specs.declared.Outcome.the-variants.{Ended, Refused}
 use Rattle.headers.specs.Head.{constructed, headAt}
 use Rattle.octets.specs.Walk.{Items, none, item, count, End, ends, stops, Walked, ended, stopped, pastOf, follow, onHead, run, outcomeOf, answer}
-use Rattle.octets.specs.Further.{valueOf}
+use Rattle.octets.specs.Further.{valueOf, plus}
 use Rattle.headers.proofs.Lies.{HeadOk, head-ok}
 use Rattle.octets.proofs.Walks.{EndOk, value-ok, run-ok, run-step}
-
--- an answer with n items more
-abbrev pub plus : ℕ → Outcome → Outcome
-plus n (Ended at k) = Ended at (n + k)
-plus n (Refused number place k) = Refused number place (n + k)
 
 pub plus-plus : (a b : ℕ) (o : Outcome) → plus a (plus b o) ≡ plus (a + b) o
 plus-plus a b (Ended at k) = ap (Ended at) (omega arith)

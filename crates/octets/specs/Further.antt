@@ -1,6 +1,6 @@
 -- More of the walk: the value of one item, one item alone, by which the first date is defined (W-206), and the numbers that go with an outcome.
 -- Definitions only: assumes nothing.
-use Prim.Native.Nat.{ℕ, _-_}
+use Prim.Native.Nat.{ℕ, _+_, _-_}
 use mathlib.Core.Bool.{false}
 use mathlib.Core.List.{List}
 use lib.Dec.{leb}
@@ -20,6 +20,11 @@ oneOf room s at limit =
     step (leb limit at) at limit false (headAt s at limit false room)
     (λ h. run (room - 1) s (h .start) (h .bound) (h .marked))
     (λ next. ended next)
+
+-- an outcome with n headers more, which were passed before
+abbrev pub plus : ℕ → Outcome → Outcome
+plus n (Ended at k) = Ended at (n + k)
+plus n (Refused number place k) = Refused number place (n + k)
 
 -- the number, place and header count that document 01 gives an outcome: 0 at 0 is accepted
 pub record Told : Type 0 where

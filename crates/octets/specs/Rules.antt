@@ -1,12 +1,14 @@
--- The walk a second time, as rules with no count to end it: a derivation is a tree of these. `derived` and `derives` (proofs/RulesHold)
--- show that they say what `run` says. Definitions only: assumes nothing.
+-- The walk a second time, as rules with no count to end it: a derivation is a tree of these. A refusal is by the conditions of 2 to 8
+-- (headers, specs/Conditions). `derived` and `derives` (proofs/RulesHold) show that the rules say what `run` says. Definitions only: assumes
+-- nothing.
 use Prim.Native.Nat.{ℕ, _+_, _-_, _<_}
 use mathlib.Core.Path.{_≡_}
 use mathlib.Core.Bool.{Bool, true, false}
 use mathlib.Core.List.{List}
 use Rattle.headers.specs.declared.Header.{Header}
-use Rattle.headers.specs.declared.Head.the-variants.{Item, ClosingMark, Refusal}
+use Rattle.headers.specs.declared.Head.the-variants.{Item, ClosingMark}
 use Rattle.headers.specs.Head.{constructed, headAt}
+use Rattle.headers.specs.Conditions.{HeadRefused}
 use Rattle.octets.specs.Walk.{Items, none, item, End, ends, stops, pastOf}
 
 -- the run from `at` has these items and ends so
@@ -18,8 +20,8 @@ pub data Runs (s : List ℕ) : (room at limit : ℕ) (marked : Bool) → Items �
   -- "or at the closing mark"
   closes : {room at limit : ℕ} {marked : Bool} → at < limit → headAt s at limit marked room ≡ ClosingMark
       → Runs s room at limit marked none (ends (at + 2))
-  -- "The walk ends at its first fault"
-  refuses : {room at limit : ℕ} {marked : Bool} {number place : ℕ} → at < limit → headAt s at limit marked room ≡ Refusal number place
+  -- "The walk ends at its first fault": the condition of the number holds there, and none of an earlier one
+  refuses : {room at limit : ℕ} {marked : Bool} {number place : ℕ} → at < limit → HeadRefused s at limit marked room number place
       → Runs s room at limit marked none (stops number place)
   -- a primitive item, then the rest of the run
   primitive : {room at limit : ℕ} {marked : Bool} {h : Header} {after : Items} {e : End}

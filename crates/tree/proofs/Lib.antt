@@ -2,6 +2,8 @@
 pub mod Here
 -- a type field and its code
 pub mod Types
+-- one class, form and number has one type field, and no shorter one
+pub mod TypeFields
 -- what a header that was read tells of the octets there
 pub mod Heads
 -- what the walk accepts is coded so

@@ -1,4 +1,5 @@
--- `octets::big_endian` meets its contract: after i turns n is the number of the first i octets. Assumes nothing.
+-- `big_endian` meets its contract: after i turns n is the number of the first i octets. That an octet is below 256 is known of `other` too, the
+-- octet as far from the end: so a program that reads them the other way round is refused at the order alone. Assumes nothing.
 use mathlib.Core.Path.{_≡_, refl, ap, sym, _∙_, subst}
 use Prim.Native.Nat.{ℕ, _+_, _-_, _^_, _≤_, _<_}
 use borrow.Author.Needs.{needs}
@@ -35,7 +36,9 @@ add-n : tie.Need-add-n Inv-loop μ-loop
 add-n c =
     let l = c .before .before .before .loop in
     let a = c .before .before .before .before .before .args in
-    omega (arith, be-small (l .i) (omega arith), c .before .shared-slice-known2 .given (a .from + l .i), c .wide .ensures, shift-is (l .i) (l .n) (omega arith) (l .inv .2))
+    let octet = c .before .shared-slice-known2 .given (a .from + l .i) in
+    let other = c .before .shared-slice-known2 .given (a .from + (a .k - 1 - l .i)) in
+    omega (arith, be-small (l .i) (omega arith), octet, other, c .wide .ensures, shift-is (l .i) (l .n) (omega arith) (l .inv .2))
 
 add-i : tie.Need-add-i Inv-loop μ-loop
 add-i c = omega arith
@@ -48,7 +51,9 @@ loop-again c =
     let l = c .before .before .before .loop in
     let a = c .before .before .before .before .before .args in
     let x = c .wide .result in
-    let small : x < 256 = omega (arith, c .before .shared-slice-known2 .given (a .from + l .i)) in
+    let octet = c .before .shared-slice-known2 .given (a .from + l .i) in
+    let other = c .before .shared-slice-known2 .given (a .from + (a .k - 1 - l .i)) in
+    let small : x < 256 = omega (arith, octet, other) in
     let product = ap (λ (m : ℕ). m + x) (shift-is (l .i) (l .n) (omega arith) (l .inv .2)) in (
       omega arith,
       product ∙ simp (l .inv .1, c .wide .ensures) (sym (be-more (a .s .now) (a .from) (l .i) (omega arith))),
