@@ -22,7 +22,7 @@ const STYLES: [u8; 2] = [0xA7, 0xA8];
 const PROFILE: [u8; 2] = [0xA0, 0x00];
 
 /// The groups of cases. Each group is made when it is wanted, for some are large.
-pub const GROUPS: [fn() -> Vec<Case>; 49] = [
+pub const GROUPS: [fn() -> Vec<Case>; 50] = [
     stream_length,
     element_count,
     full_tables,
