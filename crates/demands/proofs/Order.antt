@@ -11,8 +11,7 @@ use borrow.Table.Steps.{cases}
 use Rattle.elements.specs.declared.Edition.{Edition}
 use Rattle.elements.specs.declared.Edition.the-variants.{Of1988}
 use Rattle.elements.specs.Judge.{Element}
-use Rattle.elements.specs.Rows.{placeOf}
-use Rattle.letters.specs.Letter.{Letter, letter, refusal, itemsOfStream}
+use Rattle.letters.specs.Letter.{Letter, letter, refusal}
 use Rattle.order.specs.declared.Class.{Class}
 use Rattle.order.specs.declared.Class.the-variants.{A, B}
 use Rattle.order.specs.declared.Fault.{Fault}
@@ -30,8 +29,8 @@ use Rattle.demands.specs.SameLetter.{IsAccepted}
 use Rattle.demands.specs.Order.{BesideRules, Answers, AnyOrder}
 
 module _ (edition : Edition) (class : Class) (s : List ℕ) where
-  -- what is known of a verdict by what the rules say of the stream
-  record Known (l : Letter) (r : Ordered) : Type 0 where
+  -- what is known of a verdict
+  record Known (r : Ordered) : Type 0 where
     told : (r .number ≤ 15) ⊎ (r .number ≡ outOfOrder)
     inside : r .place ≤ length s
     accepted : (r .number ≡ 0) ⊎ (r .number ≡ outOfOrder) → IsAccepted edition s
@@ -40,13 +39,13 @@ module _ (edition : Edition) (class : Class) (s : List ℕ) where
   octet-inside elements n = cases (ltb n (length elements)) (λ t. rw t (place-inside s n)) (λ t. rw t (omega arith))
 
   known-found : (headers : ℕ) (elements : List Element) → letterIn edition s ≡ letter headers elements → (f : Fault)
-      → Known (letter headers elements) (byFound s elements f)
+      → Known (byFound s elements f)
   known-found headers elements e Nowhere =
       record { told = inl (omega arith); inside = omega arith; accepted = λ z. record { headers = headers; elements = elements; judged = e } }
   known-found headers elements e (At n) =
       record { told = inr refl; inside = octet-inside elements n; accepted = λ z. record { headers = headers; elements = elements; judged = e } }
 
-  known : (l : Letter) → letterIn edition s ≡ l → Known l (byLetter class s l)
+  known : (l : Letter) → letterIn edition s ≡ l → Known (byLetter class s l)
   known (letter headers elements) e = known-found headers elements e (faultOf class elements)
   known (refusal number place headers) e =
       let small = refusal-small edition s number place headers e in
@@ -56,9 +55,9 @@ module _ (edition : Edition) (class : Class) (s : List ℕ) where
       none (low, high) (inl z) = omega arith
       none (low, high) (inr z) = omega arith
 
-  known-of : (r : Ordered) → OrderIs edition class s r → Known (letterIn edition s) r
+  known-of : (r : Ordered) → OrderIs edition class s r → Known r
   unfolding orderIn
-  known-of r o = subst (λ (v : Ordered). Known (letterIn edition s) v) (sym (is-computed edition class s r o)) (known (letterIn edition s) refl)
+  known-of r o = subst Known (sym (is-computed edition class s r o)) (known (letterIn edition s) refl)
 
   pub order-of : BesideRules edition class s
   order-of = record {
