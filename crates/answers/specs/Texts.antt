@@ -1,6 +1,7 @@
--- The whole reading of a side: "the table as the list fills it; the lent lines ..; and out, the joined contents of those units one after another". It is
--- refused as the reading list is, by 1 to 16 and 19; then 22 "output shorter than all of it, table finished, lines and output untouched, keeps the element
--- count". Definitions only: assumes nothing.
+-- The whole reading of a side: the table as the list fills it, a line for each match, and the joined contents of the matched units one after another.
+-- No document asks for it: it is our own question, which the viewer puts to show a letter. It is refused as the reading list is, by 1 to 16 and 19;
+-- then by 22 if the output is shorter than all texts, with the table finished, lines and output untouched, and the element count kept.
+-- Definitions only: assumes nothing.
 use mathlib.Core.Path.{_≡_}
 use Prim.Native.Nat.{ℕ, _/_}
 use mathlib.Core.Bool.{cond}
@@ -45,7 +46,7 @@ shownFrom answer texts out =
 unfoldable pub shown : Edition → Side → (s table : List ℕ) → (room : ℕ) → (out : List ℕ) → Shown
 shown edition side s table room out = shownFrom (listed edition side s table room) (textsIn edition side s) out
 
--- "lines and output untouched"; "octets and records past the counts stay"
+-- lines and output are untouched after a refusal; octets and lines past the counts stay
 unfoldable pub shownLines : Edition → Side → (s table lines out : List ℕ) → List ℕ
 shownLines edition side s table lines out =
     cond (eqb (shown edition side s table (linesLent lines) out .number) 0) (onto (lineNumbers (linesIn edition side s)) lines) lines

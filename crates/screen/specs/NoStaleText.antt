@@ -1,5 +1,6 @@
 -- No stale text: the demand that the product began with, said for the whole screen. Whatever octets came, and whatever was in the output before, what is
--- shown is the text of this letter: line by line in reading order, each line under its own block, and nothing else. Definitions only: assumes nothing.
+-- shown is the text of this letter: line by line in reading order, each line under its own block, and nothing else. The question is our own, the
+-- viewer's (answers, specs/Texts). Definitions only: assumes nothing.
 use mathlib.Core.Path.{_≡_}
 use mathlib.Core.List.{List}
 use mathlib.Core.Option.{some}
@@ -42,7 +43,7 @@ pub record OnScreen (edition : Edition) (side : Side) (s lines out : List ℕ) (
   -- the octets up to the length are the texts of these units one after another, and no others: they are told by the stream alone
   pub all-octets : take (answer .length) outAfter ≡ textsIn edition side s
   pub no-longer : answer .length ≤ length s
-  -- "octets and records past the counts stay"
+  -- octets and lines past the counts stay
   pub past-octets : drop (answer .length) outAfter ≡ drop (answer .length) out
   pub past-lines : drop (lineWidth * answer .lines) linesAfter ≡ drop (lineWidth * answer .lines) lines
 
@@ -51,7 +52,7 @@ pub record NoStaleText (edition : Edition) (side : Side) : Type 0 where
   pub shows : (s table lines out : List ℕ) (answer : Shown) (tableAfter linesAfter outAfter : List ℕ)
       → TextOutcome edition side s table lines out answer tableAfter linesAfter outAfter → answer .number ≡ 0
       → OnScreen edition side s lines out answer linesAfter outAfter
-  -- what was in the output before does not show, nor in the table or the lines: two readings of one stream show the same
+  -- what was in the output, the table or the lines that were lent does not show: two readings of one stream show the same octets
   pub fresh : (s table lines out other-table other-lines other-out : List ℕ) (answer other : Shown)
       (tableAfter linesAfter outAfter other-tableAfter other-linesAfter other-outAfter : List ℕ)
       → TextOutcome edition side s table lines out answer tableAfter linesAfter outAfter → answer .number ≡ 0
@@ -61,5 +62,5 @@ pub record NoStaleText (edition : Edition) (side : Side) : Type 0 where
   pub refused : (s table lines out : List ℕ) (answer : Shown) (tableAfter linesAfter outAfter : List ℕ)
       → TextOutcome edition side s table lines out answer tableAfter linesAfter outAfter → (answer .number ≡ 0 → ⊥)
       → (linesAfter ≡ lines) × (outAfter ≡ out)
-  -- "so that a caller knows what to lend": an output as long as the stream is never too short
+  -- so that a caller knows what to lend: an output as long as the stream is never too short
   pub stream-enough : (s table : List ℕ) (room : ℕ) (out : List ℕ) → length s ≤ length out → shown edition side s table room out .number ≡ 22 → ⊥
