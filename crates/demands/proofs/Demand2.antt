@@ -19,7 +19,7 @@ use Rattle.tree.specs.Accepts.{Accepts}
 use Rattle.tree.proofs.Meaning.{means, accepts}
 use Rattle.runs.proofs.Laws.{stream-fine, stream-count}
 use Rattle.normal.specs.Normal.{normalForm}
-use Rattle.normal.proofs.RoundTrip.{round-trip, form-tree}
+use Rattle.normal.proofs.RoundTrip.{round-trip, form-tree, form-definite}
 use Rattle.answers.specs.Table.{tableWidth}
 use Rattle.elements.specs.declared.Row.{Row}
 use Rattle.elements.specs.declared.Edition.{Edition}
@@ -35,6 +35,7 @@ use Rattle.answers.proofs.Judging.{accepts-walked}
 use Rattle.answers.proofs.Small.{refusal-small}
 use Rattle.demands.proofs.Demand1.{demand1}
 use Rattle.demands.proofs.Refusals.{refused-is}
+use Rattle.demands.proofs.Alone.{alone}
 use Rattle.demands.proofs.Telling.{Proper, proper, count-tree, tops-counted, rows-counted, rows-tell}
 use Rattle.demands.proofs.Joining.{told-within, content, content-20, content-21, joins, joins-20, joins-22, part-joined}
 use Rattle.demands.proofs.Locating.{located-nowhere, located-part}
@@ -73,7 +74,9 @@ module _ (edition : Edition) (s : List ℕ) (headers : ℕ) (elements : List Ele
 
   pub tell : (j : ℕ) (row : Row) (item : TopItem) (element : Element) → getElem? (rowsIn edition s) j ≡ some row → getElem? (topItems (treeOf s)) j ≡ some item
       → getElem? elements j ≡ some element → RowTells edition s row item element
-  tell = rows-tell edition s items-proper elements (found .judged)
+  tell =
+      let fine = stream-fine s (found .at) headers (found .walked) in
+      rows-tell edition s items-proper elements (found .judged) (alone (derives deepest s 0 (length s) false (fine .order)) refl (fine .whole) (omega arith))
 
   -- each element stands in the tree
   pub top-at : (j : ℕ) (element : Element) → getElem? elements j ≡ some element → (item : TopItem) × (getElem? (topItems (treeOf s)) j ≡ some item)
@@ -144,11 +147,13 @@ of-letter edition s headers elements e =
     let f = found edition s headers elements e in
     let fine = stream-fine s (f .at) headers (f .walked) in
     record {
+      coded = means s (treeOf s) (accepts-walked (f .walked)) .0;
       checks = checks edition s headers elements e;
       checks-16 = checks-16 edition s headers elements e;
       end-to-end = end-to-end edition s fine;
       pairs-within = pairs-within edition s fine;
       rows-counted = counted edition s headers elements e;
+      tops-counted = tops-counted edition s (items-proper edition s headers elements e) elements (f .judged);
       rows-tell = tell edition s headers elements e;
       content = content edition s headers elements e;
       content-20 = content-20 edition s headers elements e;
@@ -165,6 +170,7 @@ of-letter edition s headers elements e =
       writes-18 = writes-18 edition s headers elements e;
       normal-accepted = normal-accepted edition s headers elements e;
       normal-tree = normal-tree edition s headers elements e;
+      normal-coded = form-definite s (treeOf s) (accepts-walked (f .walked)) .0;
     }
 
 -- what every question gives to a stream that is refused

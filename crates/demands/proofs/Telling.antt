@@ -35,7 +35,8 @@ use Rattle.elements.specs.WellMade.{Formed}
 use Rattle.elements.proofs.Made.{formed as holders-formed}
 use Rattle.letters.proofs.Nested.{past-between, stays}
 use Rattle.demands.specs.Refusals.{TopItem, topItems, contentsIn, saysIn, misshapen}
-use Rattle.demands.specs.Demands.{itemCount, TellsValue, TellsContent, portionItems, RowTells}
+use Rattle.demands.specs.Demands.{itemCount, TellsValue, TellsContent, portionItems, CodesAlone, RowTells}
+use Rattle.demands.proofs.Alone.{Alone}
 use Rattle.demands.proofs.Refusals.{accepted-elements, accepted-pass}
 
 -- the count of the items is that of the tree
@@ -275,11 +276,11 @@ module _ (edition : Edition) (s : List ℕ) where
   abbrev itemAt : (octet : ℕ) → Items → TopItem
   itemAt octet inside = record { type = typeField octet; run = plain s inside }
 
-  row-tells : (octet first past : ℕ) (inside : Items) → Proper s (deepest - 1) inside
+  row-tells : (octet first past : ℕ) (inside : Items) → Proper s (deepest - 1) inside → CodesAlone (itemAt octet inside) (slice first past s)
       → allPortions (runAt (portionsOctet (shapeAt octet .contents)) (bodyOf (shapeAt octet .contents) (plain s inside))) ≡ true
       → RowTells edition s (rowOf (shapeAt octet) s first past inside) (itemAt octet inside) (saysIn edition (itemAt octet inside))
   unfolding rowOf elementOf contentOf contentOctet
-  row-tells octet first past inside p only =
+  row-tells octet first past inside p alone only =
       let contents = shapeAt octet .contents in
       let body = bodyIn contents inside in
       let same : plain s body ≡ bodyOf contents (plain s inside) = body-at s contents inside in
@@ -287,6 +288,7 @@ module _ (edition : Edition) (s : List ℕ) where
       record {
         kind = refl;
         object = refl;
+        whole = alone;
         identifier = subst (λ (t : Tree). TellsValue s (boundsAt (identifierOctet contents) body) (valueAt (identifierOctet contents) t)) same
             (identifier-at s contents q);
         logical = subst (λ (t : Tree). TellsValue s (boundsAt (logicalOctet contents) body) (valueAt (logicalOctet contents) t)) same
@@ -314,22 +316,25 @@ module _ (edition : Edition) (s : List ℕ) where
     past : ℕ
     inside : Items
     inside-proper : Proper s (deepest - 1) inside
+    whole : CodesAlone (itemAt octet inside) (slice first past s)
     row-is : rowOf (shapeAt octet) s first past inside ≡ row
     item-is : itemAt octet inside ≡ top
 
-  of-one : {i : Items} → Proper s deepest i → (j : ℕ) (row : Row) (top : TopItem) → getElem? (rowsOf edition s i) j ≡ some row
+  of-one : {i : Items} → Proper s deepest i → Alone s (length s) i → (j : ℕ) (row : Row) (top : TopItem) → getElem? (rowsOf edition s i) j ≡ some row
       → getElem? (topItems (plain s i)) j ≡ some top → OfOne row top
   unfolding rowsOf
-  of-one no-more j row top e f = let z : _≡_ {A = ℕ} 0 1 = cc in absurd (omega arith)
-  of-one (more {at = at} {octet} {start} {past} {inside} {after} there n nothing-in codes p q) zero row top e f =
+  of-one no-more a j row top e f = let z : _≡_ {A = ℕ} 0 1 = cc in absurd (omega arith)
+  of-one (more {at = at} {octet} {start} {past} {inside} {after} there n nothing-in codes p q) a zero row top e f =
       let tops = same-top octet (slice start past s) inside (plain s after) nothing-in in
       let g : some (itemAt octet inside) ≡ some top = sym (ap (λ (ts : List TopItem). getElem? ts 0) tops) ∙ f in
       let item-is : itemAt octet inside ≡ top = cc in
       let row-is : rowOf (shapeAt octet) s at (startOf (length s) after) inside ≡ row = cc in
-      record { octet = octet; first = at; past = startOf (length s) after; inside = inside; inside-proper = p; row-is = row-is; item-is = item-is }
-  of-one (more {octet = octet} {start} {past} {inside} {after} there n nothing-in codes p q) (suc j) row top e f =
+      let whole : CodesAlone (itemAt octet inside) (slice at (startOf (length s) after) s) =
+      (plain s (item at octet start past inside none), a .0, same-top octet (slice start past s) inside empty nothing-in) in
+      record { octet = octet; first = at; past = startOf (length s) after; inside = inside; inside-proper = p; whole = whole; row-is = row-is; item-is = item-is }
+  of-one (more {octet = octet} {start} {past} {inside} {after} there n nothing-in codes p q) a (suc j) row top e f =
       let tops = same-top octet (slice start past s) inside (plain s after) nothing-in in
-      of-one q j row top e (sym (ap (λ (ts : List TopItem). getElem? ts (suc j)) tops) ∙ f)
+      of-one q (a .1) j row top e (sym (ap (λ (ts : List TopItem). getElem? ts (suc j)) tops) ∙ f)
 
   -- as many rows as elements
   rows-count : {i : Items} → Proper s deepest i → length (rowsOf edition s i) ≡ length (topItems (plain s i))
@@ -379,16 +384,16 @@ module _ (edition : Edition) (s : List ℕ) {i : Items} (p : Proper s deepest i)
       (λ t. t)
       (λ t. absurd (accepted-pass edition (plain s i) elements judged j top there 12 (misshapen t)))
 
-  pub rows-tell : (j : ℕ) (row : Row) (top : TopItem) (element : Element) → getElem? (rowsOf edition s i) j ≡ some row
+  pub rows-tell : Alone s (length s) i → (j : ℕ) (row : Row) (top : TopItem) (element : Element) → getElem? (rowsOf edition s i) j ≡ some row
       → getElem? (topItems (plain s i)) j ≡ some top → getElem? elements j ≡ some element → RowTells edition s row top element
-  rows-tell j row top element e there f =
-      let o = of-one edition s p j row top e there in
+  rows-tell a j row top element e there f =
+      let o = of-one edition s p a j row top e there in
       let g : some (saysIn edition top) ≡ some element =
       sym (said-at edition (topItems (plain s i)) j top there)
       ∙ ap (λ (es : List Element). getElem? es j) (sym (accepted-elements edition (plain s i) elements judged)) ∙ f in
       let x : saysIn edition top ≡ element = cc in
       let tabled = subst (λ (y : TopItem). asTabled (contentsIn edition y) (y .run) ≡ true) (sym (o .item-is)) (as-tabled j top there) in
-      let told = row-tells edition s (o .octet) (o .first) (o .past) (o .inside) (o .inside-proper) (tabled-portions _ _ tabled) in
+      let told = row-tells edition s (o .octet) (o .first) (o .past) (o .inside) (o .inside-proper) (o .whole) (tabled-portions _ _ tabled) in
       let at-item = subst (λ (y : TopItem). RowTells edition s (rowOf (shapeAt edition s (o .octet)) s (o .first) (o .past) (o .inside)) y (saysIn edition y)) (o .item-is) told in
       subst (λ (r : Row). RowTells edition s r top element) (o .row-is)
       (subst (RowTells edition s (rowOf (shapeAt edition s (o .octet)) s (o .first) (o .past) (o .inside)) top) x at-item)

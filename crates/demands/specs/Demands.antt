@@ -103,10 +103,16 @@ portionItems (portion ∷ portions) = leaf (0x12 ∷ []) portion (portionItems p
 abbrev pub NoPortions : Edition → TopItem → Type 0
 NoPortions edition item = let contents = contentsIn edition item in amountAt (portionsOctet contents) (bodyOf contents (item .run)) ≡ 0
 
+-- octets code one item, this one, and nothing else
+abbrev pub CodesAlone : TopItem → List ℕ → Type 0
+CodesAlone item coding = (t : Tree) × Codes deepest t coding × (topItems t ≡ item ∷ [])
+
 -- a row tells what its element says: its kind and object type, and octets of the stream
 pub record RowTells (edition : Edition) (s : List ℕ) (row : Row) (item : TopItem) (element : Element) : Type 0 where
   pub kind : row .kind ≡ element .kind
   pub object : row .object ≡ element .object
+  -- the element's own pair bounds octets that code the element
+  pub whole : CodesAlone item (bytesIn s (row .whole))
   pub identifier : TellsValue s (row .identifier) (element .identifier)
   pub logical : TellsValue s (row .logical) (element .logical)
   -- "the portions' value": one item 12 after another, of which each has a portion number
@@ -128,6 +134,8 @@ pub record PiecesAt (elements : List Element) (j : ℕ) : Type 0 where
 
 -- Demand 2, of a letter with these headers and elements.
 pub record OfLetter (edition : Edition) (s : List ℕ) (headers : ℕ) (elements : List Element) : Type 0 where
+  -- its tree of items is the one that X.209 says its octets code
+  pub coded : Codes deepest (treeOf s) s
   -- the check accepts it, if the table has rows enough
   pub checks : (table : List ℕ) → length elements ≤ rowsLent table
       → (checked edition s table ≡ record { number = 0; place = 0; headers = headers; elements = length elements })
@@ -137,6 +145,7 @@ pub record OfLetter (edition : Edition) (s : List ℕ) (headers : ℕ) (elements
   pub end-to-end : EndToEnd 0 (length s) (rowsIn edition s)
   pub pairs-within : (j : ℕ) (row : Row) → getElem? (rowsIn edition s) j ≡ some row → PairsWithin row
   pub rows-counted : length (rowsIn edition s) ≡ length elements
+  pub tops-counted : length (topItems (treeOf s)) ≡ length elements
   pub rows-tell : (j : ℕ) (row : Row) (item : TopItem) (element : Element) → getElem? (rowsIn edition s) j ≡ some row
       → getElem? (topItems (treeOf s)) j ≡ some item → getElem? elements j ≡ some element → RowTells edition s row item element
   -- "The part question still serves 04": the part is what the 04 says; it is refused by 20 of what is no text unit, and by 21 of pieces
@@ -164,6 +173,7 @@ pub record OfLetter (edition : Edition) (s : List ℕ) (headers : ℕ) (elements
   -- (specs/Kept says it row by row)
   pub normal-accepted : length (normalForm s) ≤ streamLimit → letterIn edition (normalForm s) ≡ letter headers elements
   pub normal-tree : treeOf (normalForm s) ≡ treeOf s
+  pub normal-coded : Codes deepest (treeOf s) (normalForm s)
 
 -- a stream that is refused by one of 1 to 15 gets that number and place from every question
 pub record RefusedByAll (edition : Edition) (s : List ℕ) (number place headers : ℕ) : Type 0 where
