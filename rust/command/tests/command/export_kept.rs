@@ -248,6 +248,7 @@ fn two_exports_at_once() {
     let words = ["export", &scratch.word("slow"), &scratch.word("out"), "--jobs", "1"];
     let mut child = command(&words).stdout(Stdio::null()).stderr(Stdio::null()).spawn().unwrap();
     while !scratch.path("out/0000.txt").exists() {
+        assert!(child.try_wait().unwrap().is_none(), "it ended");
         thread::sleep(Duration::from_millis(5));
     }
     for run in [export(&scratch, "out", &[]), odif(&["export", "--verify", &scratch.word("out")])] {
