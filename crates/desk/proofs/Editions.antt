@@ -11,7 +11,8 @@ use borrow.Author.Tests.{eqb-true, eqb-false, ne-eqb}
 use borrow.Table.Steps.{cases}
 use Rattle.headers.specs.Head.{isIn}
 use Rattle.tree.specs.Tree.{treeOf}
-use Rattle.contents.specs.Search.{is, codeOf}
+use Rattle.headers.specs.Head.{codeOf}
+use Rattle.contents.specs.Search.{is}
 use Rattle.portions.specs.Portions.{all}
 use Rattle.elements.specs.declared.Edition.{Edition}
 use Rattle.elements.specs.declared.Edition.the-variants.{Of1988, Of1993}
