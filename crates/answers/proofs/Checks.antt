@@ -9,9 +9,9 @@ use lib.ListN.{length}
 use borrow.Author.Tests.{ne-eqb, lt-ltb, le-ltb}
 use Rattle.elements.specs.declared.Edition.{Edition}
 use Rattle.elements.specs.Judge.{Element}
-use Rattle.letters.specs.Letter.{letter, refusal}
+use Rattle.letters.specs.Letter.{letter, refusal, letterIn}
 use Rattle.answers.specs.Table.{rowsLent}
-use Rattle.answers.specs.Answers.{letterIn, tableOf, refusedCheck, checked, checkedTable, CheckOutcome}
+use Rattle.answers.specs.Answers.{tableOf, refusedCheck, checked, checkedTable, CheckOutcome}
 use Rattle.answers.proofs.Small.{refusal-small}
 
 module _ (edition : Edition) (s table : List ℕ) where

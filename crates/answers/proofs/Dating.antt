@@ -11,7 +11,7 @@ use lib.Seq.{slice, slice-empty}
 use borrow.Author.Tests.{eqb-true, eqb-false, eq-eqb, ne-eqb}
 use borrow.Table.Steps.{cases}
 use Rattle.headers.specs.Head.{constructed, typeField}
-use Rattle.octets.specs.Walk.{Items, none, item, streamLimit}
+use Rattle.octets.specs.Walk.{Items, noItems, item, streamLimit}
 use Rattle.tree.specs.Tree.{Tree, empty, formed, plain, treeOf}
 use Rattle.runs.specs.declared.Run.{Run}
 use Rattle.runs.specs.Runs.{itemsOf, treeIn, wholeStream, Meeting}
@@ -83,22 +83,22 @@ module _ (edition : Edition) where
   judged-as s zero = let l = is-letter edition s zero in letter-found edition s (l .headers) (l .elements) (l .judged) .judged
 
   -- the first element of a letter passes,
-  pub letter-first : (s : List ℕ) → ruled edition s .number ≡ 0 → {at octet first past : ℕ} {inside after : Items}
-      → itemsOfStream s ≡ item at octet first past inside after → FirstPasses edition (typeField octet)
-  letter-first s zero {octet = octet} {first} {past} {inside} {after} e =
-      formed-passes (constructed octet) (typeField octet) (slice first past s) (plain s inside) (plain s after) (is-letter edition s zero .elements)
+  pub letter-first : (s : List ℕ) → ruled edition s .number ≡ 0 → {at code first past : ℕ} {inside after : Items}
+      → itemsOfStream s ≡ item at code first past inside after → FirstPasses edition (typeField code)
+  letter-first s zero {code = code} {first} {past} {inside} {after} e =
+      formed-passes (constructed code) (typeField code) (slice first past s) (plain s inside) (plain s after) (is-letter edition s zero .elements)
       (sym (ap (λ (i : Items). judge edition (plain s i)) e) ∙ judged-as s zero)
 
   -- so the element that is met first is the profile,
-  pub passed-profile : (octet : ℕ) → FirstPasses edition (typeField octet) → octet ≡ profileOctet
-  passed-profile octet p = eqb-true octet profileOctet (sym (is-field profileOctet octet) ∙ p .profile)
+  pub passed-profile : (code : ℕ) → FirstPasses edition (typeField code) → code ≡ profileOctet
+  passed-profile code p = eqb-true code profileOctet (sym (is-field profileOctet code) ∙ p .profile)
 
-  pub met-profile : (s : List ℕ) → ruled edition s .number ≡ 0 → {octet first past : ℕ} {inner rest : Run}
-      → Meeting s (wholeStream s) octet first past inner rest → octet ≡ profileOctet
-  met-profile s zero {octet} m = passed-profile octet (letter-first s zero (m .tree))
+  pub met-profile : (s : List ℕ) → ruled edition s .number ≡ 0 → {code first past : ℕ} {inner rest : Run}
+      → Meeting s (wholeStream s) code first past inner rest → code ≡ profileOctet
+  met-profile s zero {code} m = passed-profile code (letter-first s zero (m .tree))
 
   -- and there is one
-  pub met-some : (s : List ℕ) → ruled edition s .number ≡ 0 → itemsOf s (wholeStream s) ≡ none → ⊥
+  pub met-some : (s : List ℕ) → ruled edition s .number ≡ 0 → itemsOf s (wholeStream s) ≡ noItems → ⊥
   met-some s zero e = empty-fails (is-letter edition s zero .elements) (sym (ap (judge edition) (tree-none s (wholeStream s) e)) ∙ judged-as s zero)
 
 -- ---- what was found in its run is the answer
@@ -120,19 +120,19 @@ refused-told s elements ruled number place e some =
     }
 
 -- the items and the tree of the profile, where it comes first
-module _ (s : List ℕ) (inner : Run) {items : Items} {at octet first past : ℕ} {after : Items} (p : octet ≡ profileOctet)
-    (e : items ≡ item at octet first past (itemsOf s inner) after) where
+module _ (s : List ℕ) (inner : Run) {items : Items} {at code first past : ℕ} {after : Items} (p : code ≡ profileOctet)
+    (e : items ≡ item at code first past (itemsOf s inner) after) where
   profile-items : itemsIn profileOctet items ≡ itemsOf s inner
   unfolding itemsIn
-  profile-items = ap (itemsIn profileOctet) e ∙ rw (eq-eqb octet profileOctet p)
+  profile-items = ap (itemsIn profileOctet) e ∙ rw (eq-eqb code profileOctet p)
 
-  first-formed : (b : Bool) (value : List ℕ) (inside more : Tree) → constructed octet ≡ b → profileIn (formed b (typeField octet) value inside more) ≡ inside
+  first-formed : (b : Bool) (value : List ℕ) (inside more : Tree) → constructed code ≡ b → profileIn (formed b (typeField code) value inside more) ≡ inside
   unfolding firstRun
-  first-formed true value inside more c = rw (is-field profileOctet octet, eq-eqb octet profileOctet p)
+  first-formed true value inside more c = rw (is-field profileOctet code, eq-eqb code profileOctet p)
   first-formed false value inside more c = let z : true ≡ false = sym (ap constructed p) ∙ c in absurd (true≢false z)
 
   profile-tree : profileIn (plain s items) ≡ treeIn s inner
-  profile-tree = ap (λ (i : Items). profileIn (plain s i)) e ∙ first-formed (constructed octet) _ (treeIn s inner) (plain s after) refl
+  profile-tree = ap (λ (i : Items). profileIn (plain s i)) e ∙ first-formed (constructed code) _ (treeIn s inner) (plain s after) refl
 
   module _ (ruled : Reason) (zero : ruled .number ≡ 0) {d : DateFound} (a : Answers s inner d) where
     date-is : dateIn (profileIn (plain s items)) ≡ asDate s d

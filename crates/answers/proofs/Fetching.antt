@@ -11,7 +11,7 @@ use lib.ListN.{length, getD, getElem?}
 use lib.Seq.{length-slice}
 use borrow.Author.Tests.{eq-eqb, ne-eqb}
 use Rattle.runs.specs.declared.Run.{Run}
-use Rattle.index.specs.Rows.{rowWidth}
+use Rattle.index.specs.Rows.{scratchWidth}
 use Rattle.index.specs.Columns.{kindAt}
 use Rattle.contents.specs.declared.Span.{Span}
 use Rattle.contents.specs.Search.{Value, absent, octets}
@@ -19,7 +19,7 @@ use Rattle.pieces.proofs.Joined.{joined-fits}
 use Rattle.elements.specs.declared.Edition.{Edition}
 use Rattle.elements.specs.Judge.{bytesOf, Content, single, joinedContent, Element}
 use Rattle.elements.specs.Says.{Bounds}
-use Rattle.letters.specs.Letter.{letter, refusal}
+use Rattle.letters.specs.Letter.{letter, refusal, letterIn, rowsIn}
 use Rattle.letters.specs.Content.{HeldWhole, HeldInPieces}
 use Rattle.judging.proofs.Lists.{at-below}
 use Rattle.judging.proofs.Rows.{RowOf, row-of}
@@ -29,7 +29,7 @@ use Rattle.answers.specs.declared.ContentFound.{ContentFound}
 use Rattle.answers.specs.declared.Found.{Found}
 use Rattle.answers.specs.declared.Reason.{Reason}
 use Rattle.answers.specs.declared.ContentFound.the-variants.{NoUnit, Content as Part, Pieces}
-use Rattle.answers.specs.Answers.{letterIn, rowsIn, Fetched, handed, withheld, fetchedBy, partOf, fetched, whyNot, located, allOf, joinedIn}
+use Rattle.answers.specs.Answers.{Fetched, handed, withheld, fetchedBy, partOf, fetched, whyNot, located, allOf, joinedIn}
 use Rattle.answers.proofs.Small.{refusal-small}
 use Rattle.answers.proofs.Judging.{Accepting}
 use Rattle.answers.specs.Asking.{ContentAt, otherKind, heldWhole, heldInPieces, nowhere, Fetches, FindsContent}
@@ -147,7 +147,7 @@ module _ (edition : Edition) (s : List ℕ) (asked : ℕ) where
     finds-at below found =
         let (element, there) = at-below (l .elements) asked (omega (arith, l .counted)) in
         let row = row-of (l .saying) asked element there in
-        let to : asked * rowWidth ≡ asked * rowWidth + 0 = omega arith in
+        let to : asked * scratchWidth ≡ asked * scratchWidth + 0 = omega arith in
         let kind : kindAt rows asked ≡ element .kind =
         ap (λ (i : ℕ). getD rows i 0) to ∙ l .cells-at asked (row .row) (row .stands) 0 (omega arith) ∙ row .says .kind in
         finds-by element there row kind found

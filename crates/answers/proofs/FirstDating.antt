@@ -28,19 +28,19 @@ use Rattle.answers.specs.Dating.{refusedDated, datedAs, FirstTells}
 use Rattle.answers.proofs.Dating.{first-rules, Tells, refused-told, found-told}
 
 -- rules 9 to 11 give 11 at most
-pub early-small : (n octet known : ℕ) → earlyRefusal n octet known ≤ 11
+pub early-small : (n code known : ℕ) → earlyRefusal n code known ≤ 11
 unfolding earlyRefusal
-early-small n octet known =
+early-small n code known =
     let P : ℕ → Type 0 = λ number. number ≤ 11 in
     cond-holds P (leb mostElements n) (λ _. omega arith)
-    (λ _. cond-holds P (not (is known (typeField octet))) (λ _. omega arith)
-    (λ _. cond-holds P (xor (eqb n 0) (is profileOctet (typeField octet))) (λ _. omega arith) (λ _. omega arith)))
+    (λ _. cond-holds P (not (is known (typeField code))) (λ _. omega arith)
+    (λ _. cond-holds P (xor (eqb n 0) (is profileOctet (typeField code))) (λ _. omega arith) (λ _. omega arith)))
 
 -- a first element that they let pass is the profile
-pub early-profile : (octet known : ℕ) → earlyRefusal 0 octet known ≡ 0 → octet ≡ profileOctet
+pub early-profile : (code known : ℕ) → earlyRefusal 0 code known ≡ 0 → code ≡ profileOctet
 unfolding earlyRefusal
-early-profile octet known e =
-    eqb-true octet profileOctet (sym (is-field profileOctet octet) ∙ first-rules (is known (typeField octet)) (is profileOctet (typeField octet)) 0 e .1)
+early-profile code known e =
+    eqb-true code profileOctet (sym (is-field profileOctet code) ∙ first-rules (is known (typeField code)) (is profileOctet (typeField code)) 0 e .1)
 
 -- they look at the type field alone
 pub rule-formed : (edition : Edition) (b : Bool) (type value : List ℕ) (inside after : Tree)
@@ -74,13 +74,13 @@ module _ (edition : Edition) (s : List ℕ) where
     first-faulty number place e some =
         first-told (refused-told s (walkFirst s .items) (firstRuled edition s) number place (rw (within, e)) some)
 
-    module _ {octet : ℕ} {inner : Run} (x : FirstItem s octet inner) where
+    module _ {code : ℕ} {inner : Run} (x : FirstItem s code inner) where
       abbrev rule : ℕ
-      rule = earlyRefusal 0 octet (shapeBy edition octet .octet)
+      rule = earlyRefusal 0 code (shapeBy edition code .octet)
 
       ruled-is : firstRuled edition s ≡ record { number = rule; place = 0 }
       unfolding firstRuled earlyRefusal
-      ruled-is = rw (within, x .ended, x .is, rule-formed edition (constructed octet) (typeField octet) _ _ _)
+      ruled-is = rw (within, x .ended, x .is, rule-formed edition (constructed code) (typeField code) _ _ _)
 
       -- 10 and 11
       pub first-refused : (number : ℕ) → number ≡ rule → (number ≡ 0 → ⊥) → FirstTells edition s (refusedDated number 0)
@@ -91,4 +91,4 @@ module _ (edition : Edition) (s : List ℕ) where
       pub first-dated : rule ≡ 0 → {d : DateFound} → Answers s inner d → FirstTells edition s (datedAs d)
       first-dated zero a =
           let none : firstRuled edition s .number ≡ 0 = rw ruled-is zero in
-          first-told (found-told s inner (early-profile octet (shapeBy edition octet .octet) zero) (x .is) (firstRuled edition s) none a)
+          first-told (found-told s inner (early-profile code (shapeBy edition code .octet) zero) (x .is) (firstRuled edition s) none a)

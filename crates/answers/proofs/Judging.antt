@@ -6,17 +6,17 @@ use Prim.Native.Nat.{ℕ, suc, _+_, _*_, _<_, _≤_}
 use native.Mathlib.Omega.{arith}
 use lib.ListN.{length, take, getD, getElem?}
 use Rattle.octets.specs.declared.Outcome.the-variants.{Ended}
-use Rattle.octets.specs.Walk.{Items, none, item, streamLimit, walkOf}
+use Rattle.octets.specs.Walk.{Items, noItems, item, streamLimit, walkOf}
 use Rattle.tree.specs.Tree.{treeOf}
 use Rattle.tree.specs.Accepts.{Accepts}
 use Rattle.runs.specs.Runs.{tops}
 use Rattle.runs.proofs.Laws.{stream-within}
-use Rattle.index.specs.Rows.{rowWidth}
+use Rattle.index.specs.Rows.{scratchWidth}
 use Rattle.elements.specs.declared.Edition.{Edition}
 use Rattle.elements.specs.Judge.{Element, mostElements, accepted, judge}
 use Rattle.elements.specs.declared.Row.{Row}
-use Rattle.elements.specs.Rows.{cells, rowsOf, numbers}
-use Rattle.letters.specs.Letter.{itemsOfStream, letter, refusal}
+use Rattle.elements.specs.ElementRows.{cells, rowsOf, numbers}
+use Rattle.letters.specs.Letter.{itemsOfStream, letter, refusal, letterIn, rowsIn}
 use Rattle.letters.specs.Lent.{rowsNeeded}
 use Rattle.judging.specs.Done.{Saying}
 use Rattle.letters.specs.declared.Verdict.{Verdict}
@@ -27,7 +27,7 @@ use Rattle.letters.specs.Content.{RowIn}
 use Rattle.judging.proofs.Rows.{saying-length, cell-at}
 use Rattle.letters.proofs.Apart.{accepted-apart}
 use Rattle.letters.proofs.Fetching.{filled-row-in}
-use Rattle.answers.specs.Answers.{letterIn, rowsIn, ruled}
+use Rattle.answers.specs.Answers.{ruled}
 use Rattle.answers.specs.Asking.{verdictAs, JudgedIn}
 use Rattle.answers.proofs.Letters.{refused-element, accepted-letter}
 use Rattle.answers.proofs.Small.{Small, refusal-small}
@@ -40,8 +40,8 @@ pub record Refusing (edition : Edition) (s : List ℕ) (number place headers : �
 -- there is a row for each item of the stream
 rows-tops : (edition : Edition) (s : List ℕ) (items : Items) → length (rowsOf edition s items) ≡ tops items
 unfolding rowsOf
-rows-tops edition s none = refl
-rows-tops edition s (item at octet first past inside after) = ap suc (rows-tops edition s after)
+rows-tops edition s noItems = refl
+rows-tops edition s (item at code first past inside after) = ap suc (rows-tops edition s after)
 
 -- a letter of count elements, whose rows are the first in scratch
 pub record Accepting (edition : Edition) (s rows : List ℕ) (count headers : ℕ) : Type 0 where
@@ -53,11 +53,11 @@ pub record Accepting (edition : Edition) (s rows : List ℕ) (count headers : �
   pub few : count ≤ mostElements
   pub needed : count ≤ rowsNeeded s
   pub within-limit : length s ≤ streamLimit
-  pub within : count * rowWidth ≤ length rows
-  pub written : take (count * rowWidth) rows ≡ numbers (rowsIn edition s)
+  pub within : count * scratchWidth ≤ length rows
+  pub written : take (count * scratchWidth) rows ≡ numbers (rowsIn edition s)
   pub saying : Saying s (rowsIn edition s) elements
   pub row-in : (j : ℕ) → j < count → RowIn edition s rows j
-  pub cells-at : (j : ℕ) (row : Row) → getElem? (rowsIn edition s) j ≡ some row → (c : ℕ) → c < rowWidth → getD rows (j * rowWidth + c) 0 ≡ getD (cells row) c 0
+  pub cells-at : (j : ℕ) (row : Row) → getElem? (rowsIn edition s) j ≡ some row → (c : ℕ) → c < scratchWidth → getD rows (j * scratchWidth + c) 0 ≡ getD (cells row) c 0
 
 -- rules 9 to 15 refused it
 pub refused-stopped : {edition : Edition} {s : List ℕ} {at headers number place : ℕ} → walkOf s ≡ Ended at headers → Stopped edition s number place → Refusing edition s number place headers

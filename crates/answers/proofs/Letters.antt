@@ -9,25 +9,25 @@ use Rattle.octets.specs.Walk.{walkOf}
 use Rattle.tree.specs.Tree.{treeOf}
 use Rattle.elements.specs.declared.Edition.{Edition}
 use Rattle.elements.specs.Judge.{Element, Judged, accepted, refused, judge}
-use Rattle.elements.specs.Rows.{placeOf}
-use Rattle.letters.specs.Letter.{letter, refusal, itemsOfStream, afterWalk, byWalk, letterOf}
+use Rattle.elements.specs.ElementRows.{placeOf}
+use Rattle.letters.specs.Letter.{letter, refusal, itemsOfStream, afterWalk, byWalk, letterIn}
 
 module _ (edition : Edition) (s : List ℕ) where
   -- the walk refused it
-  pub refused-walk : (number place headers : ℕ) → walkOf s ≡ Refused number place headers → letterOf edition s ≡ refusal number place headers
-  unfolding letterOf
+  pub refused-walk : (number place headers : ℕ) → walkOf s ≡ Refused number place headers → letterIn edition s ≡ refusal number place headers
+  unfolding letterIn
   refused-walk number place headers w = rw w
 
   -- the walk ended, and an element was refused
   pub refused-element : (at headers number element : ℕ) → walkOf s ≡ Ended at headers → judge edition (treeOf s) ≡ refused number element
-      → letterOf edition s ≡ refusal number (placeOf element (itemsOfStream s)) headers
-  unfolding letterOf
+      → letterIn edition s ≡ refusal number (placeOf element (itemsOfStream s)) headers
+  unfolding letterIn
   refused-element at headers number element w j = rw (w, j)
 
   -- the walk ended, and no element was refused
   pub accepted-letter : (at headers : ℕ) (elements : List Element) → walkOf s ≡ Ended at headers → judge edition (treeOf s) ≡ accepted elements
-      → letterOf edition s ≡ letter headers elements
-  unfolding letterOf
+      → letterIn edition s ≡ letter headers elements
+  unfolding letterIn
   accepted-letter at headers elements w j = rw (w, j)
 
   -- what a letter was found to be
@@ -48,6 +48,6 @@ module _ (edition : Edition) (s : List ℕ) where
   by-walk headers elements (Ended at k) w e = by-judge headers elements at k w (judge edition (treeOf s)) refl e
   by-walk headers elements (Refused number place k) w e = let z : _≡_ {A = ℕ} 0 1 = cc in absurd (omega arith)
 
-  pub letter-found : (headers : ℕ) (elements : List Element) → letterOf edition s ≡ letter headers elements → Found headers elements
-  unfolding letterOf
+  pub letter-found : (headers : ℕ) (elements : List Element) → letterIn edition s ≡ letter headers elements → Found headers elements
+  unfolding letterIn
   letter-found headers elements e = by-walk headers elements (walkOf s) refl e

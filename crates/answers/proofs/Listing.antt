@@ -11,7 +11,7 @@ use borrow.Author.Tests.{ne-eqb, lt-ltb, le-ltb}
 use borrow.Table.Steps.{cases}
 use Rattle.elements.specs.declared.Edition.{Edition}
 use Rattle.elements.specs.Judge.{Element}
-use Rattle.letters.specs.Letter.{letter, refusal}
+use Rattle.letters.specs.Letter.{letter, refusal, letterIn}
 use Rattle.reading.specs.declared.Match.{Match}
 use Rattle.reading.specs.declared.Side.{Side}
 use Rattle.reading.specs.Match.{matches}
@@ -20,7 +20,7 @@ use Rattle.reading.proofs.Made.{length-records}
 use Rattle.reading.proofs.Scratch.{lists-records}
 use Rattle.answers.specs.declared.Listed.{Listed}
 use Rattle.answers.specs.Table.{rowsLent}
-use Rattle.answers.specs.Answers.{letterIn, tableOf, listed, listedTable, matchesIn, listedList}
+use Rattle.answers.specs.Answers.{tableOf, listed, listedTable, matchesIn, listedList}
 use Rattle.answers.specs.Asking.{ListsFlat}
 use Rattle.answers.proofs.Small.{refusal-small}
 

@@ -9,11 +9,11 @@ use lib.ListN.{length}
 use borrow.Author.Tests.{ne-eqb, lt-ltb, le-ltb, le-leb, lt-leb}
 use Rattle.elements.specs.declared.Edition.{Edition}
 use Rattle.elements.specs.Judge.{Element}
-use Rattle.letters.specs.Letter.{letter, refusal}
+use Rattle.letters.specs.Letter.{letter, refusal, letterIn}
 use Rattle.parents.specs.Parent.{children}
 use Rattle.answers.specs.declared.Related.{Related}
 use Rattle.answers.specs.Table.{rowsLent}
-use Rattle.answers.specs.Answers.{letterIn, onto, tableOf}
+use Rattle.answers.specs.Answers.{onto, tableOf}
 use Rattle.answers.specs.Related.{unrelated, related, relatedTable, Relates}
 use Rattle.answers.proofs.Small.{refusal-small}
 

@@ -14,7 +14,7 @@ use borrow.Table.Steps.{cases}
 use Rattle.runs.specs.Runs.{wholeStream, Fine}
 use Rattle.elements.specs.declared.Edition.{Edition}
 use Rattle.elements.specs.Judge.{Element, joinedContent}
-use Rattle.letters.specs.Letter.{letter, refusal}
+use Rattle.letters.specs.Letter.{letter, refusal, letterIn}
 use Rattle.letters.specs.Lent.{rowsNeeded}
 use Rattle.reading.specs.declared.Match.{Match}
 use Rattle.reading.specs.declared.Side.{Side}
@@ -28,7 +28,7 @@ use Rattle.texts.proofs.Flat.{records-all, lines-all}
 use Rattle.texts.proofs.Fits.{texts-fit}
 use Rattle.answers.specs.declared.Listed.{Listed}
 use Rattle.answers.specs.declared.Shown.{Shown}
-use Rattle.answers.specs.Answers.{letterIn, onto, listed, matchesIn, joinedIn, allOf}
+use Rattle.answers.specs.Answers.{onto, listed, matchesIn, joinedIn, allOf}
 use Rattle.answers.specs.Asking.{ListsFlat}
 use Rattle.answers.specs.Texts.{textIn, textsIn, linesIn, linesLent, unshown, shownFrom, shown, shownLines, shownOutput, TextOutcome}
 use Rattle.answers.specs.Showing.{Listing, LinesNumbered, TextsFlat}

@@ -22,8 +22,8 @@ use Rattle.contents.specs.Search.{is}
 use Rattle.elements.specs.declared.Edition.{Edition}
 use Rattle.elements.specs.Shape.{shapeOf}
 use Rattle.elements.specs.Judge.{valueAt, typeOctet, typesOf, Element, elementOf, asTabled, typeFits, namesFit, Judged, accepted, refused, mostElements, profileOctet, twice, refusalOf, judgeOne, judgeFrom, judge}
-use Rattle.elements.specs.Rows.{placeOf}
-use Rattle.letters.specs.Letter.{refusal, itemsOfStream, afterWalk, byWalk, letterOf}
+use Rattle.elements.specs.ElementRows.{placeOf}
+use Rattle.letters.specs.Letter.{refusal, itemsOfStream, afterWalk, byWalk, letterIn}
 
 -- what is known of any refusal by rules 1 to 15
 pub record Small (s : List ℕ) (number place headers : ℕ) : Type 0 where
@@ -147,6 +147,6 @@ module _ (edition : Edition) (s : List ℕ) (number place headers : ℕ) where
       walk-small s number place headers (w ∙ rw (a, b, c))
 
   -- a stream that is refused by one of rules 1 to 15
-  pub refusal-small : letterOf edition s ≡ refusal number place headers → Small s number place headers
-  unfolding letterOf
+  pub refusal-small : letterIn edition s ≡ refusal number place headers → Small s number place headers
+  unfolding letterIn
   refusal-small e = walked-small (walkOf s) refl e

@@ -13,52 +13,52 @@ use lib.Seq.{sets, sets-eq, paste, slice, take-take, take-at, take-length, take-
 use borrow.Author.Tests.{eq-eqb, ne-eqb}
 use Rattle.laws.proofs.Writes.{sets-append}
 use Rattle.tree.specs.Tree.{treeOf}
-use Rattle.index.specs.Rows.{rowWidth}
+use Rattle.index.specs.Rows.{scratchWidth}
 use Rattle.elements.specs.declared.Edition.{Edition}
 use Rattle.elements.specs.declared.Row.{Row}
 use Rattle.elements.specs.Judge.{Element, accepted, judge}
-use Rattle.elements.specs.Rows.{cells, numbers}
-use Rattle.letters.specs.Letter.{letter}
+use Rattle.elements.specs.ElementRows.{cells, numbers}
+use Rattle.letters.specs.Letter.{letter, letterIn, rowsIn}
 use Rattle.letters.specs.Scratch.{Filled}
 use Rattle.judging.proofs.Lists.{at-below}
 use Rattle.judging.proofs.Rows.{saying-length}
 use Rattle.reading.specs.Match.{forEach, only}
 use Rattle.reading.proofs.Scratch.{filled-ready}
-use Rattle.parents.specs.Parent.{parent, noParent, numberOf, isRow, children}
+use Rattle.parents.specs.Parent.{parent, noParent, rowOrNone, isRow, children}
 use Rattle.answers.specs.Table.{tableWidth, rowNumbers, tableNumbers, Tabled, PutsRow, Fills, parentAt, rowsWith}
-use Rattle.answers.specs.Answers.{letterIn, rowsIn, elementsIn, onto, tableOf}
+use Rattle.answers.specs.Answers.{elementsIn, onto, tableOf}
 
 -- the numbers of row j, among those of all rows
-numbers-slice : (rows : List Row) (j : ℕ) (row : Row) → getElem? rows j ≡ some row → slice (j * rowWidth) (j * rowWidth + rowWidth) (numbers rows) ≡ cells row
+numbers-slice : (rows : List Row) (j : ℕ) (row : Row) → getElem? rows j ≡ some row → slice (j * scratchWidth) (j * scratchWidth + scratchWidth) (numbers rows) ≡ cells row
 unfolding numbers
 numbers-slice [] j row e = let z : _≡_ {A = ℕ} 0 1 = cc in absurd (omega arith)
-numbers-slice (r ∷ rows) zero row e = let q : r ≡ row = cc in take-at (cells r) (numbers rows) rowWidth refl ∙ ap cells q
+numbers-slice (r ∷ rows) zero row e = let q : r ≡ row = cc in take-at (cells r) (numbers rows) scratchWidth refl ∙ ap cells q
 numbers-slice (r ∷ rows) (suc j) row e =
-    let first : suc j * rowWidth ≡ rowWidth + j * rowWidth = omega arith in
-    let past : suc j * rowWidth + rowWidth ≡ rowWidth + (j * rowWidth + rowWidth) = omega arith in
-    ap (λ (k : ℕ). drop k (take (suc j * rowWidth + rowWidth) (cells r ++ numbers rows))) first
-    ∙ ap (λ (k : ℕ). drop (rowWidth + j * rowWidth) (take k (cells r ++ numbers rows))) past
-    ∙ ap (drop (rowWidth + j * rowWidth)) (take-append-add (cells r) (numbers rows) (j * rowWidth + rowWidth))
-    ∙ drop-append-add (cells r) (take (j * rowWidth + rowWidth) (numbers rows)) (j * rowWidth)
+    let first : suc j * scratchWidth ≡ scratchWidth + j * scratchWidth = omega arith in
+    let past : suc j * scratchWidth + scratchWidth ≡ scratchWidth + (j * scratchWidth + scratchWidth) = omega arith in
+    ap (λ (k : ℕ). drop k (take (suc j * scratchWidth + scratchWidth) (cells r ++ numbers rows))) first
+    ∙ ap (λ (k : ℕ). drop (scratchWidth + j * scratchWidth) (take k (cells r ++ numbers rows))) past
+    ∙ ap (drop (scratchWidth + j * scratchWidth)) (take-append-add (cells r) (numbers rows) (j * scratchWidth + scratchWidth))
+    ∙ drop-append-add (cells r) (take (j * scratchWidth + scratchWidth) (numbers rows)) (j * scratchWidth)
     ∙ numbers-slice rows j row e
 
 -- and in the scratch
 pub scratch-slice : {s scratch : List ℕ} {count : ℕ} {elements : List Element} {rows : List Row} → Tabled s scratch count elements rows → (j : ℕ) (row : Row) → j < count
-    → getElem? rows j ≡ some row → slice (j * rowWidth) (j * rowWidth + rowWidth) scratch ≡ cells row
+    → getElem? rows j ≡ some row → slice (j * scratchWidth) (j * scratchWidth + scratchWidth) scratch ≡ cells row
 scratch-slice {scratch = scratch} {count = count} {rows = rows} t j row below there =
-    ap (drop (j * rowWidth)) (sym (take-take (j * rowWidth + rowWidth) (count * rowWidth) scratch (omega arith)))
-    ∙ ap (slice (j * rowWidth) (j * rowWidth + rowWidth)) (t .written) ∙ numbers-slice rows j row there
+    ap (drop (j * scratchWidth)) (sym (take-take (j * scratchWidth + scratchWidth) (count * scratchWidth) scratch (omega arith)))
+    ∙ ap (slice (j * scratchWidth) (j * scratchWidth + scratchWidth)) (t .written) ∙ numbers-slice rows j row there
 
 -- the numbers of a row are copied, and the parent's put behind them
-pub put-behind : (table : List ℕ) (at : ℕ) (own : List ℕ) (last : ℕ) → length own ≡ rowWidth → at + rowWidth ≤ length table
-    → set (paste table at own rowWidth) (at + rowWidth) last ≡ sets table at (own ++ last ∷ [])
+pub put-behind : (table : List ℕ) (at : ℕ) (own : List ℕ) (last : ℕ) → length own ≡ scratchWidth → at + scratchWidth ≤ length table
+    → set (paste table at own scratchWidth) (at + scratchWidth) last ≡ sets table at (own ++ last ∷ [])
 put-behind table at own last size room =
-    let all : take rowWidth own ≡ own = ap (λ (k : ℕ). take k own) (sym size) ∙ take-length own in
-    let copied : paste table at own rowWidth ≡ sets table at own =
-    ap (λ (l : List ℕ). take at table ++ l ++ drop (at + rowWidth) table) all
+    let all : take scratchWidth own ≡ own = ap (λ (k : ℕ). take k own) (sym size) ∙ take-length own in
+    let copied : paste table at own scratchWidth ≡ sets table at own =
+    ap (λ (l : List ℕ). take at table ++ l ++ drop (at + scratchWidth) table) all
     ∙ ap (λ (k : ℕ). take at table ++ own ++ drop (at + k) table) (sym size)
     ∙ sym (sets-eq own table at (omega arith)) in
-    ap (λ (l : List ℕ). set l (at + rowWidth) last) copied ∙ ap (λ (k : ℕ). set (sets table at own) (at + k) last) (sym size)
+    ap (λ (l : List ℕ). set l (at + scratchWidth) last) copied ∙ ap (λ (k : ℕ). set (sets table at own) (at + k) last) (sym size)
     ∙ sym (sets-append table at own (last ∷ []))
 
 -- what is left from row j on
@@ -141,10 +141,10 @@ module _ {edition : Edition} {s rows head next head2 next2 : List ℕ} {count : 
 
 -- "the last being the parent's row"
 parent-there : (elements : List Element) (n : ℕ) (rows : List Row) (rest : List ℕ) (j : ℕ) → j < length rows
-    → parentAt (forEach n rows (rowNumbers elements) ++ rest) j ≡ numberOf (parent elements (n + j))
+    → parentAt (forEach n rows (rowNumbers elements) ++ rest) j ≡ rowOrNone (parent elements (n + j))
 unfolding forEach
 parent-there elements n [] rest j l = absurd (omega arith)
-parent-there elements n (row ∷ rows) rest zero l = let e : n + 0 ≡ n = omega arith in ap (λ (k : ℕ). numberOf (parent elements k)) (sym e)
+parent-there elements n (row ∷ rows) rest zero l = let e : n + 0 ≡ n = omega arith in ap (λ (k : ℕ). rowOrNone (parent elements k)) (sym e)
 parent-there elements n (row ∷ rows) rest (suc j) l =
     let own = rowNumbers elements n row in
     let others = forEach (suc n) rows (rowNumbers elements) in
@@ -152,27 +152,27 @@ parent-there elements n (row ∷ rows) rest (suc j) l =
     let e : n + suc j ≡ suc n + j = omega arith in
     ap (λ (l : List ℕ). getD l (suc j * tableWidth + 12) 0) (append-assoc own others rest)
     ∙ ap (λ (k : ℕ). getD (own ++ (others ++ rest)) k 0) at ∙ getD-append-add own (others ++ rest) (j * tableWidth + 12) 0
-    ∙ parent-there elements (suc n) rows rest j (omega arith) ∙ ap (λ (k : ℕ). numberOf (parent elements k)) (sym e)
+    ∙ parent-there elements (suc n) rows rest j (omega arith) ∙ ap (λ (k : ℕ). rowOrNone (parent elements k)) (sym e)
 
 -- in the finished table of a letter
 pub table-tells : (edition : Edition) (s : List ℕ) {headers : ℕ} {elements : List Element} → letterIn edition s ≡ letter headers elements
-    → length (rowsIn edition s) ≡ length elements → (table : List ℕ) (j : ℕ) → j < length elements → parentAt (tableOf edition s table) j ≡ numberOf (parent elements j)
+    → length (rowsIn edition s) ≡ length elements → (table : List ℕ) (j : ℕ) → j < length elements → parentAt (tableOf edition s table) j ≡ rowOrNone (parent elements j)
 table-tells edition s {headers} {elements} e counted table j l =
     let z : 0 + j ≡ j = omega arith in
     let own : elementsIn edition s ≡ elements = rw e in
     ap (λ (es : List Element). parentAt (onto (tableNumbers es (rowsIn edition s)) table) j) own
     ∙ parent-there elements 0 (rowsIn edition s) (drop (length (tableNumbers elements (rowsIn edition s))) table) j (omega arith)
-    ∙ ap (λ (k : ℕ). numberOf (parent elements k)) z
+    ∙ ap (λ (k : ℕ). rowOrNone (parent elements k)) z
 
 -- and the numbers of the scratch's row before it
-pub cell-there : (elements : List Element) (n : ℕ) (rows : List Row) (rest : List ℕ) (j : ℕ) (row : Row) → getElem? rows j ≡ some row → (c : ℕ) → c < rowWidth
+pub cell-there : (elements : List Element) (n : ℕ) (rows : List Row) (rest : List ℕ) (j : ℕ) (row : Row) → getElem? rows j ≡ some row → (c : ℕ) → c < scratchWidth
     → getD (forEach n rows (rowNumbers elements) ++ rest) (j * tableWidth + c) 0 ≡ getD (cells row) c 0
 unfolding forEach
 cell-there elements n [] rest j row e c l = let z : _≡_ {A = ℕ} 0 1 = cc in absurd (omega arith)
 cell-there elements n (r ∷ rows) rest zero row e c l =
     let q : r ≡ row = cc in
     let at : 0 * tableWidth + c ≡ c = omega arith in
-    let more = (numberOf (parent elements n) ∷ forEach (suc n) rows (rowNumbers elements)) ++ rest in
+    let more = (rowOrNone (parent elements n) ∷ forEach (suc n) rows (rowNumbers elements)) ++ rest in
     ap (λ (k : ℕ). getD (cells r ++ more) k 0) at ∙ List·getD-append (cells r) more 0 c l ∙ ap (λ (x : Row). getD (cells x) c 0) q
 cell-there elements n (r ∷ rows) rest (suc j) row e c l =
     let own = rowNumbers elements n r in
@@ -183,13 +183,13 @@ cell-there elements n (r ∷ rows) rest (suc j) row e c l =
     ∙ cell-there elements (suc n) rows rest j row e c l
 
 -- no row has the number of none
-is-number : (o : Option ℕ) (row : ℕ) → row < noParent → eqb (numberOf o) row ≡ isRow o row
+is-number : (o : Option ℕ) (row : ℕ) → row < noParent → eqb (rowOrNone o) row ≡ isRow o row
 is-number none row l = ne-eqb noParent row (λ e. omega arith)
 is-number (some p) row l = refl
 
 -- the rows that have a parent are its children
 module _ (elements : List Element) (table : List ℕ) (count row : ℕ) (low : row < noParent)
-    (tells : (j : ℕ) → j < count → parentAt table j ≡ numberOf (parent elements j)) where
+    (tells : (j : ℕ) → j < count → parentAt table j ≡ rowOrNone (parent elements j)) where
   from-row : (n : ℕ) (xs : List Element) → n + length xs ≤ count
       → rowsWith table row n (length xs) ≡ forEach n xs (λ j element. only (isRow (parent elements j) row) j)
   unfolding rowsWith forEach
@@ -212,7 +212,7 @@ finished-children {count = count} {elements = elements} {rows = rows} t table af
     (λ j l.
     let z : 0 + j ≡ j = omega arith in
     ap (λ (x : List ℕ). parentAt x j) (fills elements rows t) ∙ parent-there elements 0 rows (drop (count * tableWidth) table) j (omega (arith, t .counted))
-    ∙ ap (λ (k : ℕ). numberOf (parent elements k)) z)
+    ∙ ap (λ (k : ℕ). rowOrNone (parent elements k)) z)
     (t .ready .counted)
 
 -- one row more is looked at

@@ -6,7 +6,7 @@ use lib.ListN.{length}
 use native.Mathlib.Omega.{arith}
 use Rattle.elements.specs.declared.Edition.{Edition}
 use Rattle.elements.specs.Judge.{Element}
-use Rattle.letters.specs.Letter.{Letter, letter, refusal}
+use Rattle.letters.specs.Letter.{Letter, letter, refusal, letterIn}
 use Rattle.reading.specs.declared.Side.{Side}
 use Rattle.order.specs.declared.Class.{Class}
 use Rattle.order.specs.declared.Ordered.{Ordered}
@@ -24,7 +24,7 @@ use Rattle.answers.specs.declared.Shown.{Shown}
 use Rattle.answers.specs.declared.Told.{Told}
 use Rattle.answers.specs.declared.Question.{Question}
 use Rattle.answers.specs.declared.Question.the-variants.{Rules, Check, Content, Joined, List as Reading, Children, Order, Text}
-use Rattle.answers.specs.Answers.{letterIn, ruledBy, ruled, CheckOutcome, JoinedOutcome}
+use Rattle.answers.specs.Answers.{ruledBy, ruled, CheckOutcome, JoinedOutcome}
 use Rattle.answers.specs.Asking.{ListsFlat, Fetches}
 use Rattle.answers.specs.Related.{Relates, ChildrenOutcome, relatedList, related}
 use Rattle.answers.specs.Questions.{reasonTold, checkTold, locatedTold, copiedTold, listedTold, relatedTold, orderedTold, checkOf, locatedOf, copiedOf, listedOf, relatedOf, orderedOf, refusedTold, Leaves}

@@ -1,5 +1,6 @@
--- The public questions but the mailroom's (specs/Short): what each answers, and what it leaves in what it was lent. Document 01, "Numbers given
--- back" and "Table, list, part, normal form"; of the content, W-201. A contract of crate odif says that the result and every lent buffer at exit are these
+-- The public questions of the base, and the joined content (W-201): what each answers, and what it leaves in what it was lent. Those asked for later:
+-- specs/Short, Related, Dates, FirstDates, Texts; the order is in crate orders. Document 01, "Numbers given back" and "Table, list, part, normal form".
+-- A contract of crate odif says that the result and every lent buffer at exit are these
 -- definitions of the values at entry. Definitions only: assumes nothing.
 use mathlib.Core.Path.{_≡_}
 use Prim.Native.Nat.{ℕ, _≤_}
@@ -16,8 +17,8 @@ use Rattle.contents.specs.declared.Span.{Span}
 use Rattle.elements.specs.declared.Row.{Row}
 use Rattle.elements.specs.declared.Edition.{Edition}
 use Rattle.elements.specs.Judge.{Content, single, inPieces, bytesOf, joinedContent, Element}
-use Rattle.elements.specs.Rows.{noSpan}
-use Rattle.letters.specs.Letter.{Letter, letter, refusal, letterOf, rowsOfStream}
+use Rattle.elements.specs.ElementRows.{noSpan}
+use Rattle.letters.specs.Letter.{Letter, letter, refusal, letterIn, rowsIn}
 use Rattle.reading.specs.declared.Match.{Match}
 use Rattle.reading.specs.declared.Side.{Side}
 use Rattle.reading.specs.Match.{unitKind, matches}
@@ -28,14 +29,6 @@ use Rattle.answers.specs.declared.Reason.{Reason}
 use Rattle.answers.specs.declared.Found.{Found}
 use Rattle.answers.specs.declared.Copied.{Copied}
 use Rattle.answers.specs.Table.{tableNumbers, tooFewRows}
-
--- what a stream is by rules 1 to 15, in an edition
-abbrev pub letterIn : Edition → List ℕ → Letter
-letterIn edition s = letterOf edition s
-
--- its rows, if it is a letter
-abbrev pub rowsIn : Edition → List ℕ → List Row
-rowsIn edition s = rowsOfStream edition s
 
 -- values in front of what a lent list held: "Rows past the count keep what they had", "Records past the count keep theirs", "Output past it
 -- stays"
@@ -174,9 +167,9 @@ abbrev pub whyNot : Edition → (s : List ℕ) → (asked : ℕ) → Reason
 whyNot edition s asked = record { number = fetched edition s asked .number; place = fetched edition s asked .place }
 
 -- The same question for callers that take bounds: those of the content in the unit's row, and 0 and 0 with a refusal.
-abbrev pub contentIn : Option Row → Span
-contentIn none = noSpan
-contentIn (some row) = row .content
+abbrev pub contentPair : Option Row → Span
+contentPair none = noSpan
+contentPair (some row) = row .content
 
 abbrev pub locatedAt : Fetched → Span → Found
 locatedAt told pair = record { number = told .number; place = told .place; first = pair .first; past = pair .past }
@@ -184,7 +177,7 @@ locatedAt told pair = record { number = told .number; place = told .place; first
 unfoldable pub located : Edition → (s : List ℕ) → (asked : ℕ) → Found
 located edition s asked =
     locatedAt (fetched edition s asked)
-    (cond (eqb (fetched edition s asked .number) 0) (contentIn (getElem? (rowsIn edition s) asked)) noSpan)
+    (cond (eqb (fetched edition s asked .number) 0) (contentPair (getElem? (rowsIn edition s) asked)) noSpan)
 
 -- They are where the part stands that the question in its other form hands back, in the stream: demands has that of every stream.
 pub record Stands (edition : Edition) (s : List ℕ) (asked first past : ℕ) : Type 0 where

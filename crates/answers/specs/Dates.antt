@@ -18,7 +18,7 @@ use Rattle.dates.specs.Dates.{Date, dateIn}
 use Rattle.dates.specs.Places.{Place, bounds, noBounds, placesFrom}
 use Rattle.elements.specs.declared.Edition.{Edition}
 use Rattle.elements.specs.Judge.{profileOctet}
-use Rattle.elements.specs.Rows.{noSpan}
+use Rattle.elements.specs.ElementRows.{noSpan}
 use Rattle.letters.specs.Letter.{itemsOfStream}
 use Rattle.answers.specs.declared.Reason.{Reason}
 use Rattle.answers.specs.declared.Dated.{Dated}

@@ -8,11 +8,11 @@ use lib.Dec.{eqb, ltb, leb}
 use lib.ListN.{length}
 use Rattle.headers.specs.Head.{isIn}
 use Rattle.elements.specs.declared.Edition.{Edition}
-use Rattle.letters.specs.Letter.{Letter, letter, refusal}
+use Rattle.letters.specs.Letter.{Letter, letter, refusal, letterIn}
 use Rattle.parents.specs.Parent.{children}
 use Rattle.answers.specs.declared.Related.{Related}
 use Rattle.answers.specs.Table.{tooFewRows}
-use Rattle.answers.specs.Answers.{letterIn, elementsIn, onto, tableOf}
+use Rattle.answers.specs.Answers.{elementsIn, onto, tableOf}
 
 -- a refusal; only 25 has an element count, as 19 has in the reading list
 abbrev pub unrelated : (number place elements : ℕ) → Related

@@ -9,9 +9,9 @@ use lib.ListN.{length}
 use Rattle.normal.specs.Normal.{normalForm}
 use Rattle.normal.specs.Short.{shortLimit}
 use Rattle.elements.specs.declared.Edition.{Edition}
-use Rattle.letters.specs.Letter.{Letter, letter, refusal}
+use Rattle.letters.specs.Letter.{Letter, letter, refusal, letterIn}
 use Rattle.answers.specs.declared.Written.{Written}
-use Rattle.answers.specs.Answers.{letterIn, onto}
+use Rattle.answers.specs.Answers.{onto}
 
 -- "1 in the new question means over 65,535"; the rules 2 to 15 are as ever
 abbrev pub shortLetter : Edition → List ℕ → Letter

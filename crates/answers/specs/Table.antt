@@ -1,6 +1,6 @@
 -- The lent table. Document 01, "Table, list, part, normal form": "A table row is twelve numbers: kind .., object type .., then first and past for the
 -- element, its identifier, the unit's logical identifier, the portions' value, the content"; "an incomplete last row isn't used". W-204: "The table row
--- grows to thirteen numbers, the last being the parent's row". The scratch's row (`rowWidth`, `cells`) has what is read of an element; what is told of
+-- grows to thirteen numbers, the last being the parent's row". The scratch's row (`scratchWidth`, `cells`) has what is read of an element; what is told of
 -- it besides is added to the table's row alone, here. Definitions only: assumes nothing.
 use mathlib.Core.Path.{_≡_}
 use Prim.Native.Nat.{ℕ, zero, suc, _+_, _*_, _/_}
@@ -10,13 +10,13 @@ use mathlib.Core.Option.{some}
 use lib.Dec.{eqb, ltb}
 use lib.ListN.{length, getD, take, drop, getElem?}
 use lib.Seq.{sets}
-use Rattle.index.specs.Rows.{rowWidth}
+use Rattle.index.specs.Rows.{scratchWidth}
 use Rattle.elements.specs.declared.Row.{Row}
 use Rattle.elements.specs.Judge.{Element}
-use Rattle.elements.specs.Rows.{cells, numbers}
+use Rattle.elements.specs.ElementRows.{cells, numbers}
 use Rattle.reading.specs.Match.{forEach, only}
 use Rattle.reading.specs.Ready.{RowsTell}
-use Rattle.parents.specs.Parent.{parent, numberOf}
+use Rattle.parents.specs.Parent.{parent, rowOrNone}
 
 -- "thirteen numbers"
 abbrev pub tableWidth : ℕ
@@ -24,7 +24,7 @@ tableWidth = 13
 
 -- the numbers of row j: those of the scratch's row, "the last being the parent's row, or 65,535"
 abbrev pub rowNumbers : List Element → (j : ℕ) → Row → List ℕ
-rowNumbers elements j row = cells row ++ numberOf (parent elements j) ∷ []
+rowNumbers elements j row = cells row ++ rowOrNone (parent elements j) ∷ []
 
 -- the numbers of its rows, one row after another
 abbrev pub tableNumbers : List Element → List Row → List ℕ
@@ -42,7 +42,7 @@ tooFewRows table elements = ltb (rowsLent table) (length elements)
 pub record Tabled (s scratch : List ℕ) (count : ℕ) (elements : List Element) (rows : List Row) : Type 0 where
   pub ready : RowsTell s scratch count elements
   pub counted : length rows ≡ count
-  pub written : take (count * rowWidth) scratch ≡ numbers rows
+  pub written : take (count * scratchWidth) scratch ≡ numbers rows
 
 -- row j is put in its place
 abbrev pub PutsRow : (s scratch : List ℕ) (count j : ℕ) (table tableAfter : List ℕ) → Type 0

@@ -6,7 +6,7 @@ use super::Found;
 use super::IN_PIECES;
 use super::NO_UNIT;
 use elements::Edition;
-use index::ROW_WIDTH;
+use index::SCRATCH_WIDTH;
 use letters::Held;
 use runs::Run;
 ghost use Prim.Native.Nat.{_<_, _≤_};
@@ -28,7 +28,7 @@ fn content_at(edition: Edition, stream: &[u8], rows: &[u32], element: usize) -> 
     requires { ⌜ (element < 4096) × RowIn edition (now stream) (now rows) element ⌝ }
     ensures { λ r. ⌜ ContentAt edition (now (stream .entry)) (now (rows .entry)) element r ⌝ }
 {
-    if rows[element * ROW_WIDTH] != TEXT_UNIT {
+    if rows[element * SCRATCH_WIDTH] != TEXT_UNIT {
         return ContentFound::NoUnit;
     }
     match letters::content_of(edition, stream, rows, element) {

@@ -51,7 +51,7 @@ pub fn date_of_letter(stream: &[u8]) -> Dated
     match runs::meet(stream, runs::whole_stream(stream)) {
         Met::End => refused_date(0, 0),
         Met::Item {
-            octet: _,
+            code: _,
             first: _,
             past: _,
             inner,

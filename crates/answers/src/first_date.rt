@@ -20,12 +20,12 @@ const TOO_LONG: u32 = 1;
 const NO_PROFILE: u32 = 11;
 
 // The date in a first element that is whole: rules 10 and 11, then the date in its run.
-fn date_in_first(edition: Edition, stream: &[u8], octet: usize, inner: Run) -> Dated
-    requires { ⌜ FirstItem (now stream) octet inner × (length (now stream) ≤ streamLimit) ⌝ }
+fn date_in_first(edition: Edition, stream: &[u8], code: usize, inner: Run) -> Dated
+    requires { ⌜ FirstItem (now stream) code inner × (length (now stream) ≤ streamLimit) ⌝ }
     ensures { λ r. ⌜ FirstTells edition (now (stream .entry)) r ⌝ }
 {
-    let shape = elements::shape_of(edition, octet);
-    let number = judging::early(0, octet, shape.octet);
+    let shape = elements::shape_of(edition, code);
+    let number = judging::early(0, code, shape.octet);
     if number != 0 {
         return refused_date(number as u32, 0);
     }
@@ -44,7 +44,7 @@ fn first_numbers(edition: Edition, stream: &[u8]) -> Dated
     }
     match fronts::first_item(stream) {
         First::Refused { number, place } => refused_date(number as u32, place as u32),
-        First::Item { octet, inner } => date_in_first(edition, stream, octet, inner),
+        First::Item { code, inner } => date_in_first(edition, stream, code, inner),
     }
 }
 

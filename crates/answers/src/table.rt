@@ -1,6 +1,6 @@
-// The lent table: how wide its rows are, and how they are filled. A row of the scratch has its own width (`index::ROW_WIDTH`); the lent one has its
+// The lent table: how wide its rows are, and how they are filled. A row of the scratch has its own width (`index::SCRATCH_WIDTH`); the lent one has its
 // parent's row besides.
-use index::ROW_WIDTH;
+use index::SCRATCH_WIDTH;
 ghost use Prim.Native.Nat.{_*_, _<_, _≤_};
 ghost use lib.ListN.{length};
 ghost use Rattle.elements.specs.Judge.{mostElements};
@@ -28,9 +28,9 @@ fn put_row(
     ensures { λ _. ⌜ PutsRow (now (s .entry)) (now (rows .entry)) count j (now (table .entry)) (now (table .exit)) ⌝ }
 {
     let parent = parents::parent_of(s, rows, head, next, count, j);
-    let from = j * ROW_WIDTH;
+    let from = j * SCRATCH_WIDTH;
     let at = j * TABLE_WIDTH;
-    letters::copy_numbers(&rows[from..from + ROW_WIDTH], ROW_WIDTH, table, at);
+    letters::copy_numbers(&rows[from..from + SCRATCH_WIDTH], SCRATCH_WIDTH, table, at);
     table[at + PARENT] = parent as u32;
 }
 

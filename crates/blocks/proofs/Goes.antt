@@ -116,9 +116,9 @@ arrive-shallow taken k opens at h = cond-holds Shallow (eqb at taken) (λ _. set
 
 decide-shallow : (taken k : ℕ) (opens : List Open) (at limit : ℕ) → length opens ≤ 16 → (by : ℕ) (head : Head) → HeadOk by limit (roomOf opens) head
     → Shallow (decide taken k opens at (moved at head))
-decide-shallow taken k opens at limit h by (Item i) o = go (constructed (i .octet))
+decide-shallow taken k opens at limit h by (Item i) o = go (constructed (i .code))
   where
-    go : (b : Bool) → Shallow (enter b taken (suc k) opens (record { octet = i .octet; number = i .number; start = at + i .start; bound = at + i .bound; marked = i .marked }))
+    go : (b : Bool) → Shallow (enter b taken (suc k) opens (record { code = i .code; number = i .number; start = at + i .start; bound = at + i .bound; marked = i .marked }))
     go true = let d = o .deep in arrive-shallow taken (suc k) (record { bound = at + i .bound; marked = i .marked } ∷ opens) (at + i .start) (omega arith)
     go false = arrive-shallow taken (suc k) opens (at + i .bound) h
 decide-shallow taken k opens at limit h by ClosingMark o = go opens h

@@ -16,7 +16,7 @@ use Rattle.headers.specs.declared.Head.{Head}
 use Rattle.headers.specs.declared.Head.the-variants.{Item, ClosingMark, Refusal}
 use Rattle.headers.specs.declared.Field.{Field}
 use Rattle.headers.specs.declared.Field.the-variants.{Read, Wrong}
-use Rattle.headers.specs.Head.{number, constructed, formAllowed, isIn, aboveThirty, codeOf, misfits, bigEndian, octetAt}
+use Rattle.headers.specs.Head.{numberBits, constructed, formAllowed, isIn, aboveThirty, codeOf, misfits, bigEndian, octetAt}
 use Rattle.headers.specs.Head.{definiteAt, indefiniteAt, longAt, byFirst, lengthAt, fieldAt, afterField, closingAt, itemAt, headAt}
 use Rattle.headers.proofs.Lies.{FieldRead, in-one, in-two, in-three, item-holds}
 use Rattle.laws.proofs.Tests.{cond-holds}
@@ -48,7 +48,7 @@ pub two-wanted : (b : List ℕ) → 2 ≤ wanted b
 unfolding wanted
 two-wanted b =
     let P : ℕ → Type 0 = λ n. 2 ≤ headerSize n b in
-    cond-holds P (eqb (number (octetAt b 0)) 31)
+    cond-holds P (eqb (numberBits (octetAt b 0)) 31)
     (λ _. cond-holds P (ltb (octetAt b 1) 0x80) (λ _. omega arith) (λ _. omega arith))
     (λ _. omega arith)
 
@@ -62,20 +62,20 @@ module _ (s b : List ℕ) (at limit left : ℕ) (l : limit ≡ at + left) where
   refused : (n : ℕ) → Refusal n at ≡ moved at (Refusal n 0)
   refused n = ap (Refusal n) (sym (add-zero at))
 
-  same-definite : (octet start here len : ℕ) → start ≡ at + here → definiteAt octet at start len limit ≡ moved at (definiteAt octet 0 here len left)
+  same-definite : (code start here len : ℕ) → start ≡ at + here → definiteAt code at start len limit ≡ moved at (definiteAt code 0 here len left)
   unfolding definiteAt
-  same-definite octet start here len e =
+  same-definite code start here len e =
       both (Moved at) (leb (start + len) limit) (leb (here + len) left)
       (same-leb (start + len) limit (here + len) left (λ h. omega arith) (λ h. omega arith))
-      (λ _. both (Moved at) (misfits octet len) (misfits octet len) refl (λ _. refused 8)
+      (λ _. both (Moved at) (misfits code len) (misfits code len) refl (λ _. refused 8)
       (λ _. let d : start + len ≡ at + (here + len) = omega arith in rw (d, e)))
       (λ _. refused 7)
 
-  same-indefinite : (octet from here : ℕ) → from ≡ at + here → indefiniteAt octet at from limit ≡ moved at (indefiniteAt octet 0 here left)
+  same-indefinite : (code from here : ℕ) → from ≡ at + here → indefiniteAt code at from limit ≡ moved at (indefiniteAt code 0 here left)
   unfolding indefiniteAt
-  same-indefinite octet from here e =
+  same-indefinite code from here e =
       let d : from + 1 ≡ at + (here + 1) = omega arith in
-      both (Moved at) (constructed octet) (constructed octet) refl (λ _. rw (d, l)) (λ _. refused 6)
+      both (Moved at) (constructed code) (constructed code) refl (λ _. rw (d, l)) (λ _. refused 6)
 
   -- a place of the header is before the limit
   same-before : (i : ℕ) → ltb (at + i) limit ≡ ltb i left
@@ -94,27 +94,27 @@ module _ (s b : List ℕ) (at limit left : ℕ) (l : limit ≡ at + left) where
 
     -- the header has come
     module _ (enough : min (wanted b) left ≤ length b) where
-      same-long : (octet from size k : ℕ) → from ≡ at + size → size + 1 + k ≤ wanted b
-          → longAt s octet at from k limit ≡ moved at (longAt b octet 0 size k left)
+      same-long : (code from size k : ℕ) → from ≡ at + size → size + 1 + k ≤ wanted b
+          → longAt s code at from k limit ≡ moved at (longAt b code 0 size k left)
       unfolding longAt
-      same-long octet from size k e w =
+      same-long code from size k e w =
           both (Moved at) (leb (from + 1 + k) limit) (leb (size + 1 + k) left)
           (same-leb (from + 1 + k) limit (size + 1 + k) left (λ h. omega arith) (λ h. omega arith))
           (λ t. let h = leb-true (size + 1 + k) left t in
           rw (octets-of (size + 1) k (from + 1) (omega arith) (omega arith))
-          (same-definite octet (from + 1 + k) (size + 1 + k) (bigEndian (take k (drop (size + 1) b))) (omega arith)))
+          (same-definite code (from + 1 + k) (size + 1 + k) (bigEndian (take k (drop (size + 1) b))) (omega arith)))
           (λ _. refused 7)
 
-      same-first : (octet from size : ℕ) → from ≡ at + size → fieldSize b ≡ size
-          → byFirst s octet at from (octetAt b size) limit ≡ moved at (byFirst b octet 0 size (octetAt b size) left)
+      same-first : (code from size : ℕ) → from ≡ at + size → fieldSize b ≡ size
+          → byFirst s code at from (octetAt b size) limit ≡ moved at (byFirst b code 0 size (octetAt b size) left)
       unfolding byFirst wanted
-      same-first octet from size e f =
+      same-first code from size e f =
           let y = octetAt b size in
           let w : wanted b ≡ headerSize size b = rw f in
-          both (Moved at) (ltb y 0x80) (ltb y 0x80) refl (λ _. same-definite octet (from + 1) (size + 1) y (omega arith))
-          (λ _. both (Moved at) (eqb y 0x80) (eqb y 0x80) refl (λ _. same-indefinite octet from size e)
+          both (Moved at) (ltb y 0x80) (ltb y 0x80) refl (λ _. same-definite code (from + 1) (size + 1) y (omega arith))
+          (λ _. both (Moved at) (eqb y 0x80) (eqb y 0x80) refl (λ _. same-indefinite code from size e)
           (λ _. both (Moved at) (ltb y 0x85) (ltb y 0x85) refl
-          (λ t. let k : further y ≡ y - 0x80 = rw t in same-long octet from size (y - 0x80) e (omega arith))
+          (λ t. let k : further y ≡ y - 0x80 = rw t in same-long code from size (y - 0x80) e (omega arith))
           (λ _. refused 6)))
 
       same-length : (octet from size : ℕ) → from ≡ at + size → fieldSize b ≡ size
@@ -144,7 +144,7 @@ module _ (s b : List ℕ) (at limit left : ℕ) (l : limit ≡ at + left) where
           let second = octetAt b 1 in
           let third = octetAt b 2 in
           let two = two-wanted b in
-          both Follows (eqb (number first) 31) (eqb (number first) 31) refl
+          both Follows (eqb (numberBits first) 31) (eqb (numberBits first) 31) refl
           (λ n. both Follows (ltb (at + 1) limit) (ltb 1 left) (same-before 1)
           (λ t. let h = ltb-true 1 left t in
           let o : octetAt s (at + 1) ≡ second = octet-of 1 (omega arith) in
@@ -201,32 +201,32 @@ Ends b marked (Refusal number place) = Unit {0}
 
 -- the type field that was read has as many octets as its first ones tell
 field-told : (b : List ℕ) (left code past : ℕ) → FieldRead b (octetAt b 0) 0 left code past → fieldSize b ≡ past
-field-told b left code past (in-one n f) = rw (ne-eqb (number (octetAt b 0)) 31 n)
-field-told b left code past (in-two n f h k m) = rw (eq-eqb (number (octetAt b 0)) 31 n, lt-ltb (octetAt b 1) 0x80 m)
+field-told b left code past (in-one n f) = rw (ne-eqb (numberBits (octetAt b 0)) 31 n)
+field-told b left code past (in-two n f h k m) = rw (eq-eqb (numberBits (octetAt b 0)) 31 n, lt-ltb (octetAt b 1) 0x80 m)
 field-told b left code past (in-three n f h k m o) =
     let long : 0x80 ≤ octetAt b 1 = omega arith in
-    rw (eq-eqb (number (octetAt b 0)) 31 n, le-ltb (octetAt b 1) 0x80 long)
+    rw (eq-eqb (numberBits (octetAt b 0)) 31 n, le-ltb (octetAt b 1) 0x80 long)
 
 module _ (b : List ℕ) (left : ℕ) (marked : Bool) (size : ℕ) (told : fieldSize b ≡ size) where
   abbrev length-octet : ℕ
   length-octet = octetAt b size
 
-  definite-wanted : (octet start len : ℕ) → start ≡ headerSize size b → Ends b marked (definiteAt octet 0 start len left)
+  definite-wanted : (code start len : ℕ) → start ≡ headerSize size b → Ends b marked (definiteAt code 0 start len left)
   unfolding definiteAt wanted
-  definite-wanted octet start len e =
-      cond-holds (Ends b marked) (leb (start + len) left) (λ _. cond-holds (Ends b marked) (misfits octet len) (λ _. tt) (λ _. rw told e)) (λ _. tt)
+  definite-wanted code start len e =
+      cond-holds (Ends b marked) (leb (start + len) left) (λ _. cond-holds (Ends b marked) (misfits code len) (λ _. tt) (λ _. rw told e)) (λ _. tt)
 
-  first-wanted : (octet : ℕ) → Ends b marked (byFirst b octet 0 size length-octet left)
+  first-wanted : (code : ℕ) → Ends b marked (byFirst b code 0 size length-octet left)
   unfolding byFirst indefiniteAt longAt wanted
-  first-wanted octet =
+  first-wanted code =
       let y = length-octet in
       cond-holds (Ends b marked) (ltb y 0x80)
-      (λ t. let l = ltb-true y 0x80 t in definite-wanted octet (size + 1) y (none (omega arith)))
+      (λ t. let l = ltb-true y 0x80 t in definite-wanted code (size + 1) y (none (omega arith)))
       (λ _. cond-holds (Ends b marked) (eqb y 0x80)
-      (λ t. cond-holds (Ends b marked) (constructed octet) (λ _. let e = eqb-true y 0x80 t in rw told (none (omega arith))) (λ _. tt))
+      (λ t. cond-holds (Ends b marked) (constructed code) (λ _. let e = eqb-true y 0x80 t in rw told (none (omega arith))) (λ _. tt))
       (λ _. cond-holds (Ends b marked) (ltb y 0x85)
       (λ t. cond-holds (Ends b marked) (leb (size + 1 + (y - 0x80)) left)
-      (λ _. definite-wanted octet (size + 1 + (y - 0x80)) (bigEndian (take (y - 0x80) (drop (size + 1) b))) (rw t))
+      (λ _. definite-wanted code (size + 1 + (y - 0x80)) (bigEndian (take (y - 0x80) (drop (size + 1) b))) (rw t))
       (λ _. tt))
       (λ _. tt)))
     where
@@ -237,9 +237,9 @@ module _ (b : List ℕ) (left : ℕ) (marked : Bool) (size : ℕ) (told : fieldS
           let n : size + 1 + 0 ≡ size + 1 = omega arith in
           rw (t, z, n)
 
-  length-wanted : (octet : ℕ) → Ends b marked (lengthAt b octet 0 size left)
+  length-wanted : (code : ℕ) → Ends b marked (lengthAt b code 0 size left)
   unfolding lengthAt
-  length-wanted octet = cond-holds (Ends b marked) (ltb size left) (λ _. first-wanted octet) (λ _. tt)
+  length-wanted code = cond-holds (Ends b marked) (ltb size left) (λ _. first-wanted code) (λ _. tt)
 
 module _ (b : List ℕ) (left : ℕ) (marked : Bool) where
   mark-wanted : octetAt b 0 ≡ 0 → octetAt b 1 ≡ 0 → wanted b ≡ 2
@@ -266,19 +266,19 @@ same-wanted [] c = (λ _. let w = two-wanted c in omega arith, λ _. let w = two
 same-wanted (y ∷ []) c = (λ _. let w = two-wanted (y ∷ c) in omega arith, λ _. let w = two-wanted (y ∷ []) in omega arith)
 same-wanted (y ∷ z ∷ []) c =
     let P : ℕ → Type 0 = λ n. (2 < headerSize n (y ∷ z ∷ []) → 2 < headerSize n (y ∷ z ∷ c)) × (2 < headerSize n (y ∷ z ∷ c) → 2 < headerSize n (y ∷ z ∷ [])) in
-    cond-holds P (eqb (number y) 31)
+    cond-holds P (eqb (numberBits y) 31)
     (λ _. cond-holds P (ltb z 0x80) (λ _. (λ _. omega arith, λ _. omega arith)) (λ _. (λ _. omega arith, λ _. omega arith)))
     (λ _. (λ h. h, λ h. h))
 same-wanted (y ∷ z ∷ w ∷ []) c =
     let P : ℕ → Type 0 = λ n. (3 < headerSize n (y ∷ z ∷ w ∷ []) → 3 < headerSize n (y ∷ z ∷ w ∷ c)) × (3 < headerSize n (y ∷ z ∷ w ∷ c) → 3 < headerSize n (y ∷ z ∷ w ∷ [])) in
-    cond-holds P (eqb (number y) 31)
+    cond-holds P (eqb (numberBits y) 31)
     (λ _. cond-holds P (ltb z 0x80) (λ _. (λ h. h, λ h. h)) (λ _. (λ _. omega arith, λ _. omega arith)))
     (λ _. (λ h. h, λ h. h))
 same-wanted (y ∷ z ∷ w ∷ v ∷ p) c =
     let n = length (y ∷ z ∷ w ∷ v ∷ p) in
     let P : ℕ → Type 0 = λ f. (n < headerSize f (y ∷ z ∷ w ∷ v ∷ p) → n < headerSize f (y ∷ z ∷ w ∷ v ∷ p ++ c))
     × (n < headerSize f (y ∷ z ∷ w ∷ v ∷ p ++ c) → n < headerSize f (y ∷ z ∷ w ∷ v ∷ p)) in
-    cond-holds P (eqb (number y) 31)
+    cond-holds P (eqb (numberBits y) 31)
     (λ _. cond-holds P (ltb z 0x80) (λ _. (λ h. h, λ h. h)) (λ _. (λ h. h, λ h. h)))
     (λ _. (λ h. h, λ h. h))
 
@@ -289,17 +289,17 @@ told-wanted [] c h = let w = two-wanted [] in absurd (omega arith)
 told-wanted (y ∷ []) c h = let w = two-wanted (y ∷ []) in absurd (omega arith)
 told-wanted (y ∷ z ∷ []) c l =
     let P : ℕ → Type 0 = λ n. headerSize n (y ∷ z ∷ []) ≤ 2 → headerSize n (y ∷ z ∷ c) ≡ headerSize n (y ∷ z ∷ []) in
-    cond-holds P (eqb (number y) 31)
+    cond-holds P (eqb (numberBits y) 31)
     (λ _. cond-holds P (ltb z 0x80) (λ _ h. absurd (omega arith)) (λ _ h. absurd (omega arith)))
     (λ _ _. refl) l
 told-wanted (y ∷ z ∷ w ∷ []) c l =
     let P : ℕ → Type 0 = λ n. headerSize n (y ∷ z ∷ w ∷ []) ≤ 3 → headerSize n (y ∷ z ∷ w ∷ c) ≡ headerSize n (y ∷ z ∷ w ∷ []) in
-    cond-holds P (eqb (number y) 31)
+    cond-holds P (eqb (numberBits y) 31)
     (λ _. cond-holds P (ltb z 0x80) (λ _ _. refl) (λ _ h. absurd (omega arith)))
     (λ _ _. refl) l
 told-wanted (y ∷ z ∷ w ∷ v ∷ p) c h =
     let P : ℕ → Type 0 = λ n. headerSize n (y ∷ z ∷ w ∷ v ∷ p ++ c) ≡ headerSize n (y ∷ z ∷ w ∷ v ∷ p) in
-    cond-holds P (eqb (number y) 31)
+    cond-holds P (eqb (numberBits y) 31)
     (λ _. cond-holds P (ltb z 0x80) (λ _. refl) (λ _. refl))
     (λ _. refl)
 
@@ -314,6 +314,6 @@ eight-wanted b =
     let one = further-few (octetAt b 1) in
     let two = further-few (octetAt b 2) in
     let three = further-few (octetAt b 3) in
-    cond-holds P (eqb (number (octetAt b 0)) 31)
+    cond-holds P (eqb (numberBits (octetAt b 0)) 31)
     (λ _. cond-holds P (ltb (octetAt b 1) 0x80) (λ _. omega arith) (λ _. omega arith))
     (λ _. omega arith)

@@ -69,7 +69,7 @@ module _ (s : List ℕ) (opens : List Open) (k at : ℕ) (l : at < limitOf (leng
           z,
         )
 
-    pub resume-primitive : constructed (h .octet) ≡ false → resume s opens k at ≡ resume s opens (suc k) (h .bound)
+    pub resume-primitive : constructed (h .code) ≡ false → resume s opens k at ≡ resume s opens (suc k) (h .bound)
     unfolding valueOf
     resume-primitive q =
         let v : answer (valueOf (roomOf opens) s h) ≡ Ended (h .bound) 0 = rw q in
@@ -83,7 +83,7 @@ module _ (s : List ℕ) (opens : List Open) (k at : ℕ) (l : at < limitOf (leng
         rw (breaks (roomOf opens) s at (limitOf (length s) opens) (markedOf opens) l h e number place n p, z)
         (leave-refused s opens number place (suc k + n))
 
-    pub resume-constructed : constructed (h .octet) ≡ true → resume s opens k at ≡ resume s (opened h ∷ opens) (suc k) (h .start)
+    pub resume-constructed : constructed (h .code) ≡ true → resume s opens k at ≡ resume s (opened h ∷ opens) (suc k) (h .start)
     unfolding valueOf
     resume-constructed q =
         let r : 16 - length opens - 1 ≡ 16 - suc (length opens) = omega arith in

@@ -121,7 +121,7 @@ module _ (letter : List ℕ) (tells : Outcome) where
       → resume letter opens k at ≡ tells → Good letter taken tells (decide taken k opens at head)
   decide-good taken k opens at n l (Item h) p c e =
       let o = header-ok letter at (limitOf (length letter) opens) (roomOf opens) (markedOf opens) h p in
-      enter-good taken (suc k) opens h n (o .order) (o .within) c (constructed (h .octet))
+      enter-good taken (suc k) opens h n (o .order) (o .within) c (constructed (h .code))
       (λ q. sym (resume-constructed letter opens k at l h p q) ∙ e)
       (λ q. sym (resume-primitive letter opens k at l h p q) ∙ e)
   decide-good taken k opens at n l ClosingMark p c e =

@@ -9,7 +9,7 @@ use lib.Dec.{eqb, ltb, leb}
 use Rattle.headers.specs.declared.Header.{Header}
 use Rattle.headers.specs.declared.Head.{Head}
 use Rattle.headers.specs.declared.Head.the-variants.{Item, ClosingMark, Refusal}
-use Rattle.headers.specs.Head.{constructed, number, octetAt, headAt}
+use Rattle.headers.specs.Head.{constructed, numberBits, octetAt, headAt}
 use Rattle.octets.specs.Walk.{streamLimit, deepest}
 
 -- An open item: a constructed one whose header has come and whose end has not. It ends at `bound`, or waits for its closing mark
@@ -49,7 +49,7 @@ further first = cond (ltb first 0x85) (first - 0x80) 0
 
 -- how many octets the type field has that begins with these, as far as they tell: "bit 8 set on all but the last", three at most
 abbrev pub fieldSize : List ℕ → ℕ
-fieldSize begun = cond (eqb (number (octetAt begun 0)) 31) (cond (ltb (octetAt begun 1) 0x80) 2 3) 1
+fieldSize begun = cond (eqb (numberBits (octetAt begun 0)) 31) (cond (ltb (octetAt begun 1) 0x80) 2 3) 1
 
 -- a header with a type field of so many octets: the first length octet and those that follow it come after
 abbrev pub headerSize : (field : ℕ) → List ℕ → ℕ
@@ -65,7 +65,7 @@ whole begun left = leb (min (wanted begun) left) (length begun)
 
 -- what was read from a list that stands `by` further on in the letter
 abbrev pub moved : (by : ℕ) → Head → Head
-moved by (Item h) = Item (record { octet = h .octet; number = h .number; start = by + h .start; bound = by + h .bound; marked = h .marked })
+moved by (Item h) = Item (record { code = h .code; number = h .number; start = by + h .start; bound = by + h .bound; marked = h .marked })
 moved by ClosingMark = ClosingMark
 moved by (Refusal number place) = Refusal number (by + place)
 
@@ -89,7 +89,7 @@ enter false taken headers opens h = arrive taken headers opens (h .bound)
 
 -- what a header that has come does
 abbrev pub decide : (taken headers : ℕ) → (opens : List Open) → (at : ℕ) → Head → Standing
-decide taken headers opens at (Item h) = enter (constructed (h .octet)) taken (suc headers) opens h
+decide taken headers opens at (Item h) = enter (constructed (h .code)) taken (suc headers) opens h
 decide taken headers opens at ClosingMark = arrive taken headers (drop 1 opens) (at + 2)
 decide taken headers opens at (Refusal number place) = found number place headers
 

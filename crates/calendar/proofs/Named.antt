@@ -11,7 +11,7 @@ use lib.Seq.{getD-take}
 use borrow.Author.Tests.{leb-true, leb-false, le-leb, eq-eqb, ne-eqb}
 use Rattle.names.specs.Names.{isDigit}
 use Rattle.calendar.specs.declared.Day.{Day}
-use Rattle.calendar.specs.Calendar.{monthDays, leap, daysIn, exists, hyphen, twoDigits, twoNumber, spelt, dayAt, namesDay, spelling}
+use Rattle.calendar.specs.Calendar.{monthDays, leap, daysIn, exists, hyphen, twoDigits, twoNumber, spellsTen, dayAt, namesDay, spelling}
 use Rattle.calendar.specs.Named.{RealDay, Names}
 use Rattle.calendar.proofs.Spelling.{both-true, two-bounds, two-small, Spelt, spelt-parts}
 
@@ -144,7 +144,7 @@ year-small value p = omega (arith, two-small value 0 (p .century), two-small val
 pub names : (value : List ℕ) → namesDay value ≡ true → Names value (dayAt value)
 unfolding namesDay
 names value e =
-    let p = both-true (spelt value) (exists (dayAt value)) e in
+    let p = both-true (spellsTen value) (exists (dayAt value)) e in
     let parts = spelt-parts value (p .0) in
     record { real = real (dayAt value) (year-small value parts) (p .1); begins = spelt-back value parts }
 
@@ -206,8 +206,8 @@ module _ (value : List ℕ) (d : Day) (x : Names value d) where
       let y : 100 * (d .year / 100) + d .year % 100 ≡ d .year = omega arith in
       rw (century-is .1, years-are .1, month-is .1, day-is .1, y)
 
-  is-spelt : spelt value ≡ true
-  unfolding spelt spelling
+  is-spelt : spellsTen value ≡ true
+  unfolding spellsTen spelling
   is-spelt =
       rw (
         le-leb 10 (length value) long-enough,
@@ -229,6 +229,6 @@ pub named-year : (value : List ℕ) → namesDay value ≡ true → 1 ≤ dayAt 
 unfolding namesDay exists
 named-year value e =
     let d = dayAt value in
-    let p = both-true (spelt value) (exists d) e in
+    let p = both-true (spellsTen value) (exists d) e in
     let q = both-true (leb 1 (d .year)) (leb 1 (d .day)) (both-true _ (leb (d .day) (daysIn (d .year) (d .month))) (p .1) .0) in
     leb-true 1 (d .year) (q .0)

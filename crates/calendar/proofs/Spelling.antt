@@ -8,7 +8,7 @@ use lib.Dec.{leb, eqb}
 use lib.ListN.{length, getD}
 use borrow.Author.Tests.{leb-true, eqb-true}
 use Rattle.names.specs.Names.{isDigit}
-use Rattle.calendar.specs.Calendar.{hyphen, twoDigits, twoNumber, spelt}
+use Rattle.calendar.specs.Calendar.{hyphen, twoDigits, twoNumber, spellsTen}
 
 pub both-true : (a b : Bool) → (a && b) ≡ true → (a ≡ true) × (b ≡ true)
 both-true true b e = (refl, e)
@@ -47,8 +47,8 @@ pub record Spelt (value : List ℕ) : Type 0 where
   pub hyphen-two : getD value 7 0 ≡ hyphen
   pub day : twoDigits value 8 ≡ true
 
-pub spelt-parts : (value : List ℕ) → spelt value ≡ true → Spelt value
-unfolding spelt
+pub spelt-parts : (value : List ℕ) → spellsTen value ≡ true → Spelt value
+unfolding spellsTen
 spelt-parts value e =
     let p6 = both-true _ (twoDigits value 8) e in
     let p5 = both-true _ (eqb (getD value 7 0) hyphen) (p6 .0) in

@@ -39,8 +39,8 @@ unfoldable pub twoNumber : List ℕ → (i : ℕ) → ℕ
 twoNumber value i = 10 * (getD value i 0 - zeroDigit) + (getD value (i + 1) 0 - zeroDigit)
 
 -- "its first ten bytes: four, two and two digits with hyphens between"
-unfoldable pub spelt : List ℕ → Bool
-spelt value =
+unfoldable pub spellsTen : List ℕ → Bool
+spellsTen value =
     leb 10 (length value) && twoDigits value 0 && twoDigits value 2 && eqb (getD value 4 0) hyphen
     && twoDigits value 5 && eqb (getD value 7 0) hyphen && twoDigits value 8
 
@@ -51,7 +51,7 @@ dayAt value =
 
 -- "the first ten bytes name .. such day"
 unfoldable pub namesDay : List ℕ → Bool
-namesDay value = spelt value && exists (dayAt value)
+namesDay value = spellsTen value && exists (dayAt value)
 
 -- no day: 0 for year, month and day
 abbrev pub noDay : Day

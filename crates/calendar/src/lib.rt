@@ -3,7 +3,7 @@ ghost use mathlib.Core.Path.{_≡_};
 ghost use mathlib.Core.Bool.{true, cond};
 ghost use Prim.Native.Nat.{_+_, _<_};
 ghost use lib.ListN.{length};
-ghost use Rattle.calendar.specs.Calendar.{leap, daysIn, exists, twoDigits, twoNumber, spelt, dayAt, namesDay, noDay};
+ghost use Rattle.calendar.specs.Calendar.{leap, daysIn, exists, twoDigits, twoNumber, spellsTen, dayAt, namesDay, noDay};
 
 const MONTH_DAYS: [u8; 13] = [0, 31, 28, 31, 30, 31, 30, 31, 31, 30, 31, 30, 31];
 
@@ -80,7 +80,7 @@ fn two_number(v: &[u8], i: usize) -> usize
 
 // Whether a value begins with four, two and two digits with hyphens between.
 fn is_spelt(v: &[u8]) -> bool
-    ensures { λ b. ⌜ b ≡ spelt (now (v .entry)) ⌝ }
+    ensures { λ b. ⌜ b ≡ spellsTen (now (v .entry)) ⌝ }
 {
     if v.len() < 10 {
         return false;
@@ -105,7 +105,7 @@ fn is_spelt(v: &[u8]) -> bool
 
 // The day that a value spells.
 fn day_at(v: &[u8]) -> Day
-    requires { ⌜ spelt (now v) ≡ true ⌝ }
+    requires { ⌜ spellsTen (now v) ≡ true ⌝ }
     ensures { λ d. ⌜ d ≡ dayAt (now (v .entry)) ⌝ }
 {
     Day {

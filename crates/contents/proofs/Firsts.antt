@@ -9,7 +9,7 @@ use lib.Dec.{eqb}
 use borrow.Author.Tests.{eq-eqb, ne-eqb}
 use Rattle.headers.specs.Head.{constructed, typeField}
 use Rattle.headers.proofs.Fields.{code-field}
-use Rattle.octets.specs.Walk.{none}
+use Rattle.octets.specs.Walk.{noItems}
 use Rattle.tree.specs.Tree.{Tree, formed}
 use Rattle.runs.specs.declared.Run.{Run}
 use Rattle.runs.specs.declared.Met.{Met}
@@ -107,7 +107,7 @@ module _ {s : List ℕ} {octet : ℕ} {from to : Run} (a : Alike s octet from to
       }
 
 -- at the end of a run
-module _ (s : List ℕ) (octet : ℕ) (r : Run) (e : itemsOf s r ≡ none) where
+module _ (s : List ℕ) (octet : ℕ) (r : Run) (e : itemsOf s r ≡ noItems) where
   pub amount-at-end : amount octet (treeIn s r) ≡ 0
   unfolding amount
   amount-at-end = ap (amount octet) (tree-none s r e)
@@ -125,40 +125,40 @@ module _ (s : List ℕ) (octet : ℕ) (r : Run) (e : itemsOf s r ≡ none) where
 
 -- at an item
 module _ (s : List ℕ) (r : Run) (p : Part) (rest : Run) (m : Begins s r p rest) (octet : ℕ) where
-  pub amount-of-item : amount octet (treeIn s r) ≡ cond (eqb (p .octet) octet) 1 0 + amount octet (treeIn s rest)
+  pub amount-of-item : amount octet (treeIn s r) ≡ cond (eqb (p .code) octet) 1 0 + amount octet (treeIn s rest)
   amount-of-item =
       ap (amount octet) (tree-meets m)
-      ∙ amount-formed octet (p .octet) _ (treeIn s (p .inner)) (treeIn s rest) (constructed (p .octet))
+      ∙ amount-formed octet (p .code) _ (treeIn s (p .inner)) (treeIn s rest) (constructed (p .code))
 
-  pub alike-after : (p .octet ≡ octet → ⊥) → Alike s octet r rest
+  pub alike-after : (p .code ≡ octet → ⊥) → Alike s octet r rest
   unfolding boundsOf itemsIn
   alike-after n =
       record {
-        amounts = amount-of-item ∙ rw (ne-eqb (p .octet) octet n) (omega arith);
-        bounds = ap (boundsOf octet) (m .tree) ∙ rw (ne-eqb (p .octet) octet n);
-        items = ap (itemsIn octet) (m .tree) ∙ rw (ne-eqb (p .octet) octet n);
+        amounts = amount-of-item ∙ rw (ne-eqb (p .code) octet n) (omega arith);
+        bounds = ap (boundsOf octet) (m .tree) ∙ rw (ne-eqb (p .code) octet n);
+        items = ap (itemsIn octet) (m .tree) ∙ rw (ne-eqb (p .code) octet n);
         value = ap (firstValue octet) (tree-meets m)
-            ∙ value-after octet (p .octet) _ (treeIn s (p .inner)) (treeIn s rest) (constructed (p .octet)) n;
+            ∙ value-after octet (p .code) _ (treeIn s (p .inner)) (treeIn s rest) (constructed (p .code)) n;
         tree = ap (firstRun octet) (tree-meets m)
-            ∙ run-after octet (p .octet) _ (treeIn s (p .inner)) (treeIn s rest) (constructed (p .octet)) n;
+            ∙ run-after octet (p .code) _ (treeIn s (p .inner)) (treeIn s rest) (constructed (p .code)) n;
       }
 
-  pub holds-here : p .octet ≡ octet → IsFirst s r octet p
+  pub holds-here : p .code ≡ octet → IsFirst s r octet p
   unfolding boundsOf itemsIn
   holds-here e =
       record {
         octet-is = e;
-        octet-not-zero = λ z. m .octet-not-zero (e ∙ z);
-        octet-small = omega (arith, m .octet-small);
-        there = λ z. let one : 1 + amount octet (treeIn s rest) ≡ 0 = sym (amount-of-item ∙ rw (eq-eqb (p .octet) octet e)) ∙ z in omega arith;
+        octet-not-zero = λ z. m .code-not-zero (e ∙ z);
+        octet-small = omega (arith, m .code-small);
+        there = λ z. let one : 1 + amount octet (treeIn s rest) ≡ 0 = sym (amount-of-item ∙ rw (eq-eqb (p .code) octet e)) ∙ z in omega arith;
         starts = omega (arith, m .starts);
         order = m .value-order;
         inside = m .value-inside;
         inner-fine = m .inner-fine;
-        bounds = ap (boundsOf octet) (m .tree) ∙ rw (eq-eqb (p .octet) octet e);
-        items = ap (itemsIn octet) (m .tree) ∙ rw (eq-eqb (p .octet) octet e);
+        bounds = ap (boundsOf octet) (m .tree) ∙ rw (eq-eqb (p .code) octet e);
+        items = ap (itemsIn octet) (m .tree) ∙ rw (eq-eqb (p .code) octet e);
         value = λ f. ap (firstValue octet) (tree-meets m)
-            ∙ value-here octet (p .octet) _ (treeIn s (p .inner)) (treeIn s rest) (constructed (p .octet)) (ap constructed e ∙ f) e;
+            ∙ value-here octet (p .code) _ (treeIn s (p .inner)) (treeIn s rest) (constructed (p .code)) (ap constructed e ∙ f) e;
         tree = λ f. ap (firstRun octet) (tree-meets m)
-            ∙ run-here octet (p .octet) _ (treeIn s (p .inner)) (treeIn s rest) (constructed (p .octet)) (ap constructed e ∙ f) e;
+            ∙ run-here octet (p .code) _ (treeIn s (p .inner)) (treeIn s rest) (constructed (p .code)) (ap constructed e ∙ f) e;
       }

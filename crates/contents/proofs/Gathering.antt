@@ -6,7 +6,7 @@ use Prim.Native.Nat.{ℕ, _+_, _-_, _≤_}
 use native.Mathlib.Omega.{arith}
 use lib.Dec.{eqb}
 use lib.ListN.{length}
-use Rattle.octets.specs.Walk.{none}
+use Rattle.octets.specs.Walk.{noItems}
 use Rattle.runs.specs.declared.Run.{Run}
 use Rattle.runs.specs.Runs.{itemsOf, treeIn, Fine}
 use Rattle.contents.specs.declared.Part.{Part}
@@ -48,7 +48,7 @@ module _ (s : List ℕ) (sought : Sought) (from to : Run) (identifier logical po
   pub gathering-more : (p : Part) (rest : Run) → Begins s to p rest
       → Gathering s sought from rest (seenWith (sought .identifier) identifier p) (seenWith (sought .logical) logical p)
       (seenWith (sought .portions) portions p)
-      (barred + cond (eqb (p .octet) (sought .never)) 1 0 + cond (eqb (p .octet) (sought .neither)) 1 0)
+      (barred + cond (eqb (p .code) (sought .never)) 1 0 + cond (eqb (p .code) (sought .neither)) 1 0)
   gathering-more p rest m =
       let f = m .rest-fine in
       record {
@@ -59,8 +59,8 @@ module _ (s : List ℕ) (sought : Sought) (from to : Run) (identifier logical po
         bound =
             omega (
               arith,
-              at-most-one (eqb (p .octet) (sought .never)),
-              at-most-one (eqb (p .octet) (sought .neither)),
+              at-most-one (eqb (p .code) (sought .never)),
+              at-most-one (eqb (p .code) (sought .neither)),
               m .starts,
               m .value-order,
               m .value-before,
@@ -72,7 +72,7 @@ module _ (s : List ℕ) (sought : Sought) (from to : Run) (identifier logical po
             omega (arith, amount-of-item s to p rest m (sought .never), amount-of-item s to p rest m (sought .neither), g .total);
       }
 
-  pub gathering-end : itemsOf s to ≡ none → Gathers s from sought (gatheredFrom identifier logical portions barred)
+  pub gathering-end : itemsOf s to ≡ noItems → Gathers s from sought (gatheredFrom identifier logical portions barred)
   gathering-end e =
       let k = kept s (sought .portions) from to portions e (g .portions-seen) in
       record {

@@ -6,7 +6,7 @@ use Prim.Native.Nat.{ℕ, zero, suc, _≤_}
 use native.Mathlib.Omega.{arith}
 use lib.Dec.{eqb}
 use Rattle.headers.specs.Head.{constructed, typeField}
-use Rattle.octets.specs.Walk.{none}
+use Rattle.octets.specs.Walk.{noItems}
 use Rattle.tree.specs.Tree.{Tree, formed}
 use Rattle.runs.specs.declared.Run.{Run}
 use Rattle.runs.specs.Runs.{itemsOf, treeIn}
@@ -14,12 +14,12 @@ use Rattle.runs.proofs.Laws.{tree-meets, tree-none}
 use Rattle.contents.specs.declared.Opening.{Opening}
 use Rattle.contents.specs.declared.Part.{Part}
 use Rattle.contents.specs.declared.Slot.{Slot}
-use Rattle.contents.specs.Search.{ends, starts, slot, inOrder}
+use Rattle.contents.specs.Search.{isEmpty, starts, slot, inOrder}
 use Rattle.contents.specs.Opening.{Begins, Opens, nothing, single, several, ends-here, goes-on}
 use Rattle.contents.proofs.Firsts.{is-field}
 
 module _ (type : ℕ) (value : List ℕ) (inside after : Tree) where
-  ends-formed : (b : Bool) → ends (formed b (typeField type) value inside after) ≡ false
+  ends-formed : (b : Bool) → isEmpty (formed b (typeField type) value inside after) ≡ false
   ends-formed true = refl
   ends-formed false = refl
 
@@ -28,67 +28,67 @@ module _ (type : ℕ) (value : List ℕ) (inside after : Tree) where
   starts-formed octet rest true = rw (is-field octet type)
   starts-formed octet rest false = rw (is-field octet type)
 
-module _ (s : List ℕ) (r : Run) (e : itemsOf s r ≡ none) where
-  ends-end : ends (treeIn s r) ≡ true
-  ends-end = ap ends (tree-none s r e)
+module _ (s : List ℕ) (r : Run) (e : itemsOf s r ≡ noItems) where
+  ends-end : isEmpty (treeIn s r) ≡ true
+  ends-end = ap isEmpty (tree-none s r e)
 
   slot-end : (x : Slot) (rest : Tree → Bool) → slot x rest (treeIn s r) ≡ (not (x .needed) && rest (treeIn s r))
   slot-end x rest = ap (λ t. starts (x .octet) rest t || not (x .needed) && rest (treeIn s r)) (tree-none s r e)
 
 module _ (s : List ℕ) (r : Run) (p : Part) (rest : Run) (m : Begins s r p rest) where
-  ends-item : ends (treeIn s r) ≡ false
-  ends-item = ap ends (tree-meets m) ∙ ends-formed (p .octet) _ (treeIn s (p .inner)) (treeIn s rest) (constructed (p .octet))
+  ends-item : isEmpty (treeIn s r) ≡ false
+  ends-item = ap isEmpty (tree-meets m) ∙ ends-formed (p .code) _ (treeIn s (p .inner)) (treeIn s rest) (constructed (p .code))
 
-  starts-item : (octet : ℕ) (f : Tree → Bool) → starts octet f (treeIn s r) ≡ (eqb (p .octet) octet && f (treeIn s rest))
+  starts-item : (octet : ℕ) (f : Tree → Bool) → starts octet f (treeIn s r) ≡ (eqb (p .code) octet && f (treeIn s rest))
   starts-item octet f =
       ap (starts octet f) (tree-meets m)
-      ∙ starts-formed (p .octet) _ (treeIn s (p .inner)) (treeIn s rest) octet f (constructed (p .octet))
+      ∙ starts-formed (p .code) _ (treeIn s (p .inner)) (treeIn s rest) octet f (constructed (p .code))
 
   -- a last slot at an item that is followed by others, or by none
-  slot-last : (x : Slot) → slot x ends (treeIn s r) ≡ (eqb (p .octet) (x .octet) && ends (treeIn s rest))
-  slot-last x = rw (starts-item (x .octet) ends, ends-item, and-false (not (x .needed)), or-false)
+  slot-last : (x : Slot) → slot x isEmpty (treeIn s r) ≡ (eqb (p .code) (x .octet) && isEmpty (treeIn s rest))
+  slot-last x = rw (starts-item (x .octet) isEmpty, ends-item, and-false (not (x .needed)), or-false)
 
 module _ (s : List ℕ) (one two : Slot) (r : Run) where
-  pub in-order-none : itemsOf s r ≡ none → inOrder one two (treeIn s r) ≡ (not (one .needed) && not (two .needed))
+  pub in-order-none : itemsOf s r ≡ noItems → inOrder one two (treeIn s r) ≡ (not (one .needed) && not (two .needed))
   unfolding inOrder
-  in-order-none e = rw (slot-end s r e one (slot two ends), slot-end s r e two ends, ends-end s r e, and-true (not (two .needed)))
+  in-order-none e = rw (slot-end s r e one (slot two isEmpty), slot-end s r e two isEmpty, ends-end s r e, and-true (not (two .needed)))
 
   module _ (p : Part) (rest : Run) (m : Begins s r p rest) where
-    pub in-order-one : itemsOf s rest ≡ none → inOrder one two (treeIn s r)
-        ≡ (eqb (p .octet) (one .octet) && not (two .needed) || not (one .needed) && eqb (p .octet) (two .octet))
+    pub in-order-one : itemsOf s rest ≡ noItems → inOrder one two (treeIn s r)
+        ≡ (eqb (p .code) (one .octet) && not (two .needed) || not (one .needed) && eqb (p .code) (two .octet))
     unfolding inOrder
     in-order-one e =
         rw (
-          starts-item s r p rest m (one .octet) (slot two ends),
+          starts-item s r p rest m (one .octet) (slot two isEmpty),
           slot-last s r p rest m two,
-          slot-end s rest e two ends,
+          slot-end s rest e two isEmpty,
           ends-end s rest e,
           and-true (not (two .needed)),
-          and-true (eqb (p .octet) (two .octet)),
+          and-true (eqb (p .code) (two .octet)),
         )
 
     module _ (q : Part) (last : Run) (n : Begins s rest q last) where
       at-two-items : inOrder one two (treeIn s r)
-          ≡ (eqb (p .octet) (one .octet) && (eqb (q .octet) (two .octet) && ends (treeIn s last)))
+          ≡ (eqb (p .code) (one .octet) && (eqb (q .code) (two .octet) && isEmpty (treeIn s last)))
       unfolding inOrder
       at-two-items =
           rw (
-            starts-item s r p rest m (one .octet) (slot two ends),
+            starts-item s r p rest m (one .octet) (slot two isEmpty),
             slot-last s r p rest m two,
             slot-last s rest q last n two,
             ends-item s rest q last n,
-            and-false (eqb (p .octet) (two .octet)),
+            and-false (eqb (p .code) (two .octet)),
             and-false (not (one .needed)),
             or-false,
           )
 
-      pub in-order-two : itemsOf s last ≡ none → inOrder one two (treeIn s r)
-          ≡ (eqb (p .octet) (one .octet) && eqb (q .octet) (two .octet))
-      in-order-two e = at-two-items ∙ rw (ends-end s last e, and-true (eqb (q .octet) (two .octet)))
+      pub in-order-two : itemsOf s last ≡ noItems → inOrder one two (treeIn s r)
+          ≡ (eqb (p .code) (one .octet) && eqb (q .code) (two .octet))
+      in-order-two e = at-two-items ∙ rw (ends-end s last e, and-true (eqb (q .code) (two .octet)))
 
       pub in-order-more : (third : Part) (beyond : Run) → Begins s last third beyond → inOrder one two (treeIn s r) ≡ false
       in-order-more third beyond k =
-          at-two-items ∙ rw (ends-item s last third beyond k, and-false (eqb (q .octet) (two .octet)), and-false (eqb (p .octet) (one .octet)))
+          at-two-items ∙ rw (ends-item s last third beyond k, and-false (eqb (q .code) (two .octet)), and-false (eqb (p .code) (one .octet)))
 
 -- what the octets of an opening decide, by its count
 abbrev pub filled : (count : ℕ) → (p q : ℕ) → (one two : Slot) → Bool
@@ -105,9 +105,9 @@ filled-more (suc (suc (suc n))) p q one two t o z = refl
 
 module _ (s : List ℕ) (r : Run) (o : Opening) (x y : Slot) where
   abbrev by-count : ℕ → Bool
-  by-count n = filled n (o .one .octet) (o .two .octet) x y
+  by-count n = filled n (o .one .code) (o .two .code) x y
 
-  pub in-order : Opens s r o → filled (o .count) (o .one .octet) (o .two .octet) x y ≡ inOrder x y (treeIn s r)
+  pub in-order : Opens s r o → filled (o .count) (o .one .code) (o .two .code) x y ≡ inOrder x y (treeIn s r)
   in-order (nothing z e) = ap by-count z ∙ sym (in-order-none s x y r e)
   in-order (single rest z m e) = ap by-count z ∙ sym (in-order-one s x y r (o .one) rest m e)
   in-order (several rest last m n (ends-here z e)) = ap by-count z ∙ sym (in-order-two s x y r (o .one) rest m (o .two) last n e)

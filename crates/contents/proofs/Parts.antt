@@ -16,19 +16,19 @@ pub found : (s : List ℕ) (r : Run) (octet : ℕ) {x y : PartFound} → FoundIn
 found s r octet f e = subst (FoundIn s r octet) e f
 
 module _ (octet : ℕ) (o : Opening) (s : List ℕ) (r : Run) where
-  pub one-holds : (o .count ≡ 0 → ⊥) → o .one .octet ≡ octet → Opens s r o → IsFirst s r octet (o .one)
+  pub one-holds : (o .count ≡ 0 → ⊥) → o .one .code ≡ octet → Opens s r o → IsFirst s r octet (o .one)
   one-holds some h (nothing z e) = absurd (some z)
   one-holds some h (single rest z m e) = holds-here s r (o .one) rest m octet h
   one-holds some h (several rest last m n k) = holds-here s r (o .one) rest m octet h
 
-  pub two-holds : (o .count ≡ 0 → ⊥) → (o .count ≡ 1 → ⊥) → (o .one .octet ≡ octet → ⊥) → o .two .octet ≡ octet
+  pub two-holds : (o .count ≡ 0 → ⊥) → (o .count ≡ 1 → ⊥) → (o .one .code ≡ octet → ⊥) → o .two .code ≡ octet
       → Opens s r o → IsFirst s r octet (o .two)
   two-holds some more h g (nothing z e) = absurd (some z)
   two-holds some more h g (single rest z m e) = absurd (more z)
   two-holds some more h g (several rest last m n k) =
       holds-before (alike-after s r (o .one) rest m octet h) (holds-here s rest (o .two) last n octet g)
 
-  pub neither-holds : (0 < o .count → o .one .octet ≡ octet → ⊥) → (1 < o .count → o .two .octet ≡ octet → ⊥)
+  pub neither-holds : (0 < o .count → o .one .code ≡ octet → ⊥) → (1 < o .count → o .two .code ≡ octet → ⊥)
       → Opens s r o → o .count ≤ 2 → Lacks s r octet
   neither-holds h g (nothing z e) l = lacks-at-end s octet r e
   neither-holds h g (single rest z m e) l =

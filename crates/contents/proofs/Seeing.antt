@@ -9,7 +9,7 @@ use lib.Dec.{eqb}
 use lib.ListN.{length}
 use borrow.Author.Tests.{eqb-true, eqb-false}
 use Rattle.headers.specs.Head.{constructed}
-use Rattle.octets.specs.Walk.{none, run, runFor}
+use Rattle.octets.specs.Walk.{noItems, run, runFor}
 use Rattle.laws.proofs.Tests.{cond-holds}
 use Rattle.runs.specs.declared.Run.{Run}
 use Rattle.runs.specs.Runs.{itemsOf, treeIn, Fine}
@@ -38,7 +38,7 @@ sees-nothing s octet r f =
     }
 
 module _ (s : List ℕ) (octet : ℕ) (from to : Run) (x : Tally) (p : Part) (rest : Run) (m : Begins s to p rest) (k : Sees s octet from to x) where
-  sees-one : eqb (p .octet) octet ≡ true
+  sees-one : eqb (p .code) octet ≡ true
       → Sees s octet from rest (record { amount = x .amount + 1; part = earlier x p })
   sees-one e =
       let a : amount octet (treeIn s to) ≡ 1 + amount octet (treeIn s rest) = amount-of-item s to p rest m octet ∙ rw e in
@@ -51,7 +51,7 @@ module _ (s : List ℕ) (octet : ℕ) (from to : Run) (x : Tally) (p : Part) (re
             (λ z. k .seen (eqb-false _ _ z));
       }
 
-  sees-other : eqb (p .octet) octet ≡ false → Sees s octet from rest x
+  sees-other : eqb (p .code) octet ≡ false → Sees s octet from rest x
   sees-other e =
       let a : amount octet (treeIn s to) ≡ 0 + amount octet (treeIn s rest) = amount-of-item s to p rest m octet ∙ rw e in
       record {
@@ -63,7 +63,7 @@ module _ (s : List ℕ) (octet : ℕ) (from to : Run) (x : Tally) (p : Part) (re
 
   pub sees-more : Sees s octet from rest (seenWith octet x p)
   unfolding seenWith
-  sees-more = cond-holds (Sees s octet from rest) (eqb (p .octet) octet) sees-one sees-other
+  sees-more = cond-holds (Sees s octet from rest) (eqb (p .code) octet) sees-one sees-other
 
 -- p has the bounds, the items and the run that a search for the octet finds, also where it finds none
 pub record Kept (s : List ℕ) (octet : ℕ) (r : Run) (p : Part) : Type 0 where
@@ -108,7 +108,7 @@ module _ (s : List ℕ) (octet : ℕ) (r : Run) where
   zero-or-not (suc n) = inr (λ e. omega arith)
 
   -- at the end of the run
-  module _ (to : Run) (x : Tally) (e : itemsOf s to ≡ none) (k : Sees s octet r to x) where
+  module _ (to : Run) (x : Tally) (e : itemsOf s to ≡ noItems) (k : Sees s octet r to x) where
     lacks : x .amount ≡ 0 → Lacks s r octet
     lacks z = lacks-before (k .not-yet z .1) (lacks-at-end s octet to e)
 

@@ -6,7 +6,7 @@ use Prim.Native.Nat.{ℕ, _<_, _≤_}
 use lib.ListN.{length}
 use lib.Seq.{slice}
 use Rattle.headers.specs.Head.{constructed}
-use Rattle.octets.specs.Walk.{none}
+use Rattle.octets.specs.Walk.{noItems}
 use Rattle.tree.specs.Tree.{empty}
 use Rattle.runs.specs.declared.Run.{Run}
 use Rattle.runs.specs.Runs.{itemsOf, treeIn, Fine}
@@ -20,7 +20,7 @@ spanOf p = record { first = p .first; past = p .past }
 
 -- p is the first item of the run r with the octet: it has the value that is looked for, if the octet is primitive, or the run
 pub record IsFirst (s : List ℕ) (r : Run) (octet : ℕ) (p : Part) : Type 0 where
-  pub octet-is : p .octet ≡ octet
+  pub octet-is : p .code ≡ octet
   pub octet-not-zero : octet ≡ 0 → ⊥
   pub octet-small : octet < 16777216
   pub there : amount octet (treeIn s r) ≡ 0 → ⊥
@@ -37,6 +37,6 @@ pub record IsFirst (s : List ℕ) (r : Run) (octet : ℕ) (p : Part) : Type 0 wh
 pub record Lacks (s : List ℕ) (r : Run) (octet : ℕ) : Type 0 where
   pub amount-is : amount octet (treeIn s r) ≡ 0
   pub bounds : boundsOf octet (itemsOf s r) ≡ record { first = 0; past = 0 }
-  pub items : itemsIn octet (itemsOf s r) ≡ none
+  pub items : itemsIn octet (itemsOf s r) ≡ noItems
   pub value : firstValue octet (treeIn s r) ≡ absent
   pub tree : firstRun octet (treeIn s r) ≡ empty

@@ -52,7 +52,7 @@ earlier x p = cond (eqb (x .amount) 0) p (x .part)
 
 -- the item p is seen after the others: it counts if it has the octet
 unfoldable pub seenWith : (octet : ℕ) → Tally → Part → Tally
-seenWith octet x p = cond (eqb (p .octet) octet) (record { amount = x .amount + 1; part = earlier x p }) x
+seenWith octet x p = cond (eqb (p .code) octet) (record { amount = x .amount + 1; part = earlier x p }) x
 
 -- what was seen of three octets, as the answer
 abbrev pub gatheredFrom : (identifier logical portions : Tally) → (barred : ℕ) → Gathered

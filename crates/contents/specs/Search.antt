@@ -1,12 +1,12 @@
 -- What is asked of a run of items, not looking inside them: how many have an octet, and the first that has it; then which items an
--- element may have, and in which order. "In the 31", "in it" and "in a style" of document 01 mean the direct items. An octet 0 stands for
--- none: no item has it. Definitions only: assumes nothing.
+-- element may have, and in which order. "In the 31", "in it" and "in a style" of document 01 mean the direct items.
+-- Definitions only: assumes nothing.
 use Prim.Native.Nat.{ℕ, _+_}
 use mathlib.Core.Bool.{Bool, cond, true, false, _&&_, _||_, not}
 use mathlib.Core.List.{List}
 use lib.Dec.{eqb}
 use Rattle.headers.specs.Head.{codeOf}
-use Rattle.octets.specs.Walk.{Items, none, item}
+use Rattle.octets.specs.Walk.{Items, noItems, item}
 use Rattle.tree.specs.Tree.{empty, Tree, leaf, branch}
 use Rattle.contents.specs.declared.Span.{Span}
 use Rattle.contents.specs.declared.Slot.{Slot}
@@ -41,19 +41,19 @@ firstRun octet (branch type inside after) = cond (is octet type) inside (firstRu
 -- "first and past .. All pairs but the element's bound a value": the bounds of the value of the first item with the octet.
 -- "Absent is 0 and 0."
 unfoldable pub boundsOf : (octet : ℕ) → Items → Span
-boundsOf octet none = record { first = 0; past = 0 }
+boundsOf octet noItems = record { first = 0; past = 0 }
 boundsOf octet (item at type first past inside after) = cond (eqb type octet) (record { first = first; past = past }) (boundsOf octet after)
 
 -- the items inside the first item with the octet
 unfoldable pub itemsIn : (octet : ℕ) → Items → Items
-itemsIn octet none = none
+itemsIn octet noItems = noItems
 itemsIn octet (item at type first past inside after) = cond (eqb type octet) inside (itemsIn octet after)
 
 -- nothing more
-abbrev pub ends : Tree → Bool
-ends empty = true
-ends (leaf type value after) = false
-ends (branch type inside after) = false
+abbrev pub isEmpty : Tree → Bool
+isEmpty empty = true
+isEmpty (leaf type value after) = false
+isEmpty (branch type inside after) = false
 
 -- an item with the octet, and then what rest asks
 abbrev pub starts : (octet : ℕ) → (rest : Tree → Bool) → Tree → Bool
@@ -67,4 +67,4 @@ slot x rest t = starts (x .octet) rest t || not (x .needed) && rest t
 
 -- two items in order, each needed or not, and no others
 unfoldable pub inOrder : (one two : Slot) → Tree → Bool
-inOrder one two = slot one (slot two ends)
+inOrder one two = slot one (slot two isEmpty)

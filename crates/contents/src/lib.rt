@@ -18,9 +18,9 @@ pub struct Span {
     pub past: usize,
 }
 
-// An item of a run: its octet, its value from `first` to `past`, and the run inside it.
+// An item of a run: the code of its type field, its value from `first` to `past`, and the run inside it.
 pub struct Part {
-    pub octet: usize,
+    pub code: usize,
     pub first: usize,
     pub past: usize,
     pub inner: Run,
@@ -78,7 +78,7 @@ fn no_part() -> Part
     ensures { λ p. ⌜ p ≡ noPart ⌝ }
 {
     Part {
-        octet: 0,
+        code: 0,
         first: 0,
         past: 0,
         inner: Run {
@@ -92,11 +92,11 @@ fn no_part() -> Part
 
 // An item that was met. The run inside it is copied field by field: copied whole, a struct has its padding carried along, through
 // memory.
-fn part_of(octet: usize, first: usize, past: usize, inner: Run) -> Part
-    ensures { λ p. ⌜ p ≡ record { octet = octet; first = first; past = past; inner = inner } ⌝ }
+fn part_of(code: usize, first: usize, past: usize, inner: Run) -> Part
+    ensures { λ p. ⌜ p ≡ record { code = code; first = first; past = past; inner = inner } ⌝ }
 {
     Part {
-        octet,
+        code,
         first,
         past,
         inner: Run {
@@ -112,7 +112,7 @@ fn part_of(octet: usize, first: usize, past: usize, inner: Run) -> Part
 fn copied(p: Part) -> Part
     ensures { λ q. ⌜ q ≡ p ⌝ }
 {
-    part_of(p.octet, p.first, p.past, p.inner)
+    part_of(p.code, p.first, p.past, p.inner)
 }
 
 // 2 if a run that follows two items ends here, 3 if it goes on.
@@ -123,7 +123,7 @@ fn count_after_two(s: &[u8], last: Run) -> usize
     match runs::meet(s, last) {
         Met::End => 2,
         Met::Item {
-            octet: _,
+            code: _,
             first: _,
             past: _,
             inner: _,
@@ -146,7 +146,7 @@ fn opening_after(s: &[u8], one: Part, rest: Run) -> Opening
             }
         }
         Met::Item {
-            octet,
+            code,
             first,
             past,
             inner,
@@ -155,7 +155,7 @@ fn opening_after(s: &[u8], one: Part, rest: Run) -> Opening
             Opening {
                 count: count_after_two(s, last),
                 one,
-                two: part_of(octet, first, past, inner),
+                two: part_of(code, first, past, inner),
             }
         }
     }
@@ -175,36 +175,36 @@ pub fn opening_of(s: &[u8], r: Run) -> Opening
             }
         }
         Met::Item {
-            octet,
+            code,
             first,
             past,
             inner,
             rest,
-        } => opening_after(s, part_of(octet, first, past, inner), rest),
+        } => opening_after(s, part_of(code, first, past, inner), rest),
     }
 }
 
 // Whether an item alone is the second of two slots.
-fn fills_second(octet: usize, one: Slot, two: Slot) -> bool
-    ensures { λ b. ⌜ b ≡ (not (one .needed) && eqb octet (two .octet)) ⌝ }
+fn fills_second(code: usize, one: Slot, two: Slot) -> bool
+    ensures { λ b. ⌜ b ≡ (not (one .needed) && eqb code (two .octet)) ⌝ }
 {
     if one.needed {
         return false;
     }
-    octet == two.octet
+    code == two.octet
 }
 
 // Whether an item alone is the first of two slots, or the second.
-fn fills_either(octet: usize, one: Slot, two: Slot) -> bool
-    ensures { λ b. ⌜ b ≡ (eqb octet (one .octet) && not (two .needed) || not (one .needed) && eqb octet (two .octet)) ⌝ }
+fn fills_either(code: usize, one: Slot, two: Slot) -> bool
+    ensures { λ b. ⌜ b ≡ (eqb code (one .octet) && not (two .needed) || not (one .needed) && eqb code (two .octet)) ⌝ }
 {
-    if octet == one.octet {
+    if code == one.octet {
         if !two.needed {
             return true;
         }
-        return fills_second(octet, one, two);
+        return fills_second(code, one, two);
     }
-    fills_second(octet, one, two)
+    fills_second(code, one, two)
 }
 
 // Whether an opening has an item for each of two slots in order, or none where it is not needed, and no others. Contents that are
@@ -216,13 +216,13 @@ pub fn fills(o: Opening, one: Slot, two: Slot) -> bool
     let second = o.two;
     let count = o.count;
     if count == 2 {
-        if first.octet == one.octet {
-            return second.octet == two.octet;
+        if first.code == one.octet {
+            return second.code == two.octet;
         }
         return false;
     }
     if count == 1 {
-        return fills_either(first.octet, one, two);
+        return fills_either(first.code, one, two);
     }
     if count == 0 {
         if one.needed {
@@ -243,13 +243,13 @@ pub fn part_with(o: Opening, octet: usize) -> PartFound
     if count == 0 {
         return PartFound::Missing;
     }
-    if one.octet == octet {
+    if one.code == octet {
         return PartFound::At(one);
     }
     if count == 1 {
         return PartFound::Missing;
     }
-    if two.octet == octet {
+    if two.code == octet {
         return PartFound::At(two);
     }
     PartFound::Missing
@@ -265,14 +265,14 @@ pub fn first_with(s: &[u8], r: Run, sought: usize) -> PartFound
         match runs::meet(s, cur) {
             Met::End => return PartFound::Missing,
             Met::Item {
-                octet,
+                code,
                 first,
                 past,
                 inner,
                 rest,
             } => {
-                if octet == sought {
-                    return PartFound::At(part_of(octet, first, past, inner));
+                if code == sought {
+                    return PartFound::At(part_of(code, first, past, inner));
                 }
                 cur = rest;
             }
@@ -306,7 +306,7 @@ fn seen_with(x: Tally, octet: usize, p: Part) -> Tally
     requires { ⌜ x .amount + 1 < 2 ^ 64 ⌝ }
     ensures { λ y. ⌜ y ≡ seenWith octet x p ⌝ }
 {
-    if p.octet == octet {
+    if p.code == octet {
         return Tally {
             amount: x.amount + 1,
             part: first_of(x, p),
@@ -319,12 +319,12 @@ fn seen_with(x: Tally, octet: usize, p: Part) -> Tally
     }
 }
 
-// One more if an octet is the one that is counted.
-fn counted_with(n: usize, counted: usize, octet: usize) -> usize
+// One more if a code is the one that is counted.
+fn counted_with(n: usize, counted: usize, code: usize) -> usize
     requires { ⌜ n + 1 < 2 ^ 64 ⌝ }
-    ensures { λ m. ⌜ m ≡ n + cond (eqb octet counted) 1 0 ⌝ }
+    ensures { λ m. ⌜ m ≡ n + cond (eqb code counted) 1 0 ⌝ }
 {
-    if octet == counted {
+    if code == counted {
         return n + 1;
     }
     n
@@ -373,18 +373,18 @@ pub fn gather(s: &[u8], r: Run, sought: Sought) -> Gathered
         match runs::meet(s, cur) {
             Met::End => return gathered_from(identifier, logical, portions, barred),
             Met::Item {
-                octet,
+                code,
                 first,
                 past,
                 inner,
                 rest,
             } => {
-                let p = part_of(octet, first, past, inner);
+                let p = part_of(code, first, past, inner);
                 identifier = seen_with(identifier, sought.identifier, p);
                 logical = seen_with(logical, sought.logical, p);
                 portions = seen_with(portions, sought.portions, p);
-                barred = counted_with(barred, sought.never, p.octet);
-                barred = counted_with(barred, sought.neither, p.octet);
+                barred = counted_with(barred, sought.never, p.code);
+                barred = counted_with(barred, sought.neither, p.code);
                 cur = rest;
             }
         }

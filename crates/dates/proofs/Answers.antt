@@ -12,7 +12,7 @@ use Rattle.dates.specs.declared.DateFound.{DateFound}
 use Rattle.dates.specs.declared.Found.{Found}
 use Rattle.calendar.specs.Calendar.{dayAt, namesDay, noDay}
 use Rattle.calendar.proofs.Named.{named-year}
-use Rattle.dates.specs.Dates.{Date, refused, dated, theDate, dateIn}
+use Rattle.dates.specs.Dates.{Date, noDateBy, dateFrom, theDate, dateIn}
 use Rattle.dates.specs.Places.{placesFrom, readAt, Tells, Answers}
 use Rattle.dates.proofs.Trees.{dates-places, not-one, is-one, one-date}
 
@@ -41,7 +41,7 @@ pub a-day : (value : List ℕ) (d : Day) → DayOf value d → (d .year ≡ 0 �
 a-day value d p n = a-day-by value (namesDay value) d p n
 
 module _ (s : List ℕ) (r : Run) where
-  refusal : (number : ℕ) → (number ≡ 0 → ⊥) → dateIn (treeIn s r) ≡ refused number → Answers s r (refusedWith number)
+  refusal : (number : ℕ) → (number ≡ 0 → ⊥) → dateIn (treeIn s r) ≡ noDateBy number → Answers s r (refusedWith number)
   refusal number n e =
       record {
         date = e ∙ ap (λ (l : List ℕ). record { number = number; value = l; day = noDay }) (sym (slice-empty 0 s));
@@ -57,19 +57,19 @@ module _ (s : List ℕ) (r : Run) where
     by-places d e = sym (ap theDate (dates-places s (itemsOf s r))) ∙ e
 
     pub answer-23 : (f .count ≡ 1 → ⊥) → Answers s r (refusedWith 23)
-    answer-23 n = refusal 23 (λ z. omega arith) (by-places (refused 23) (not-one t n))
+    answer-23 n = refusal 23 (λ z. omega arith) (by-places (noDateBy 23) (not-one t n))
 
     module _ (c : f .count ≡ 1) (d : Day) (p : DayOf (slice (f .first) (f .past) s) d) where
-      date-is : dateIn (treeIn s r) ≡ dated (slice (f .first) (f .past) s)
-      date-is = by-places (dated (slice (f .first) (f .past) s)) (one-date (is-one t c))
+      date-is : dateIn (treeIn s r) ≡ dateFrom (slice (f .first) (f .past) s)
+      date-is = by-places (dateFrom (slice (f .first) (f .past) s)) (one-date (is-one t c))
 
       pub answer-24 : d .year ≡ 0 → Answers s r (refusedWith 24)
-      unfolding dated
+      unfolding dateFrom
       answer-24 z = refusal 24 (λ y. omega arith) (date-is ∙ rw (no-day (slice (f .first) (f .past) s) d p z))
 
       pub answer-day : (d .year ≡ 0 → ⊥)
           → Answers s r (record { number = 0; first = f .first; past = f .past; year = d .year; month = d .month; day = d .day })
-      unfolding dated
+      unfolding dateFrom
       answer-day n =
           let o = is-one t c in
           let q = a-day (slice (f .first) (f .past) s) d p n in

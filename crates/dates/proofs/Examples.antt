@@ -6,18 +6,18 @@ use Rattle.headers.specs.Head.{formAllowed, permits, misfits, bigEndianFrom, de
 use Rattle.octets.specs.Walk.{runFor, run}
 use Rattle.tree.specs.Tree.{treeOf}
 use Rattle.contents.specs.Search.{firstRun}
-use Rattle.calendar.specs.Calendar.{daysIn, exists, twoDigits, twoNumber, spelt, dayAt, namesDay}
-use Rattle.dates.specs.Dates.{Date, zeros, inEach, datesIn, dated, theDate, dateIn}
+use Rattle.calendar.specs.Calendar.{daysIn, exists, twoDigits, twoNumber, spellsTen, dayAt, namesDay}
+use Rattle.dates.specs.Dates.{Date, zeros, inEach, datesIn, dateFrom, theDate, dateIn}
 use Rattle.dates.specs.Examples.{Example, values, streams}
 
 -- an example with what the definitions answer
 abbrev asAnswered : Example → Date → Example
 asAnswered e d = record { octets = e .octets; number = d .number; day = d .day }
 
-pub values-hold : map (λ e. asAnswered e (dated (e .octets))) values ≡ values
-unfolding dated namesDay spelt exists dayAt twoDigits twoNumber daysIn isDigit
+pub values-hold : map (λ e. asAnswered e (dateFrom (e .octets))) values ≡ values
+unfolding dateFrom namesDay spellsTen exists dayAt twoDigits twoNumber daysIn isDigit
 values-hold = refl
 
 pub streams-hold : map (λ e. asAnswered e (dateIn (firstRun 0xA0 (treeOf (e .octets))))) streams ≡ streams
-unfolding theDate dated namesDay spelt exists dayAt twoDigits twoNumber daysIn isDigit datesIn inEach zeros firstRun run runFor headAt itemAt closingAt lengthAt byFirst longAt indefiniteAt definiteAt misfits bigEndianFrom formAllowed permits
+unfolding theDate dateFrom namesDay spellsTen exists dayAt twoDigits twoNumber daysIn isDigit datesIn inEach zeros firstRun run runFor headAt itemAt closingAt lengthAt byFirst longAt indefiniteAt definiteAt misfits bigEndianFrom formAllowed permits
 streams-hold = refl

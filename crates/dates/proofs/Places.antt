@@ -8,11 +8,11 @@ use native.Mathlib.Omega.{arith}
 use lib.Dec.{eqb}
 use lib.ListN.{length}
 use borrow.Author.Tests.{eq-eqb, ne-eqb}
-use Rattle.octets.specs.Walk.{Items, none}
+use Rattle.octets.specs.Walk.{Items, noItems}
 use Rattle.runs.specs.declared.Run.{Run}
 use Rattle.runs.specs.Runs.{itemsOf, Meeting}
 use Rattle.dates.specs.declared.Found.{Found}
-use Rattle.dates.specs.Places.{Place, bounds, noBounds, zeroAt, zerosAt, inEachAt, pathOctet, placesFrom, counted, found, Tells, nothing, sole, unfit}
+use Rattle.dates.specs.Places.{Place, bounds, noBounds, zeroAt, zerosAt, inEachAt, pathOctet, placesFrom, counted, found, Tells, no-place, sole, unfit}
 
 pub counted-append : (xs ys : List Place) → counted (xs ++ ys) ≡ counted xs + counted ys
 unfolding counted
@@ -25,11 +25,11 @@ bothOf a b = cond (eqb (a .count) 0) b (cond (eqb (b .count) 0) a (found 2 0 0))
 
 pub both-tell : {s : List ℕ} {xs ys : List Place} {a b : Found} → Tells s xs a → Tells s ys b → Tells s (xs ++ ys) (bothOf a b)
 unfolding counted
-both-tell nothing t = t
-both-tell (sole first past l k) nothing = sole first past l k
+both-tell no-place t = t
+both-tell (sole first past l k) no-place = sole first past l k
 both-tell (sole first past l k) (sole from to m n) = unfit (bounds first past ∷ bounds from to ∷ []) (omega arith)
 both-tell (sole first past l k) (unfit ys n) = unfit (bounds first past ∷ ys) (omega arith)
-both-tell {s} (unfit xs n) nothing = subst (λ (zs : List Place). Tells s zs (found 2 0 0)) (sym (append-nil xs)) (unfit xs n)
+both-tell {s} (unfit xs n) no-place = subst (λ (zs : List Place). Tells s zs (found 2 0 0)) (sym (append-nil xs)) (unfit xs n)
 both-tell (unfit xs n) (sole first past l k) = unfit (xs ++ bounds first past ∷ []) (omega (arith, counted-append xs (bounds first past ∷ [])))
 both-tell (unfit xs n) (unfit ys m) = unfit (xs ++ ys) (omega (arith, counted-append xs ys))
 
@@ -38,11 +38,11 @@ zero-cases : (s : List ℕ) (first past : ℕ) → first ≤ past → past ≤ l
 unfolding counted
 zero-cases s first past l k true b = sole first past l k
 zero-cases s first past l k false true = unfit (noBounds ∷ []) (omega arith)
-zero-cases s first past l k false false = nothing
+zero-cases s first past l k false false = no-place
 
-pub zero-tells : (s : List ℕ) (octet first past : ℕ) → first ≤ past → past ≤ length s
-    → Tells s (zeroAt octet first past) (cond (eqb octet 0x80) (found 1 first past) (cond (eqb octet 0xA0) (found 2 0 0) (found 0 0 0)))
-zero-tells s octet first past l k = zero-cases s first past l k (eqb octet 0x80) (eqb octet 0xA0)
+pub zero-tells : (s : List ℕ) (code first past : ℕ) → first ≤ past → past ≤ length s
+    → Tells s (zeroAt code first past) (cond (eqb code 0x80) (found 1 first past) (cond (eqb code 0xA0) (found 2 0 0) (found 0 0 0)))
+zero-tells s code first past l k = zero-cases s first past l k (eqb code 0x80) (eqb code 0xA0)
 
 -- the run from `from` has been passed up to `to`, and `had` tells what was found
 pub record SoFar (s : List ℕ) (level : ℕ) (from to : Run) (had : Found) : Type 0 where
@@ -50,15 +50,15 @@ pub record SoFar (s : List ℕ) (level : ℕ) (from to : Run) (had : Found) : Ty
   pub split : placesFrom level (itemsOf s from) ≡ done ++ placesFrom level (itemsOf s to)
   pub told : Tells s done had
 
-places-none : (level : ℕ) → placesFrom level none ≡ []
+places-none : (level : ℕ) → placesFrom level noItems ≡ []
 unfolding placesFrom zerosAt inEachAt
 places-none zero = refl
 places-none (suc level) = refl
 
 pub at-start : (s : List ℕ) (level : ℕ) (r : Run) → SoFar s level r r (found 0 0 0)
-at-start s level r = record { done = []; split = refl; told = nothing }
+at-start s level r = record { done = []; split = refl; told = no-place }
 
-pub at-end : {s : List ℕ} {level : ℕ} {from to : Run} {had : Found} → SoFar s level from to had → itemsOf s to ≡ none
+pub at-end : {s : List ℕ} {level : ℕ} {from to : Run} {had : Found} → SoFar s level from to had → itemsOf s to ≡ noItems
     → Tells s (placesFrom level (itemsOf s from)) had
 at-end {s} {level} {from} {to} {had} f e =
     let all : placesFrom level (itemsOf s from) ≡ f .done =
@@ -79,28 +79,28 @@ pub pass-over : {s : List ℕ} {level : ℕ} {from to rest : Run} {had : Found} 
 pass-over f e = record { done = f .done; split = f .split ∙ ap (λ (l : List Place). f .done ++ l) e; told = f .told }
 
 -- what the item that is met adds
-module _ {s : List ℕ} {r : Run} {octet first past : ℕ} {inner rest : Run} (m : Meeting s r octet first past inner rest) where
-  pub zero-adds : (level : ℕ) → level ≡ 0 → placesFrom level (itemsOf s r) ≡ zeroAt octet first past ++ placesFrom level (itemsOf s rest)
+module _ {s : List ℕ} {r : Run} {code first past : ℕ} {inner rest : Run} (m : Meeting s r code first past inner rest) where
+  pub zero-adds : (level : ℕ) → level ≡ 0 → placesFrom level (itemsOf s r) ≡ zeroAt code first past ++ placesFrom level (itemsOf s rest)
   unfolding placesFrom zerosAt
   zero-adds zero e = ap zerosAt (m .tree)
   zero-adds (suc level) e = absurd (omega arith)
 
   step-adds : (level : ℕ) → placesFrom (suc level) (itemsOf s r)
-      ≡ cond (eqb octet (pathOctet level)) (placesFrom level (itemsOf s inner)) [] ++ placesFrom (suc level) (itemsOf s rest)
+      ≡ cond (eqb code (pathOctet level)) (placesFrom level (itemsOf s inner)) [] ++ placesFrom (suc level) (itemsOf s rest)
   unfolding placesFrom inEachAt
   step-adds level = ap (inEachAt (pathOctet level) (placesFrom level)) (m .tree)
 
-  pub path-adds : (level : ℕ) → (level ≡ 0 → ⊥) → octet ≡ pathOctet (level - 1)
+  pub path-adds : (level : ℕ) → (level ≡ 0 → ⊥) → code ≡ pathOctet (level - 1)
       → placesFrom level (itemsOf s r) ≡ placesFrom (level - 1) (itemsOf s inner) ++ placesFrom level (itemsOf s rest)
   path-adds zero n e = absurd (n refl)
   path-adds (suc level) n e =
       let k : suc level - 1 ≡ level = omega arith in
-      let o : octet ≡ pathOctet level = e ∙ ap pathOctet k in
-      step-adds level ∙ rw (eq-eqb octet (pathOctet level) o, k)
+      let o : code ≡ pathOctet level = e ∙ ap pathOctet k in
+      step-adds level ∙ rw (eq-eqb code (pathOctet level) o, k)
 
-  pub other-adds : (level : ℕ) → (level ≡ 0 → ⊥) → (octet ≡ pathOctet (level - 1) → ⊥)
+  pub other-adds : (level : ℕ) → (level ≡ 0 → ⊥) → (code ≡ pathOctet (level - 1) → ⊥)
       → placesFrom level (itemsOf s r) ≡ placesFrom level (itemsOf s rest)
   other-adds zero n e = absurd (n refl)
   other-adds (suc level) n e =
       let k : suc level - 1 ≡ level = omega arith in
-      step-adds level ∙ rw (ne-eqb octet (pathOctet level) (λ p. e (p ∙ ap pathOctet (sym k))))
+      step-adds level ∙ rw (ne-eqb code (pathOctet level) (λ p. e (p ∙ ap pathOctet (sym k))))

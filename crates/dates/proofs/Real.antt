@@ -20,55 +20,55 @@ use Rattle.calendar.specs.Calendar.{namesDay}
 use Rattle.calendar.specs.Named.{Names}
 use Rattle.calendar.proofs.Named.{names, named, days-small}
 use Rattle.dates.specs.declared.DateFound.{DateFound}
-use Rattle.dates.specs.Dates.{Date, DateItem, primitive, constructed, refused, dated, theDate, datesIn, dateIn}
+use Rattle.dates.specs.Dates.{Date, DateItem, inPrimitive, inConstructed, noDateBy, dateFrom, theDate, datesIn, dateIn}
 use Rattle.dates.specs.Places.{bounds, placesFrom, Answers}
 
 -- the value of a date that is not refused is the sole item's on the path, and names the day
 pub record Given (t : Tree) (a : Date) : Type 0 where
-  pub item : datesIn t ≡ primitive (a .value) ∷ []
+  pub item : datesIn t ≡ inPrimitive (a .value) ∷ []
   pub names-it : Names (a .value) (a .day)
 
-dated-by : (value : List ℕ) (b : Bool) → namesDay value ≡ b → dated value .number ≡ 0 → (dated value .value ≡ value) × Names value (dated value .day)
-unfolding dated
+dated-by : (value : List ℕ) (b : Bool) → namesDay value ≡ b → dateFrom value .number ≡ 0 → (dateFrom value .value ≡ value) × Names value (dateFrom value .day)
+unfolding dateFrom
 dated-by value true e z = rw e (refl, names value e)
 dated-by value false e z = absurd (omega (arith, (rw e at z)))
 
 given-of : (items : List DateItem) → theDate items .number ≡ 0
-    → (items ≡ primitive (theDate items .value) ∷ []) × Names (theDate items .value) (theDate items .day)
+    → (items ≡ inPrimitive (theDate items .value) ∷ []) × Names (theDate items .value) (theDate items .day)
 unfolding theDate
 given-of [] z = absurd (omega arith)
-given-of (primitive value ∷ []) z =
+given-of (inPrimitive value ∷ []) z =
     let p = dated-by value (namesDay value) refl z in
     (rw (p .0), rw (p .0) (p .1))
-given-of (constructed ∷ []) z = absurd (omega arith)
-given-of (primitive value ∷ other ∷ more) z = absurd (omega arith)
-given-of (constructed ∷ other ∷ more) z = absurd (omega arith)
+given-of (inConstructed ∷ []) z = absurd (omega arith)
+given-of (inPrimitive value ∷ other ∷ more) z = absurd (omega arith)
+given-of (inConstructed ∷ other ∷ more) z = absurd (omega arith)
 
 -- a date that is not refused is the sole item's on the path; its day exists, and is spelt in the item's first ten octets
 pub date-is-real : (t : Tree) → dateIn t .number ≡ 0 → Given t (dateIn t)
 date-is-real t z = let p = given-of (datesIn t) z in record { item = p .0; names-it = p .1 }
 
 -- and a sole item that is primitive and so begins, is answered with that day
-pub real-is-date : (t : Tree) (value : List ℕ) (d : Day) → datesIn t ≡ primitive value ∷ [] → Names value d
+pub real-is-date : (t : Tree) (value : List ℕ) (d : Day) → datesIn t ≡ inPrimitive value ∷ [] → Names value d
     → dateIn t ≡ record { number = 0; value = value; day = d }
-unfolding theDate dated
+unfolding theDate dateFrom
 real-is-date t value d e x = let n = named value d x in ap theDate e ∙ rw (n .0, n .1)
 
-refused-of : (value : List ℕ) (b : Bool) → namesDay value ≡ b → (dated value .number ≡ 0 → ⊥) → dated value ≡ refused 24
-unfolding dated
+refused-of : (value : List ℕ) (b : Bool) → namesDay value ≡ b → (dateFrom value .number ≡ 0 → ⊥) → dateFrom value ≡ noDateBy 24
+unfolding dateFrom
 refused-of value true e n = absurd (n (rw e))
 refused-of value false e n = rw e
 
 -- every other answer is 23 or 24 with nothing else in it
-empty-of : (items : List DateItem) → (theDate items .number ≡ 0 → ⊥) → (theDate items ≡ refused 23) ⊎ (theDate items ≡ refused 24)
+empty-of : (items : List DateItem) → (theDate items .number ≡ 0 → ⊥) → (theDate items ≡ noDateBy 23) ⊎ (theDate items ≡ noDateBy 24)
 unfolding theDate
 empty-of [] n = inl refl
-empty-of (primitive value ∷ []) n = inr (refused-of value (namesDay value) refl n)
-empty-of (constructed ∷ []) n = inl refl
-empty-of (primitive value ∷ other ∷ more) n = inl refl
-empty-of (constructed ∷ other ∷ more) n = inl refl
+empty-of (inPrimitive value ∷ []) n = inr (refused-of value (namesDay value) refl n)
+empty-of (inConstructed ∷ []) n = inl refl
+empty-of (inPrimitive value ∷ other ∷ more) n = inl refl
+empty-of (inConstructed ∷ other ∷ more) n = inl refl
 
-pub else-empty : (t : Tree) → (dateIn t .number ≡ 0 → ⊥) → (dateIn t ≡ refused 23) ⊎ (dateIn t ≡ refused 24)
+pub else-empty : (t : Tree) → (dateIn t .number ≡ 0 → ⊥) → (dateIn t ≡ noDateBy 23) ⊎ (dateIn t ≡ noDateBy 24)
 else-empty t n = empty-of (datesIn t) n
 
 -- the numbers of a date are small
@@ -78,7 +78,7 @@ pub record Small (a : Date) : Type 0 where
   pub month : a .day .month ≤ 12
   pub day : a .day .day ≤ 32
 
-refused-small : (a : Date) → (a ≡ refused 23) ⊎ (a ≡ refused 24) → Small a
+refused-small : (a : Date) → (a ≡ noDateBy 23) ⊎ (a ≡ noDateBy 24) → Small a
 refused-small a (inl e) = subst Small (sym e) (record { number = omega arith; year = omega arith; month = omega arith; day = omega arith })
 refused-small a (inr e) = subst Small (sym e) (record { number = omega arith; year = omega arith; month = omega arith; day = omega arith })
 

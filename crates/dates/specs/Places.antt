@@ -7,12 +7,12 @@ use mathlib.Core.List.{List, [], _∷_, _++_}
 use lib.Dec.{eqb}
 use lib.ListN.{length}
 use lib.Seq.{slice}
-use Rattle.octets.specs.Walk.{Items, none, item}
+use Rattle.octets.specs.Walk.{Items, noItems, item}
 use Rattle.runs.specs.declared.Run.{Run}
 use Rattle.runs.specs.Runs.{itemsOf, treeIn}
 use Rattle.dates.specs.declared.DateFound.{DateFound}
 use Rattle.dates.specs.declared.Found.{Found}
-use Rattle.dates.specs.Dates.{DateItem, primitive, constructed, dateIn}
+use Rattle.dates.specs.Dates.{DateItem, inPrimitive, inConstructed, dateIn}
 
 -- an item [0], with the bounds of its value if it is primitive
 pub data Place : Type 0 where
@@ -20,17 +20,17 @@ pub data Place : Type 0 where
   noBounds : Place
 
 -- an item, if it is [0]
-abbrev pub zeroAt : (octet first past : ℕ) → List Place
-zeroAt octet first past = cond (eqb octet 0x80) (bounds first past ∷ []) (cond (eqb octet 0xA0) (noBounds ∷ []) [])
+abbrev pub zeroAt : (code first past : ℕ) → List Place
+zeroAt code first past = cond (eqb code 0x80) (bounds first past ∷ []) (cond (eqb code 0xA0) (noBounds ∷ []) [])
 
 -- the items [0] of a run
 unfoldable pub zerosAt : Items → List Place
-zerosAt none = []
-zerosAt (item at octet first past inside after) = zeroAt octet first past ++ zerosAt after
+zerosAt noItems = []
+zerosAt (item at code first past inside after) = zeroAt code first past ++ zerosAt after
 
 -- what is listed of the run in each item with the octet
 unfoldable pub inEachAt : (octet : ℕ) → (Items → List Place) → Items → List Place
-inEachAt octet list none = []
+inEachAt octet list noItems = []
 inEachAt octet list (item at type first past inside after) = cond (eqb type octet) (list inside) [] ++ inEachAt octet list after
 
 -- the octets of the path, by how many are still to come after them
@@ -44,8 +44,8 @@ placesFrom (suc level) = inEachAt (pathOctet level) (placesFrom level)
 
 -- a place, read in the stream
 abbrev pub readAt : List ℕ → Place → DateItem
-readAt s (bounds first past) = primitive (slice first past s)
-readAt s noBounds = constructed
+readAt s (bounds first past) = inPrimitive (slice first past s)
+readAt s noBounds = inConstructed
 
 -- a constructed item counts as two: exactly one primitive item is a count of 1
 abbrev pub countOf : Place → ℕ
@@ -61,7 +61,7 @@ found count first past = record { count = count; first = first; past = past }
 
 -- what the pass tells of the places that it found: there is none, there is one with these bounds, or there is none that serves
 pub data Tells (s : List ℕ) : List Place → Found → Type 0 where
-  nothing : Tells s [] (found 0 0 0)
+  no-place : Tells s [] (found 0 0 0)
   sole : (first past : ℕ) → first ≤ past → past ≤ length s → Tells s (bounds first past ∷ []) (found 1 first past)
   unfit : (places : List Place) → 2 ≤ counted places → Tells s places (found 2 0 0)
 

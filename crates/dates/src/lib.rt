@@ -45,17 +45,17 @@ fn path_octet(level: usize) -> usize
 }
 
 // An item, if it is [0].
-fn zero_at(octet: usize, first: usize, past: usize) -> Found
-    ensures { λ f. ⌜ f ≡ cond (eqb octet 0x80) (found 1 first past) (cond (eqb octet 0xA0) (found 2 0 0) (found 0 0 0)) ⌝ }
+fn zero_at(code: usize, first: usize, past: usize) -> Found
+    ensures { λ f. ⌜ f ≡ cond (eqb code 0x80) (found 1 first past) (cond (eqb code 0xA0) (found 2 0 0) (found 0 0 0)) ⌝ }
 {
-    if octet == DATE {
+    if code == DATE {
         return Found {
             count: 1,
             first,
             past,
         };
     }
-    if octet == CONSTRUCTED_DATE {
+    if code == CONSTRUCTED_DATE {
         return Found {
             count: 2,
             first: 0,
@@ -102,7 +102,7 @@ fn found_from(s: &[u8], r: Run, level: usize) -> Found
         match runs::meet(s, cur) {
             Met::End => return had,
             Met::Item {
-                octet,
+                code,
                 first,
                 past,
                 inner,
@@ -110,8 +110,8 @@ fn found_from(s: &[u8], r: Run, level: usize) -> Found
             } => {
                 cur = rest;
                 if level == 0 {
-                    had = both(had, zero_at(octet, first, past));
-                } else if octet == path_octet(level - 1) {
+                    had = both(had, zero_at(code, first, past));
+                } else if code == path_octet(level - 1) {
                     had = both(had, found_from(s, inner, level - 1));
                 }
             }

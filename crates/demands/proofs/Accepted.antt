@@ -9,19 +9,19 @@ use lib.Dec.{eqb, ltb}
 use lib.ListN.{length}
 use borrow.Author.Tests.{eq-eqb, ltb-false}
 use borrow.Table.Steps.{cases}
-use Rattle.octets.specs.Walk.{Items, none, item, deepest}
+use Rattle.octets.specs.Walk.{Items, noItems, item, deepest}
 use Rattle.octets.proofs.RulesHold.{derives}
 use Rattle.tree.specs.Tree.{treeOf}
 use Rattle.runs.specs.Runs.{itemsOf, wholeStream, tops, Fine}
 use Rattle.runs.proofs.Laws.{stream-fine}
 use Rattle.elements.specs.declared.Edition.{Edition}
 use Rattle.elements.specs.Judge.{Element, mostElements}
-use Rattle.elements.specs.Rows.{rowsOf}
-use Rattle.letters.specs.Letter.{Letter, letter, refusal, itemsOfStream}
+use Rattle.elements.specs.ElementRows.{rowsOf}
+use Rattle.letters.specs.Letter.{Letter, letter, refusal, itemsOfStream, letterIn}
 use Rattle.letters.proofs.Apart.{accepted-apart}
 use Rattle.answers.specs.declared.Checked.{Checked}
 use Rattle.answers.specs.Table.{rowsLent, tooFewRows}
-use Rattle.answers.specs.Answers.{letterIn, tableOf, checkedBy, checked, checkedTable, CheckOutcome}
+use Rattle.answers.specs.Answers.{tableOf, checkedBy, checked, checkedTable, CheckOutcome}
 use Rattle.answers.proofs.Small.{refusal-small}
 use Rattle.answers.proofs.Letters.{letter-found}
 use Rattle.demands.proofs.Demand2.{counted}
@@ -58,8 +58,8 @@ module _ (edition : Edition) (s table : List ℕ) where
 
 rows-tops : (edition : Edition) (s : List ℕ) (items : Items) → length (rowsOf edition s items) ≡ tops items
 unfolding rowsOf
-rows-tops edition s none = refl
-rows-tops edition s (item at octet first past inside after) = ap suc (rows-tops edition s after)
+rows-tops edition s noItems = refl
+rows-tops edition s (item at code first past inside after) = ap suc (rows-tops edition s after)
 
 module _ {edition : Edition} {s table : List ℕ} (a : Accepted edition s table) where
   -- its items can be met, one after another,

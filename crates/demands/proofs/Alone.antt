@@ -9,7 +9,7 @@ use lib.Seq.{slice}
 use Rattle.headers.specs.declared.Header.{Header}
 use Rattle.headers.specs.Head.{constructed, codeOf, typeField, misfits}
 use Rattle.headers.proofs.Fields.{code-field}
-use Rattle.octets.specs.Walk.{Items, none, item, End, ends, pastOf, deepest, startOf}
+use Rattle.octets.specs.Walk.{Items, noItems, item, End, ends, pastOf, deepest, startOf}
 use Rattle.octets.specs.Rules.{Runs, at-limit, unclosed, closes, refuses, primitive, passes, breaks}
 use Rattle.octets.proofs.Turns.{header-ok}
 use Rattle.tree.specs.Tree.{Tree, empty, leaf, branch, plain, TypeField, Length, Codes, nothing, primitive as flat, definite, indefinite}
@@ -21,18 +21,18 @@ use Rattle.runs.proofs.Laws.{starts-at}
 
 -- each item of a run alone, up to the next one or to the limit
 abbrev pub Alone : List ℕ → (limit : ℕ) → Items → Type 0
-Alone s limit none = Unit {0}
-Alone s limit (item at octet start past inside after) =
-    Codes deepest (plain s (item at octet start past inside none)) (slice at (startOf limit after) s) × Alone s limit after
+Alone s limit noItems = Unit {0}
+Alone s limit (item at code start past inside after) =
+    Codes deepest (plain s (item at code start past inside noItems)) (slice at (startOf limit after) s) × Alone s limit after
 
-module _ (s : List ℕ) (at limit octet number start bound : ℕ) where
+module _ (s : List ℕ) (at limit code number start bound : ℕ) where
   abbrev header : Bool → Header
-  header m = record { octet = octet; number = number; start = start; bound = bound; marked = m }
+  header m = record { code = code; number = number; start = start; bound = bound; marked = m }
 
   abbrev type : List ℕ
-  type = typeField octet
+  type = typeField code
 
-  leaf-alone : (m : Bool) → ReadFrom s at limit deepest (header m) → constructed octet ≡ false → bound ≤ length s
+  leaf-alone : (m : Bool) → ReadFrom s at limit deepest (header m) → constructed code ≡ false → bound ≤ length s
       → Codes deepest (leaf type (slice start (pastOf m bound) s) empty) (slice at bound s)
   leaf-alone true r q b = absurd (false≢true (sym q ∙ r .sized .1))
   leaf-alone false r q b =
@@ -41,14 +41,14 @@ module _ (s : List ℕ) (at limit octet number start bound : ℕ) where
       let (hv, lv) = part s start bound n w b in
       let e : n ≡ length value = sym lv in
       let k : bound ≡ start + length value = omega arith in
-      let fits : misfits (codeOf type) (length value) ≡ false = rw (code-field octet) (subst (λ (k : ℕ). misfits octet k ≡ false) e m) in
+      let fits : misfits (codeOf type) (length value) ≡ false = rw (code-field code) (subst (λ (k : ℕ). misfits code k ≡ false) e m) in
       let here = item-here s at type (r .len) value [] start bound (r .past) k (r .here) hv (drop bound s, refl) in
       let size = item-length s at type (r .len) value [] start bound (r .past) k in
       let xs = type ++ (r .len ++ (value ++ [])) in
       let codes : Codes deepest (leaf type value empty) xs = flat (subst (TypeField type) q (r .type)) fits (subst (λ (k : ℕ). Length k (r .len)) e l) nothing in
       subst (Codes deepest (leaf type value empty)) (sym (sliced s at xs bound (omega arith) here)) codes
 
-  branch-alone : (m : Bool) → ReadFrom s at limit deepest (header m) → constructed octet ≡ true → (next : ℕ) (inside : Tree)
+  branch-alone : (m : Bool) → ReadFrom s at limit deepest (header m) → constructed code ≡ true → (next : ℕ) (inside : Tree)
       → Coded s (deepest - 1) start bound m inside (ends next) → Codes deepest (branch type inside empty) (slice at next s)
   branch-alone false r q next inside (value, cv, hv, (x, y)) =
       let (n, w, l, m) = r .sized in
@@ -81,11 +81,11 @@ alone {s} (primitive {at = at} {limit = limit} {marked = marked} {h = h} {after 
     let o = header-ok s at limit deepest marked h p in
     let next : startOf limit after ≡ h .bound = starts-at r m w in
     let read = read-from s at limit deepest marked l f h p in
-    (rw (q, next) (leaf-alone s at limit (h .octet) (h .number) (h .start) (h .bound) (h .marked) read q (omega (arith, o .within))), alone r m w f)
+    (rw (q, next) (leaf-alone s at limit (h .code) (h .number) (h .start) (h .bound) (h .marked) read q (omega (arith, o .within))), alone r m w f)
 alone {s} (passes {at = at} {limit = limit} {marked = marked} {h = h} {inside = inside} {after = after} {next = to} l p q v r) m w f =
     let o = header-ok s at limit deepest marked h p in
     let next : startOf limit after ≡ to = starts-at r m w in
     let read = read-from s at limit deepest marked l f h p in
     let run = sound v (omega (arith, o .within)) in
-    (rw (q, next) (branch-alone s at limit (h .octet) (h .number) (h .start) (h .bound) (h .marked) read q to (plain s inside) run), alone r m w f)
+    (rw (q, next) (branch-alone s at limit (h .code) (h .number) (h .start) (h .bound) (h .marked) read q to (plain s inside) run), alone r m w f)
 alone (breaks l p q v) m w f = absurd w

@@ -19,7 +19,7 @@ use Rattle.octets.proofs.Half.{half}
 use Rattle.tree.specs.Tree.{treeOf}
 use Rattle.elements.specs.declared.Edition.{Edition}
 use Rattle.elements.specs.Judge.{Content, single, inPieces, Element, Judged, accepted, refused, judge}
-use Rattle.letters.specs.Letter.{Letter, letter, refusal, itemsOfStream, afterWalk, byWalk, letterOf}
+use Rattle.letters.specs.Letter.{Letter, letter, refusal, itemsOfStream, afterWalk, byWalk, letterIn}
 use Rattle.reading.specs.declared.Side.{Side}
 use Rattle.reading.specs.Match.{unitKind, matches}
 use Rattle.normal.specs.Normal.{normalForm}
@@ -28,7 +28,7 @@ use Rattle.answers.specs.declared.Written.{Written}
 use Rattle.answers.specs.declared.Listed.{Listed}
 use Rattle.answers.specs.declared.Copied.{Copied}
 use Rattle.answers.specs.Table.{tooFewRows}
-use Rattle.answers.specs.Answers.{letterIn, checkedBy, checked, checkedTable, writtenBy, written, writtenOutput, listedBy, listed, listedTable, listedList, Fetched, fetchedOf, fetchedBy, partOf, fetched, allOf, joinedIn, copiedFrom, copied, copiedOutput}
+use Rattle.answers.specs.Answers.{checkedBy, checked, checkedTable, writtenBy, written, writtenOutput, listedBy, listed, listedTable, listedList, Fetched, fetchedOf, fetchedBy, partOf, fetched, allOf, joinedIn, copiedFrom, copied, copiedOutput}
 use Rattle.demands.specs.Demands.{Answered, Demand1}
 use Rattle.answers.proofs.Small.{Small, refusal-small}
 
@@ -110,7 +110,7 @@ walked-headers edition s (Refused number place headers) = refl
 
 -- the check's header count is the walk's
 headers-told : (edition : Edition) (s table : List ℕ) → checked edition s table .headers ≡ told (walkOf s) .headers
-unfolding checked letterOf
+unfolding checked letterIn
 headers-told edition s table = check-headers table (letterIn edition s) ∙ walked-headers edition s (walkOf s)
 
 answer-headers : (n : ℕ) (e : End) → told (outcomeOf n e) .headers ≡ n

@@ -24,10 +24,10 @@ use Rattle.answers.specs.Table.{tableWidth}
 use Rattle.elements.specs.declared.Row.{Row}
 use Rattle.elements.specs.declared.Edition.{Edition}
 use Rattle.elements.specs.Judge.{Element, accepted, judge}
-use Rattle.letters.specs.Letter.{Letter, letter, refusal, itemsOfStream}
+use Rattle.letters.specs.Letter.{Letter, letter, refusal, itemsOfStream, letterIn, rowsIn}
 use Rattle.letters.proofs.Table.{end-to-end, pairs-within}
 use Rattle.judging.proofs.Lists.{below-length, at-below}
-use Rattle.answers.specs.Answers.{letterIn, rowsIn, onto, tableOf, checked, checkedTable, written, writtenOutput, listed, Fetched, fetched, located, Stands, joinedIn, copied}
+use Rattle.answers.specs.Answers.{onto, tableOf, checked, checkedTable, written, writtenOutput, listed, Fetched, fetched, located, Stands, joinedIn, copied}
 use Rattle.demands.specs.Refusals.{TopItem, topItems}
 use Rattle.demands.specs.Demands.{IsLetterOf, TellsContent, RowTells, UnitAt, OfLetter, RefusedByAll, Demand2, itemCount}
 use Rattle.answers.proofs.Letters.{Found, letter-found, accepted-letter}

@@ -15,7 +15,7 @@ use Rattle.answers.specs.Table.{tableWidth}
 use Rattle.tree.specs.Tree.{treeOf}
 use Rattle.elements.specs.declared.Edition.{Edition}
 use Rattle.elements.specs.Judge.{Element}
-use Rattle.letters.specs.Letter.{letter}
+use Rattle.letters.specs.Letter.{letter, letterIn}
 use Rattle.letters.specs.Apart.{Apart}
 use Rattle.letters.proofs.Apart.{accepted-apart}
 use Rattle.reading.specs.declared.Match.{Match}
@@ -25,7 +25,7 @@ use Rattle.reading.specs.Lists.{Sorted}
 use Rattle.reading.proofs.Matches.{matches-are, matches-all, matches-sorted}
 use Rattle.reading.proofs.Single.{no-more-than-portions, no-more-than-units}
 use Rattle.answers.proofs.Letters.{letter-found}
-use Rattle.answers.specs.Answers.{letterIn, onto, tableOf, listed, listedTable, matchesIn, listedList}
+use Rattle.answers.specs.Answers.{onto, tableOf, listed, listedTable, matchesIn, listedList}
 use Rattle.demands.specs.Demands.{In, Demand3}
 
 module _ {A : Type 0} where

@@ -12,7 +12,7 @@ use lib.Seq.{slice}
 use borrow.Author.Tests.{eq-eqb, ne-eqb, eqb-true, eqb-false}
 use borrow.Table.Steps.{cases}
 use Rattle.headers.specs.Head.{isIn, constructed as isConstructed}
-use Rattle.octets.specs.Walk.{Items, none, item, streamLimit}
+use Rattle.octets.specs.Walk.{Items, noItems, item, streamLimit}
 use Rattle.tree.specs.Tree.{Tree, plain, treeOf}
 use Rattle.normal.specs.Normal.{normalForm}
 use Rattle.calendar.specs.declared.Day.{Day}
@@ -22,16 +22,16 @@ use Rattle.calendar.proofs.Named.{names, named}
 use Rattle.contents.specs.declared.Span.{Span}
 use Rattle.contents.specs.Search.{firstRun, itemsIn}
 use Rattle.contents.proofs.Firsts.{run-here, run-after}
-use Rattle.dates.specs.Dates.{Date, DateItem, primitive, constructed, refused, dated as datedValue, theDate, datesIn, dateIn}
+use Rattle.dates.specs.Dates.{Date, DateItem, inPrimitive, inConstructed, noDateBy, dateFrom as datedValue, theDate, datesIn, dateIn}
 use Rattle.dates.specs.Places.{Place, bounds, noBounds, readAt}
 use Rattle.dates.proofs.Trees.{dates-places}
 use Rattle.dates.proofs.Real.{date-is-real, real-is-date, else-empty}
 use Rattle.elements.specs.declared.Edition.{Edition}
 use Rattle.elements.specs.Judge.{profileOctet}
-use Rattle.letters.specs.Letter.{refusal, itemsOfStream}
+use Rattle.letters.specs.Letter.{refusal, itemsOfStream, letterIn}
 use Rattle.answers.specs.declared.Reason.{Reason}
 use Rattle.answers.specs.declared.Dated.{Dated}
-use Rattle.answers.specs.Answers.{letterIn, ruled}
+use Rattle.answers.specs.Answers.{ruled}
 use Rattle.answers.specs.Dates.{DateAnswer, noDate, dateAfter, profileIn, dateOf, datePlaces, soleSpan, dateSpan, datedAt, dated, DateOutcome}
 use Rattle.answers.specs.Dating.{refusedDated}
 use Rattle.answers.proofs.Small.{refusal-small}
@@ -55,8 +55,8 @@ value-24 : (value : List ℕ) (b : Bool) → namesDay value ≡ b → (datedValu
 unfolding datedValue
 value-24 value true e =
     let z : datedValue value .number ≡ 0 = rw e in
-    (λ p. absurd (omega arith), λ none. absurd (none (dayAt value) (names value e)))
-value-24 value false e = (λ p d n. true≢false (sym (named value d n .0) ∙ e), λ none. rw e)
+    (λ p. absurd (omega arith), λ noItems. absurd (noItems (dayAt value) (names value e)))
+value-24 value false e = (λ p d n. true≢false (sym (named value d n .0) ∙ e), λ noItems. rw e)
 
 value-not-23 : (value : List ℕ) (b : Bool) → namesDay value ≡ b → datedValue value .number ≡ 23 → ⊥
 unfolding datedValue
@@ -64,36 +64,36 @@ value-not-23 value true e p = let z : datedValue value .number ≡ 0 = rw e in o
 value-not-23 value false e p = let z : datedValue value .number ≡ 24 = rw e in omega arith
 
 -- a list of two or more, or of a constructed one, is no list of one primitive item
-other-first : (value : List ℕ) {one other : DateItem} {more : List DateItem} → one ∷ other ∷ more ≡ primitive value ∷ [] → ⊥
+other-first : (value : List ℕ) {one other : DateItem} {more : List DateItem} → one ∷ other ∷ more ≡ inPrimitive value ∷ [] → ⊥
 other-first value e = let z : _≡_ {A = ℕ} 0 1 = cc in omega arith
 
-other-form : (value : List ℕ) → constructed ∷ [] ≡ primitive value ∷ [] → ⊥
+other-form : (value : List ℕ) → inConstructed ∷ [] ≡ inPrimitive value ∷ [] → ⊥
 other-form value e = let z : _≡_ {A = ℕ} 0 1 = cc in omega arith
 
-none-there : (value : List ℕ) → _≡_ {A = List DateItem} [] (primitive value ∷ []) → ⊥
+none-there : (value : List ℕ) → _≡_ {A = List DateItem} [] (inPrimitive value ∷ []) → ⊥
 none-there value e = let z : _≡_ {A = ℕ} 0 1 = cc in omega arith
 
 abbrev NotOne : List DateItem → Type 0
-NotOne items = (value : List ℕ) → items ≡ primitive value ∷ [] → ⊥
+NotOne items = (value : List ℕ) → items ≡ inPrimitive value ∷ [] → ⊥
 
 items-23 : (items : List DateItem) → (theDate items .number ≡ 23) ↔ NotOne items
 unfolding theDate
 items-23 [] = (λ _ value e. none-there value e, λ _. refl)
-items-23 (primitive value ∷ []) = (λ p _ _. value-not-23 value (namesDay value) refl p, λ none. absurd (none value refl))
-items-23 (constructed ∷ []) = (λ _ value e. other-form value e, λ _. refl)
+items-23 (inPrimitive value ∷ []) = (λ p _ _. value-not-23 value (namesDay value) refl p, λ noItems. absurd (noItems value refl))
+items-23 (inConstructed ∷ []) = (λ _ value e. other-form value e, λ _. refl)
 items-23 (one ∷ other ∷ more) = (λ _ value e. other-first value e, λ _. refl)
 
 abbrev Unnamed : List DateItem → Type 0
-Unnamed items = (value : List ℕ) × (items ≡ primitive value ∷ []) × ((d : Day) → Names value d → ⊥)
+Unnamed items = (value : List ℕ) × (items ≡ inPrimitive value ∷ []) × ((d : Day) → Names value d → ⊥)
 
 items-24 : (items : List DateItem) → (theDate items .number ≡ 24) ↔ Unnamed items
 unfolding theDate
 items-24 [] = (λ p. absurd (omega arith), λ u. absurd (none-there (u .0) (u .1)))
-items-24 (primitive value ∷ []) = (
+items-24 (inPrimitive value ∷ []) = (
   λ p. (value, refl, value-24 value (namesDay value) refl .0 p),
-  λ u. let p : primitive value ∷ [] ≡ primitive (u .0) ∷ [] = u .1 in let e : value ≡ u .0 = cc in value-24 value (namesDay value) refl .1 (subst (λ (v : List ℕ). (d : Day) → Names v d → ⊥) (sym e) (u .2)),
+  λ u. let p : inPrimitive value ∷ [] ≡ inPrimitive (u .0) ∷ [] = u .1 in let e : value ≡ u .0 = cc in value-24 value (namesDay value) refl .1 (subst (λ (v : List ℕ). (d : Day) → Names v d → ⊥) (sym e) (u .2)),
 )
-items-24 (constructed ∷ []) = (λ p. absurd (omega arith), λ u. absurd (other-form (u .0) (u .1)))
+items-24 (inConstructed ∷ []) = (λ p. absurd (omega arith), λ u. absurd (other-form (u .0) (u .1)))
 items-24 (one ∷ other ∷ more) = (λ p. absurd (omega arith), λ u. absurd (other-first (u .0) (u .1)))
 
 -- ---- whatever the rules say, and whatever the tree of the profile
@@ -109,7 +109,7 @@ date-by r zero date = rw (eq-eqb (r .number) 0 zero)
 abbrev Empty : DateAnswer → Type 0
 Empty x = x ≡ noDate (record { number = x .number; place = x .place })
 
-empty-date : (date : Date) → (date ≡ refused 23) ⊎ (date ≡ refused 24) → Empty (answerBy date)
+empty-date : (date : Date) → (date ≡ noDateBy 23) ⊎ (date ≡ noDateBy 24) → Empty (answerBy date)
 empty-date date (inl e) = rw e
 empty-date date (inr e) = rw e
 
@@ -135,7 +135,7 @@ pub data Given (r : Reason) (x : DateAnswer) : Type 0 where
   no-one : x .number ≡ 23 → x .place ≡ 0 → Given r x
   no-day : x .number ≡ 24 → x .place ≡ 0 → Given r x
 
-given-date : (r : Reason) (date : Date) → (date ≡ refused 23) ⊎ (date ≡ refused 24) → Given r (answerBy date)
+given-date : (r : Reason) (date : Date) → (date ≡ noDateBy 23) ⊎ (date ≡ noDateBy 24) → Given r (answerBy date)
 given-date r date (inl e) = no-one (ap (λ (x : Date). x .number) e) refl
 given-date r date (inr e) = no-day (ap (λ (x : Date). x .number) e) refl
 
@@ -169,7 +169,7 @@ module _ (edition : Edition) (s : List ℕ) where
         let y : dateIn t .day ≡ d = ap (λ (x : DateAnswer). x .day) p in
         let g = date-is-real t n in
         record {
-          only = g .item ∙ ap (λ (x : List ℕ). primitive x ∷ []) v;
+          only = g .item ∙ ap (λ (x : List ℕ). inPrimitive x ∷ []) v;
           names = subst (λ (x : Day). Names value x) y (subst (λ (x : List ℕ). Names x (dateIn t .day)) v (g .names-it));
         }
 
@@ -190,7 +190,7 @@ module _ (edition : Edition) (s : List ℕ) where
 -- the items of the profile, with their places, stand for its tree
 pub run-items : (octet : ℕ) (s : List ℕ) → isConstructed octet ≡ true → (i : Items) → firstRun octet (plain s i) ≡ plain s (itemsIn octet i)
 unfolding firstRun itemsIn
-run-items octet s k none = refl
+run-items octet s k noItems = refl
 run-items octet s k (item at type first past inside after) =
     cases (eqb type octet)
     (λ e.
@@ -201,7 +201,7 @@ run-items octet s k (item at type first past inside after) =
     rw e (run-after octet type (slice first past s) (plain s inside) (plain s after) (isConstructed type) (eqb-false type octet e) ∙ run-items octet s k after))
 
 -- one primitive item is one place, and its value stands there
-sole-place : (s value : List ℕ) (places : List Place) → map (readAt s) places ≡ primitive value ∷ []
+sole-place : (s value : List ℕ) (places : List Place) → map (readAt s) places ≡ inPrimitive value ∷ []
     → (places ≡ bounds (soleSpan places .first) (soleSpan places .past) ∷ []) × (slice (soleSpan places .first) (soleSpan places .past) s ≡ value)
 sole-place s value [] e = absurd (none-there value e)
 sole-place s value (bounds first past ∷ []) e = let v : slice first past s ≡ value = cc in (refl, v)
@@ -222,7 +222,7 @@ module _ (edition : Edition) (s : List ℕ) where
       let v : dateOf edition s .part ≡ dateIn t .value = ap (λ (x : DateAnswer). x .part) (letter-date edition s a) in
       let places = datePlaces (itemsOfStream s) in
       let inside = itemsIn profileOctet (itemsOfStream s) in
-      let read : map (readAt s) places ≡ primitive (dateIn t .value) ∷ [] =
+      let read : map (readAt s) places ≡ inPrimitive (dateIn t .value) ∷ [] =
       dates-places s inside ∙ ap datesIn (sym (run-items profileOctet s refl (itemsOfStream s))) ∙ date-is-real t n .item in
       let p = sole-place s (dateIn t .value) places read in
       let span : dateSpan (dateOf edition s) places ≡ soleSpan places = rw (eq-eqb (dateOf edition s .number) 0 zero) in

@@ -15,7 +15,7 @@ use Rattle.laws.proofs.Tests.{cond-holds}
 use Rattle.headers.specs.Head.{constructed, codeOf, typeField, isIn}
 use Rattle.octets.specs.declared.Outcome.{Outcome}
 use Rattle.octets.specs.declared.Outcome.the-variants.{Ended, Refused}
-use Rattle.octets.specs.Walk.{Items, none, item, End, ends, stops, walkOf}
+use Rattle.octets.specs.Walk.{Items, noItems, item, End, ends, stops, walkOf}
 use Rattle.tree.specs.Tree.{Tree, empty, leaf, branch, formed, plain, treeOf}
 use Rattle.contents.specs.Search.{is, amount}
 use Rattle.contents.proofs.Firsts.{is-field}
@@ -25,8 +25,8 @@ use Rattle.elements.specs.declared.Edition.the-variants.{Of1988, Of1993}
 use Rattle.elements.specs.declared.Row.{Row}
 use Rattle.elements.specs.Shape.{Contents, profile, protected, entry, Shape, noShape, Shapes, shapes1993, shapeIn, shapeOf}
 use Rattle.elements.specs.Judge.{noneOf, bodyOf, contentOf, Element, elementOf, mostElements, profileOctet, refusalOf, Judged, accepted, refused, judgeOne, judgeFrom, judge}
-use Rattle.elements.specs.Rows.{bodyIn, contentOctet, rowOf, rowsOf, placeOf}
-use Rattle.letters.specs.Letter.{Letter, letter, refusal, itemsOfStream, afterWalk, byWalk, letterOf}
+use Rattle.elements.specs.ElementRows.{bodyIn, contentOctet, rowOf, rowsOf, placeOf}
+use Rattle.letters.specs.Letter.{Letter, letter, refusal, itemsOfStream, afterWalk, byWalk, letterIn, rowsIn}
 use Rattle.reading.specs.declared.Match.{Match}
 use Rattle.reading.specs.declared.Side.{Side}
 use Rattle.reading.specs.declared.Side.the-variants.{Layout, Logical}
@@ -34,7 +34,7 @@ use Rattle.reading.specs.Match.{kindsOf, IsMatch}
 use Rattle.judging.proofs.Lists.{below-length}
 use Rattle.fronts.specs.First.{walkFirst}
 use Rattle.answers.specs.Answers.{fetchedBy, allOf, matchesBy, matchesIn}
-use Rattle.answers.specs.Answers.{letterIn, rowsIn, checked, checkedTable, written, writtenOutput, listed, listedTable, listedList, fetched, located, joinedIn, copied, copiedOutput, ruled}
+use Rattle.answers.specs.Answers.{checked, checkedTable, written, writtenOutput, listed, listedTable, listedList, fetched, located, joinedIn, copied, copiedOutput, ruled}
 use Rattle.answers.specs.Related.{related, relatedTable, relatedList}
 use Rattle.texts.specs.Texts.{textsOf, Line, lineOf, linesFrom}
 use Rattle.answers.specs.Texts.{textIn, textsIn, linesIn, shown, shownLines, shownOutput}
@@ -112,7 +112,7 @@ walk-agrees s h (Ended at headers) = ap (afterWalk (itemsOfStream s) headers) (j
 walk-agrees s h (Refused number place headers) = refl
 
 letters-agree : (s : List ℕ) → AllAlike (treeOf s) → letterIn Of1993 s ≡ letterIn Of1988 s
-unfolding letterOf
+unfolding letterIn
 letters-agree s h = walk-agrees s h (walkOf s)
 
 -- 1988 does not know a protected part
@@ -201,23 +201,23 @@ judge-contained (branch type inside after) elements e = from-contained (branch t
 
 -- the rows
 module _ (s : List ℕ) where
-  row-agrees : (octet first past : ℕ) (inside : Items) → Untiled (typeField octet) (plain s inside)
-      → rowOf (shapeOf Of1993 (typeField octet)) s first past inside ≡ rowOf (shapeOf Of1988 (typeField octet)) s first past inside
+  row-agrees : (code first past : ℕ) (inside : Items) → Untiled (typeField code) (plain s inside)
+      → rowOf (shapeOf Of1993 (typeField code)) s first past inside ≡ rowOf (shapeOf Of1988 (typeField code)) s first past inside
   unfolding shapeOf rowOf bodyIn contentOctet elementOf
-  row-agrees octet first past inside h =
-      cases (is 0xA3 (typeField octet))
-      (λ t. let e : codeOf (typeField octet) ≡ 0xA3 = eqb-true (codeOf (typeField octet)) 0xA3 t in rw (e, h .untiled t))
-      (λ t. let same = shapes-agree (typeField octet) t (h .unprotected) in rw same)
+  row-agrees code first past inside h =
+      cases (is 0xA3 (typeField code))
+      (λ t. let e : codeOf (typeField code) ≡ 0xA3 = eqb-true (codeOf (typeField code)) 0xA3 t in rw (e, h .untiled t))
+      (λ t. let same = shapes-agree (typeField code) t (h .unprotected) in rw same)
 
   -- an item that is primitive is no text unit
-  whole-run : (octet : ℕ) (value : List ℕ) (inside after : Tree) (b : Bool) → constructed octet ≡ b
-      → AllUntiled (formed b (typeField octet) value inside after) → Untiled (typeField octet) inside × AllUntiled after
-  whole-run octet value inside after true c h = h
-  whole-run octet value inside after false c h = (
+  whole-run : (code : ℕ) (value : List ℕ) (inside after : Tree) (b : Bool) → constructed code ≡ b
+      → AllUntiled (formed b (typeField code) value inside after) → Untiled (typeField code) inside × AllUntiled after
+  whole-run code value inside after true c h = h
+  whole-run code value inside after false c h = (
     record {
       unprotected = h .0 .unprotected;
       untiled = λ t.
-          let e : octet ≡ 0xA3 = eqb-true octet 0xA3 (sym (is-field 0xA3 octet) ∙ t) in
+          let e : code ≡ 0xA3 = eqb-true code 0xA3 (sym (is-field 0xA3 code) ∙ t) in
           absurd (true≢false (sym (ap constructed e) ∙ c));
     },
     h .1,
@@ -225,10 +225,10 @@ module _ (s : List ℕ) where
 
   rows-agree : (items : Items) → AllUntiled (plain s items) → rowsOf Of1993 s items ≡ rowsOf Of1988 s items
   unfolding rowsOf
-  rows-agree none h = refl
-  rows-agree (item at octet first past inside after) h =
-      let (here, rest) = whole-run octet _ (plain s inside) (plain s after) (constructed octet) refl h in
-      ap₂ (λ (row : Row) (rows : List Row). row ∷ rows) (row-agrees octet at _ inside here) (rows-agree after rest)
+  rows-agree noItems h = refl
+  rows-agree (item at code first past inside after) h =
+      let (here, rest) = whole-run code _ (plain s inside) (plain s after) (constructed code) refl h in
+      ap₂ (λ (row : Row) (rows : List Row). row ∷ rows) (row-agrees code at _ inside here) (rows-agree after rest)
 
 contained : (s : List ℕ) (headers : ℕ) (elements : List Element) → letterIn Of1988 s ≡ letter headers elements → SameLetterIn s headers elements
 contained s headers elements e =
@@ -424,13 +424,13 @@ side-low : (side : Side) (kind : ℕ) → isIn kind (kindsOf side) ≡ true → 
 side-low Layout kind e above =
     let one = ne-eqb kind 1 (λ z. omega arith) in
     let two = ne-eqb kind 2 (λ z. omega arith) in
-    let none : isIn kind (kindsOf Layout) ≡ false = rw (one, two) in
-    true≢false (sym e ∙ none)
+    let noItems : isIn kind (kindsOf Layout) ≡ false = rw (one, two) in
+    true≢false (sym e ∙ noItems)
 side-low Logical kind e above =
     let five = ne-eqb kind 5 (λ z. omega arith) in
     let six = ne-eqb kind 6 (λ z. omega arith) in
-    let none : isIn kind (kindsOf Logical) ≡ false = rw (five, six) in
-    true≢false (sym e ∙ none)
+    let noItems : isIn kind (kindsOf Logical) ≡ false = rw (five, six) in
+    true≢false (sym e ∙ noItems)
 
 -- what stands at one place is one element
 one-there : (elements : List Element) {i j : ℕ} {d e : Element} → getElem? elements i ≡ some d → i ≡ j → getElem? elements j ≡ some e → d ≡ e

@@ -9,14 +9,14 @@ use Rattle.tree.specs.Tree.{treeOf}
 use Rattle.normal.specs.Normal.{normalForm}
 use Rattle.elements.specs.declared.Edition.{Edition}
 use Rattle.elements.specs.Judge.{Element}
-use Rattle.letters.specs.Letter.{letter, refusal}
+use Rattle.letters.specs.Letter.{letter, refusal, letterIn}
 use Rattle.letters.proofs.Apart.{accepted-apart}
 use Rattle.parents.specs.Parent.{parent, children}
 use Rattle.parents.proofs.Parents.{parent-is, none-missed}
 use Rattle.parents.proofs.Climbing.{climb-ends, no-own-ancestor}
 use Rattle.parents.proofs.Children.{children-are, children-all, children-sorted}
 use Rattle.answers.specs.declared.Related.{Related}
-use Rattle.answers.specs.Answers.{letterIn, elementsIn}
+use Rattle.answers.specs.Answers.{elementsIn}
 use Rattle.answers.specs.Related.{Relates, related, relatedList}
 use Rattle.answers.proofs.Letters.{letter-found}
 use Rattle.answers.proofs.Tabling.{table-tells}

@@ -12,7 +12,7 @@ use borrow.Author.Tests.{eq-eqb, leb-true, leb-false, le-ltb}
 use borrow.Table.Steps.{cases}
 use Rattle.laws.proofs.Tests.{cond-holds}
 use Rattle.headers.specs.Head.{isIn, constructed, typeField}
-use Rattle.octets.specs.Walk.{Items, none, item, End, ends, stops, Walked, ended, streamLimit, deepest, run}
+use Rattle.octets.specs.Walk.{Items, noItems, item, End, ends, stops, Walked, ended, streamLimit, deepest, run}
 use Rattle.octets.proofs.Walks.{run-step}
 use Rattle.tree.specs.Tree.{Tree, empty, leaf, branch, plain, treeOf}
 use Rattle.runs.proofs.Laws.{stream-fine, stream-within}
@@ -109,30 +109,30 @@ module _ (edition : Edition) where
     abbrev after : Items
     after = run deepest s (whole .next) (length s) false .items
 
-    begins : itemsOfStream s ≡ item 0 (one .octet) (one .start) (one .past) (one .inside) after
+    begins : itemsOfStream s ≡ item 0 (one .code) (one .start) (one .past) (one .inside) after
     begins =
         let in-stream = one-within deepest s 0 (length s) (whole .next) (whole .some) (whole .walked) (omega arith) .1 in
         ap (λ (v : Walked). v .items) (run-front deepest s 0 (length s) (whole .next) (whole .some) (whole .walked) s refl (length s) in-stream)
         ∙ rw (one .is)
 
-    passes : FirstPasses edition (typeField (one .octet))
+    passes : FirstPasses edition (typeField (one .code))
     passes = letter-first edition s zero-ruled begins
 
     -- rules 10 and 11 let it pass
     rule-zero : firstRule edition (firstTree s) ≡ 0
     rule-zero =
-        let type = typeField (one .octet) in
+        let type = typeField (one .code) in
         ap (λ (i : Items). firstRule edition (plain s i)) (one .is)
-        ∙ rule-formed edition (constructed (one .octet)) type _ _ _
+        ∙ rule-formed edition (constructed (one .code)) type _ _ _
         ∙ first-let (is (shapeOf edition type .octet) type) (is profileOctet type) (passes .known) (passes .profile)
 
-    inside-here : (items more : Items) → items ≡ item 0 (one .octet) (one .start) (one .past) (one .inside) more → itemsIn profileOctet items ≡ one .inside
+    inside-here : (items more : Items) → items ≡ item 0 (one .code) (one .start) (one .past) (one .inside) more → itemsIn profileOctet items ≡ one .inside
     unfolding itemsIn
     inside-here items more e =
-        ap (itemsIn profileOctet) e ∙ rw (eq-eqb (one .octet) profileOctet (passed-profile edition (one .octet) passes))
+        ap (itemsIn profileOctet) e ∙ rw (eq-eqb (one .code) profileOctet (passed-profile edition (one .code) passes))
 
     inside-same : itemsIn profileOctet (walkFirst s .items) ≡ itemsIn profileOctet (itemsOfStream s)
-    inside-same = inside-here (walkFirst s .items) none (one .is) ∙ sym (inside-here (itemsOfStream s) after begins)
+    inside-same = inside-here (walkFirst s .items) noItems (one .is) ∙ sym (inside-here (itemsOfStream s) after begins)
 
     profile-same : profileIn (firstTree s) ≡ profileIn (treeOf s)
     profile-same =

@@ -16,12 +16,12 @@ use Rattle.tree.specs.Tree.{Tree, Codes, nothing, primitive, definite, indefini
 use Rattle.contents.specs.declared.Span.{Span}
 use Rattle.contents.specs.Search.{Value, absent, octets}
 use Rattle.pieces.specs.Pieces.{joined}
-use Rattle.elements.specs.Rows.{bytesIn}
+use Rattle.elements.specs.ElementRows.{bytesIn}
 use Rattle.elements.specs.declared.Edition.{Edition}
 use Rattle.elements.specs.Judge.{bytesOf, Content, single, inPieces, joinedContent, Element}
-use Rattle.letters.specs.Letter.{letter}
+use Rattle.letters.specs.Letter.{letter, letterIn}
 use Rattle.reading.specs.Match.{unitKind}
-use Rattle.answers.specs.Answers.{letterIn, onto, Fetched, handed, fetchedOf, partOf, fetched, allOf, joinedIn, copiedFrom, copied, copiedOutput}
+use Rattle.answers.specs.Answers.{onto, Fetched, handed, fetchedOf, partOf, fetched, allOf, joinedIn, copiedFrom, copied, copiedOutput}
 use Rattle.answers.proofs.Fetching.{one-piece, of-unit}
 use Rattle.answers.proofs.Copying.{copies-all, joins-unit}
 use Rattle.demands.specs.Demands.{TellsValue, TellsContent, UnitAt, PiecesAt}

@@ -10,7 +10,7 @@ use Rattle.tree.specs.Tree.{Tree, treeOf}
 use Rattle.normal.specs.Normal.{normalForm}
 use Rattle.contents.specs.declared.Span.{Span}
 use Rattle.contents.specs.Search.{Value, absent, octets}
-use Rattle.elements.specs.Rows.{noSpan}
+use Rattle.elements.specs.ElementRows.{noSpan}
 use Rattle.elements.specs.declared.Row.{Row}
 use Rattle.elements.specs.declared.Edition.{Edition}
 use Rattle.elements.specs.Judge.{Content, single, inPieces, Element}

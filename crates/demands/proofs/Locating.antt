@@ -11,7 +11,7 @@ use lib.Seq.{slice-empty}
 use borrow.Author.Tests.{eqb-true, eq-eqb}
 use borrow.Table.Steps.{cases}
 use Rattle.headers.specs.Head.{typeField}
-use Rattle.octets.specs.Walk.{Items, none as noItem, item, startOf, deepest, run}
+use Rattle.octets.specs.Walk.{Items, noItems as noItem, item, startOf, deepest, run}
 use Rattle.octets.proofs.RulesHold.{derives}
 use Rattle.tree.specs.Tree.{plain, treeOf}
 use Rattle.runs.specs.Runs.{wholeStream, Fine}
@@ -22,11 +22,11 @@ use Rattle.elements.specs.declared.Row.{Row}
 use Rattle.elements.specs.declared.Edition.{Edition}
 use Rattle.elements.specs.Shape.{shapeOf}
 use Rattle.elements.specs.Judge.{Content, single, inPieces, bytesOf, Element}
-use Rattle.elements.specs.Rows.{contentOctet, rowOf, rowsOf}
-use Rattle.letters.specs.Letter.{letter, itemsOfStream, rowsOfStream, Within, absent, present}
+use Rattle.elements.specs.ElementRows.{contentOctet, rowOf, rowsOf}
+use Rattle.letters.specs.Letter.{letter, itemsOfStream, rowsIn, Within, not-there, present, letterIn}
 use Rattle.letters.proofs.Nested.{Nested, stays, bounds-at-within}
 use Rattle.reading.specs.Match.{unitKind}
-use Rattle.answers.specs.Answers.{letterIn, rowsIn, fetchedOf, partOf, fetched, located, Stands}
+use Rattle.answers.specs.Answers.{fetchedOf, partOf, fetched, located, Stands}
 use Rattle.demands.specs.Demands.{TellsContent, UnitAt}
 use Rattle.demands.proofs.Joining.{told-bytes, content}
 
@@ -34,14 +34,14 @@ contents-inside : (edition : Edition) (s : List ℕ) (to : ℕ) (items : Items) 
     → Within 0 to (row .content)
 unfolding rowsOf rowOf
 contents-inside edition s to noItem w j row e = let z : _≡_ {A = ℕ} 0 1 = cc in absurd (omega arith)
-contents-inside edition s to (item at octet first past inside after) w zero row e =
-    let shape = shapeOf edition (typeField octet) in
+contents-inside edition s to (item at code first past inside after) w zero row e =
+    let shape = shapeOf edition (typeField code) in
     let own : rowOf shape s at (startOf (length s) after) inside ≡ row = cc in
     subst (λ (r : Row). Within 0 to (r .content)) own (bounds-at-within 0 to (contentOctet (shape .contents) (plain s inside)) inside (w .3))
-contents-inside edition s to (item at octet first past inside after) w (suc j) row e = contents-inside edition s to after (w .4) j row e
+contents-inside edition s to (item at code first past inside after) w (suc j) row e = contents-inside edition s to after (w .4) j row e
 
 -- the content fields of a row lie in the stream
-content-inside : (edition : Edition) (s : List ℕ) → Fine s (wholeStream s) → (j : ℕ) (row : Row) → getElem? (rowsOfStream edition s) j ≡ some row
+content-inside : (edition : Edition) (s : List ℕ) → Fine s (wholeStream s) → (j : ℕ) (row : Row) → getElem? (rowsIn edition s) j ≡ some row
     → Within 0 (length s) (row .content)
 content-inside edition s fine =
     let r = wholeStream s in
@@ -49,7 +49,7 @@ content-inside edition s fine =
     contents-inside edition s (length s) (itemsOfStream s) (stays (derives (r .room) s (r .at) (r .limit) (r .marked) (fine .order)) (length s) e .nested)
 
 in-stream : (n : ℕ) (pair : Span) → Within 0 n pair → (pair .first ≤ pair .past) × (pair .past ≤ n)
-in-stream n pair (absent e) = rw e (omega arith, omega arith)
+in-stream n pair (not-there e) = rw e (omega arith, omega arith)
 in-stream n pair (present a b c) = (b, c)
 
 -- a text unit whose content is the value of one item

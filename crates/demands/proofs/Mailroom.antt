@@ -20,9 +20,9 @@ use Rattle.normal.specs.Normal.{Octets, normalForm}
 use Rattle.normal.specs.Short.{shortLimit}
 use Rattle.normal.proofs.Shorter.{never-longer}
 use Rattle.elements.specs.declared.Edition.{Edition}
-use Rattle.letters.specs.Letter.{Letter, letter, refusal}
+use Rattle.letters.specs.Letter.{Letter, letter, refusal, letterIn}
 use Rattle.answers.specs.declared.Written.{Written}
-use Rattle.answers.specs.Answers.{letterIn, writtenBy, written, writtenOutput}
+use Rattle.answers.specs.Answers.{writtenBy, written, writtenOutput}
 use Rattle.answers.specs.Short.{shortLetter, shortBy, writtenShort, writtenShortOutput}
 use Rattle.answers.proofs.Small.{refusal-small}
 use Rattle.demands.specs.Refusals.{TopItem, Refuses, too-many, unknown, no-profile, later-profile, misshapen, mistyped, misspelt, repeated, RefusedBy, no-element, at-element, RefusedWith, too-long, at-fault, by-element}

@@ -13,11 +13,11 @@ use Rattle.laws.proofs.Tests.{cond-holds}
 use Rattle.headers.specs.Head.{codeOf}
 use Rattle.tree.specs.Tree.{Tree, empty, leaf, branch}
 use Rattle.contents.specs.declared.Slot.{Slot}
-use Rattle.contents.specs.Search.{is, amount, ends, slot, inOrder}
+use Rattle.contents.specs.Search.{is, amount, isEmpty, slot, inOrder}
 use Rattle.elements.specs.declared.Edition.{Edition}
 use Rattle.elements.specs.declared.Edition.the-variants.{Of1988, Of1993}
 use Rattle.elements.specs.Shape.{entry, unit, Shape, shapeOf}
-use Rattle.elements.specs.Judge.{required, optional, noneOf, Content, bodyOf, contentOf, Element, elementOf, ordered, asTabled, namesFit, clash, twice, mostElements, profileOctet, refusalOf}
+use Rattle.elements.specs.Judge.{required, optional, noneOf, Content, bodyOf, contentOf, Element, elementOf, itemsInOrder, asTabled, namesFit, clash, twice, mostElements, profileOctet, refusalOf}
 use Rattle.demands.specs.Editions.{isProtected}
 
 -- the codes of a run's items
@@ -58,14 +58,14 @@ slot-codes x rest same e empty = rw (e empty)
 slot-codes x rest same e (leaf type value after) = rw (e after, e (leaf type value after))
 slot-codes x rest same e (branch type inside after) = rw (e after, e (branch type inside after))
 
-ends-codes : (t : Tree) → ends t ≡ over (codes t)
+ends-codes : (t : Tree) → isEmpty t ≡ over (codes t)
 ends-codes empty = refl
 ends-codes (leaf type value after) = refl
 ends-codes (branch type inside after) = refl
 
 order-codes : (one two : Slot) (t : Tree) → inOrder one two t ≡ inRow one two (codes t)
 unfolding inOrder
-order-codes one two t = slot-codes one (slot two ends) (filled two over) (slot-codes two ends over ends-codes) t
+order-codes one two t = slot-codes one (slot two isEmpty) (filled two over) (slot-codes two isEmpty over ends-codes) t
 
 and-false : (b : Bool) → b && false ≡ false
 and-false true = refl
@@ -160,8 +160,8 @@ pub record Holds (run : Tree) : Type 0 where
 held-codes : {run : Tree} → Holds run → Held (codes run)
 held-codes {run} h z = h .some-item (omega (arith, amount-codes 0x04 run, amount-codes 0x24 run))
 
-ordered-agree : (run : Tree) → Holds run → ordered (unit false true) run ≡ ordered (unit true false) run
-unfolding ordered
+ordered-agree : (run : Tree) → Holds run → itemsInOrder (unit false true) run ≡ itemsInOrder (unit true false) run
+unfolding itemsInOrder
 ordered-agree run h =
     rw (
       order-codes (optional 0x31) (optional 0x24) run,
@@ -172,14 +172,14 @@ ordered-agree run h =
     )
     (rows-agree (codes run) (held-codes h))
 
-in-row : (run : Tree) → ordered (unit true false) run ≡ true → row1988 (codes run) ≡ true
-unfolding ordered
+in-row : (run : Tree) → itemsInOrder (unit true false) run ≡ true → row1988 (codes run) ≡ true
+unfolding itemsInOrder
 in-row run o = rw (order-codes (optional 0x31) (required 0x24) run, order-codes (optional 0x31) (required 0x04) run) at o
 
-pub ordered-holds : (run : Tree) → ordered (unit true false) run ≡ true → Holds run
+pub ordered-holds : (run : Tree) → itemsInOrder (unit true false) run ≡ true → Holds run
 ordered-holds run o = record { some-item = λ z. row-held (codes run) (in-row run o) (omega (arith, amount-codes 0x04 run, amount-codes 0x24 run)) }
 
-pub ordered-untiled : (run : Tree) → ordered (unit true false) run ≡ true → noneOf 0x30 run ≡ true
+pub ordered-untiled : (run : Tree) → itemsInOrder (unit true false) run ≡ true → noneOf 0x30 run ≡ true
 ordered-untiled run o = eq-eqb (amount 0x30 run) 0 (amount-codes 0x30 run ∙ row-untiled (codes run) (in-row run o))
 
 content-agrees : (run : Tree) → noneOf 0x30 run ≡ true → contentOf (unit false true) run ≡ contentOf (unit true false) run
@@ -191,14 +191,14 @@ first-test : (a b : Bool) → a && b ≡ true → a ≡ true
 first-test true b e = refl
 first-test false b e = absurd (false≢true e)
 
-pub tabled-ordered : (run : Tree) → asTabled (unit true false) run ≡ true → ordered (unit true false) run ≡ true
+pub tabled-ordered : (run : Tree) → asTabled (unit true false) run ≡ true → itemsInOrder (unit true false) run ≡ true
 unfolding asTabled
-tabled-ordered run e = first-test (ordered (unit true false) run) _ e
+tabled-ordered run e = first-test (itemsInOrder (unit true false) run) _ e
 
 tabled-agrees : (run : Tree) → Holds run → asTabled (unit false true) run ≡ asTabled (unit true false) run
 unfolding asTabled bodyOf
 tabled-agrees run h =
-    cases (ordered (unit true false) run)
+    cases (itemsInOrder (unit true false) run)
     (λ o. rw (ordered-agree run h, o, content-agrees run (ordered-untiled run o)))
     (λ o. rw (ordered-agree run h, o))
 

@@ -11,7 +11,7 @@ use borrow.Table.Steps.{cases}
 use Rattle.elements.specs.declared.Edition.{Edition}
 use Rattle.elements.specs.declared.Edition.the-variants.{Of1988}
 use Rattle.elements.specs.Judge.{Element}
-use Rattle.letters.specs.Letter.{Letter, letter, refusal}
+use Rattle.letters.specs.Letter.{Letter, letter, refusal, letterIn}
 use Rattle.order.specs.declared.Class.{Class}
 use Rattle.order.specs.declared.Class.the-variants.{A, B}
 use Rattle.order.specs.declared.Fault.{Fault}
@@ -23,7 +23,6 @@ use Rattle.order.specs.Computed.{byFound, byLetter, orderIn}
 use Rattle.order.specs.Streams.{Stream, asked, profile, streams}
 use Rattle.order.proofs.Letters.{answered, computed-is, is-computed}
 use Rattle.order.proofs.Streams.{by-class-a, by-class-b}
-use Rattle.answers.specs.Answers.{letterIn}
 use Rattle.answers.proofs.Small.{refusal-small, place-inside}
 use Rattle.demands.specs.SameLetter.{IsAccepted}
 use Rattle.demands.specs.Order.{BesideRules, Answers, AnyOrder}

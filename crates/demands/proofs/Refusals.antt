@@ -21,8 +21,8 @@ use Rattle.contents.specs.Search.{is}
 use Rattle.elements.specs.declared.Edition.{Edition}
 use Rattle.elements.specs.Shape.{shapeOf}
 use Rattle.elements.specs.Judge.{typeOctet, typesOf, valueAt, Element, asTabled, typeFits, namesFit, mostElements, profileOctet, twice, Rule, _when_, firstOf, refusalOf, Judged, accepted, refused, judgeOne, judgeFrom, judge}
-use Rattle.elements.specs.Rows.{placeOf}
-use Rattle.letters.specs.Letter.{refusal, itemsOfStream, afterWalk, byWalk, letterOf}
+use Rattle.elements.specs.ElementRows.{placeOf}
+use Rattle.letters.specs.Letter.{refusal, itemsOfStream, afterWalk, byWalk, letterIn}
 use Rattle.judging.proofs.Lists.{below-length}
 use Rattle.answers.proofs.Letters.{refused-walk, refused-element}
 use Rattle.demands.specs.Refusals.{TopItem, topItems, saysIn, Refuses, too-many, unknown, no-profile, later-profile, misshapen, mistyped, misspelt, repeated, RefusedAt, RefusedBy, no-element, at-element, RefusedWith, too-long, at-fault, by-element}
@@ -319,7 +319,7 @@ module _ (edition : Edition) (s : List ℕ) where
   walked-within l = rw (le-leb (length s) streamLimit l)
 
   abbrev IsRefused : (number place : ℕ) → Type 0
-  IsRefused number place = (headers : ℕ) × (letterOf edition s ≡ refusal number place headers)
+  IsRefused number place = (headers : ℕ) × (letterIn edition s ≡ refusal number place headers)
 
   is-refused : {number place : ℕ} → RefusedWith edition s number place → IsRefused number place
   is-refused (too-long l) = (0, refused-walk edition s 1 0 0 (walked-over l))
@@ -351,8 +351,8 @@ module _ (edition : Edition) (s : List ℕ) where
       let r : RefusedWith edition s n k = at-fault l (subst (Runs s deepest 0 (length s) false (top .items)) h rules-hold) in
       subst (RefusedWith edition s number) q (subst (λ (m : ℕ). RefusedWith edition s m k) p r)
 
-  refused-with : (number place headers : ℕ) → letterOf edition s ≡ refusal number place headers → RefusedWith edition s number place
-  unfolding letterOf
+  refused-with : (number place headers : ℕ) → letterIn edition s ≡ refusal number place headers → RefusedWith edition s number place
+  unfolding letterIn
   refused-with number place headers e =
       cases (leb (length s) streamLimit)
       (λ t.

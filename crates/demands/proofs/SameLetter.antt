@@ -22,11 +22,11 @@ use Rattle.portions.specs.Portions.{allPortions, values, wellSpelt, repeats}
 use Rattle.elements.specs.declared.Edition.{Edition}
 use Rattle.elements.specs.declared.Edition.the-variants.{Of1988}
 use Rattle.elements.specs.Shape.{shapeOf}
-use Rattle.elements.specs.Judge.{single, Element, bodyOf, contentOf, elementOf, ordered, asTabled, namesFit, clash, twice, refusalOf, judgeOne, judgeFrom, judge}
-use Rattle.elements.specs.Rows.{placeOf}
-use Rattle.letters.specs.Letter.{Letter, letter, refusal, letterOf}
+use Rattle.elements.specs.Judge.{single, Element, bodyOf, contentOf, elementOf, itemsInOrder, asTabled, namesFit, clash, twice, refusalOf, judgeOne, judgeFrom, judge}
+use Rattle.elements.specs.ElementRows.{placeOf}
+use Rattle.letters.specs.Letter.{Letter, letter, refusal, letterIn}
 use Rattle.answers.specs.declared.Written.{Written}
-use Rattle.answers.specs.Answers.{letterIn, writtenBy, written}
+use Rattle.answers.specs.Answers.{writtenBy, written}
 use Rattle.answers.proofs.Letters.{letter-found}
 use Rattle.answers.proofs.Judging.{accepts-walked}
 use Rattle.answers.proofs.Small.{refusal-small}
@@ -102,11 +102,11 @@ abbrev profileSays : Element
 profileSays = record { kind = 0; object = 255; identifier = absent; logical = absent; portions = []; content = single absent }
 
 one-letter : letterIn Of1988 oneOrder ≡ letter 4 (profileSays ∷ [])
-unfolding permits formAllowed bigEndianFrom misfits definiteAt indefiniteAt longAt byFirst lengthAt itemAt closingAt headAt runFor run walkOf amount firstValue firstRun allPortions values wellSpelt repeats shapeOf bodyOf contentOf elementOf ordered asTabled namesFit clash twice refusalOf judgeOne judgeFrom judge placeOf letterOf xor
+unfolding permits formAllowed bigEndianFrom misfits definiteAt indefiniteAt longAt byFirst lengthAt itemAt closingAt headAt runFor run walkOf amount firstValue firstRun allPortions values wellSpelt repeats shapeOf bodyOf contentOf elementOf itemsInOrder asTabled namesFit clash twice refusalOf judgeOne judgeFrom judge placeOf letterIn xor
 one-letter = refl
 
 other-letter : letterIn Of1988 otherOrder ≡ letter 4 (profileSays ∷ [])
-unfolding permits formAllowed bigEndianFrom misfits definiteAt indefiniteAt longAt byFirst lengthAt itemAt closingAt headAt runFor run walkOf amount firstValue firstRun allPortions values wellSpelt repeats shapeOf bodyOf contentOf elementOf ordered asTabled namesFit clash twice refusalOf judgeOne judgeFrom judge placeOf letterOf xor
+unfolding permits formAllowed bigEndianFrom misfits definiteAt indefiniteAt longAt byFirst lengthAt itemAt closingAt headAt runFor run walkOf amount firstValue firstRun allPortions values wellSpelt repeats shapeOf bodyOf contentOf elementOf itemsInOrder asTabled namesFit clash twice refusalOf judgeOne judgeFrom judge placeOf letterIn xor
 other-letter = refl
 
 forms : (normalForm oneOrder ≡ oneOrder) × (normalForm otherOrder ≡ otherOrder)

@@ -13,7 +13,7 @@ use lib.Seq.{slice, slice-empty}
 use borrow.Author.Tests.{eqb-true, eqb-false, ne-eqb}
 use borrow.Table.Steps.{cases}
 use Rattle.headers.specs.Head.{constructed, misfits, codeOf, typeField}
-use Rattle.octets.specs.Walk.{Items, none, item, count, End, ends, pastOf, deepest, startOf}
+use Rattle.octets.specs.Walk.{Items, noItems, item, count, End, ends, pastOf, deepest, startOf}
 use Rattle.octets.specs.Rules.{Runs, at-limit, unclosed, closes, refuses, primitive, passes, breaks}
 use Rattle.octets.proofs.Turns.{header-ok}
 use Rattle.tree.specs.Tree.{Tree, empty, leaf, branch, formed, plain, TypeField, oneOctet, twoOctets, threeOctets, Codes, nothing, primitive as flat, definite, indefinite}
@@ -25,12 +25,12 @@ use Rattle.contents.specs.declared.Span.{Span}
 use Rattle.contents.specs.Search.{is, amount, firstValue, firstRun, boundsOf, itemsIn as insideOf}
 use Rattle.contents.proofs.Firsts.{is-field, amount-formed}
 use Rattle.portions.specs.Portions.{allPortions, values, all}
-use Rattle.elements.specs.Rows.{noSpan, bytesIn, bodyIn, holderIn, contentOctet, boundsAt, rowOf, rowsOf}
+use Rattle.elements.specs.ElementRows.{noSpan, bytesIn, bodyIn, holderIn, contentOctet, boundsAt, rowOf, rowsOf}
 use Rattle.elements.specs.declared.Row.{Row}
 use Rattle.elements.specs.declared.Edition.{Edition}
 use Rattle.elements.specs.Shape.{ContentItem, whole, pieced, Contents, profile, described, unit, style, protected, Shape, shapeOf}
 use Rattle.elements.specs.Judge.{bodyOf, identifierOctet, identifierNeeded, logicalOctet, portionsOctet, barred, holdersOf, valueAt, runAt, amountAt, noneOf}
-use Rattle.elements.specs.Judge.{contentIn, contentOf, piecesAlone, sealOctet, sealAlone, Element, elementOf, ordered, asTabled, accepted, judge}
+use Rattle.elements.specs.Judge.{contentIn, contentOf, piecesAlone, sealOctet, sealAlone, Element, elementOf, itemsInOrder, asTabled, accepted, judge}
 use Rattle.elements.specs.WellMade.{Formed}
 use Rattle.elements.proofs.Made.{formed as holders-formed}
 use Rattle.letters.proofs.Nested.{past-between, stays}
@@ -64,10 +64,10 @@ value-codes {s} {room} {at} {limit} {marked} {items} {next} runs f =
 -- Items whose walk ended: a value ends past 0, no octet is 0, a primitive item has nothing inside, and the value of a constructed item codes
 -- what is inside.
 pub data Proper (s : List ℕ) : (room : ℕ) → Items → Type 0 where
-  no-more : {room : ℕ} → Proper s room none
-  more : {room at octet start past : ℕ} {inside after : Items} → 0 < past → (octet ≡ 0 → ⊥) → (constructed octet ≡ false → inside ≡ none)
-      → (constructed octet ≡ true → Codes (room - 1) (plain s inside) (slice start past s))
-      → Proper s (room - 1) inside → Proper s room after → Proper s room (item at octet start past inside after)
+  no-more : {room : ℕ} → Proper s room noItems
+  more : {room at code start past : ℕ} {inside after : Items} → 0 < past → (code ≡ 0 → ⊥) → (constructed code ≡ false → inside ≡ noItems)
+      → (constructed code ≡ true → Codes (room - 1) (plain s inside) (slice start past s))
+      → Proper s (room - 1) inside → Proper s room after → Proper s room (item at code start past inside after)
 
 pub proper : {s : List ℕ} {room at limit : ℕ} {marked : Bool} {i : Items} {e : End} → Runs s room at limit marked i e → Whole e → limit ≤ length s
     → Proper s room i
@@ -96,7 +96,7 @@ module _ (s : List ℕ) where
   value-at : (octet : ℕ) → constructed octet ≡ false → {room : ℕ} {i : Items} → Proper s room i → TellsValue s (boundsOf octet i) (firstValue octet (plain s i))
   unfolding boundsOf firstValue
   value-at octet c no-more = refl
-  value-at octet c (more {octet = type} there n f codes p q) =
+  value-at octet c (more {code = type} there n f codes p q) =
       cases (eqb type octet)
       (λ t.
       let same = eqb-true type octet t in
@@ -111,7 +111,7 @@ module _ (s : List ℕ) where
   there-at : (octet : ℕ) {room : ℕ} {i : Items} → Proper s room i → (boundsOf octet i ≡ noSpan) ↔ (amount octet (plain s i) ≡ 0)
   unfolding boundsOf amount
   there-at octet no-more = (λ _. refl, λ _. refl)
-  there-at octet (more {octet = type} {start} {past} {inside} {after} there n f codes p q) =
+  there-at octet (more {code = type} {start} {past} {inside} {after} there n f codes p q) =
       let counted = amount-formed octet type (slice start past s) (plain s inside) (plain s after) (constructed type) in
       cases (eqb type octet)
       (λ t.
@@ -125,7 +125,7 @@ module _ (s : List ℕ) where
   -- the items inside the first constructed item with an octet are its run
   run-at : (octet : ℕ) → constructed octet ≡ true → (i : Items) → plain s (insideOf octet i) ≡ firstRun octet (plain s i)
   unfolding insideOf firstRun
-  run-at octet c none = refl
+  run-at octet c noItems = refl
   run-at octet c (item at type start past inside after) =
       cases (eqb type octet)
       (λ t.
@@ -140,7 +140,7 @@ module _ (s : List ℕ) where
   inside-proper : (octet : ℕ) {room : ℕ} {i : Items} → Proper s room i → Proper s (room - 1) (insideOf octet i)
   unfolding insideOf
   inside-proper octet no-more = no-more
-  inside-proper octet (more {octet = type} there n f codes p q) =
+  inside-proper octet (more {code = type} there n f codes p q) =
       cases (eqb type octet) (λ t. rw t p) (λ t. rw t (inside-proper octet q))
 
   -- and the bounds of its value code the run
@@ -148,7 +148,7 @@ module _ (s : List ℕ) where
       → Codes (room - 1) (firstRun octet (plain s i)) (bytesIn s (boundsOf octet i)) × (0 < boundsOf octet i .past)
   unfolding boundsOf firstRun amount
   codes-at octet c no-more present = absurd (present refl)
-  codes-at octet c (more {octet = type} {start} {past} {inside} {after} there n f codes p q) present =
+  codes-at octet c (more {code = type} {start} {past} {inside} {after} there n f codes p q) present =
       cases (eqb type octet)
       (λ t.
       let same = eqb-true type octet t in
@@ -271,7 +271,7 @@ module _ (s : List ℕ) where
 
 module _ (edition : Edition) (s : List ℕ) where
   abbrev shapeAt : ℕ → Shape
-  shapeAt octet = shapeOf edition (typeField octet)
+  shapeAt code = shapeOf edition (typeField code)
 
   abbrev itemAt : (octet : ℕ) → Items → TopItem
   itemAt octet inside = record { type = typeField octet; run = plain s inside }
@@ -302,12 +302,12 @@ module _ (edition : Edition) (s : List ℕ) where
       }
 
   -- an element stands in the tree as the items inside its own
-  same-top : (octet : ℕ) (value : List ℕ) (inside : Items) (after : Tree) → (constructed octet ≡ false → inside ≡ none)
+  same-top : (octet : ℕ) (value : List ℕ) (inside : Items) (after : Tree) → (constructed octet ≡ false → inside ≡ noItems)
       → topItems (formed (constructed octet) (typeField octet) value (plain s inside) after) ≡ itemAt octet inside ∷ topItems after
   same-top octet value inside after n =
       cases (constructed octet)
       (λ c. rw c)
-      (λ c. let e : inside ≡ none = n c in rw (c, e))
+      (λ c. let e : inside ≡ noItems = n c in rw (c, e))
 
   -- a row and an element of the tree are of one item
   record OfOne (row : Row) (top : TopItem) : Type 0 where
@@ -330,9 +330,9 @@ module _ (edition : Edition) (s : List ℕ) where
       let item-is : itemAt octet inside ≡ top = cc in
       let row-is : rowOf (shapeAt octet) s at (startOf (length s) after) inside ≡ row = cc in
       let whole : CodesAlone (itemAt octet inside) (slice at (startOf (length s) after) s) =
-      (plain s (item at octet start past inside none), a .0, same-top octet (slice start past s) inside empty nothing-in) in
-      record { octet = octet; first = at; past = startOf (length s) after; inside = inside; inside-proper = p; whole = whole; row-is = row-is; item-is = item-is }
-  of-one (more {octet = octet} {start} {past} {inside} {after} there n nothing-in codes p q) a (suc j) row top e f =
+      (plain s (item at octet start past inside noItems), a .0, same-top octet (slice start past s) inside empty nothing-in) in
+      record { code = octet; first = at; past = startOf (length s) after; inside = inside; inside-proper = p; whole = whole; row-is = row-is; item-is = item-is }
+  of-one (more {code = octet} {start} {past} {inside} {after} there n nothing-in codes p q) a (suc j) row top e f =
       let tops = same-top octet (slice start past s) inside (plain s after) nothing-in in
       of-one q (a .1) j row top e (sym (ap (λ (ts : List TopItem). getElem? ts (suc j)) tops) ∙ f)
 
@@ -340,7 +340,7 @@ module _ (edition : Edition) (s : List ℕ) where
   rows-count : {i : Items} → Proper s deepest i → length (rowsOf edition s i) ≡ length (topItems (plain s i))
   unfolding rowsOf
   rows-count no-more = refl
-  rows-count (more {octet = octet} {start} {past} {inside} {after} there n nothing-in codes p q) =
+  rows-count (more {code = octet} {start} {past} {inside} {after} there n nothing-in codes p q) =
       ap suc (rows-count q) ∙ sym (ap length (same-top octet (slice start past s) inside (plain s after) nothing-in))
 
 said-at : (edition : Edition) (tops : List TopItem) (j : ℕ) (top : TopItem) → getElem? tops j ≡ some top → getElem? (map (saysIn edition) tops) j ≡ some (saysIn edition top)
@@ -361,7 +361,7 @@ unfolding asTabled
 tabled-portions contents run e =
     let body = bodyOf contents run in
     let identifiers = amountAt (identifierOctet contents) body in
-    all-at (ordered contents run
+    all-at (itemsInOrder contents run
     ∷ piecesAlone (contentOf contents run)
     ∷ sealAlone (sealOctet contents) run
     ∷ not (identifierNeeded contents && eqb identifiers 0)
@@ -393,7 +393,7 @@ module _ (edition : Edition) (s : List ℕ) {i : Items} (p : Proper s deepest i)
       ∙ ap (λ (es : List Element). getElem? es j) (sym (accepted-elements edition (plain s i) elements judged)) ∙ f in
       let x : saysIn edition top ≡ element = cc in
       let tabled = subst (λ (y : TopItem). asTabled (contentsIn edition y) (y .run) ≡ true) (sym (o .item-is)) (as-tabled j top there) in
-      let told = row-tells edition s (o .octet) (o .first) (o .past) (o .inside) (o .inside-proper) (o .whole) (tabled-portions _ _ tabled) in
-      let at-item = subst (λ (y : TopItem). RowTells edition s (rowOf (shapeAt edition s (o .octet)) s (o .first) (o .past) (o .inside)) y (saysIn edition y)) (o .item-is) told in
+      let told = row-tells edition s (o .code) (o .first) (o .past) (o .inside) (o .inside-proper) (o .whole) (tabled-portions _ _ tabled) in
+      let at-item = subst (λ (y : TopItem). RowTells edition s (rowOf (shapeAt edition s (o .code)) s (o .first) (o .past) (o .inside)) y (saysIn edition y)) (o .item-is) told in
       subst (λ (r : Row). RowTells edition s r top element) (o .row-is)
-      (subst (RowTells edition s (rowOf (shapeAt edition s (o .octet)) s (o .first) (o .past) (o .inside)) top) x at-item)
+      (subst (RowTells edition s (rowOf (shapeAt edition s (o .code)) s (o .first) (o .past) (o .inside)) top) x at-item)

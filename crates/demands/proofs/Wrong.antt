@@ -19,10 +19,10 @@ use Rattle.pieces.specs.Pieces.{onlyPieces, joined}
 use Rattle.portions.specs.Portions.{allPortions, values, wellSpelt, among, repeats}
 use Rattle.elements.specs.declared.Edition.the-variants.{Of1988}
 use Rattle.elements.specs.Shape.{shapeOf}
-use Rattle.elements.specs.Judge.{Content, single, inPieces, contentOf, joinedContent, Element, bodyOf, elementOf, ordered, asTabled, namesFit, clash, twice, refusalOf, judgeOne, judgeFrom, judge}
+use Rattle.elements.specs.Judge.{Content, single, inPieces, contentOf, joinedContent, Element, bodyOf, elementOf, itemsInOrder, asTabled, namesFit, clash, twice, refusalOf, judgeOne, judgeFrom, judge}
 use Rattle.elements.specs.declared.Row.{Row}
-use Rattle.elements.specs.Rows.{bodyIn, contentOctet, rowOf, rowsOf, placeOf, bytesIn}
-use Rattle.letters.specs.Letter.{letter, letterOf}
+use Rattle.elements.specs.ElementRows.{bodyIn, contentOctet, rowOf, rowsOf, placeOf, bytesIn}
+use Rattle.letters.specs.Letter.{letter, letterIn, rowsIn}
 use Rattle.reading.specs.declared.Match.{Match}
 use Rattle.reading.specs.declared.Side.{Side}
 use Rattle.reading.specs.declared.Side.the-variants.{Layout}
@@ -31,7 +31,7 @@ use Rattle.answers.specs.declared.Checked.{Checked}
 use Rattle.answers.specs.declared.Written.{Written}
 use Rattle.answers.specs.declared.Listed.{Listed}
 use Rattle.answers.specs.declared.Copied.{Copied}
-use Rattle.answers.specs.Answers.{letterIn, rowsIn, onto, checked, CheckOutcome, written, writtenOutput, NormalOutcome, listed, listedList, ListOutcome, fetched, joinedIn, copied, copiedOutput, JoinedOutcome}
+use Rattle.answers.specs.Answers.{onto, checked, CheckOutcome, written, writtenOutput, NormalOutcome, listed, listedList, ListOutcome, fetched, joinedIn, copied, copiedOutput, JoinedOutcome}
 use Rattle.demands.specs.Demands.{itemCount}
 use Rattle.demands.proofs.Demand1.{demand1}
 use Rattle.demands.proofs.Telling.{count-tree}
@@ -124,39 +124,39 @@ abbrev noMatch : Match
 noMatch = record { element = 9; portion = 9; unit = 9 }
 
 accepts-profile : checked Of1988 profile table ≡ record { number = 0; place = 0; headers = 1; elements = 1 }
-unfolding permits formAllowed bigEndianFrom misfits definiteAt indefiniteAt longAt byFirst lengthAt itemAt closingAt headAt runFor run walkOf amount firstValue firstRun allPortions values wellSpelt repeats shapeOf bodyOf contentOf elementOf ordered asTabled namesFit clash twice refusalOf judgeOne judgeFrom judge placeOf letterOf checked xor
+unfolding permits formAllowed bigEndianFrom misfits definiteAt indefiniteAt longAt byFirst lengthAt itemAt closingAt headAt runFor run walkOf amount firstValue firstRun allPortions values wellSpelt repeats shapeOf bodyOf contentOf elementOf itemsInOrder asTabled namesFit clash twice refusalOf judgeOne judgeFrom judge placeOf letterIn checked xor
 accepts-profile = refl
 
 refuses-nothing : checked Of1988 [] table .number ≡ 11
-unfolding runFor run walkOf judge placeOf letterOf checked
+unfolding runFor run walkOf judge placeOf letterIn checked
 refuses-nothing = refl
 
 two-headers : checked Of1988 two table .headers ≡ 2
-unfolding permits formAllowed bigEndianFrom misfits definiteAt indefiniteAt longAt byFirst lengthAt itemAt closingAt headAt runFor run walkOf amount firstValue firstRun allPortions values wellSpelt repeats shapeOf bodyOf contentOf elementOf ordered asTabled namesFit clash twice refusalOf judgeOne judgeFrom judge placeOf letterOf checked xor
+unfolding permits formAllowed bigEndianFrom misfits definiteAt indefiniteAt longAt byFirst lengthAt itemAt closingAt headAt runFor run walkOf amount firstValue firstRun allPortions values wellSpelt repeats shapeOf bodyOf contentOf elementOf itemsInOrder asTabled namesFit clash twice refusalOf judgeOne judgeFrom judge placeOf letterIn checked xor
 two-headers = refl
 
 one-header : checked Of1988 marked table .headers ≡ 1
-unfolding permits formAllowed bigEndianFrom misfits definiteAt indefiniteAt longAt byFirst lengthAt itemAt closingAt headAt runFor run walkOf amount firstValue firstRun allPortions values wellSpelt repeats shapeOf bodyOf contentOf elementOf ordered asTabled namesFit clash twice refusalOf judgeOne judgeFrom judge placeOf letterOf checked xor
+unfolding permits formAllowed bigEndianFrom misfits definiteAt indefiniteAt longAt byFirst lengthAt itemAt closingAt headAt runFor run walkOf amount firstValue firstRun allPortions values wellSpelt repeats shapeOf bodyOf contentOf elementOf itemsInOrder asTabled namesFit clash twice refusalOf judgeOne judgeFrom judge placeOf letterIn checked xor
 one-header = refl
 
 shorter-form : (written Of1988 marked nines .number ≡ 0) × (writtenOutput Of1988 marked nines ≡ 0xA0 ∷ 0x00 ∷ 9 ∷ 9 ∷ [])
-unfolding permits formAllowed bigEndianFrom misfits definiteAt indefiniteAt longAt byFirst lengthAt itemAt closingAt headAt runFor run walkOf amount firstValue firstRun allPortions values wellSpelt repeats shapeOf bodyOf contentOf elementOf ordered asTabled namesFit clash twice refusalOf judgeOne judgeFrom judge placeOf letterOf numberOctets normalOf written writtenOutput xor
+unfolding permits formAllowed bigEndianFrom misfits definiteAt indefiniteAt longAt byFirst lengthAt itemAt closingAt headAt runFor run walkOf amount firstValue firstRun allPortions values wellSpelt repeats shapeOf bodyOf contentOf elementOf itemsInOrder asTabled namesFit clash twice refusalOf judgeOne judgeFrom judge placeOf letterIn numberOctets normalOf written writtenOutput xor
 shorter-form = (refl, refl)
 
 one-match : listedList Of1988 Layout printed table (noMatch ∷ []) ≡ record { element = 1; portion = 0; unit = 2 } ∷ []
-unfolding permits formAllowed bigEndianFrom misfits definiteAt indefiniteAt longAt byFirst lengthAt itemAt closingAt headAt runFor run walkOf amount firstValue firstRun inOrder allPortions values wellSpelt among repeats isDigit grouped isIdentifier allDigits isPortion same nameSpaceOf shapeOf bodyOf contentOf elementOf ordered asTabled namesFit clash twice refusalOf judgeOne judgeFrom judge placeOf letterOf joins forEach portionMatches elementMatches matches listed listedList xor
+unfolding permits formAllowed bigEndianFrom misfits definiteAt indefiniteAt longAt byFirst lengthAt itemAt closingAt headAt runFor run walkOf amount firstValue firstRun inOrder allPortions values wellSpelt among repeats isDigit grouped isIdentifier allDigits isPortion same nameSpaceOf shapeOf bodyOf contentOf elementOf itemsInOrder asTabled namesFit clash twice refusalOf judgeOne judgeFrom judge placeOf letterIn joins forEach portionMatches elementMatches matches listed listedList xor
 one-match = refl
 
 some-content : fetched Of1988 printed 2 .part ≡ 0x48 ∷ 0x69 ∷ []
-unfolding permits formAllowed bigEndianFrom misfits definiteAt indefiniteAt longAt byFirst lengthAt itemAt closingAt headAt runFor run walkOf amount firstValue firstRun inOrder allPortions values wellSpelt among repeats isDigit grouped isIdentifier allDigits isPortion same nameSpaceOf shapeOf bodyOf contentOf elementOf ordered asTabled namesFit clash twice refusalOf judgeOne judgeFrom judge placeOf letterOf fetched xor
+unfolding permits formAllowed bigEndianFrom misfits definiteAt indefiniteAt longAt byFirst lengthAt itemAt closingAt headAt runFor run walkOf amount firstValue firstRun inOrder allPortions values wellSpelt among repeats isDigit grouped isIdentifier allDigits isPortion same nameSpaceOf shapeOf bodyOf contentOf elementOf itemsInOrder asTabled namesFit clash twice refusalOf judgeOne judgeFrom judge placeOf letterIn fetched xor
 some-content = refl
 
 pieced-letter : letterIn Of1988 pieced ≡ letter 5 piecedElements
-unfolding permits formAllowed bigEndianFrom misfits definiteAt indefiniteAt longAt byFirst lengthAt itemAt closingAt headAt runFor run walkOf amount firstValue firstRun inOrder allPortions values wellSpelt among repeats isDigit grouped isIdentifier allDigits isPortion same nameSpaceOf onlyPieces shapeOf bodyOf contentOf elementOf ordered asTabled namesFit clash twice refusalOf judgeOne judgeFrom judge placeOf letterOf xor
+unfolding permits formAllowed bigEndianFrom misfits definiteAt indefiniteAt longAt byFirst lengthAt itemAt closingAt headAt runFor run walkOf amount firstValue firstRun inOrder allPortions values wellSpelt among repeats isDigit grouped isIdentifier allDigits isPortion same nameSpaceOf onlyPieces shapeOf bodyOf contentOf elementOf itemsInOrder asTabled namesFit clash twice refusalOf judgeOne judgeFrom judge placeOf letterIn xor
 pieced-letter = refl
 
 joined-pieces : (copied Of1988 pieced 1 nines .number ≡ 0) × (copiedOutput Of1988 pieced 1 nines ≡ 0x48 ∷ 0x69 ∷ 9 ∷ 9 ∷ [])
-unfolding permits formAllowed bigEndianFrom misfits definiteAt indefiniteAt longAt byFirst lengthAt itemAt closingAt headAt runFor run walkOf amount firstValue firstRun inOrder allPortions values wellSpelt among repeats isDigit grouped isIdentifier allDigits isPortion same nameSpaceOf shapeOf bodyOf contentOf elementOf ordered asTabled namesFit clash twice refusalOf judgeOne judgeFrom judge placeOf letterOf onlyPieces joined joinedIn copied copiedOutput xor
+unfolding permits formAllowed bigEndianFrom misfits definiteAt indefiniteAt longAt byFirst lengthAt itemAt closingAt headAt runFor run walkOf amount firstValue firstRun inOrder allPortions values wellSpelt among repeats isDigit grouped isIdentifier allDigits isPortion same nameSpaceOf shapeOf bodyOf contentOf elementOf itemsInOrder asTabled namesFit clash twice refusalOf judgeOne judgeFrom judge placeOf letterIn onlyPieces joined joinedIn copied copiedOutput xor
 joined-pieces = (refl, refl)
 
 -- the row of its text unit, whose content fields give the value of the 24
@@ -172,7 +172,7 @@ piecedRow = record {
 }
 
 row-of-pieces : getElem? (rowsIn Of1988 pieced) 1 ≡ some piecedRow
-unfolding permits formAllowed bigEndianFrom misfits definiteAt indefiniteAt longAt byFirst lengthAt itemAt closingAt headAt runFor run walkOf amount firstValue firstRun inOrder allPortions values wellSpelt among repeats isDigit grouped isIdentifier allDigits isPortion same nameSpaceOf shapeOf bodyOf contentOf elementOf ordered asTabled namesFit clash twice refusalOf judgeOne judgeFrom judge placeOf letterOf onlyPieces bodyIn contentOctet boundsOf insideOf rowOf rowsOf xor
+unfolding permits formAllowed bigEndianFrom misfits definiteAt indefiniteAt longAt byFirst lengthAt itemAt closingAt headAt runFor run walkOf amount firstValue firstRun inOrder allPortions values wellSpelt among repeats isDigit grouped isIdentifier allDigits isPortion same nameSpaceOf shapeOf bodyOf contentOf elementOf itemsInOrder asTabled namesFit clash twice refusalOf judgeOne judgeFrom judge placeOf letterIn onlyPieces bodyIn contentOctet boundsOf insideOf rowOf rowsOf xor
 row-of-pieces = refl
 
 -- no checker refuses every stream,
@@ -258,11 +258,11 @@ printedElements =
     ∷ []
 
 printed-letter : letterIn Of1988 printed ≡ letter 11 printedElements
-unfolding permits formAllowed bigEndianFrom misfits definiteAt indefiniteAt longAt byFirst lengthAt itemAt closingAt headAt runFor run walkOf amount firstValue firstRun inOrder allPortions values wellSpelt among repeats isDigit grouped isIdentifier allDigits isPortion same nameSpaceOf shapeOf bodyOf contentOf elementOf ordered asTabled namesFit clash twice refusalOf judgeOne judgeFrom judge placeOf letterOf onlyPieces xor
+unfolding permits formAllowed bigEndianFrom misfits definiteAt indefiniteAt longAt byFirst lengthAt itemAt closingAt headAt runFor run walkOf amount firstValue firstRun inOrder allPortions values wellSpelt among repeats isDigit grouped isIdentifier allDigits isPortion same nameSpaceOf shapeOf bodyOf contentOf elementOf itemsInOrder asTabled namesFit clash twice refusalOf judgeOne judgeFrom judge placeOf letterIn onlyPieces xor
 printed-letter = refl
 
 no-room : listed Of1988 Layout printed table 0 .number ≡ 19
-unfolding permits formAllowed bigEndianFrom misfits definiteAt indefiniteAt longAt byFirst lengthAt itemAt closingAt headAt runFor run walkOf amount firstValue firstRun inOrder allPortions values wellSpelt among repeats isDigit grouped isIdentifier allDigits isPortion same nameSpaceOf shapeOf bodyOf contentOf elementOf ordered asTabled namesFit clash twice refusalOf judgeOne judgeFrom judge placeOf letterOf joins forEach portionMatches elementMatches matches listed xor
+unfolding permits formAllowed bigEndianFrom misfits definiteAt indefiniteAt longAt byFirst lengthAt itemAt closingAt headAt runFor run walkOf amount firstValue firstRun inOrder allPortions values wellSpelt among repeats isDigit grouped isIdentifier allDigits isPortion same nameSpaceOf shapeOf bodyOf contentOf elementOf itemsInOrder asTabled namesFit clash twice refusalOf judgeOne judgeFrom judge placeOf letterIn joins forEach portionMatches elementMatches matches listed xor
 no-room = refl
 
 -- And no promise of a list with one record fewer than there are text units could be kept: the printed letter has one unit and one match.

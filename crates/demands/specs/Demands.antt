@@ -13,16 +13,16 @@ use Rattle.tree.specs.Tree.{Tree, empty, leaf, branch, treeOf, Codes}
 use Rattle.normal.specs.Normal.{normalForm}
 use Rattle.contents.specs.declared.Span.{Span}
 use Rattle.contents.specs.Search.{Value, absent, octets}
-use Rattle.elements.specs.Rows.{noSpan, bytesIn}
+use Rattle.elements.specs.ElementRows.{noSpan, bytesIn}
 use Rattle.elements.specs.declared.Row.{Row}
 use Rattle.elements.specs.declared.Edition.{Edition}
 use Rattle.elements.specs.Judge.{bodyOf, portionsOctet, amountAt, bytesOf, Content, single, inPieces, joinedContent, Element, accepted, judge}
-use Rattle.letters.specs.Letter.{letter, refusal, itemsOfStream, EndToEnd, PairsWithin}
+use Rattle.letters.specs.Letter.{letter, refusal, itemsOfStream, EndToEnd, PairsWithin, letterIn, rowsIn}
 use Rattle.reading.specs.declared.Match.{Match}
 use Rattle.reading.specs.declared.Side.{Side}
 use Rattle.reading.specs.Match.{unitKind, matches, IsMatch, Before, units, portionsOn}
 use Rattle.answers.specs.Table.{rowsLent}
-use Rattle.answers.specs.Answers.{letterIn, rowsIn, onto, tableOf, refusedCheck, checked, checkedTable, written, writtenOutput, listed, listedTable, matchesIn}
+use Rattle.answers.specs.Answers.{onto, tableOf, refusedCheck, checked, checkedTable, written, writtenOutput, listed, listedTable, matchesIn}
 use Rattle.answers.specs.Answers.{listedList, handed, withheld, fetched, located, Stands, joinedIn, copied, copiedOutput}
 use Rattle.demands.specs.Refusals.{TopItem, topItems, contentsIn, RefusedWith}
 

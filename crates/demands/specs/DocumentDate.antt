@@ -12,11 +12,10 @@ use Rattle.tree.specs.Tree.{treeOf}
 use Rattle.normal.specs.Normal.{normalForm}
 use Rattle.calendar.specs.declared.Day.{Day}
 use Rattle.calendar.specs.Named.{Names}
-use Rattle.dates.specs.Dates.{DateItem, primitive, datesIn}
+use Rattle.dates.specs.Dates.{DateItem, inPrimitive, datesIn}
 use Rattle.dates.specs.Places.{bounds}
 use Rattle.elements.specs.declared.Edition.{Edition}
-use Rattle.letters.specs.Letter.{refusal, itemsOfStream}
-use Rattle.answers.specs.Answers.{letterIn}
+use Rattle.letters.specs.Letter.{refusal, itemsOfStream, letterIn}
 use Rattle.answers.specs.Dates.{profileIn, dateOf, datePlaces, dated}
 use Rattle.answers.specs.Dating.{refusedDated}
 use Rattle.demands.specs.Demands.{Answered}
@@ -28,7 +27,7 @@ dateItems s = datesIn (profileIn (treeOf s))
 
 -- the document's date: there is one such item, it is primitive, and its first ten octets spell this day, which exists
 pub record IsDate (s value : List ℕ) (d : Day) : Type 0 where
-  pub only : dateItems s ≡ primitive value ∷ []
+  pub only : dateItems s ≡ inPrimitive value ∷ []
   pub names : Names value d
 
 -- of a letter
@@ -36,10 +35,10 @@ pub record DateOfLetter (edition : Edition) (s : List ℕ) : Type 0 where
   -- a date is shown exactly if it is the document's date
   pub shown : (value : List ℕ) (d : Day) → (dateOf edition s ≡ record { number = 0; place = 0; part = value; day = d }) ↔ IsDate s value d
   -- 23 "not exactly one such item, or it is constructed"
-  pub none-23 : (dateOf edition s .number ≡ 23) ↔ ((value : List ℕ) → dateItems s ≡ primitive value ∷ [] → ⊥)
+  pub none-23 : (dateOf edition s .number ≡ 23) ↔ ((value : List ℕ) → dateItems s ≡ inPrimitive value ∷ [] → ⊥)
   -- 24 "the first ten bytes name no such day"
   pub none-24 : (dateOf edition s .number ≡ 24)
-      ↔ ((value : List ℕ) × (dateItems s ≡ primitive value ∷ []) × ((d : Day) → Names value d → ⊥))
+      ↔ ((value : List ℕ) × (dateItems s ≡ inPrimitive value ∷ []) × ((d : Day) → Names value d → ⊥))
   -- the part is where that item's value stands: equal octets elsewhere are not it
   pub stands : dateOf edition s .number ≡ 0 → (datePlaces (itemsOfStream s) ≡ bounds (dated edition s .first) (dated edition s .past) ∷ [])
       × (slice (dated edition s .first) (dated edition s .past) s ≡ dateOf edition s .part)

@@ -14,12 +14,12 @@ use Rattle.contents.specs.Search.{absent, is}
 use Rattle.portions.specs.Portions.{all, any}
 use Rattle.elements.specs.declared.Edition.the-variants.{Of1988, Of1993}
 use Rattle.elements.specs.Judge.{Element, noType, noneOf, mostElements}
-use Rattle.elements.specs.Rows.{placeOf}
-use Rattle.letters.specs.Letter.{letter, refusal, itemsOfStream}
+use Rattle.elements.specs.ElementRows.{placeOf}
+use Rattle.letters.specs.Letter.{letter, refusal, itemsOfStream, letterIn, rowsIn}
 use Rattle.reading.specs.declared.Match.{Match}
 use Rattle.reading.specs.declared.Side.{Side}
 use Rattle.reading.specs.Match.{IsMatch}
-use Rattle.answers.specs.Answers.{letterIn, rowsIn, checked, checkedTable, written, writtenOutput, listed, listedTable, matchesIn, listedList, fetched, located}
+use Rattle.answers.specs.Answers.{checked, checkedTable, written, writtenOutput, listed, listedTable, matchesIn, listedList, fetched, located}
 use Rattle.answers.specs.Answers.{copied, copiedOutput}
 use Rattle.answers.specs.Related.{related, relatedTable, relatedList}
 use Rattle.answers.specs.Texts.{shown, shownLines, shownOutput}

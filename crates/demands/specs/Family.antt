@@ -9,11 +9,11 @@ use Rattle.octets.specs.Walk.{streamLimit}
 use Rattle.normal.specs.Normal.{normalForm}
 use Rattle.elements.specs.declared.Edition.{Edition}
 use Rattle.elements.specs.Judge.{Element}
-use Rattle.letters.specs.Letter.{letter, refusal}
-use Rattle.parents.specs.Parent.{parent, numberOf, children, IsParent, climb, mostMoves}
+use Rattle.letters.specs.Letter.{letter, refusal, letterIn}
+use Rattle.parents.specs.Parent.{parent, rowOrNone, children, IsParent, climb, mostMoves}
 use Rattle.answers.specs.declared.Related.{Related}
 use Rattle.answers.specs.Table.{rowsLent, parentAt}
-use Rattle.answers.specs.Answers.{letterIn, elementsIn, onto, tableOf}
+use Rattle.answers.specs.Answers.{elementsIn, onto, tableOf}
 use Rattle.answers.specs.Related.{unrelated, related, relatedTable, relatedList}
 
 -- a row stands somewhere in a list
@@ -29,7 +29,7 @@ pub record Tells (edition : Edition) (s table : List ℕ) (row : ℕ) (list : Li
 -- of a letter with these elements
 pub record FamilyOf (edition : Edition) (s : List ℕ) (elements : List Element) : Type 0 where
   -- "the last being the parent's row, or 65,535": in every finished table
-  pub last : (table : List ℕ) → (j : ℕ) → j < length elements → parentAt (tableOf edition s table) j ≡ numberOf (parent elements j)
+  pub last : (table : List ℕ) → (j : ℕ) → j < length elements → parentAt (tableOf edition s table) j ≡ rowOrNone (parent elements j)
   -- the parent carries exactly the shorter identifier, and none is missed
   pub exactly : (j p : ℕ) → (parent elements j ≡ some p) ↔ IsParent elements j p
   -- "Climbing from any row must end, in at most 32 moves": so no row is its own ancestor

@@ -10,13 +10,13 @@ use Rattle.octets.specs.Walk.{streamLimit}
 use Rattle.tree.specs.Tree.{Codes}
 use Rattle.normal.specs.Normal.{normalForm}
 use Rattle.contents.specs.declared.Span.{Span}
-use Rattle.elements.specs.Rows.{noSpan, bytesIn}
+use Rattle.elements.specs.ElementRows.{noSpan, bytesIn}
 use Rattle.elements.specs.declared.Row.{Row}
 use Rattle.elements.specs.declared.Edition.{Edition}
 use Rattle.elements.specs.Judge.{Content, single, inPieces, Element}
 use Rattle.reading.specs.declared.Side.{Side}
-use Rattle.letters.specs.Letter.{letter}
-use Rattle.answers.specs.Answers.{letterIn, rowsIn, matchesIn, joinedIn}
+use Rattle.letters.specs.Letter.{letter, letterIn, rowsIn}
+use Rattle.answers.specs.Answers.{matchesIn, joinedIn}
 use Rattle.demands.specs.Demands.{pieceLevels, portionItems}
 
 -- two pairs of two streams: the same octets, and absent in both or in neither

@@ -15,7 +15,7 @@ use Rattle.contents.specs.Search.{is}
 use Rattle.elements.specs.declared.Edition.{Edition}
 use Rattle.elements.specs.Shape.{Contents, shapeOf}
 use Rattle.elements.specs.Judge.{typeOctet, typesOf, valueAt, Element, elementOf, asTabled, typeFits, namesFit, mostElements, profileOctet, twice}
-use Rattle.elements.specs.Rows.{placeOf}
+use Rattle.elements.specs.ElementRows.{placeOf}
 use Rattle.letters.specs.Letter.{itemsOfStream}
 
 -- an element as it stands in the tree: its type field, and the run of items inside it

@@ -12,8 +12,8 @@ use Rattle.normal.specs.Forms.{Definite}
 use Rattle.elements.specs.declared.Edition.{Edition}
 use Rattle.elements.specs.declared.Edition.the-variants.{Of1988}
 use Rattle.elements.specs.Judge.{Element}
-use Rattle.letters.specs.Letter.{letter}
-use Rattle.answers.specs.Answers.{letterIn, written, writtenOutput}
+use Rattle.letters.specs.Letter.{letter, letterIn}
+use Rattle.answers.specs.Answers.{written, writtenOutput}
 
 -- a stream that is accepted by rules 1 to 15
 pub record IsAccepted (edition : Edition) (s : List ℕ) : Type 0 where

@@ -7,7 +7,7 @@ use native.Mathlib.Omega.{arith}
 use lib.Seq.{slice}
 use borrow.Author.Tests.{eq-eqb, ne-eqb}
 use Rattle.headers.specs.Head.{constructed, typeField}
-use Rattle.octets.specs.Walk.{none}
+use Rattle.octets.specs.Walk.{noItems}
 use Rattle.tree.specs.Tree.{Tree, empty, leaf, formed}
 use Rattle.runs.specs.declared.Run.{Run}
 use Rattle.runs.specs.Runs.{itemsOf, treeIn}
@@ -60,28 +60,28 @@ pub record Two (s : List ℕ) (r : Run) (o : Opening) : Type 0 where
   pub last : Run
   pub one-met : Begins s r (o .one) rest
   pub two-met : Begins s rest (o .two) last
-  pub tree : treeIn s r ≡ formed (constructed (o .one .octet)) (typeField (o .one .octet)) (slice (o .one .first) (o .one .past) s) (treeIn s (o .one .inner))
-      (formed (constructed (o .two .octet)) (typeField (o .two .octet)) (slice (o .two .first) (o .two .past) s) (treeIn s (o .two .inner)) empty)
+  pub tree : treeIn s r ≡ formed (constructed (o .one .code)) (typeField (o .one .code)) (slice (o .one .first) (o .one .past) s) (treeIn s (o .one .inner))
+      (formed (constructed (o .two .code)) (typeField (o .two .code)) (slice (o .two .first) (o .two .past) s) (treeIn s (o .two .inner)) empty)
 
 module _ {s : List ℕ} {r : Run} {o : Opening} where
   after-two : (rest last : Run) → Begins s r (o .one) rest → Begins s rest (o .two) last → CountsOn s last (o .count) → (o .count ≡ 2 → ⊥)
       → notFixed ≡ verdictOfItems (treeIn s r)
   after-two rest last m n (ends-here z e) k = absurd (k z)
   after-two rest last m n (goes-on third beyond z t) k =
-      let deep : treeIn s rest ≡ formed (constructed (o .two .octet)) (typeField (o .two .octet)) (slice (o .two .first) (o .two .past) s) (treeIn s (o .two .inner))
-      (formed (constructed (third .octet)) (typeField (third .octet)) (slice (third .first) (third .past) s) (treeIn s (third .inner)) (treeIn s beyond)) =
-      tree-meets n ∙ ap (formed (constructed (o .two .octet)) (typeField (o .two .octet)) (slice (o .two .first) (o .two .past) s) (treeIn s (o .two .inner))) (tree-meets t) in
-      sym (ap verdictOfItems (tree-meets m ∙ ap (formed (constructed (o .one .octet)) (typeField (o .one .octet)) (slice (o .one .first) (o .one .past) s) (treeIn s (o .one .inner))) deep)
-      ∙ of-three (typeField (o .one .octet)) (slice (o .one .first) (o .one .past) s) (treeIn s (o .one .inner)) (constructed (o .one .octet)) (constructed (o .two .octet)) (constructed (third .octet)) _ _ _ _ _ _ _)
+      let deep : treeIn s rest ≡ formed (constructed (o .two .code)) (typeField (o .two .code)) (slice (o .two .first) (o .two .past) s) (treeIn s (o .two .inner))
+      (formed (constructed (third .code)) (typeField (third .code)) (slice (third .first) (third .past) s) (treeIn s (third .inner)) (treeIn s beyond)) =
+      tree-meets n ∙ ap (formed (constructed (o .two .code)) (typeField (o .two .code)) (slice (o .two .first) (o .two .past) s) (treeIn s (o .two .inner))) (tree-meets t) in
+      sym (ap verdictOfItems (tree-meets m ∙ ap (formed (constructed (o .one .code)) (typeField (o .one .code)) (slice (o .one .first) (o .one .past) s) (treeIn s (o .one .inner))) deep)
+      ∙ of-three (typeField (o .one .code)) (slice (o .one .first) (o .one .past) s) (treeIn s (o .one .inner)) (constructed (o .one .code)) (constructed (o .two .code)) (constructed (third .code)) _ _ _ _ _ _ _)
 
   -- not two items
   pub not-two : Opens s r o → (o .count ≡ 2 → ⊥) → notFixed ≡ verdictOfItems (treeIn s r)
   unfolding verdictOfItems
   not-two (nothing z e) n = sym (ap verdictOfItems (tree-none s r e))
   not-two (single rest z m e) n =
-      let t : treeIn s r ≡ formed (constructed (o .one .octet)) (typeField (o .one .octet)) (slice (o .one .first) (o .one .past) s) (treeIn s (o .one .inner)) empty =
-      tree-meets m ∙ ap (formed (constructed (o .one .octet)) (typeField (o .one .octet)) (slice (o .one .first) (o .one .past) s) (treeIn s (o .one .inner))) (tree-none s rest e) in
-      sym (ap verdictOfItems t ∙ of-one _ _ _ (constructed (o .one .octet)))
+      let t : treeIn s r ≡ formed (constructed (o .one .code)) (typeField (o .one .code)) (slice (o .one .first) (o .one .past) s) (treeIn s (o .one .inner)) empty =
+      tree-meets m ∙ ap (formed (constructed (o .one .code)) (typeField (o .one .code)) (slice (o .one .first) (o .one .past) s) (treeIn s (o .one .inner))) (tree-none s rest e) in
+      sym (ap verdictOfItems t ∙ of-one _ _ _ (constructed (o .one .code)))
   not-two (several rest last m k c) n = after-two rest last m k c n
 
   two-of : (rest last : Run) → Begins s r (o .one) rest → Begins s rest (o .two) last → CountsOn s last (o .count) → o .count ≡ 2 → Two s r o
@@ -93,8 +93,8 @@ module _ {s : List ℕ} {r : Run} {o : Opening} where
         one-met = m;
         two-met = n;
         tree = tree-meets m
-            ∙ ap (formed (constructed (o .one .octet)) (typeField (o .one .octet)) (slice (o .one .first) (o .one .past) s) (treeIn s (o .one .inner)))
-            (tree-meets n ∙ ap (formed (constructed (o .two .octet)) (typeField (o .two .octet)) (slice (o .two .first) (o .two .past) s) (treeIn s (o .two .inner))) (tree-none s last e));
+            ∙ ap (formed (constructed (o .one .code)) (typeField (o .one .code)) (slice (o .one .first) (o .one .past) s) (treeIn s (o .one .inner)))
+            (tree-meets n ∙ ap (formed (constructed (o .two .code)) (typeField (o .two .code)) (slice (o .two .first) (o .two .past) s) (treeIn s (o .two .inner))) (tree-none s last e));
       }
 
   pub two-items : Opens s r o → o .count ≡ 2 → Two s r o
@@ -103,15 +103,15 @@ module _ {s : List ℕ} {r : Run} {o : Opening} where
   two-items (several rest last m n k) c = two-of rest last m n k c
 
   module _ (t : Two s r o) where
-    pub one-other : (o .one .octet ≡ 0x80 → ⊥) → notFixed ≡ verdictOfItems (treeIn s r)
-    one-other n = sym (ap verdictOfItems (t .tree) ∙ first-other (o .one .octet) (o .two .octet) _ _ _ _ (constructed (o .one .octet)) (constructed (o .two .octet)) n)
+    pub one-other : (o .one .code ≡ 0x80 → ⊥) → notFixed ≡ verdictOfItems (treeIn s r)
+    one-other n = sym (ap verdictOfItems (t .tree) ∙ first-other (o .one .code) (o .two .code) _ _ _ _ (constructed (o .one .code)) (constructed (o .two .code)) n)
 
-    pub two-other : o .one .octet ≡ 0x80 → (o .two .octet ≡ 0x80 → ⊥) → notFixed ≡ verdictOfItems (treeIn s r)
+    pub two-other : o .one .code ≡ 0x80 → (o .two .code ≡ 0x80 → ⊥) → notFixed ≡ verdictOfItems (treeIn s r)
     two-other e n =
-        sym (ap verdictOfItems (t .tree) ∙ second-other (o .one .octet) (o .two .octet) _ _ _ _ (constructed (o .one .octet)) (constructed (o .two .octet)) e n)
+        sym (ap verdictOfItems (t .tree) ∙ second-other (o .one .code) (o .two .code) _ _ _ _ (constructed (o .one .code)) (constructed (o .two .code)) e n)
 
-    pub both-80 : o .one .octet ≡ 0x80 → o .two .octet ≡ 0x80
+    pub both-80 : o .one .code ≡ 0x80 → o .two .code ≡ 0x80
         → verdictOfTwo (integerOf (slice (o .one .first) (o .one .past) s)) (integerOf (slice (o .two .first) (o .two .past) s)) ≡ verdictOfItems (treeIn s r)
     both-80 e f =
         sym (ap verdictOfItems (t .tree)
-        ∙ both-fixed (o .one .octet) (o .two .octet) _ _ _ _ (constructed (o .one .octet)) (constructed (o .two .octet)) (ap constructed e) (ap constructed f) e f)
+        ∙ both-fixed (o .one .code) (o .two .code) _ _ _ _ (constructed (o .one .code)) (constructed (o .two .code)) (ap constructed e) (ap constructed f) e f)

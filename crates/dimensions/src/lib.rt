@@ -30,13 +30,13 @@ fn find(s: &[u8], r: Run, sought: usize) -> RunFound
         match runs::meet(s, cur) {
             Met::End => return RunFound::Missing,
             Met::Item {
-                octet,
+                code,
                 first: _,
                 past: _,
                 inner,
                 rest,
             } => {
-                if octet == sought {
+                if code == sought {
                     return RunFound::At { inner, rest };
                 }
                 cur = rest;
@@ -56,10 +56,10 @@ fn verdict_of_items(s: &[u8], r: Run) -> usize
     }
     let one = o.one;
     let two = o.two;
-    if one.octet != FIXED {
+    if one.code != FIXED {
         return measures::NOT_FIXED;
     }
-    if two.octet != FIXED {
+    if two.code != FIXED {
         return measures::NOT_FIXED;
     }
     let first = one.first;

@@ -8,7 +8,7 @@ use lib.Dec.{eqb}
 use lib.Seq.{slice}
 use borrow.Author.Tests.{eqb-false}
 use Rattle.headers.specs.Head.{constructed}
-use Rattle.octets.specs.Walk.{Items, none, item, Walked}
+use Rattle.octets.specs.Walk.{Items, noItems, item, Walked}
 use Rattle.octets.specs.Rules.{at-limit}
 use Rattle.octets.proofs.RulesHold.{derived}
 use Rattle.tree.specs.Tree.{empty, plain}
@@ -22,7 +22,7 @@ use Rattle.contents.specs.First.{spanOf, IsFirst, Lacks}
 use Rattle.contents.specs.Gather.{Counted}
 use Rattle.contents.proofs.Firsts.{amount-formed, value-after, run-after}
 use Rattle.elements.specs.Says.{Placed, Bounds}
-use Rattle.elements.specs.Rows.{noSpan}
+use Rattle.elements.specs.ElementRows.{noSpan}
 use Rattle.elements.specs.Frames.{Bounding, Inner}
 
 pub no-span-placed : (s : List ℕ) → Placed s noSpan
@@ -57,13 +57,13 @@ not-here false n e = (refl, omega arith)
 -- items of which none has the octet
 record Without (s : List ℕ) (octet : ℕ) (i : Items) : Type 0 where
   bounds : boundsOf octet i ≡ noSpan
-  items : itemsIn octet i ≡ none
+  items : itemsIn octet i ≡ noItems
   value : firstValue octet (plain s i) ≡ absent
   tree : firstRun octet (plain s i) ≡ empty
 
 without : (s : List ℕ) (octet : ℕ) (i : Items) → amount octet (plain s i) ≡ 0 → Without s octet i
 unfolding boundsOf itemsIn firstValue firstRun
-without s octet none e = record { bounds = refl; items = refl; value = refl; tree = refl }
+without s octet noItems e = record { bounds = refl; items = refl; value = refl; tree = refl }
 without s octet (item at type start past inside after) e =
     let value = slice start past s in
     let form = constructed type in
@@ -91,7 +91,7 @@ module _ {s : List ℕ} {r : Run} {octet n : ℕ} {v : Span} (c : Counted s r oc
   lacked z = none-lacked (sym (c .amount-is) ∙ z)
 
   -- what was not counted has nothing inside
-  pub uncounted : n ≡ 0 → itemsIn octet (itemsOf s r) ≡ none
+  pub uncounted : n ≡ 0 → itemsIn octet (itemsOf s r) ≡ noItems
   uncounted z = lacked z .items
 
   pub counted-placed : Placed s v
@@ -107,7 +107,7 @@ module _ {s : List ℕ} {r : Run} {octet n : ℕ} {v : Span} (c : Counted s r oc
   counted-bounds = counted-by n refl
 
 -- a run that ends where it begins
-pub empty-items : (s : List ℕ) (room : ℕ) → itemsOf s (definiteRun 0 0 room) ≡ none
+pub empty-items : (s : List ℕ) (room : ℕ) → itemsOf s (definiteRun 0 0 room) ≡ noItems
 empty-items s room = sym (ap (λ (w : Walked). w .items) (derived {s = s} {room = room} (at-limit {limit = 0} refl)))
 
 pub empty-fine : (s : List ℕ) (room : ℕ) → Fine s (definiteRun 0 0 room)

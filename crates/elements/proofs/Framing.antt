@@ -18,7 +18,7 @@ use Rattle.contents.proofs.Orders.{in-order-few}
 use Rattle.elements.specs.declared.Holder.{Holder}
 use Rattle.elements.specs.declared.Slots.{Slots}
 use Rattle.elements.specs.Slots.{slotBody, slotOrdered, slotItems}
-use Rattle.elements.specs.Rows.{noSpan}
+use Rattle.elements.specs.ElementRows.{noSpan}
 use Rattle.elements.specs.Frames.{Bounding, Inner, NamedIn, HoldingSlots, noHolder, Frames}
 use Rattle.elements.specs.WellMade.{WellMade}
 use Rattle.elements.proofs.Bounding.{empty-fine, empty-items, lacked-bounding}

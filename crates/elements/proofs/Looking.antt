@@ -11,8 +11,8 @@ use Rattle.elements.specs.Shape.{Shapes, shapeIn}
 use Rattle.elements.specs.Slots.{slotsOf}
 
 -- an octet that is tried
-pub found : (shapes : Shapes) {slots : Slots} {tried octet : ℕ} → slots ≡ slotsOf (shapeIn shapes (typeField tried)) → octet ≡ tried
-    → slots ≡ slotsOf (shapeIn shapes (typeField octet))
+pub found : (shapes : Shapes) {slots : Slots} {tried code : ℕ} → slots ≡ slotsOf (shapeIn shapes (typeField tried)) → code ≡ tried
+    → slots ≡ slotsOf (shapeIn shapes (typeField code))
 found shapes made same = made ∙ sym (ap (λ (o : ℕ). slotsOf (shapeIn shapes (typeField o))) same)
 
 -- an octet that no shape of a list has, told one shape after another
@@ -25,9 +25,9 @@ told-before before octet [] others = others
 told-before before octet (shape ∷ shapes) others = told-before (before × (octet ≡ shape .octet → ⊥)) octet shapes others .0
 
 -- the list after them is then looked through
-pub passed : (before : Type 0) (octet : ℕ) (shapes others : Shapes) → Untried before octet shapes
-    → shapeIn (shapes ++ others) (typeField octet) ≡ shapeIn others (typeField octet)
-passed before octet [] others untried = refl
-passed before octet (shape ∷ shapes) others untried =
-    let this = before × (octet ≡ shape .octet → ⊥) in
-    rw (is-field (shape .octet) octet, ne-eqb octet (shape .octet) (told-before this octet shapes untried .1)) (passed this octet shapes others untried)
+pub passed : (before : Type 0) (code : ℕ) (shapes others : Shapes) → Untried before code shapes
+    → shapeIn (shapes ++ others) (typeField code) ≡ shapeIn others (typeField code)
+passed before code [] others untried = refl
+passed before code (shape ∷ shapes) others untried =
+    let this = before × (code ≡ shape .octet → ⊥) in
+    rw (is-field (shape .octet) code, ne-eqb code (shape .octet) (told-before this code shapes untried .1)) (passed this code shapes others untried)

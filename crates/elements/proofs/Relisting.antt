@@ -10,7 +10,7 @@ use borrow.Author.Tests.{eqb-true}
 use Rattle.headers.specs.declared.Header.{Header}
 use Rattle.headers.specs.declared.Head.the-variants.{Item}
 use Rattle.headers.specs.Head.{constructed, headAt}
-use Rattle.octets.specs.Walk.{Items, none, End, ends, Walked, pastOf}
+use Rattle.octets.specs.Walk.{Items, noItems, End, ends, Walked, pastOf}
 use Rattle.octets.specs.Rules.{Runs, at-limit, unclosed, closes, refuses, primitive, passes, breaks}
 use Rattle.octets.proofs.RulesHold.{derived, derives}
 use Rattle.tree.specs.Accepts.{Whole}
@@ -34,7 +34,7 @@ choose s false v w i j f g = g refl
 
 -- no primitive item has the octet of portions
 not-primitive : (s : List ℕ) (room at limit : ℕ) (marked : Bool) (h : Header) → headAt s at limit marked room ≡ Item h
-    → constructed (h .octet) ≡ false → (octet : ℕ) → (octet ≡ 0) ⊎ (constructed octet ≡ true) → h .octet ≡ octet → ⊥
+    → constructed (h .code) ≡ false → (octet : ℕ) → (octet ≡ 0) ⊎ (constructed octet ≡ true) → h .code ≡ octet → ⊥
 not-primitive s room at limit marked h p q octet (inl z) e = item-octet s at limit marked room h p .0 (e ∙ z)
 not-primitive s room at limit marked h p q octet (inr c) e = false≢true (sym q ∙ ap constructed e ∙ c)
 
@@ -47,12 +47,12 @@ again-in (unclosed p) w octet k = absurd w
 again-in (closes l h) w octet k = λ _. at-limit refl
 again-in (refuses l h) w octet k = absurd w
 again-in {s} (primitive {room} {at} {limit} {marked} {h} {after} l p q r) w octet k =
-    choose s (eqb (h .octet) octet) (record { first = h .start; past = pastOf (h .marked) (h .bound) }) (boundsOf octet after)
-    none (itemsIn octet after)
-    (λ e. absurd (not-primitive s room at limit marked h p q octet k (eqb-true (h .octet) octet e)))
+    choose s (eqb (h .code) octet) (record { first = h .start; past = pastOf (h .marked) (h .bound) }) (boundsOf octet after)
+    noItems (itemsIn octet after)
+    (λ e. absurd (not-primitive s room at limit marked h p q octet k (eqb-true (h .code) octet e)))
     (λ _. again-in r w octet k)
 again-in {s} (passes {room} {at} {limit} {marked} {h} {inside} {after} {next} l p q v r) w octet k =
-    choose s (eqb (h .octet) octet) (record { first = h .start; past = pastOf (h .marked) next }) (boundsOf octet after)
+    choose s (eqb (h .code) octet) (record { first = h .start; past = pastOf (h .marked) next }) (boundsOf octet after)
     inside (itemsIn octet after)
     (λ _. value-again v 1 (λ _. omega arith))
     (λ _. again-in r w octet k)

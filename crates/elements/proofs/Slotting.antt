@@ -13,7 +13,7 @@ use Rattle.tree.specs.Tree.{Tree, empty, leaf, branch, plain}
 use Rattle.runs.specs.declared.Run.{Run}
 use Rattle.runs.specs.Runs.{itemsOf, treeIn, Fine}
 use Rattle.contents.specs.declared.Span.{Span}
-use Rattle.contents.specs.Search.{is, absent, amount, firstValue, firstRun, boundsOf, itemsIn, ends, slot, inOrder}
+use Rattle.contents.specs.Search.{is, absent, amount, firstValue, firstRun, boundsOf, itemsIn, isEmpty, slot, inOrder}
 use Rattle.pieces.specs.Pieces.{onlyPieces}
 use Rattle.portions.specs.Portions.{allPortions, values}
 use Rattle.elements.specs.declared.Holder.{Holder}
@@ -21,8 +21,8 @@ use Rattle.elements.specs.declared.Row.{Row}
 use Rattle.elements.specs.declared.Seen.{Seen}
 use Rattle.contents.specs.declared.Slot.{Slot}
 use Rattle.elements.specs.Shape.{Contents, profile, described, unit, style, protected, Shape}
-use Rattle.elements.specs.Judge.{required, optional, asked, noneOf, typeOctet, typesOf, valueAt, Content, single, inPieces, contentOf, Element, bodyOf, elementOf, ordered, asTabled, typeFits, namesFit, shapeRefusal}
-use Rattle.elements.specs.Rows.{bodyIn, contentOctet, boundsAt, rowOf, noSpan}
+use Rattle.elements.specs.Judge.{required, optional, asked, noneOf, typeOctet, typesOf, valueAt, Content, single, inPieces, contentOf, Element, bodyOf, elementOf, itemsInOrder, asTabled, typeFits, namesFit, shapeRefusal}
+use Rattle.elements.specs.ElementRows.{bodyIn, contentOctet, boundsAt, rowOf, noSpan}
 use Rattle.elements.specs.Frames.{Holding, HoldingShape, HoldingSlots}
 use Rattle.elements.specs.Sees.{Sees, SeesShape, SeesSlots}
 use Rattle.elements.specs.Slots.{noItem, slotsBy, slotsOf, slotBody, slotItems, slotContent, slotOctet, slotElement, slotOrdered, slotTabled, slotRefusal, slotRow}
@@ -54,7 +54,7 @@ no-run octet (leaf type value after) e = no-run octet after (none-here (is octet
 no-run octet (branch type inside after) e = let k = none-here (is octet type) (amount octet after) e in rw (k .0) (no-run octet after (k .1))
 
 -- an item that no element has stands nowhere
-no-item : (t : Tree) → amount 0 t ≡ 0 → slot noItem ends t ≡ false
+no-item : (t : Tree) → amount 0 t ≡ 0 → slot noItem isEmpty t ≡ false
 unfolding amount
 no-item empty e = refl
 no-item (leaf type value after) e = rw (none-here (is 0 type) (amount 0 after) e .0)
@@ -145,8 +145,8 @@ content-same octet (protected true) run z =
 content-same octet (protected false) run z = no-content run z
 
 ordered-same : (octet : ℕ) (contents : Contents) (run : Tree) → amount 0 run ≡ 0
-    → slotOrdered (slotsBy octet contents) run ≡ ordered contents run
-unfolding slotOrdered ordered
+    → slotOrdered (slotsBy octet contents) run ≡ itemsInOrder contents run
+unfolding slotOrdered itemsInOrder
 ordered-same octet profile run z = refl
 ordered-same octet (described needed types) run z = rw (no-order (asked needed 0x02) run z) (or-same _)
 ordered-same octet (unit needed false) run z =

@@ -11,7 +11,7 @@ use lib.Seq.{slice}
 use Rattle.headers.specs.declared.Header.{Header}
 use Rattle.headers.specs.declared.Head.the-variants.{Item}
 use Rattle.headers.specs.Head.{constructed, headAt, typeField}
-use Rattle.octets.specs.Walk.{Items, none, item, End}
+use Rattle.octets.specs.Walk.{Items, noItems, item, End}
 use Rattle.octets.specs.Rules.{Runs, at-limit, unclosed, closes, refuses, primitive, passes, breaks}
 use Rattle.octets.proofs.RulesHold.{derives}
 use Rattle.tree.specs.Tree.{Tree, formed, plain}
@@ -29,7 +29,7 @@ record Without (s : List ℕ) (i : Items) : Type 0 where
   in-run : (octet : ℕ) → amount 0 (firstRun octet (plain s i)) ≡ 0
   in-items : (octet : ℕ) → amount 0 (plain s (itemsIn octet i)) ≡ 0
 
-without-none : (s : List ℕ) → Without s none
+without-none : (s : List ℕ) → Without s noItems
 unfolding amount firstRun itemsIn
 without-none s = record { amount-is = refl; in-run = λ octet. refl; in-items = λ octet. refl }
 
@@ -43,17 +43,17 @@ run-of octet type value inside after false here later = later
 
 -- no item has the octet 0
 without-item : (s : List ℕ) (room at limit : ℕ) (marked : Bool) (h : Header) → headAt s at limit marked room ≡ Item h
-    → {start past : ℕ} {inside after : Items} → Without s inside → Without s after → Without s (item at (h .octet) start past inside after)
+    → {start past : ℕ} {inside after : Items} → Without s inside → Without s after → Without s (item at (h .code) start past inside after)
 unfolding itemsIn
 without-item s room at limit marked h e {start} {past} {inside} {after} v w =
     let o = item-octet s at limit marked room h e in
-    let other = ne-eqb (h .octet) 0 (o .0) in
+    let other = ne-eqb (h .code) 0 (o .0) in
     let value = slice start past s in
-    let counted = amount-formed 0 (h .octet) value (plain s inside) (plain s after) (constructed (h .octet)) in
+    let counted = amount-formed 0 (h .code) value (plain s inside) (plain s after) (constructed (h .code)) in
     record {
       amount-is = counted ∙ rw (other, w .amount-is);
-      in-run = λ octet. run-of octet (h .octet) value (plain s inside) (plain s after) (constructed (h .octet)) (v .amount-is) (w .in-run octet);
-      in-items = λ octet. cases (eqb (h .octet) octet) (λ t. rw t (v .amount-is)) (λ t. rw t (w .in-items octet));
+      in-run = λ octet. run-of octet (h .code) value (plain s inside) (plain s after) (constructed (h .code)) (v .amount-is) (w .in-run octet);
+      in-items = λ octet. cases (eqb (h .code) octet) (λ t. rw t (v .amount-is)) (λ t. rw t (w .in-items octet));
     }
 
 without : {s : List ℕ} {room at limit : ℕ} {marked : Bool} {i : Items} {e : End} → Runs s room at limit marked i e → Without s i

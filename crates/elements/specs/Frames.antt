@@ -18,7 +18,7 @@ use Rattle.elements.specs.declared.Slots.{Slots}
 use Rattle.elements.specs.declared.Typed.{Typed}
 use Rattle.elements.specs.Judge.{Content, single, inPieces, contentOf, typeOf, typeFits}
 use Rattle.elements.specs.Slots.{slotBody, slotContent, slotOrdered, slotItems, slotOctet}
-use Rattle.elements.specs.Rows.{contentOctet, boundsAt, noSpan}
+use Rattle.elements.specs.ElementRows.{contentOctet, boundsAt, noSpan}
 use Rattle.elements.specs.Shape.{Shape}
 use Rattle.elements.specs.Says.{Placed, Bounds}
 

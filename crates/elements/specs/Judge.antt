@@ -207,19 +207,19 @@ abbrev pub protectedOctets : (enciphered : Bool) → List ℕ
 protectedOctets enciphered = cond enciphered (0x24 ∷ 0x04 ∷ []) (0x23 ∷ 0x03 ∷ [])
 
 -- "02, then 31", "02 or nothing, then 31 or nothing", "31 or nothing, then 04"; 47, then one more; or the items are free
-unfoldable pub ordered : Contents → Tree → Bool
-ordered profile run = true
-ordered (described needed types) run = inOrder (asked needed 0x02) (asked needed 0x31) run
-ordered (unit needed tiled) run = inOrderWith (optional 0x31) needed (map octetOf (holdersOf (unit needed tiled))) run
-ordered style run = true
-ordered (protected enciphered) run = inOrderWith (required 0x47) true (protectedOctets enciphered) run
+unfoldable pub itemsInOrder : Contents → Tree → Bool
+itemsInOrder profile run = true
+itemsInOrder (described needed types) run = inOrder (asked needed 0x02) (asked needed 0x31) run
+itemsInOrder (unit needed tiled) run = inOrderWith (optional 0x31) needed (map octetOf (holdersOf (unit needed tiled))) run
+itemsInOrder style run = true
+itemsInOrder (protected enciphered) run = inOrderWith (required 0x47) true (protectedOctets enciphered) run
 
 -- 12 "contents not as tabled"
 unfoldable pub asTabled : Contents → Tree → Bool
 asTabled contents run =
     let body = bodyOf contents run in
     let identifiers = amountAt (identifierOctet contents) body in
-    all (ordered contents run
+    all (itemsInOrder contents run
     ∷ piecesAlone (contentOf contents run)
     ∷ sealAlone (sealOctet contents) run
     ∷ not (identifierNeeded contents && eqb identifiers 0)

@@ -13,7 +13,7 @@ use Rattle.contents.specs.Search.{Value, absent, octets}
 use Rattle.portions.specs.Portions.{allPortions, values}
 use Rattle.elements.specs.declared.Row.{Row}
 use Rattle.elements.specs.Judge.{Content, single, inPieces, Element, namesFit}
-use Rattle.elements.specs.Rows.{noSpan}
+use Rattle.elements.specs.ElementRows.{noSpan}
 
 -- a pair that lies in the stream
 pub record Placed (s : List ℕ) (v : Span) : Type 0 where

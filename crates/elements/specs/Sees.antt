@@ -20,7 +20,7 @@ use Rattle.elements.specs.declared.Row.{Row}
 use Rattle.elements.specs.declared.Seen.{Seen}
 use Rattle.elements.specs.declared.Slots.{Slots}
 use Rattle.elements.specs.Judge.{Element, elementOf, spelt, firstOf, contentsRules, shapeRefusal}
-use Rattle.elements.specs.Rows.{rowOf, noSpan}
+use Rattle.elements.specs.ElementRows.{rowOf, noSpan}
 use Rattle.elements.specs.Shape.{Shape}
 use Rattle.elements.specs.Slots.{slotElement, slotRefusal, slotRow}
 use Rattle.elements.specs.Says.{Placed, Says, RowPlaced}

@@ -5,7 +5,7 @@ use Prim.Native.Nat.{ℕ, _%_}
 use mathlib.Core.Bool.{Bool, true, false, cond, not, _&&_, _||_}
 use mathlib.Core.List.{List, [], _∷_}
 use lib.Dec.{eqb}
-use Rattle.octets.specs.Walk.{Items, none}
+use Rattle.octets.specs.Walk.{Items, noItems}
 use Rattle.tree.specs.Tree.{Tree, empty, plain}
 use Rattle.contents.specs.declared.Slot.{Slot}
 use Rattle.contents.specs.Search.{firstValue, firstRun, boundsOf, itemsIn, inOrder}
@@ -163,7 +163,7 @@ slotBody shape run = cond (shape .looked) (cond (eqb (shape .within) 0) run (fir
 
 -- the same items, with places
 unfoldable pub slotItems : Slots → Items → Items
-slotItems shape items = cond (shape .looked) (cond (eqb (shape .within) 0) items (itemsIn (shape .within) items)) none
+slotItems shape items = cond (shape .looked) (cond (eqb (shape .within) 0) items (itemsIn (shape .within) items)) noItems
 
 -- the content, and the octet of the item that holds it
 unfoldable pub slotContent : Slots → Tree → Content

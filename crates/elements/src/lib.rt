@@ -9,7 +9,7 @@ ghost use mathlib.Core.Path.{_≡_};
 ghost use mathlib.Core.Bool.{true};
 ghost use Prim.Native.Nat.{_≤_};
 ghost use lib.ListN.{length};
-ghost use Rattle.octets.specs.Walk.{none, streamLimit};
+ghost use Rattle.octets.specs.Walk.{noItems, streamLimit};
 ghost use Rattle.runs.specs.Runs.{itemsOf, treeIn, Fine};
 ghost use Rattle.contents.specs.Search.{firstRun};
 ghost use Rattle.pieces.specs.Pieces.{bitPieces};
@@ -66,7 +66,8 @@ pub struct Slots {
     pub seal: usize,
 }
 
-// A table row.
+// A row of the scratch: the element's kind and object type, and the bounds of the element, of its identifier (a unit's layout one), of a unit's
+// logical identifier, of the portions' value and of the content. The lent table's row has the parent's row besides (`answers::table`).
 pub struct Row {
     pub kind: usize,
     pub object: usize,
@@ -153,7 +154,7 @@ fn sought_of(shape: Slots) -> Sought
 // The portions of an element, read if there are any.
 fn listed_of(s: &[u8], g: Gathered, bounds: &mut [u32]) -> PortionList
     requires { ⌜ Fine (now s) (g .list) × (length (now s) ≤ streamLimit) × (128 ≤ length (now bounds)) ⌝ }
-    ensures { λ listed. ⌜ ((g .lists ≡ 0 → itemsOf (now (s .entry)) (g .list) ≡ none)
+    ensures { λ listed. ⌜ ((g .lists ≡ 0 → itemsOf (now (s .entry)) (g .list) ≡ noItems)
         → ListsPortions (now (s .entry)) (g .list) listed (now (bounds .exit))) ⌝ }
 {
     if g.lists == 0 {

@@ -227,10 +227,10 @@ fn sealed_slots(octet: usize) -> Slots
     }
 }
 
-fn shape_1988(octet: usize) -> Slots
-    ensures { λ r. ⌜ r ≡ slotsOf (shapeIn shapes1988 (typeField octet)) ⌝ }
+fn shape_1988(code: usize) -> Slots
+    ensures { λ r. ⌜ r ≡ slotsOf (shapeIn shapes1988 (typeField code)) ⌝ }
 {
-    match octet {
+    match code {
         0xA0 => profile_slots(0xA0),
         0xA1 => described_slots(0xA1, true, LAYOUT_TYPES),
         0xA2 => described_slots(0xA2, false, LAYOUT_TYPES),
@@ -244,25 +244,25 @@ fn shape_1988(octet: usize) -> Slots
 }
 
 // What 1993 has of its own, and else what 1988 has.
-fn shape_1993(octet: usize) -> Slots
-    ensures { λ r. ⌜ r ≡ slotsOf (shapeIn shapes1993 (typeField octet)) ⌝ }
+fn shape_1993(code: usize) -> Slots
+    ensures { λ r. ⌜ r ≡ slotsOf (shapeIn shapes1993 (typeField code)) ⌝ }
 {
-    match octet {
+    match code {
         0xA3 => unit_slots(0xA3, false, TILES),
         0xA9 => sealed_slots(0xA9),
         0xAA => enciphered_slots(0xAA),
         0xAB => enciphered_slots(0xAB),
         0xAC => enciphered_slots(0xAC),
-        _ => shape_1988(octet),
+        _ => shape_1988(code),
     }
 }
 
-// The shape of an element by its octet, in an edition.
-pub fn shape_of(edition: Edition, octet: usize) -> Slots
-    ensures { λ r. ⌜ r ≡ slotsOf (shapeOf edition (typeField octet)) ⌝ }
+// The shape of an element by the code of its type field, in an edition.
+pub fn shape_of(edition: Edition, code: usize) -> Slots
+    ensures { λ r. ⌜ r ≡ slotsOf (shapeOf edition (typeField code)) ⌝ }
 {
     match edition {
-        Edition::Of1988 => shape_1988(octet),
-        Edition::Of1993 => shape_1993(octet),
+        Edition::Of1988 => shape_1988(code),
+        Edition::Of1993 => shape_1993(code),
     }
 }

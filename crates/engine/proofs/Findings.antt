@@ -27,10 +27,10 @@ arrived : (taken k : ℕ) (opens : List Open) (at : ℕ) → OneToEight (arrive 
 arrived taken k opens at = cond-holds OneToEight (eqb at taken) (λ _. settled k opens at) (λ _. tt)
 
 decided : (taken k : ℕ) (opens : List Open) (at : ℕ) (head : Head) → Numbered head → OneToEight (decide taken k opens at (moved at head))
-decided taken k opens at (Item h) n = go (constructed (h .octet))
+decided taken k opens at (Item h) n = go (constructed (h .code))
   where
     go : (b : Bool)
-        → OneToEight (enter b taken (suc k) opens (record { octet = h .octet; number = h .number; start = at + h .start; bound = at + h .bound; marked = h .marked }))
+        → OneToEight (enter b taken (suc k) opens (record { code = h .code; number = h .number; start = at + h .start; bound = at + h .bound; marked = h .marked }))
     go true = arrived taken (suc k) (record { bound = at + h .bound; marked = h .marked } ∷ opens) (at + h .start)
     go false = arrived taken (suc k) opens (at + h .bound)
 decided taken k opens at ClosingMark n = arrived taken k (drop 1 opens) (at + 2)

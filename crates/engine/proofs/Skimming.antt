@@ -77,7 +77,7 @@ module _ (seat : Seat) (s : Skim) (ends block : List ℕ) (p : Reads seat ends s
       (p .run .limit)
 
   pub skims-open : (g : Header) (e : ℕ) → Seen (seat .total) (s .headers) os here block (s .i) (Item g) → Lies (s .i) (s .stop) (16 - s .level) g
-      → constructed (g .octet) ≡ true → openOf e ≡ record { bound = placeOf seat (g .bound); marked = g .marked }
+      → constructed (g .code) ≡ true → openOf e ≡ record { bound = placeOf seat (g .bound); marked = g .marked }
       → Skims seat s ends block
       (record { level = s .level + 1; i = g .start; stop = g .bound; marked = g .marked; headers = s .headers + 1; number = 0; place = 0 })
       (set ends (s .level) e)
@@ -136,7 +136,7 @@ module _ (seat : Seat) (s : Skim) (ends block : List ℕ) (p : Reads seat ends s
       }
 
   pub skims-past : (g : Header) → Seen (seat .total) (s .headers) os here block (s .i) (Item g) → Lies (s .i) (s .stop) (16 - s .level) g
-      → constructed (g .octet) ≡ false
+      → constructed (g .code) ≡ false
       → Skims seat s ends block
       (record { level = s .level; i = g .bound; stop = s .stop; marked = s .marked; headers = s .headers + 1; number = 0; place = 0 }) ends
   skims-past g w l q =
@@ -148,7 +148,7 @@ module _ (seat : Seat) (s : Skim) (ends block : List ℕ) (p : Reads seat ends s
 
   -- constructed, and nothing stands in it: it ends where its header does
   pub skims-empty : (g : Header) → Seen (seat .total) (s .headers) os here block (s .i) (Item g) → Lies (s .i) (s .stop) (16 - s .level) g
-      → constructed (g .octet) ≡ true → g .start ≡ g .bound → g .marked ≡ false
+      → constructed (g .code) ≡ true → g .start ≡ g .bound → g .marked ≡ false
       → Skims seat s ends block
       (record { level = s .level; i = g .bound; stop = s .stop; marked = s .marked; headers = s .headers + 1; number = 0; place = 0 }) ends
   skims-empty g w l q n m =

@@ -124,25 +124,25 @@ refusal : (n : ℕ) → 0 < n → n ≤ 8 → Numbered (Refusal n 0)
 refusal n h l = (h, l, refl)
 
 module _ (b : List ℕ) (left : ℕ) where
-  definite-numbered : (octet start len : ℕ) → Numbered (definiteAt octet 0 start len left)
+  definite-numbered : (code start len : ℕ) → Numbered (definiteAt code 0 start len left)
   unfolding definiteAt
-  definite-numbered octet start len =
+  definite-numbered code start len =
       cond-holds Numbered (leb (start + len) left)
-      (λ _. cond-holds Numbered (misfits octet len) (λ _. refusal 8 (omega arith) (omega arith)) (λ _. tt))
+      (λ _. cond-holds Numbered (misfits code len) (λ _. refusal 8 (omega arith) (omega arith)) (λ _. tt))
       (λ _. refusal 7 (omega arith) (omega arith))
 
-  length-numbered : (octet from : ℕ) → Numbered (lengthAt b octet 0 from left)
+  length-numbered : (code from : ℕ) → Numbered (lengthAt b code 0 from left)
   unfolding lengthAt byFirst longAt indefiniteAt
-  length-numbered octet from =
+  length-numbered code from =
       let first = octetAt b from in
       let k = first - 0x80 in
       cond-holds Numbered (ltb from left)
-      (λ _. cond-holds Numbered (ltb first 0x80) (λ _. definite-numbered octet (from + 1) first)
+      (λ _. cond-holds Numbered (ltb first 0x80) (λ _. definite-numbered code (from + 1) first)
       (λ _. cond-holds Numbered (eqb first 0x80)
-      (λ _. cond-holds Numbered (constructed octet) (λ _. tt) (λ _. refusal 6 (omega arith) (omega arith)))
+      (λ _. cond-holds Numbered (constructed code) (λ _. tt) (λ _. refusal 6 (omega arith) (omega arith)))
       (λ _. cond-holds Numbered (ltb first 0x85)
       (λ _. cond-holds Numbered (leb (from + 1 + k) left)
-      (λ _. definite-numbered octet (from + 1 + k) (bigEndian (take k (drop (from + 1) b))))
+      (λ _. definite-numbered code (from + 1 + k) (bigEndian (take k (drop (from + 1) b))))
       (λ _. refusal 7 (omega arith) (omega arith)))
       (λ _. refusal 6 (omega arith) (omega arith)))))
       (λ _. refusal 7 (omega arith) (omega arith))

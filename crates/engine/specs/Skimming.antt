@@ -68,7 +68,7 @@ atHeader total headers os at = record { total = total; taken = at; standing = re
 
 -- What was read at place i of a block, as the letter has it at the place `at`.
 abbrev pub back : (i at : ℕ) → Head → Head
-back i at (Item h) = Item (record { octet = h .octet; number = h .number; start = at + (h .start - i); bound = at + (h .bound - i); marked = h .marked })
+back i at (Item h) = Item (record { code = h .code; number = h .number; start = at + (h .start - i); bound = at + (h .bound - i); marked = h .marked })
 back i at ClosingMark = ClosingMark
 back i at (Refusal number place) = Refusal number (at + (place - i))
 

@@ -57,7 +57,7 @@ fn decided(mut b: Blocks, limit: usize, head: Head) -> Blocks
     match head {
         Head::Item(h) => {
             b.headers = b.headers + 1;
-            if h.octet / 32 % 2 == 1 {
+            if h.code / 32 % 2 == 1 {
                 return open_item(b, at + h.start, at + h.bound, h.marked);
             }
             b.at = at + h.bound;

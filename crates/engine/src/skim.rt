@@ -105,7 +105,7 @@ fn skim_one(ends: &mut [u32; 16], s: Skim, seat: Seat, block: &[u8], head: Head)
 {
     match head {
         Head::Item(h) => {
-            if h.octet / 32 % 2 != 1 {
+            if h.code / 32 % 2 != 1 {
                 return going(s.level, h.bound, s.stop, s.marked, s.headers + 1);
             }
             if h.start == h.bound {

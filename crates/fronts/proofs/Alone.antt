@@ -13,7 +13,7 @@ use Rattle.headers.specs.declared.Header.{Header}
 use Rattle.headers.specs.declared.Head.{Head}
 use Rattle.headers.specs.declared.Head.the-variants.{Item, ClosingMark, Refusal}
 use Rattle.headers.specs.Head.{constructed, headAt}
-use Rattle.octets.specs.Walk.{Items, none, item, count, End, ends, stops, Walked, ended, pastOf, follow, value, onHead, step, run}
+use Rattle.octets.specs.Walk.{Items, noItems, item, count, End, ends, stops, Walked, ended, pastOf, follow, value, onHead, step, run}
 use Rattle.octets.specs.Further.{oneOf}
 use Rattle.octets.specs.Rules.{Runs}
 use Rattle.octets.proofs.Turns.{header-ok}
@@ -30,25 +30,25 @@ use Rattle.fronts.proofs.Fronts.{under, Agree, agree-less, head-same, r
 
 -- an item, and then what was walked after it
 abbrev pub followed : Items → Walked → Walked
-followed none w = w
-followed (item at octet start past inside after) w = record { items = item at octet start past inside (w .items); how = w .how }
+followed noItems w = w
+followed (item at code start past inside after) w = record { items = item at code start past inside (w .items); how = w .how }
 
 -- the run inside an item that ends at next: nothing of a primitive one
 abbrev Inner : Bool → List ℕ → (room : ℕ) → Header → Items → (next : ℕ) → Type 0
 Inner true s room h inside next = Runs s (room - 1) (h .start) (h .bound) (h .marked) inside (ends next)
-Inner false s room h inside next = (inside ≡ none) × (h .bound ≡ next)
+Inner false s room h inside next = (inside ≡ noItems) × (h .bound ≡ next)
 
 -- an item that was walked alone, to next
 record Alone (s : List ℕ) (room at limit next : ℕ) (w : Walked) : Type 0 where
   pub h : Header
   pub head : headAt s at limit false room ≡ Item h
   pub inside : Items
-  pub inner : Inner (constructed (h .octet)) s room h inside next
-  pub is : w ≡ record { items = item at (h .octet) (h .start) (pastOf (h .marked) next) inside none; how = ends next }
+  pub inner : Inner (constructed (h .code)) s room h inside next
+  pub is : w ≡ record { items = item at (h .code) (h .start) (pastOf (h .marked) next) inside noItems; how = ends next }
 
 module _ (room : ℕ) (s : List ℕ) (at limit next : ℕ) where
   module _ (h : Header) (e : headAt s at limit false room ≡ Item h) where
-    follow-alone : (inside : Items) (end : End) → constructed (h .octet) ≡ true → Runs s (room - 1) (h .start) (h .bound) (h .marked) inside end
+    follow-alone : (inside : Items) (end : End) → constructed (h .code) ≡ true → Runs s (room - 1) (h .start) (h .bound) (h .marked) inside end
         → follow at h inside end (λ n. ended n) .how ≡ ends next → Alone s room at limit next (follow at h inside end (λ n. ended n))
     follow-alone inside (ends to) c r p =
         let k : to ≡ next = cc in
@@ -61,7 +61,7 @@ module _ (room : ℕ) (s : List ℕ) (at limit next : ℕ) where
         }
     follow-alone inside (stops number place) c r p = let z : _≡_ {A = ℕ} 0 1 = cc in absurd (omega arith)
 
-    item-alone : (b : Bool) → constructed (h .octet) ≡ b → (let v = value b h (λ g. run (room - 1) s (g .start) (g .bound) (g .marked)) in
+    item-alone : (b : Bool) → constructed (h .code) ≡ b → (let v = value b h (λ g. run (room - 1) s (g .start) (g .bound) (g .marked)) in
         follow at h (v .items) (v .how) (λ n. ended n) .how ≡ ends next → Alone s room at limit next (follow at h (v .items) (v .how) (λ n. ended n)))
     item-alone true c p =
         let o = header-ok s at limit room false h e in
@@ -72,14 +72,14 @@ module _ (room : ℕ) (s : List ℕ) (at limit next : ℕ) where
         record {
           h = h;
           head = e;
-          inside = none;
-          inner = subst (λ (b : Bool). Inner b s room h none next) (sym c) (refl, k);
+          inside = noItems;
+          inner = subst (λ (b : Bool). Inner b s room h noItems next) (sym c) (refl, k);
           is = rw k;
         }
 
   head-alone : (head : Head) → headAt s at limit false room ≡ head
       → (let w = onHead at head (λ h. run (room - 1) s (h .start) (h .bound) (h .marked)) (λ n. ended n) in w .how ≡ ends next → Alone s room at limit next w)
-  head-alone (Item h) e p = item-alone h e (constructed (h .octet)) refl p
+  head-alone (Item h) e p = item-alone h e (constructed (h .code)) refl p
   head-alone ClosingMark e p = absurd (false≢true (mark-marked s at limit false room e))
   head-alone (Refusal number place) e p = let z : _≡_ {A = ℕ} 0 1 = cc in absurd (omega arith)
 
@@ -98,7 +98,7 @@ module _ (s other : List ℕ) (room at limit next : ℕ) (g : Agree s other next
     pub bounded : h .marked ≡ false → h .bound ≡ next
     pub walks : value b (under past h) (λ k. run (room - 1) other (k .start) (k .bound) (k .marked)) ≡ record { items = inside; how = ends next }
 
-  value-there : (h : Header) → headAt s at limit false room ≡ Item h → (b : Bool) → constructed (h .octet) ≡ b → (inside : Items) → Inner b s room h inside next
+  value-there : (h : Header) → headAt s at limit false room ≡ Item h → (b : Bool) → constructed (h .code) ≡ b → (inside : Items) → Inner b s room h inside next
       → There h b inside
   value-there h e true c inside r =
       let b = bound-from (h .marked) next (h .bound) past (h .start) (right r) w in
@@ -108,12 +108,12 @@ module _ (s other : List ℕ) (room at limit next : ℕ) (g : Agree s other next
       let o = header-ok s at limit room false h e in
       let m = definite s at limit false room h e c (h .marked) refl in
       let k : under past h .bound ≡ next = ap (λ (x : Bool). cond x past (h .bound)) m ∙ r .1 in
-      let i : none ≡ inside = sym (r .0) in
+      let i : noItems ≡ inside = sym (r .0) in
       record { starts = omega arith; bounded = λ f. r .1; walks = rw (k, i) }
 
   module _ {a : Walked} (x : Alone s room at limit next a) where
-    there : There (x .h) (constructed (x .h .octet)) (x .inside)
-    there = value-there (x .h) (x .head) (constructed (x .h .octet)) refl (x .inside) (x .inner)
+    there : There (x .h) (constructed (x .h .code)) (x .inside)
+    there = value-there (x .h) (x .head) (constructed (x .h .code)) refl (x .inside) (x .inner)
 
     before : at < past
     before = let o = header-ok s at limit room false (x .h) (x .head) in let n = there .starts in omega arith
@@ -182,7 +182,7 @@ module _ (room : ℕ) (s : List ℕ) (at limit : ℕ) (more : ℕ → Walked) wh
 
   head-whole : (head : Head) → headAt s at limit false room ≡ head → (f : Header → Walked) → Whole (onHead at head f more .how)
       → (next : ℕ) × (onHead at head f (λ n. ended n) .how ≡ ends next)
-  head-whole (Item h) e f w = let v = value (constructed (h .octet)) h f in follow-whole h (v .items) (v .how) w
+  head-whole (Item h) e f w = let v = value (constructed (h .code)) h f in follow-whole h (v .items) (v .how) w
   head-whole ClosingMark e f w = absurd (false≢true (mark-marked s at limit false room e))
   head-whole (Refusal number place) e f w = absurd w
 
@@ -206,7 +206,7 @@ module _ (at : ℕ) (more : ℕ → Walked) (number place : ℕ) where
 
   head-stops : (head : Head) (f : Header → Walked) → onHead at head f (λ n. ended n) .how ≡ stops number place
       → onHead at head f more .how ≡ stops number place
-  head-stops (Item h) f p = let v = value (constructed (h .octet)) h f in follow-stops h (v .items) (v .how) p
+  head-stops (Item h) f p = let v = value (constructed (h .code)) h f in follow-stops h (v .items) (v .how) p
   head-stops ClosingMark f p = let z : _≡_ {A = ℕ} 0 1 = cc in absurd (omega arith)
   head-stops (Refusal n q) f p = p
 
@@ -222,11 +222,11 @@ alone-stops room s at limit number place l p =
 
 -- one item and no other
 pub record OneItem (at : ℕ) (items : Items) : Type 0 where
-  pub octet : ℕ
+  pub code : ℕ
   pub start : ℕ
   pub past : ℕ
   pub inside : Items
-  pub is : items ≡ item at octet start past inside none
+  pub is : items ≡ item at code start past inside noItems
 
 module _ (room : ℕ) (s : List ℕ) (at limit next : ℕ) (l : at < limit) (e : oneOf room s at limit .how ≡ ends next) where
   inside-same : (other : List ℕ) → take next s ≡ take next other → (h : Header) (b : Bool) (inside : Items) → Inner b s room h inside next
@@ -242,29 +242,29 @@ module _ (room : ℕ) (s : List ℕ) (at limit next : ℕ) (l : at < limit) (e :
   tree-front other g =
       let x = alone room s at limit next l e in
       let value = agree-slice s other (x .h .start) (pastOf (x .h .marked) next) next (past-least s other (x .h .marked) next) g in
-      rw (x .is, value, inside-same other g (x .h) (constructed (x .h .octet)) (x .inside) (x .inner))
+      rw (x .is, value, inside-same other g (x .h) (constructed (x .h .code)) (x .inside) (x .inner))
 
   -- it is an item, and nothing follows it
   pub one-item : OneItem at (oneOf room s at limit .items)
   one-item =
       let x = alone room s at limit next l e in
       record {
-        octet = x .h .octet;
+        code = x .h .code;
         start = x .h .start;
         past = pastOf (x .h .marked) next;
         inside = x .inside;
         is = ap (λ (w : Walked). w .items) (x .is);
       }
 
-  pub one-some : oneOf room s at limit .items ≡ none → ⊥
+  pub one-some : oneOf room s at limit .items ≡ noItems → ⊥
   one-some z =
       let x = one-item in
-      let p : item at (x .octet) (x .start) (x .past) (x .inside) none ≡ none = sym (x .is) ∙ z in
+      let p : item at (x .code) (x .start) (x .past) (x .inside) noItems ≡ noItems = sym (x .is) ∙ z in
       let q : _≡_ {A = ℕ} 0 1 = cc in
       omega arith
 
-  pub one-only : (octet first past : ℕ) (inside after : Items) → oneOf room s at limit .items ≡ item at octet first past inside after → after ≡ none
-  one-only octet first past inside after z =
+  pub one-only : (code first past : ℕ) (inside after : Items) → oneOf room s at limit .items ≡ item at code first past inside after → after ≡ noItems
+  one-only code first past inside after z =
       let x = one-item in
-      let p : item at (x .octet) (x .start) (x .past) (x .inside) none ≡ item at octet first past inside after = sym (x .is) ∙ z in
+      let p : item at (x .code) (x .start) (x .past) (x .inside) noItems ≡ item at code first past inside after = sym (x .is) ∙ z in
       cc

@@ -13,27 +13,27 @@ use Rattle.octets.proofs.Numbers.{Stops, run-stops}
 use Rattle.runs.specs.declared.Run.{Run}
 use Rattle.runs.specs.Runs.{itemsOf, definiteRun, wholeStream, Fine, Meeting}
 use Rattle.fronts.specs.declared.First.the-variants.{Refused}
-use Rattle.fronts.specs.First.{walkFirst, FirstItem, Begins}
+use Rattle.fronts.specs.First.{walkFirst, FirstItem, BeginsWith}
 use Rattle.fronts.proofs.Alone.{alone-items, one-only, one-within, whole-alone, alone-stops}
 
 -- the item that is met in the run of the first item alone
-pub first-met : (s : List ℕ) (next : ℕ) → 0 < length s → walkFirst s .how ≡ ends next → {octet first past : ℕ} {inner rest : Run}
-    → Meeting s (definiteRun 0 next deepest) octet first past inner rest → FirstItem s octet inner
-first-met s next l e {octet} {first} {past} {inner} {rest} m =
+pub first-met : (s : List ℕ) (next : ℕ) → 0 < length s → walkFirst s .how ≡ ends next → {code first past : ℕ} {inner rest : Run}
+    → Meeting s (definiteRun 0 next deepest) code first past inner rest → FirstItem s code inner
+first-met s next l e {code} {first} {past} {inner} {rest} m =
     let i = sym (alone-items deepest s 0 (length s) next l e) ∙ m .tree in
-    let z = one-only deepest s 0 (length s) next l e octet first past (itemsOf s inner) (itemsOf s rest) i in
+    let z = one-only deepest s 0 (length s) next l e code first past (itemsOf s inner) (itemsOf s rest) i in
     record {
       next = next;
       first = first;
       past = past;
       within = one-within deepest s 0 (length s) next l e (omega arith) .1;
       ended = e;
-      is = i ∙ ap (item 0 octet first past (itemsOf s inner)) z;
+      is = i ∙ ap (item 0 code first past (itemsOf s inner)) z;
       fine = m .inner-fine;
     }
 
 -- where the whole stream was walked, its first item alone is not refused
-pub whole-passes : (s : List ℕ) → 0 < length s → Fine s (wholeStream s) → (number place : ℕ) → Begins s (Refused number place) → ⊥
+pub whole-passes : (s : List ℕ) → 0 < length s → Fine s (wholeStream s) → (number place : ℕ) → BeginsWith s (Refused number place) → ⊥
 whole-passes s l f number place r =
     let n = whole-alone deepest s 0 (length s) l (f .whole) in
     let p : ends (n .0) ≡ stops number place = sym (n .1) ∙ r in

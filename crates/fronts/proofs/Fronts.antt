@@ -15,7 +15,7 @@ use Rattle.headers.specs.declared.Head.the-variants.{Item, ClosingMark, Refusal
 use Rattle.headers.specs.Head.{constructed, codeOf, misfits, bigEndian, octetAt, definiteAt, indefiniteAt, longAt, byFirst, lengthAt, closingAt, headAt}
 use Rattle.headers.proofs.Lies.{FieldRead, in-one, in-two, in-three, item-holds, field-past}
 use Rattle.laws.proofs.Tests.{cond-holds}
-use Rattle.octets.specs.Walk.{Items, none, item, End, ends, pastOf}
+use Rattle.octets.specs.Walk.{Items, noItems, item, End, ends, pastOf}
 use Rattle.octets.specs.Rules.{Runs, at-limit, unclosed, closes, refuses, primitive, passes, breaks}
 use Rattle.octets.proofs.Turns.{header-ok}
 use Rattle.tree.specs.Tree.{plain}
@@ -25,7 +25,7 @@ use Rattle.runs.proofs.Ends.{EndsRight, right}
 
 -- the header of an item under another limit: an indefinite item is bounded by it
 abbrev pub under : (limit : ℕ) → Header → Header
-under limit h = record { octet = h .octet; number = h .number; start = h .start; bound = cond (h .marked) limit (h .bound); marked = h .marked }
+under limit h = record { code = h .code; number = h .number; start = h .start; bound = cond (h .marked) limit (h .bound); marked = h .marked }
 
 -- where the value of an item ends, and the bound under another limit
 pub bound-is : (m : Bool) (to bound start : ℕ) → EndsRight m start bound (ends to) → m ≡ false → bound ≡ to
@@ -73,36 +73,36 @@ module _ (s other : List ℕ) where
     Kept ClosingMark = at + 2 ≤ past → Agree (at + 2) → there ≡ ClosingMark
     Kept (Refusal n place) = Unit {0}
 
-    definite-kept : (octet start len : ℕ) → (start ≤ past → Agree start → there ≡ definiteAt octet at start len past)
-        → Kept (definiteAt octet at start len limit)
+    definite-kept : (code start len : ℕ) → (start ≤ past → Agree start → there ≡ definiteAt code at start len past)
+        → Kept (definiteAt code at start len limit)
     unfolding definiteAt
-    definite-kept octet start len same =
+    definite-kept code start len same =
         cond-holds Kept (leb (start + len) limit)
-        (λ _. cond-holds Kept (misfits octet len) (λ _. tt) (λ f w v g. same w g ∙ rw (le-leb _ _ (v refl), f)))
+        (λ _. cond-holds Kept (misfits code len) (λ _. tt) (λ f w v g. same w g ∙ rw (le-leb _ _ (v refl), f)))
         (λ _. tt)
 
-    first-kept : (octet from first : ℕ) → (from + 1 ≤ past → Agree (from + 1) → there ≡ byFirst other octet at from first past)
-        → Kept (byFirst s octet at from first limit)
+    first-kept : (code from first : ℕ) → (from + 1 ≤ past → Agree (from + 1) → there ≡ byFirst other code at from first past)
+        → Kept (byFirst s code at from first limit)
     unfolding byFirst indefiniteAt longAt
-    first-kept octet from first same =
-        cond-holds Kept (ltb first 0x80) (λ a. definite-kept octet (from + 1) first (λ w g. same w g ∙ rw a))
+    first-kept code from first same =
+        cond-holds Kept (ltb first 0x80) (λ a. definite-kept code (from + 1) first (λ w g. same w g ∙ rw a))
         (λ a. cond-holds Kept (eqb first 0x80)
-        (λ b. cond-holds Kept (constructed octet) (λ c w v g. same w g ∙ rw (a, b, c)) (λ _. tt))
+        (λ b. cond-holds Kept (constructed code) (λ c w v g. same w g ∙ rw (a, b, c)) (λ _. tt))
         (λ b. cond-holds Kept (ltb first 0x85)
         (λ d. cond-holds Kept (leb (from + 1 + (first - 0x80)) limit)
-        (λ _. definite-kept octet (from + 1 + (first - 0x80)) (bigEndian (take (first - 0x80) (drop (from + 1) s)))
+        (λ _. definite-kept code (from + 1 + (first - 0x80)) (bigEndian (take (first - 0x80) (drop (from + 1) s)))
         (λ w g.
         let less = agree-less (from + 1) (from + 1 + (first - 0x80)) (omega arith) g in
         same (omega arith) less ∙ rw (a, b, d, le-leb _ _ w, agree-part (from + 1) (first - 0x80) g)))
         (λ _. tt))
         (λ _. tt)))
 
-    length-kept : (octet from : ℕ) → (from + 1 ≤ past → Agree (from + 1) → there ≡ lengthAt other octet at from past)
-        → Kept (lengthAt s octet at from limit)
+    length-kept : (code from : ℕ) → (from + 1 ≤ past → Agree (from + 1) → there ≡ lengthAt other code at from past)
+        → Kept (lengthAt s code at from limit)
     unfolding lengthAt
-    length-kept octet from same =
+    length-kept code from same =
         cond-holds Kept (ltb from limit)
-        (λ _. first-kept octet from (octetAt s from)
+        (λ _. first-kept code from (octetAt s from)
         (λ w g. let k : from < past = omega arith in same w g ∙ rw (lt-ltb _ _ k, agree-octet (from + 1) from (omega arith) g)))
         (λ _. tt)
 
@@ -150,13 +150,13 @@ module _ (s other : List ℕ) where
   runs-same (at-limit {room} {at} {limit} p) next e g past w d =
       let k : limit ≡ next = cc in
       let z : past ≡ next = d refl in
-      (omega arith, subst (λ (n : ℕ). Runs other room at past false none (ends n)) z (at-limit (p ∙ k ∙ sym z)))
+      (omega arith, subst (λ (n : ℕ). Runs other room at past false noItems (ends n)) z (at-limit (p ∙ k ∙ sym z)))
   runs-same (unclosed p) next e g past w d = let z : _≡_ {A = ℕ} 0 1 = cc in absurd (omega arith)
   runs-same (closes {room} {at} {limit} {marked} l h) next e g past w d =
       let k : at + 2 ≡ next = cc in
       let before : at < past = omega arith in
       let front = agree-less (at + 2) next (omega arith) g in
-      (omega arith, subst (λ (n : ℕ). Runs other room at past marked none (ends n)) k (closes before (mark-same at limit past room marked h (omega arith) front)))
+      (omega arith, subst (λ (n : ℕ). Runs other room at past marked noItems (ends n)) k (closes before (mark-same at limit past room marked h (omega arith) front)))
   runs-same (refuses l h) next e g past w d = let z : _≡_ {A = ℕ} 0 1 = cc in absurd (omega arith)
   runs-same (primitive {room} {at} {limit} {marked} {h} {after} l p q r) next e g past w d =
       let o = header-ok s at limit room marked h p in
@@ -168,7 +168,7 @@ module _ (s other : List ℕ) where
       let b : under past h .bound ≡ h .bound = ap (λ (x : Bool). cond x past (h .bound)) m in
       let r′ = subst (λ (x : ℕ). Runs other room x past marked after (ends next)) (sym b) (n .1) in
       let v : pastOf (h .marked) (under past h .bound) ≡ pastOf (h .marked) (h .bound) = ap (pastOf (h .marked)) b in
-      (omega arith, subst (λ (x : ℕ). Runs other room at past marked (item at (h .octet) (h .start) x none after) (ends next)) v (primitive {h = under past h} before k q r′))
+      (omega arith, subst (λ (x : ℕ). Runs other room at past marked (item at (h .code) (h .start) x noItems after) (ends next)) v (primitive {h = under past h} before k q r′))
   runs-same (passes {room} {at} {limit} {marked} {h} {inside} {after} {next} l p q v r) final e g past w d =
       let o = header-ok s at limit room marked h p in
       let n = runs-same r final e g past w d in

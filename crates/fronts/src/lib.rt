@@ -7,18 +7,18 @@ ghost use mathlib.Core.Path.{_≡_};
 ghost use Prim.Native.Nat.{_<_};
 ghost use lib.ListN.{length};
 ghost use Rattle.octets.specs.Walk.{ends};
-ghost use Rattle.fronts.specs.First.{walkFirst, Begins};
+ghost use Rattle.fronts.specs.First.{walkFirst, BeginsWith};
 
 // What a stream begins with: an item that is whole, with the run inside it, or a refusal by 2 to 8.
 pub enum First {
-    Item { octet: usize, inner: Run },
+    Item { code: usize, inner: Run },
     Refused { number: usize, place: usize },
 }
 
 // The first item of a stream that is not empty, walked alone: no octet after it is read. The date of its run is `date_in`'s.
 pub fn first_item(s: &[u8]) -> First
     requires { ⌜ 0 < length (now s) ⌝ }
-    ensures { λ f. ⌜ Begins (now (s .entry)) f ⌝ }
+    ensures { λ f. ⌜ BeginsWith (now (s .entry)) f ⌝ }
 {
     match octets::walk_one(s, 0, s.len(), DEEPEST) {
         Outcome::Refused {
@@ -33,7 +33,7 @@ pub fn first_item(s: &[u8]) -> First
 // The run inside the first item, which is whole and ends at `next`.
 fn inside_first(s: &[u8], next: usize) -> First
     requires { ⌜ (0 < length (now s)) × (walkFirst (now s) .how ≡ ends next) ⌝ }
-    ensures { λ f. ⌜ Begins (now (s .entry)) f ⌝ }
+    ensures { λ f. ⌜ BeginsWith (now (s .entry)) f ⌝ }
 {
     let alone = Run {
         at: 0,
@@ -47,11 +47,11 @@ fn inside_first(s: &[u8], next: usize) -> First
             place: 0,
         },
         Met::Item {
-            octet,
+            code,
             first: _,
             past: _,
             inner,
             rest: _,
-        } => First::Item { octet, inner },
+        } => First::Item { code, inner },
     }
 }

@@ -14,7 +14,7 @@ use Rattle.headers.specs.declared.Head.{Head}
 use Rattle.headers.specs.declared.Head.the-variants.{Item, ClosingMark, Refusal}
 use Rattle.headers.specs.declared.Field.{Field}
 use Rattle.headers.specs.declared.Field.the-variants.{Read, Wrong}
-use Rattle.headers.specs.Head.{number, constructed, isIn, formAllowed, aboveThirty, codeOf, bigEndian, misfits, octetAt, definiteAt, indefiniteAt, longAt, byFirst, lengthAt, afterField, closingAt, itemAt, headAt}
+use Rattle.headers.specs.Head.{numberBits, constructed, isIn, formAllowed, aboveThirty, codeOf, bigEndian, misfits, octetAt, definiteAt, indefiniteAt, longAt, byFirst, lengthAt, afterField, closingAt, itemAt, headAt}
 use Rattle.headers.specs.Conditions.{ItemThere, LongNumber, FieldTo, one, two, three, HeaderHas, second, third, first-length, last-length, ValueIs, short, long}
 use Rattle.headers.specs.Conditions.{WrongNumber, over, led-by-80, under-31, no-octet, HeadRefused}
 use Rattle.headers.specs.Conditions.{HeadRefuses, stray, half-mark, too-deep, wrong-number, wrong-form, universal-number, reserved, unending, header-cut, value-cut, mark-cut, misfit}
@@ -335,7 +335,7 @@ module _ (s : List ℕ) (at limit : ℕ) where
             (λ t. five (universal-number item b t f) (λ w. right (w .1)))
 
         field-verdict : After
-            (cond (eqb (number x) 31)
+            (cond (eqb (numberBits x) 31)
             (cond (ltb (at + 1) limit)
             (cond (ltb y 31) (Wrong 4)
             (cond (ltb y 0x80) (cond (isIn x aboveThirty) (Read (codeOf (x ∷ y ∷ [])) (at + 2)) (Wrong 5))
@@ -346,8 +346,8 @@ module _ (s : List ℕ) (at limit : ℕ) where
             (Wrong 7))
             (cond (formAllowed x) (Read x (at + 1)) (Wrong 5)))
         field-verdict =
-            cond-holds After (eqb (number x) 31)
-            (λ n. let b = eqb-true (number x) 31 n in
+            cond-holds After (eqb (numberBits x) 31)
+            (λ n. let b = eqb-true (numberBits x) 31 n in
             cond-holds After (ltb (at + 1) limit)
             (λ a. let there = ltb-true (at + 1) limit a in
             cond-holds After (ltb y 31) (λ c. four b (under-31 there (ltb-true y 31 c)))
@@ -372,7 +372,7 @@ module _ (s : List ℕ) (at limit : ℕ) where
             (λ g. four b (no-octet there (ltb-false y 0x100 g)))))))
             (λ a. let far = ltb-false (at + 1) limit a in
             missing b (second b) far (λ w. let k = wrong-second w in omega arith) (λ p f. let k = field-second f b in omega arith)))
-            (λ n. let ne = eqb-false (number x) 31 n in
+            (λ n. let ne = eqb-false (numberBits x) 31 n in
             cond-holds After (formAllowed x)
             (λ t. length-verdict h3 (λ w. ne (w .0)) (five-one ne t) x (at + 1) (one ne) refl (λ len. refl))
             (λ t. five (wrong-form item ne t) (λ w. ne (w .0))))

@@ -12,15 +12,15 @@ use Rattle.headers.specs.declared.Head.{Head}
 use Rattle.headers.specs.declared.Head.the-variants.{Item, ClosingMark, Refusal}
 use Rattle.headers.specs.declared.Field.{Field}
 use Rattle.headers.specs.declared.Field.the-variants.{Read, Wrong}
-use Rattle.headers.specs.Head.{number, constructed, isIn, formAllowed, aboveThirty, codeOf, misfits, octetAt, definiteAt, indefiniteAt, longAt, byFirst, lengthAt, fieldAt, afterField, closingAt, itemAt, headAt}
+use Rattle.headers.specs.Head.{numberBits, constructed, isIn, formAllowed, aboveThirty, codeOf, misfits, octetAt, definiteAt, indefiniteAt, longAt, byFirst, lengthAt, fieldAt, afterField, closingAt, itemAt, headAt}
 use Rattle.laws.proofs.Tests.{cond-holds}
 
 -- a type field that was read at `at`, from this octet on: its code, and the place past it
 pub data FieldRead (s : List ℕ) (octet at limit : ℕ) : (code past : ℕ) → Type 0 where
-  in-one : (number octet ≡ 31 → ⊥) → formAllowed octet ≡ true → FieldRead s octet at limit octet (at + 1)
-  in-two : number octet ≡ 31 → isIn octet aboveThirty ≡ true → at + 1 < limit → 31 ≤ octetAt s (at + 1) → octetAt s (at + 1) < 0x80
+  in-one : (numberBits octet ≡ 31 → ⊥) → formAllowed octet ≡ true → FieldRead s octet at limit octet (at + 1)
+  in-two : numberBits octet ≡ 31 → isIn octet aboveThirty ≡ true → at + 1 < limit → 31 ≤ octetAt s (at + 1) → octetAt s (at + 1) < 0x80
       → FieldRead s octet at limit (codeOf (octet ∷ octetAt s (at + 1) ∷ [])) (at + 2)
-  in-three : number octet ≡ 31 → isIn octet aboveThirty ≡ true → at + 2 < limit → 0x80 < octetAt s (at + 1) → octetAt s (at + 1) < 0x100
+  in-three : numberBits octet ≡ 31 → isIn octet aboveThirty ≡ true → at + 2 < limit → 0x80 < octetAt s (at + 1) → octetAt s (at + 1) < 0x100
       → octetAt s (at + 2) < 0x80 → FieldRead s octet at limit (codeOf (octet ∷ octetAt s (at + 1) ∷ octetAt s (at + 2) ∷ [])) (at + 3)
 
 -- What holds of a refusal by 3 to 7, and of the length octets after any type field that can be read there, holds of an item.
@@ -37,8 +37,8 @@ item-holds P s octet at limit room refused read =
     cond-holds P (eqb room 0) (λ _. refused 3 (omega arith) (omega arith))
     (λ e.
     let deep : 0 < room = let ne = eqb-false room 0 e in omega arith in
-    cond-holds Q (eqb (number octet) 31)
-    (λ n. let bits = eqb-true (number octet) 31 n in
+    cond-holds Q (eqb (numberBits octet) 31)
+    (λ n. let bits = eqb-true (numberBits octet) 31 n in
     cond-holds Q (ltb (at + 1) limit)
     (λ a. let there = ltb-true (at + 1) limit a in
     cond-holds Q (ltb second 31) (λ _. four)
@@ -61,7 +61,7 @@ item-holds P s octet at limit room refused read =
     (λ _. four)))))
     (λ _. seven))
     (λ a. cond-holds Q (formAllowed octet)
-    (λ b. read deep octet (at + 1) (in-one (eqb-false (number octet) 31 a) b))
+    (λ b. read deep octet (at + 1) (in-one (eqb-false (numberBits octet) 31 a) b))
     (λ _. five)))
 
 -- the place past a type field
@@ -79,7 +79,7 @@ pub field-ends : (s : List ℕ) (octet at limit : ℕ) → FieldEnds at (fieldAt
 field-ends s octet at limit =
     let P = FieldEnds at in
     let second = octetAt s (at + 1) in
-    cond-holds P (eqb (number octet) 31)
+    cond-holds P (eqb (numberBits octet) 31)
     (λ _. cond-holds P (ltb (at + 1) limit)
     (λ _. cond-holds P (ltb second 31) (λ _. tt)
     (λ _. cond-holds P (ltb second 0x80) (λ _. cond-holds P (isIn octet aboveThirty) (λ _. omega arith) (λ _. tt))
@@ -98,7 +98,7 @@ pub record Lies (at limit room : ℕ) (h : Header) : Type 0 where
   pub order : h .start ≤ h .bound
   pub within : h .bound ≤ limit
   pub deep : 0 < room
-  pub mark : h .marked ≡ true → constructed (h .octet) ≡ true
+  pub mark : h .marked ≡ true → constructed (h .code) ≡ true
 
 abbrev pub HeadOk : (at limit room : ℕ) → Head → Type 0
 HeadOk at limit room (Item h) = Lies at limit room h
@@ -106,37 +106,37 @@ HeadOk at limit room ClosingMark = at + 2 ≤ limit
 HeadOk at limit room (Refusal number place) = Unit {0}
 
 module _ (s : List ℕ) (at limit room : ℕ) where
-  definite-ok : (octet start len : ℕ) → at + 2 ≤ start → 0 < room → HeadOk at limit room (definiteAt octet at start len limit)
+  definite-ok : (code start len : ℕ) → at + 2 ≤ start → 0 < room → HeadOk at limit room (definiteAt code at start len limit)
   unfolding definiteAt
-  definite-ok octet start len h r =
+  definite-ok code start len h r =
       cond-holds (HeadOk at limit room) (leb (start + len) limit)
-      (λ e. cond-holds (HeadOk at limit room) (misfits octet len) (λ _. tt)
+      (λ e. cond-holds (HeadOk at limit room) (misfits code len) (λ _. tt)
       (λ _. record { header = h; order = omega arith; within = leb-true _ _ e; deep = r; mark = λ m. absurd (false≢true m) }))
       (λ _. tt)
 
-  indefinite-ok : (octet from : ℕ) → at < from → from < limit → 0 < room → HeadOk at limit room (indefiniteAt octet at from limit)
+  indefinite-ok : (code from : ℕ) → at < from → from < limit → 0 < room → HeadOk at limit room (indefiniteAt code at from limit)
   unfolding indefiniteAt
-  indefinite-ok octet from a h r =
-      cond-holds (HeadOk at limit room) (constructed octet)
+  indefinite-ok code from a h r =
+      cond-holds (HeadOk at limit room) (constructed code)
       (λ e. record { header = omega arith; order = omega arith; within = omega arith; deep = r; mark = λ _. e })
       (λ _. tt)
 
-  long-ok : (octet from k : ℕ) → at < from → 0 < room → HeadOk at limit room (longAt s octet at from k limit)
+  long-ok : (code from k : ℕ) → at < from → 0 < room → HeadOk at limit room (longAt s code at from k limit)
   unfolding longAt
-  long-ok octet from k a r =
-      cond-holds (HeadOk at limit room) (leb (from + 1 + k) limit) (λ _. definite-ok octet (from + 1 + k) _ (omega arith) r) (λ _. tt)
+  long-ok code from k a r =
+      cond-holds (HeadOk at limit room) (leb (from + 1 + k) limit) (λ _. definite-ok code (from + 1 + k) _ (omega arith) r) (λ _. tt)
 
-  first-ok : (octet from first : ℕ) → at < from → from < limit → 0 < room → HeadOk at limit room (byFirst s octet at from first limit)
+  first-ok : (code from first : ℕ) → at < from → from < limit → 0 < room → HeadOk at limit room (byFirst s code at from first limit)
   unfolding byFirst
-  first-ok octet from first a h r =
-      cond-holds (HeadOk at limit room) (ltb first 0x80) (λ _. definite-ok octet (from + 1) first (omega arith) r)
-      (λ _. cond-holds (HeadOk at limit room) (eqb first 0x80) (λ _. indefinite-ok octet from a h r)
-      (λ _. cond-holds (HeadOk at limit room) (ltb first 0x85) (λ _. long-ok octet from (first - 0x80) a r) (λ _. tt)))
+  first-ok code from first a h r =
+      cond-holds (HeadOk at limit room) (ltb first 0x80) (λ _. definite-ok code (from + 1) first (omega arith) r)
+      (λ _. cond-holds (HeadOk at limit room) (eqb first 0x80) (λ _. indefinite-ok code from a h r)
+      (λ _. cond-holds (HeadOk at limit room) (ltb first 0x85) (λ _. long-ok code from (first - 0x80) a r) (λ _. tt)))
 
-  length-ok : (octet from : ℕ) → at < from → 0 < room → HeadOk at limit room (lengthAt s octet at from limit)
+  length-ok : (code from : ℕ) → at < from → 0 < room → HeadOk at limit room (lengthAt s code at from limit)
   unfolding lengthAt
-  length-ok octet from a r =
-      cond-holds (HeadOk at limit room) (ltb from limit) (λ e. first-ok octet from _ a (ltb-true _ _ e) r) (λ _. tt)
+  length-ok code from a r =
+      cond-holds (HeadOk at limit room) (ltb from limit) (λ e. first-ok code from _ a (ltb-true _ _ e) r) (λ _. tt)
 
   item-ok : (octet : ℕ) → HeadOk at limit room (itemAt s octet at limit room)
   item-ok octet =

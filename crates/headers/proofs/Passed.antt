@@ -8,13 +8,13 @@ use lib.Dec.{leb, ltb, eqb}
 use borrow.Author.Tests.{leb-true, ltb-true, eq-eqb, ne-eqb, lt-ltb, le-ltb}
 use Rattle.headers.specs.declared.Head.{Head}
 use Rattle.headers.specs.declared.Head.the-variants.{Item, ClosingMark}
-use Rattle.headers.specs.Head.{number, constructed, numberOf, misfits, octetAt, definiteAt, indefiniteAt, byFirst, lengthAt, closingAt, headAt, Passed}
+use Rattle.headers.specs.Head.{numberBits, constructed, typeNumber, misfits, octetAt, definiteAt, indefiniteAt, byFirst, lengthAt, closingAt, headAt, Passed}
 use Rattle.headers.proofs.Lies.{FieldRead, in-one, in-two, in-three, item-holds}
 use Rattle.laws.proofs.Tests.{cond-holds}
 
 -- a header with a definite length, from start on
 abbrev pub definite : (octet start n : ℕ) → Head
-definite octet start n = Item (record { octet = octet; number = numberOf octet; start = start; bound = start + n; marked = false })
+definite octet start n = Item (record { code = octet; number = typeNumber octet; start = start; bound = start + n; marked = false })
 
 module _ (s : List ℕ) (at limit : ℕ) (marked : Bool) (room : ℕ) where
   -- a 00 is a closing mark
@@ -37,49 +37,49 @@ module _ (s : List ℕ) (at limit : ℕ) (marked : Bool) (room : ℕ) where
 
 -- which type field was passed: the first octet tells whether it is one octet
 module _ (s : List ℕ) (octet at limit : ℕ) where
-  one-field : {code past : ℕ} → FieldRead s octet at limit code past → (number octet ≡ 31 → ⊥)
+  one-field : {code past : ℕ} → FieldRead s octet at limit code past → (numberBits octet ≡ 31 → ⊥)
       → lengthAt s code at past limit ≡ lengthAt s octet at (at + 1) limit
   one-field (in-one n f) ne = refl
   one-field (in-two n f l a b) ne = absurd (ne n)
   one-field (in-three n f l a b c) ne = absurd (ne n)
 
 module _ (s : List ℕ) (at limit : ℕ) (marked : Bool) (room : ℕ) (p : Passed (headAt s at limit marked room)) where
-  pub passed-one : (octetAt s at ≡ 0 → ⊥) → (number (octetAt s at) ≡ 31 → ⊥)
+  pub passed-one : (octetAt s at ≡ 0 → ⊥) → (numberBits (octetAt s at) ≡ 31 → ⊥)
       → headAt s at limit marked room ≡ lengthAt s (octetAt s at) at (at + 1) limit
   passed-one n o =
       let (code, past, f, e) = passed-item s at limit marked room n p in
       e ∙ one-field s (octetAt s at) at limit f o
 
-module _ (s : List ℕ) (octet at from limit : ℕ) where
+module _ (s : List ℕ) (code at from limit : ℕ) where
   -- the first length octet decides
-  pub passed-first : Passed (lengthAt s octet at from limit)
-      → (lengthAt s octet at from limit ≡ byFirst s octet at from (octetAt s from) limit) × (from < limit)
+  pub passed-first : Passed (lengthAt s code at from limit)
+      → (lengthAt s code at from limit ≡ byFirst s code at from (octetAt s from) limit) × (from < limit)
   unfolding lengthAt
   passed-first =
-      let P : Head → Type 0 = λ x. Passed x → (x ≡ byFirst s octet at from (octetAt s from) limit) × (from < limit) in
+      let P : Head → Type 0 = λ x. Passed x → (x ≡ byFirst s code at from (octetAt s from) limit) × (from < limit) in
       cond-holds P (ltb from limit) (λ e _. (refl, ltb-true _ _ e)) (λ _ p. absurd p)
 
-  passed-definite : (start n : ℕ) → Passed (definiteAt octet at start n limit) → (definiteAt octet at start n limit ≡ definite octet start n) × (start + n ≤ limit)
+  passed-definite : (start n : ℕ) → Passed (definiteAt code at start n limit) → (definiteAt code at start n limit ≡ definite code start n) × (start + n ≤ limit)
   unfolding definiteAt
   passed-definite start n =
-      let P : Head → Type 0 = λ x. Passed x → (x ≡ definite octet start n) × (start + n ≤ limit) in
-      cond-holds P (leb (start + n) limit) (λ e. cond-holds P (misfits octet n) (λ _ p. absurd p) (λ _ _. (refl, leb-true _ _ e))) (λ _ p. absurd p)
+      let P : Head → Type 0 = λ x. Passed x → (x ≡ definite code start n) × (start + n ≤ limit) in
+      cond-holds P (leb (start + n) limit) (λ e. cond-holds P (misfits code n) (λ _ p. absurd p) (λ _ _. (refl, leb-true _ _ e))) (λ _ p. absurd p)
 
-  pub passed-short : (first : ℕ) → first < 0x80 → Passed (byFirst s octet at from first limit)
-      → (byFirst s octet at from first limit ≡ definite octet (from + 1) first) × (from + 1 + first ≤ limit)
+  pub passed-short : (first : ℕ) → first < 0x80 → Passed (byFirst s code at from first limit)
+      → (byFirst s code at from first limit ≡ definite code (from + 1) first) × (from + 1 + first ≤ limit)
   unfolding byFirst
   passed-short first l = rw (lt-ltb first 0x80 l) (passed-definite (from + 1) first)
 
-  pub passed-open : (first : ℕ) → first ≡ 0x80 → Passed (byFirst s octet at from first limit)
-      → byFirst s octet at from first limit ≡ Item (record { octet = octet; number = numberOf octet; start = from + 1; bound = limit; marked = true })
+  pub passed-open : (first : ℕ) → first ≡ 0x80 → Passed (byFirst s code at from first limit)
+      → byFirst s code at from first limit ≡ Item (record { code = code; number = typeNumber code; start = from + 1; bound = limit; marked = true })
   unfolding byFirst indefiniteAt
   passed-open first e =
-      let P : Head → Type 0 = λ x. Passed x → x ≡ Item (record { octet = octet; number = numberOf octet; start = from + 1; bound = limit; marked = true }) in
-      rw (le-ltb first 0x80 (omega arith), eq-eqb first 0x80 e) (cond-holds P (constructed octet) (λ _ _. refl) (λ _ p. absurd p))
+      let P : Head → Type 0 = λ x. Passed x → x ≡ Item (record { code = code; number = typeNumber code; start = from + 1; bound = limit; marked = true }) in
+      rw (le-ltb first 0x80 (omega arith), eq-eqb first 0x80 e) (cond-holds P (constructed code) (λ _ _. refl) (λ _ p. absurd p))
 
 -- an item with one type octet: the octet after it is within the limit, and decides
 pub passed-decided : (s : List ℕ) (at limit : ℕ) (marked : Bool) (room : ℕ) → Passed (headAt s at limit marked room) → (octetAt s at ≡ 0 → ⊥)
-    → (number (octetAt s at) ≡ 31 → ⊥) →
+    → (numberBits (octetAt s at) ≡ 31 → ⊥) →
     let by = byFirst s (octetAt s at) at (at + 1) (octetAt s (at + 1)) limit in
     (headAt s at limit marked room ≡ by) × (at + 1 < limit) × Passed by
 passed-decided s at limit marked room p n o =

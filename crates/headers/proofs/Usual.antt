@@ -6,41 +6,41 @@ use Prim.Native.Nat.{ℕ, _%_, _<_, _≤_}
 use native.Mathlib.Omega.{arith}
 use lib.Dec.{eqb}
 use borrow.Author.Tests.{le-ltb, ne-eqb, eqb-true, eqb-false, not-true}
-use Rattle.headers.specs.Head.{number, permits, formAllowed, misfits}
+use Rattle.headers.specs.Head.{numberBits, permits, formAllowed, misfits}
 
 abbrev pub Good : (octet len : ℕ) → Type 0
-Good octet len = (octet ≡ 0 → ⊥) × (number octet ≡ 31 → ⊥) × (formAllowed octet ≡ true) × (misfits octet len ≡ false)
+Good octet len = (octet ≡ 0 → ⊥) × (numberBits octet ≡ 31 → ⊥) × (formAllowed octet ≡ true) × (misfits octet len ≡ false)
 
-pub good-integer : (octet len : ℕ) → octet ≡ 2 → not (eqb len 0) ≡ true → Good octet len
+pub good-integer : (code len : ℕ) → code ≡ 2 → not (eqb len 0) ≡ true → Good code len
 unfolding permits formAllowed misfits
-good-integer octet len e p = rw e (λ z. omega arith, λ z. omega arith, refl, not-true _ p)
+good-integer code len e p = rw e (λ z. omega arith, λ z. omega arith, refl, not-true _ p)
 
-pub good-null : (octet len : ℕ) → octet ≡ 5 → eqb len 0 ≡ true → Good octet len
+pub good-null : (code len : ℕ) → code ≡ 5 → eqb len 0 ≡ true → Good code len
 unfolding permits formAllowed misfits
-good-null octet len e p = rw (e, p) (λ z. omega arith, λ z. omega arith, refl, refl)
+good-null code len e p = rw (e, p) (λ z. omega arith, λ z. omega arith, refl, refl)
 
-pub good-string : (octet len : ℕ) → (octet ≡ 4) ⊎ (octet ≡ 18) → Good octet len
+pub good-string : (code len : ℕ) → (code ≡ 4) ⊎ (code ≡ 18) → Good code len
 unfolding permits formAllowed misfits
-good-string octet len (inl e) = rw e (λ z. omega arith, λ z. omega arith, refl, refl)
-good-string octet len (inr e) = rw e (λ z. omega arith, λ z. omega arith, refl, refl)
+good-string code len (inl e) = rw e (λ z. omega arith, λ z. omega arith, refl, refl)
+good-string code len (inr e) = rw e (λ z. omega arith, λ z. omega arith, refl, refl)
 
 in-two : (octet : ℕ) → 48 ≤ octet → octet < 50 → (b : Bool) → eqb octet 48 ≡ b → (octet ≡ 48) ⊎ (octet ≡ 49)
 in-two octet l h true e = inl (eqb-true _ _ e)
 in-two octet l h false e = let n = eqb-false octet 48 e in inr (omega arith)
 
-good-of : (octet len : ℕ) → (octet ≡ 48) ⊎ (octet ≡ 49) → Good octet len
+good-of : (code len : ℕ) → (code ≡ 48) ⊎ (code ≡ 49) → Good code len
 unfolding permits formAllowed misfits
-good-of octet len (inl e) = rw e (λ z. omega arith, λ z. omega arith, refl, refl)
-good-of octet len (inr e) = rw e (λ z. omega arith, λ z. omega arith, refl, refl)
+good-of code len (inl e) = rw e (λ z. omega arith, λ z. omega arith, refl, refl)
+good-of code len (inr e) = rw e (λ z. omega arith, λ z. omega arith, refl, refl)
 
-pub good-sequence : (octet len : ℕ) → 48 ≤ octet → octet < 50 → Good octet len
-good-sequence octet len l h = good-of octet len (in-two octet l h (eqb octet 48) refl)
+pub good-sequence : (code len : ℕ) → 48 ≤ code → code < 50 → Good code len
+good-sequence code len l h = good-of code len (in-two code l h (eqb code 48) refl)
 
-pub good-other : (octet len : ℕ) → 64 ≤ octet → not (eqb (octet % 32) 31) ≡ true → Good octet len
+pub good-other : (code len : ℕ) → 64 ≤ code → not (eqb (code % 32) 31) ≡ true → Good code len
 unfolding formAllowed misfits
-good-other octet len l p = (
+good-other code len l p = (
   λ z. omega arith,
   eqb-false _ _ (not-true _ p),
-  simp (le-ltb octet 64 l),
-  simp (ne-eqb octet 1 (λ z. omega arith), ne-eqb octet 5 (λ z. omega arith), ne-eqb octet 2 (λ z. omega arith), ne-eqb octet 10 (λ z. omega arith)),
+  simp (le-ltb code 64 l),
+  simp (ne-eqb code 1 (λ z. omega arith), ne-eqb code 5 (λ z. omega arith), ne-eqb code 2 (λ z. omega arith), ne-eqb code 10 (λ z. omega arith)),
 )

@@ -8,7 +8,7 @@ use mathlib.Core.Path.{_≡_}
 use mathlib.Core.Bool.{Bool, true, false}
 use mathlib.Core.List.{List}
 use lib.ListN.{drop, take}
-use Rattle.headers.specs.Head.{number, constructed, isIn, formAllowed, aboveThirty, bigEndian, misfits, octetAt}
+use Rattle.headers.specs.Head.{numberBits, constructed, isIn, formAllowed, aboveThirty, bigEndian, misfits, octetAt}
 
 -- An item stands there: a 00 begins a closing mark, which "is no item".
 abbrev pub ItemThere : List ℕ → (at : ℕ) → Type 0
@@ -16,7 +16,7 @@ ItemThere s at = octetAt s at ≡ 0 → ⊥
 
 -- "number bits 11111": the number stands in the octets after the first
 abbrev pub LongNumber : List ℕ → (at : ℕ) → Type 0
-LongNumber s at = number (octetAt s at) ≡ 31
+LongNumber s at = numberBits (octetAt s at) ≡ 31
 
 -- The type field is there, before the limit, and ends before `past`: one octet, or "at most two octets after the first, .. bit 8 set on all
 -- but the last".

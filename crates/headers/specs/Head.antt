@@ -21,8 +21,8 @@ abbrev pub constructed : ℕ → Bool
 constructed octet = eqb (octet / 32 % 2) 1
 
 -- "number in bits 5 to 1", of the first octet
-abbrev pub number : ℕ → ℕ
-number octet = octet % 32
+abbrev pub numberBits : ℕ → ℕ
+numberBits octet = octet % 32
 
 -- whether n is one of a list
 abbrev pub isIn : ℕ → List ℕ → Bool
@@ -48,7 +48,7 @@ permits n false = isIn n primitiveOnly || isIn n eitherForm
 
 -- "Universal numbers have a fixed table .. for their form .. Other classes may have either form."
 unfoldable pub formAllowed : ℕ → Bool
-formAllowed octet = cond (universal octet) (permits (number octet) (constructed octet)) true
+formAllowed octet = cond (universal octet) (permits (numberBits octet) (constructed octet)) true
 
 -- The octets with number bits 11111 whose class is not universal: "5 also for a universal number above 30".
 abbrev pub aboveThirty : List ℕ
@@ -65,15 +65,15 @@ fieldAfter first rest = cond (ltb rest 0x80) (first ∷ rest ∷ []) (first ∷ 
 
 -- the type field that a code stands for: more octets follow where the number bits are 11111
 abbrev pub typeField : (code : ℕ) → List ℕ
-typeField code = cond (eqb (number code) 31) (fieldAfter (code % 256) (code / 256)) (code ∷ [])
+typeField code = cond (eqb (numberBits code) 31) (fieldAfter (code % 256) (code / 256)) (code ∷ [])
 
 -- "seven bits each, bit 8 set on all but the last"
 abbrev pub numberAfter : (rest : ℕ) → ℕ
 numberAfter rest = cond (ltb rest 0x80) rest (rest % 128 * 128 + rest / 256)
 
 -- the number of a type field: that of its first octet, or of those after it
-abbrev pub numberOf : (code : ℕ) → ℕ
-numberOf code = cond (eqb (number code) 31) (numberAfter (code / 256)) (number code)
+abbrev pub typeNumber : (code : ℕ) → ℕ
+typeNumber code = cond (eqb (numberBits code) 31) (numberAfter (code / 256)) (numberBits code)
 
 -- the number whose octets go on with these, where those before them are n
 unfoldable pub bigEndianFrom : ℕ → List ℕ → ℕ
@@ -84,48 +84,48 @@ bigEndianFrom n (x ∷ xs) = bigEndianFrom (n * 256 + x) xs
 abbrev pub bigEndian : List ℕ → ℕ
 bigEndian xs = bigEndianFrom 0 xs
 
--- "universal primitive: 1 not one octet, 5 not empty, 2 or 10 empty". Such an item's octet is its number.
-unfoldable pub misfits : (octet len : ℕ) → Bool
-misfits octet len =
-    cond (eqb octet 1) (not (eqb len 1))
-    (cond (eqb octet 5) (not (eqb len 0))
-    (cond (eqb octet 2) (eqb len 0)
-    (cond (eqb octet 10) (eqb len 0) false)))
+-- "universal primitive: 1 not one octet, 5 not empty, 2 or 10 empty". Such an item's code is its number.
+unfoldable pub misfits : (code len : ℕ) → Bool
+misfits code len =
+    cond (eqb code 1) (not (eqb len 1))
+    (cond (eqb code 5) (not (eqb len 0))
+    (cond (eqb code 2) (eqb len 0)
+    (cond (eqb code 10) (eqb len 0) false)))
 
 -- the octet at a position
 abbrev pub octetAt : List ℕ → ℕ → ℕ
 octetAt s at = getD s at 0
 
 -- A definite item, whose value of len octets starts at start: 7 if the value passes the limit, 8 if its length is wrong.
-unfoldable pub definiteAt : (octet at start len limit : ℕ) → Head
-definiteAt octet at start len limit =
+unfoldable pub definiteAt : (code at start len limit : ℕ) → Head
+definiteAt code at start len limit =
     cond (leb (start + len) limit)
-    (cond (misfits octet len) (Refusal 8 at)
-    (Item (record { octet = octet; number = numberOf octet; start = start; bound = start + len; marked = false })))
+    (cond (misfits code len) (Refusal 8 at)
+    (Item (record { code = code; number = typeNumber code; start = start; bound = start + len; marked = false })))
     (Refusal 7 at)
 
 -- An item with the length octet 80, at `from`: indefinite; 6 "80 on a primitive".
-unfoldable pub indefiniteAt : (octet at from limit : ℕ) → Head
-indefiniteAt octet at from limit =
-    cond (constructed octet) (Item (record { octet = octet; number = numberOf octet; start = from + 1; bound = limit; marked = true })) (Refusal 6 at)
+unfoldable pub indefiniteAt : (code at from limit : ℕ) → Head
+indefiniteAt code at from limit =
+    cond (constructed code) (Item (record { code = code; number = typeNumber code; start = from + 1; bound = limit; marked = true })) (Refusal 6 at)
 
 -- An item with k length octets after the first, which is at `from`: 7 if one of them passes the limit.
-unfoldable pub longAt : List ℕ → (octet at from k limit : ℕ) → Head
-longAt s octet at from k limit =
-    cond (leb (from + 1 + k) limit) (definiteAt octet at (from + 1 + k) (bigEndian (take k (drop (from + 1) s))) limit) (Refusal 7 at)
+unfoldable pub longAt : List ℕ → (code at from k limit : ℕ) → Head
+longAt s code at from k limit =
+    cond (leb (from + 1 + k) limit) (definiteAt code at (from + 1 + k) (bigEndian (take k (drop (from + 1) s))) limit) (Refusal 7 at)
 
 -- "The first length octet decides: 00 to 7F is the length; 80 is indefinite; 81 to 84 say how many length octets follow ..;
 -- 85 to FF are refused", by 6.
-unfoldable pub byFirst : List ℕ → (octet at from first limit : ℕ) → Head
-byFirst s octet at from first limit =
-    cond (ltb first 0x80) (definiteAt octet at (from + 1) first limit)
-    (cond (eqb first 0x80) (indefiniteAt octet at from limit)
-    (cond (ltb first 0x85) (longAt s octet at from (first - 0x80) limit)
+unfoldable pub byFirst : List ℕ → (code at from first limit : ℕ) → Head
+byFirst s code at from first limit =
+    cond (ltb first 0x80) (definiteAt code at (from + 1) first limit)
+    (cond (eqb first 0x80) (indefiniteAt code at from limit)
+    (cond (ltb first 0x85) (longAt s code at from (first - 0x80) limit)
     (Refusal 6 at)))
 
 -- The length octets, from `from` on: 7 if the first of them passes the limit.
-unfoldable pub lengthAt : List ℕ → (octet at from limit : ℕ) → Head
-lengthAt s octet at from limit = cond (ltb from limit) (byFirst s octet at from (octetAt s from) limit) (Refusal 7 at)
+unfoldable pub lengthAt : List ℕ → (code at from limit : ℕ) → Head
+lengthAt s code at from limit = cond (ltb from limit) (byFirst s code at from (octetAt s from) limit) (Refusal 7 at)
 
 -- A type field whose number was read: 5 "for a universal number above 30, read whole".
 abbrev pub numberedField : (first code past : ℕ) → Field
@@ -153,13 +153,13 @@ longField s first at limit = cond (ltb (at + 1) limit) (bySecond s first (octetA
 -- The type field at `at`, which begins with this octet: 5 "universal form not in the table".
 abbrev pub fieldAt : List ℕ → (octet at limit : ℕ) → Field
 fieldAt s octet at limit =
-    cond (eqb (number octet) 31) (longField s octet at limit)
+    cond (eqb (numberBits octet) 31) (longField s octet at limit)
     (cond (formAllowed octet) (Read octet (at + 1))
     (Wrong 5))
 
 -- what follows a type field: the length octets
 abbrev pub afterField : List ℕ → (at limit : ℕ) → Field → Head
-afterField s at limit (Read octet past) = lengthAt s octet at past limit
+afterField s at limit (Read code past) = lengthAt s code at past limit
 afterField s at limit (Wrong number) = Refusal number at
 
 -- An item: 3 "item at level 17", then its type field and its length octets.

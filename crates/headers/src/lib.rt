@@ -3,17 +3,17 @@ ghost use mathlib.Core.Path.{_≡_};
 ghost use mathlib.Core.Bool.{true, false};
 ghost use Prim.Native.Nat.{_+_, _<_, _≤_, min};
 ghost use lib.ListN.{length, take, drop};
-ghost use Rattle.headers.specs.Head.{number, formAllowed, typeField, misfits, bigEndian, definiteAt, indefiniteAt, longAt, lengthAt, closingAt};
+ghost use Rattle.headers.specs.Head.{numberBits, formAllowed, typeField, misfits, bigEndian, definiteAt, indefiniteAt, longAt, lengthAt, closingAt};
 ghost use Rattle.headers.specs.Head.{headAt, Passed};
 
 mod types; // types.rt: the type field
 
-// A header that passed. `octet` is the code of its type field: its first octet, and 256 times the octets after it; `number` is the number
+// A header that passed. `code` is that of its type field: its first octet, and 256 times the octets after it; `number` is the number
 // that the field says. The value starts at `start`. A definite value ends at `bound`; an indefinite one (`marked`) ends at its
-// closing mark, before `bound`, which is then the limit. (The octet is as wide as the rest: a narrow field of an enum goes through
+// closing mark, before `bound`, which is then the limit. (The code is as wide as the rest: a narrow field of an enum goes through
 // memory where two paths meet.)
 pub struct Header {
-    pub octet: usize,
+    pub code: usize,
     pub number: usize,
     pub start: usize,
     pub bound: usize,
@@ -29,15 +29,15 @@ pub enum Head {
 
 // The type field at a place: what an item holds of it, and the place past it; or the number of a refusal.
 pub enum Field {
-    Read { octet: usize, past: usize },
+    Read { code: usize, past: usize },
     Wrong { number: usize },
 }
 
 // How many octets a type field has.
-pub fn field_size(octet: usize) -> usize
-    ensures { λ r. ⌜ r ≡ length (typeField octet) ⌝ }
+pub fn field_size(code: usize) -> usize
+    ensures { λ r. ⌜ r ≡ length (typeField code) ⌝ }
 {
-    types::size_of(octet)
+    types::size_of(code)
 }
 
 fn wide(x: u8) -> usize
@@ -61,10 +61,10 @@ fn big_endian(s: &[u8], from: usize, k: usize) -> usize
     n
 }
 
-fn is_misfit(octet: usize, len: usize) -> bool
-    ensures { λ r. ⌜ r ≡ misfits octet len ⌝ }
+fn is_misfit(code: usize, len: usize) -> bool
+    ensures { λ r. ⌜ r ≡ misfits code len ⌝ }
 {
-    match octet {
+    match code {
         1 => len != 1,
         5 => len != 0,
         2 | 10 => len == 0,
@@ -72,9 +72,9 @@ fn is_misfit(octet: usize, len: usize) -> bool
     }
 }
 
-fn definite_at(octet: usize, at: usize, start: usize, len: usize, limit: usize) -> Head
+fn definite_at(code: usize, at: usize, start: usize, len: usize, limit: usize) -> Head
     requires { ⌜ start ≤ limit ⌝ }
-    ensures { λ r. ⌜ r ≡ definiteAt octet at start len limit ⌝ }
+    ensures { λ r. ⌜ r ≡ definiteAt code at start len limit ⌝ }
 {
     if limit - start < len {
         return Head::Refusal {
@@ -82,43 +82,43 @@ fn definite_at(octet: usize, at: usize, start: usize, len: usize, limit: usize) 
             place: at,
         };
     }
-    if is_misfit(octet, len) {
+    if is_misfit(code, len) {
         return Head::Refusal {
             number: 8,
             place: at,
         };
     }
     Head::Item(Header {
-        octet,
-        number: types::number_of(octet),
+        code,
+        number: types::number_of(code),
         start,
         bound: start + len,
         marked: false,
     })
 }
 
-fn indefinite_at(octet: usize, at: usize, from: usize, limit: usize) -> Head
+fn indefinite_at(code: usize, at: usize, from: usize, limit: usize) -> Head
     requires { ⌜ from < limit ⌝ }
-    ensures { λ r. ⌜ r ≡ indefiniteAt octet at from limit ⌝ }
+    ensures { λ r. ⌜ r ≡ indefiniteAt code at from limit ⌝ }
 {
-    if octet / 32 % 2 != 1 {
+    if code / 32 % 2 != 1 {
         return Head::Refusal {
             number: 6,
             place: at,
         };
     }
     Head::Item(Header {
-        octet,
-        number: types::number_of(octet),
+        code,
+        number: types::number_of(code),
         start: from + 1,
         bound: limit,
         marked: true,
     })
 }
 
-fn long_at(s: &[u8], octet: usize, at: usize, from: usize, k: usize, limit: usize) -> Head
+fn long_at(s: &[u8], code: usize, at: usize, from: usize, k: usize, limit: usize) -> Head
     requires { ⌜ (from < limit) × (min limit (from + 5) ≤ length (now s)) × (k ≤ 4) ⌝ }
-    ensures { λ r. ⌜ r ≡ longAt (now (s .entry)) octet at from k limit ⌝ }
+    ensures { λ r. ⌜ r ≡ longAt (now (s .entry)) code at from k limit ⌝ }
 {
     let first = from + 1;
     if limit - first < k {
@@ -127,13 +127,13 @@ fn long_at(s: &[u8], octet: usize, at: usize, from: usize, k: usize, limit: usiz
             place: at,
         };
     }
-    definite_at(octet, at, first + k, big_endian(s, first, k), limit)
+    definite_at(code, at, first + k, big_endian(s, first, k), limit)
 }
 
 // The length octets of the item at `at`, from `from` on, which is the place past its type field.
-fn length_at(s: &[u8], octet: usize, at: usize, from: usize, limit: usize) -> Head
+fn length_at(s: &[u8], code: usize, at: usize, from: usize, limit: usize) -> Head
     requires { ⌜ min limit (from + 5) ≤ length (now s) ⌝ }
-    ensures { λ r. ⌜ r ≡ lengthAt (now (s .entry)) octet at from limit ⌝ }
+    ensures { λ r. ⌜ r ≡ lengthAt (now (s .entry)) code at from limit ⌝ }
 {
     if limit <= from {
         return Head::Refusal {
@@ -143,9 +143,9 @@ fn length_at(s: &[u8], octet: usize, at: usize, from: usize, limit: usize) -> He
     }
     let first = s[from];
     match first {
-        0x00..=0x7F => definite_at(octet, at, from + 1, wide(first), limit),
-        0x80 => indefinite_at(octet, at, from, limit),
-        0x81..=0x84 => long_at(s, octet, at, from, wide(first - 0x80), limit),
+        0x00..=0x7F => definite_at(code, at, from + 1, wide(first), limit),
+        0x80 => indefinite_at(code, at, from, limit),
+        0x81..=0x84 => long_at(s, code, at, from, wide(first - 0x80), limit),
         0x85..=0xFF => Head::Refusal {
             number: 6,
             place: at,
@@ -197,7 +197,7 @@ pub fn read_head(s: &[u8], at: usize, limit: usize, marked: bool, room: usize) -
         };
     }
     match types::field_at(s, octet, at, limit) {
-        Field::Read { octet, past } => length_at(s, octet, at, past, limit),
+        Field::Read { code, past } => length_at(s, code, at, past, limit),
         Field::Wrong { number } => Head::Refusal { number, place: at },
     }
 }
@@ -206,7 +206,7 @@ pub fn read_head(s: &[u8], at: usize, limit: usize, marked: bool, room: usize) -
 // among the octets that are left from there.
 fn is_usual(octet: u8, len: u8, left: usize, room: usize) -> bool
     ensures { λ r. ⌜ (r ≡ true → (0 < room) × (len < left) × (len < 128)
-        × ((octet ≡ 0 → ⊥) × (number octet ≡ 31 → ⊥) × (formAllowed octet ≡ true) × (misfits octet len ≡ false))) ⌝ }
+        × ((octet ≡ 0 → ⊥) × (numberBits octet ≡ 31 → ⊥) × (formAllowed octet ≡ true) × (misfits octet len ≡ false))) ⌝ }
 {
     if room == 0 {
         return false;
@@ -238,7 +238,7 @@ pub fn head_at(s: &[u8], at: usize, limit: usize, marked: bool, room: usize) -> 
         let len = s[next];
         if is_usual(octet, len, limit - next, room) {
             return Head::Item(Header {
-                octet: wide(octet),
+                code: wide(octet),
                 number: wide(octet % 32),
                 start: next + 1,
                 bound: next + 1 + wide(len),
@@ -261,7 +261,7 @@ pub fn head_apart(s: &[u8], at: usize, limit: usize, marked: bool, room: usize) 
         let len = s[next];
         if is_usual(octet, len, limit - next, room) {
             return Head::Item(Header {
-                octet: wide(octet),
+                code: wide(octet),
                 number: wide(octet % 32),
                 start: next + 1,
                 bound: next + 1 + wide(len),
@@ -289,7 +289,7 @@ pub fn passed_head(s: &[u8], at: usize, limit: usize, marked: bool, room: usize)
         let start = next + 1;
         if len < 0x80 {
             return Head::Item(Header {
-                octet: wide(octet),
+                code: wide(octet),
                 number: wide(octet % 32),
                 start,
                 bound: start + wide(len),
@@ -298,7 +298,7 @@ pub fn passed_head(s: &[u8], at: usize, limit: usize, marked: bool, room: usize)
         }
         if len == 0x80 {
             return Head::Item(Header {
-                octet: wide(octet),
+                code: wide(octet),
                 number: wide(octet % 32),
                 start,
                 bound: limit,

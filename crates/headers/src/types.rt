@@ -8,7 +8,8 @@ ghost use Prim.Native.Nat.{_+_, _<_, _≤_, min};
 ghost use lib.Dec.{ltb};
 ghost use lib.ListN.{length};
 ghost use Rattle.headers.specs.declared.Field.the-variants.{Wrong};
-ghost use Rattle.headers.specs.Head.{number, permits, formAllowed, codeOf, typeField, numberOf, numberedField, byThird, longField, fieldAt, octetAt};
+ghost use Rattle.headers.specs.Head.{numberBits, permits, formAllowed, codeOf, typeField, typeNumber, numberedField, byThird, longField, fieldAt};
+ghost use Rattle.headers.specs.Head.{octetAt};
 
 // The forms that each universal number may have: 0 never, 1 primitive, 2 constructed, 3 either.
 const FORMS: [u8; 31] = [
@@ -58,7 +59,7 @@ fn permitted(number: usize, constructed: bool) -> bool
 }
 
 fn form_allowed(octet: u8) -> bool
-    requires { ⌜ (number octet ≡ 31 → ⊥) ⌝ }
+    requires { ⌜ (numberBits octet ≡ 31 → ⊥) ⌝ }
     ensures { λ r. ⌜ r ≡ formAllowed octet ⌝ }
 {
     if octet < 64 {
@@ -69,7 +70,7 @@ fn form_allowed(octet: u8) -> bool
 
 // The number that a type field says.
 pub fn number_of(code: usize) -> usize
-    ensures { λ r. ⌜ r ≡ numberOf code ⌝ }
+    ensures { λ r. ⌜ r ≡ typeNumber code ⌝ }
 {
     if code % 32 != 31 {
         return code % 32;
@@ -106,7 +107,7 @@ fn numbered_field(first: u8, code: usize, past: usize) -> Field
     ensures { λ r. ⌜ r ≡ numberedField first code past ⌝ }
 {
     match first {
-        0x5F | 0x7F | 0x9F | 0xBF | 0xDF | 0xFF => Field::Read { octet: code, past },
+        0x5F | 0x7F | 0x9F | 0xBF | 0xDF | 0xFF => Field::Read { code, past },
         _ => Field::Wrong { number: 5 },
     }
 }
@@ -155,7 +156,7 @@ pub fn field_at(s: &[u8], octet: u8, at: usize, limit: usize) -> Field
     }
     if form_allowed(octet) {
         return Field::Read {
-            octet: wide(octet),
+            code: wide(octet),
             past: at + 1,
         };
     }

@@ -18,7 +18,7 @@ use Rattle.answers.proofs.Tabling.{cell-there, table-length}
 use Rattle.elements.specs.declared.Row.{Row}
 use Rattle.elements.specs.declared.Edition.the-variants.{Of1988}
 use Rattle.elements.specs.Judge.{Element}
-use Rattle.letters.specs.Letter.{Letter, letter, refusal}
+use Rattle.letters.specs.Letter.{Letter, letter, refusal, letterIn, rowsIn}
 use Rattle.letters.proofs.Apart.{accepted-apart}
 use Rattle.reading.specs.declared.Match.{Match}
 use Rattle.reading.specs.declared.Side.{Side}
@@ -26,7 +26,7 @@ use Rattle.reading.specs.Match.{matches}
 use Rattle.reading.proofs.Single.{no-more-than-elements}
 use Rattle.answers.specs.declared.Checked.{Checked}
 use Rattle.answers.specs.declared.Listed.{Listed}
-use Rattle.answers.specs.Answers.{letterIn, rowsIn, elementsBy, elementsIn, onto, tableOf, checked, checkedBy, matchesIn, CheckOutcome, ListOutcome}
+use Rattle.answers.specs.Answers.{elementsBy, elementsIn, onto, tableOf, checked, checkedBy, matchesIn, CheckOutcome, ListOutcome}
 use Rattle.answers.proofs.Small.{refusal-small}
 use Rattle.answers.proofs.Letters.{letter-found}
 use Rattle.demands.proofs.Demand2.{demand2}

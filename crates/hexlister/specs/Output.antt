@@ -16,7 +16,8 @@ use Rattle.reading.specs.declared.Match.{Match}
 use Rattle.reading.specs.declared.Side.{Side}
 use Rattle.reading.specs.declared.Side.the-variants.{Layout, Logical}
 use Rattle.answers.specs.declared.Checked.{Checked}
-use Rattle.answers.specs.Answers.{checked, rowsIn, matchesIn}
+use Rattle.letters.specs.Letter.{rowsIn}
+use Rattle.answers.specs.Answers.{checked, matchesIn}
 
 -- "It lends 1,024 table rows and 1,024 records"
 abbrev pub rowsLent : ℕ

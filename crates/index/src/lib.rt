@@ -5,12 +5,12 @@ ghost use Prim.Native.Nat.{_+_, _*_, _<_, _≤_};
 ghost use lib.ListN.{length};
 ghost use Rattle.names.specs.Asked.{spelling, AskedWithin};
 ghost use Rattle.names.specs.Hash.{hash, bucket};
-ghost use Rattle.index.specs.Rows.{rowWidth, nameSpaceOf};
+ghost use Rattle.index.specs.Rows.{scratchWidth, nameSpaceOf};
 ghost use Rattle.index.specs.Columns.{firstAt, pastAt, valueAt, Bounded};
 ghost use Rattle.index.specs.Index.{Indexed, Links, named, FindsRow};
 
 // Numbers a row, and where a row has the first of its element, of its identifier, of its logical identifier and of its portions.
-pub const ROW_WIDTH: usize = 12;
+pub const SCRATCH_WIDTH: usize = 12;
 
 pub const WHOLE: usize = 2;
 
@@ -52,14 +52,14 @@ pub fn space_of(kind: usize) -> u8
 
 // Whether row j is of the name space and has the name asked for.
 fn has(s: &[u8], rows: &[u32], column: usize, j: usize, space: u8, asked: Asked) -> bool
-    requires { ⌜ column + 1 < rowWidth ⌝ }
-    requires { ⌜ j * rowWidth + rowWidth ≤ length (now rows) ⌝ }
+    requires { ⌜ column + 1 < scratchWidth ⌝ }
+    requires { ⌜ j * scratchWidth + scratchWidth ≤ length (now rows) ⌝ }
     requires { ⌜ firstAt (now rows) column j ≤ pastAt (now rows) column j ⌝ }
     requires { ⌜ pastAt (now rows) column j ≤ length (now s) ⌝ }
     requires { ⌜ AskedWithin (now s) asked ⌝ }
     ensures { λ r. ⌜ r ≡ named (now (s .entry)) (now (rows .entry)) column space (spelling (now (s .entry)) asked) j ⌝ }
 {
-    let at = j * ROW_WIDTH;
+    let at = j * SCRATCH_WIDTH;
     let own = space_of(wide32(rows[at]));
     if own != space {
         return false;
@@ -119,7 +119,7 @@ pub fn insert(
     ensures { λ _. ⌜ Links (now (head .entry)) (now (next .entry)) (now (head .exit)) (now (next .exit))
         (bucket (length (now (head .entry))) hashed) n ⌝ }
 {
-    let at = n * ROW_WIDTH + column;
+    let at = n * SCRATCH_WIDTH + column;
     if rows[at] < rows[at + 1] {
         let b = names::bucket_of(head.len(), hashed);
         next[n] = head[b];

@@ -3,13 +3,13 @@
 use mathlib.Core.Path.{_≡_, refl, sym, ap, _∙_, subst}
 use mathlib.Core.Bool.{Bool, true, false, cond, _&&_}
 use mathlib.Core.List.{List, [], _∷_}
-use mathlib.Core.Option.{none as nowhere}
+use mathlib.Core.Option.{none}
 use Prim.Native.Nat.{ℕ, _%_, _≤_}
 use native.Mathlib.Omega.{arith}
 use lib.Dec.{eqb}
 use lib.ListN.{length}
 use Rattle.headers.specs.Head.{typeField}
-use Rattle.octets.specs.Walk.{none, Walked, ends}
+use Rattle.octets.specs.Walk.{noItems, Walked, ends}
 use Rattle.octets.specs.Rules.{at-limit}
 use Rattle.octets.proofs.RulesHold.{derived}
 use Rattle.tree.specs.Tree.{empty, plain}
@@ -23,7 +23,7 @@ use Rattle.elements.specs.declared.Edition.{Edition}
 use Rattle.elements.specs.declared.Row.{Row}
 use Rattle.elements.specs.Shape.{Contents, profile, described, unit, style, protected, ContentItem, whole, pieced, Shape}
 use Rattle.elements.specs.Judge.{single, holdersOf, contentIn, contentOf, Element, noType, bodyOf, elementOf, namesFit, shares, clash, twice, refusalOf}
-use Rattle.elements.specs.Rows.{holderIn, contentOctet, bodyIn, rowOf, noSpan}
+use Rattle.elements.specs.ElementRows.{holderIn, contentOctet, bodyIn, rowOf, noSpan}
 use Rattle.elements.specs.Says.{portionsRun, Says}
 use Rattle.judging.specs.declared.PlacedItem.{PlacedItem}
 use Rattle.judging.specs.Judges.{earlyRefusal, shapeBy, elementBy, MayBeBare, Passing}
@@ -34,9 +34,9 @@ use Rattle.judging.proofs.Steps.{refused-early, refused-last}
 abbrev bareElement : (octet : ℕ) → Element
 bareElement octet = record { kind = octet % 32; object = noType; identifier = absent; logical = absent; portions = []; content = single absent }
 
-abbrev bareRow : (octet first past : ℕ) → Row
-bareRow octet first past = record {
-  kind = octet % 32;
+abbrev bareRow : (code first past : ℕ) → Row
+bareRow code first past = record {
+  kind = code % 32;
   object = noType;
   whole = record { first = first; past = past };
   identifier = noSpan;
@@ -52,7 +52,7 @@ holds-nothing [] = refl
 holds-nothing (whole octet ∷ others) = holds-nothing others
 holds-nothing (pieced octet ∷ others) = holds-nothing others
 
-held-nowhere : (holders : List ContentItem) → holderIn holders empty ≡ nowhere
+held-nowhere : (holders : List ContentItem) → holderIn holders empty ≡ none
 unfolding amount
 held-nowhere [] = refl
 held-nowhere (holder ∷ others) = held-nowhere others
@@ -69,7 +69,7 @@ says-nothing : (shape : Shape) → elementOf shape empty ≡ bareElement (shape 
 says-nothing shape = says-nothing-by (shape .octet) (shape .contents)
 
 row-of-none-by : (octet : ℕ) (contents : Contents) (s : List ℕ) (first past : ℕ)
-    → rowOf (record { octet = octet; contents = contents }) s first past none ≡ bareRow octet first past
+    → rowOf (record { octet = octet; contents = contents }) s first past noItems ≡ bareRow octet first past
 unfolding rowOf bodyIn contentOctet itemsIn boundsOf
 row-of-none-by octet profile s first past = rw (says-nothing-by octet profile)
 row-of-none-by octet (described needed types) s first past = rw (says-nothing-by octet (described needed types))
@@ -79,7 +79,7 @@ row-of-none-by octet style s first past = rw (says-nothing-by octet style)
 row-of-none-by octet (protected enciphered) s first past =
     rw (says-nothing-by octet (protected enciphered), held-nowhere (holdersOf (protected enciphered)))
 
-row-of-none : (shape : Shape) (s : List ℕ) (first past : ℕ) → rowOf shape s first past none ≡ bareRow (shape .octet) first past
+row-of-none : (shape : Shape) (s : List ℕ) (first past : ℕ) → rowOf shape s first past noItems ≡ bareRow (shape .octet) first past
 row-of-none shape s first past = row-of-none-by (shape .octet) (shape .contents) s first past
 
 -- it shares no name
@@ -98,16 +98,16 @@ never-twice done octet =
     (λ j d e. rw (shares-absent (d .identifier), shares-absent (d .logical)) (and-false (eqb (nameSpaceOf (d .kind)) (nameSpaceOf (octet % 32))))))
 
 -- no portions stand between 0 and 0
-walked-nothing : (s : List ℕ) → walkIn s (portionsRun noSpan) ≡ record { items = none; how = ends 0 }
+walked-nothing : (s : List ℕ) → walkIn s (portionsRun noSpan) ≡ record { items = noItems; how = ends 0 }
 walked-nothing s = sym (derived (at-limit refl))
 
 nothing-fine : (s : List ℕ) → Fine s (portionsRun noSpan)
 nothing-fine s = record { order = omega arith; inside = omega arith; whole = subst (λ (w : Walked). Whole (w .how)) (sym (walked-nothing s)) tt }
 
-row-says : (s : List ℕ) (octet first past : ℕ) → Says s (bareRow octet first past) (bareElement octet)
+row-says : (s : List ℕ) (code first past : ℕ) → Says s (bareRow code first past) (bareElement code)
 unfolding allPortions values namesFit wellSpelt
-row-says s octet first past =
-    let nothing : itemsOf s (portionsRun noSpan) ≡ none = ap (λ (w : Walked). w .items) (walked-nothing s) in
+row-says s code first past =
+    let nothing : itemsOf s (portionsRun noSpan) ≡ noItems = ap (λ (w : Walked). w .items) (walked-nothing s) in
     record {
       kind = refl;
       object = refl;
@@ -121,25 +121,25 @@ row-says s octet first past =
     }
 
 -- rules 9 to 15 of an item in which nothing stands
-module _ (edition : Edition) (s : List ℕ) (done : List Element) (item : PlacedItem) (may : MayBeBare edition (item .octet)) (bare : itemsOf s (item .inner) ≡ none) where
+module _ (edition : Edition) (s : List ℕ) (done : List Element) (item : PlacedItem) (may : MayBeBare edition (item .code)) (bare : itemsOf s (item .inner) ≡ noItems) where
   abbrev early : ℕ
-  early = earlyRefusal (length done) (item .octet) (item .octet)
+  early = earlyRefusal (length done) (item .code) (item .code)
 
-  pub bare-refused : (n : ℕ) → n ≡ early → (n ≡ 0 → ⊥) → refusalOf edition done (typeField (item .octet)) (plain s (itemsOf s (item .inner))) ≡ n
-  bare-refused n e some = refused-early edition done (item .octet) (plain s (itemsOf s (item .inner))) n (rw (may .known) e) some
+  pub bare-refused : (n : ℕ) → n ≡ early → (n ≡ 0 → ⊥) → refusalOf edition done (typeField (item .code)) (plain s (itemsOf s (item .inner))) ≡ n
+  bare-refused n e some = refused-early edition done (item .code) (plain s (itemsOf s (item .inner))) n (rw (may .known) e) some
 
   module _ (passed : early ≡ 0) (order : item .first ≤ item .past) (inside : item .past ≤ length s) where
-    abbrev its-element : elementBy edition (item .octet) empty ≡ bareElement (item .octet)
-    its-element = says-nothing (shapeBy edition (item .octet)) ∙ ap bareElement (may .known)
+    abbrev its-element : elementBy edition (item .code) empty ≡ bareElement (item .code)
+    its-element = says-nothing (shapeBy edition (item .code)) ∙ ap bareElement (may .known)
 
-    pub bare-passes : Passing edition s done item (bareRow (item .octet) (item .first) (item .past)) (record { identifier = 0; logical = 0 })
+    pub bare-passes : Passing edition s done item (bareRow (item .code) (item .first) (item .past)) (record { identifier = 0; logical = 0 })
     unfolding hashFrom
     bare-passes =
         record {
           unrefused =
-              rw bare (refused-last edition done (item .octet) empty (rw (may .known) passed) (may .fits) false (rw its-element (never-twice done (item .octet))));
-          row-is = rw bare (sym (row-of-none (shapeBy edition (item .octet)) s (item .first) (item .past) ∙ ap (λ (o : ℕ). bareRow o (item .first) (item .past)) (may .known)));
-          says = rw (bare, its-element) (row-says s (item .octet) (item .first) (item .past));
+              rw bare (refused-last edition done (item .code) empty (rw (may .known) passed) (may .fits) false (rw its-element (never-twice done (item .code))));
+          row-is = rw bare (sym (row-of-none (shapeBy edition (item .code)) s (item .first) (item .past) ∙ ap (λ (o : ℕ). bareRow o (item .first) (item .past)) (may .known)));
+          says = rw (bare, its-element) (row-says s (item .code) (item .first) (item .past));
           placed = record {
             kind = omega arith;
             object = omega arith;

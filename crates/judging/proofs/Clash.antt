@@ -16,12 +16,12 @@ use Rattle.contents.specs.Search.{Value, absent, octets}
 use Rattle.portions.specs.Portions.{any, repeats}
 use Rattle.index.specs.declared.RowFound.{RowFound}
 use Rattle.index.specs.declared.RowFound.the-variants.{At, Nothing}
-use Rattle.index.specs.Rows.{rowWidth, nameSpaceOf}
+use Rattle.index.specs.Rows.{scratchWidth, nameSpaceOf}
 use Rattle.index.specs.Columns.{identifierColumn, logicalColumn, kindAt, firstAt, pastAt, valueAt, Bounded}
 use Rattle.index.specs.Index.{Has, FindsRow}
 use Rattle.elements.specs.declared.Row.{Row}
 use Rattle.elements.specs.Judge.{Element, shares, clash, twice}
-use Rattle.elements.specs.Rows.{cells, bytesIn}
+use Rattle.elements.specs.ElementRows.{cells, bytesIn}
 use Rattle.elements.specs.Says.{Names, Says}
 use Rattle.judging.specs.Done.{Keeps}
 use Rattle.judging.specs.Judges.{Taken}
@@ -74,7 +74,7 @@ not-true false n = refl
 module _ {s scratch head next head2 next2 : List ℕ} {n : ℕ} {table : List Row} {done : List Element}
     (holds : Keeps s scratch head next head2 next2 n table done) {row : Row} {e : Element} (says : Says s row e) where
   -- a column of the rows, the value that elements have there, and how the one bounds the other
-  module _ (column : ℕ) (in-row : column + 1 < rowWidth) (pair : Row → Span) (value : Element → Value)
+  module _ (column : ℕ) (in-row : column + 1 < scratchWidth) (pair : Row → Span) (value : Element → Value)
       (first-is : (r : Row) → getD (cells r) column 0 ≡ pair r .first) (past-is : (r : Row) → getD (cells r) (column + 1) 0 ≡ pair r .past)
       (names : (r : Row) (d : Element) → Says s r d → Names s (pair r) (value d)) where
     abbrev hit : Element → Bool

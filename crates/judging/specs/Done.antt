@@ -4,12 +4,12 @@ use mathlib.Core.Path.{_≡_}
 use mathlib.Core.List.{List, [], _∷_, _++_}
 use Prim.Native.Nat.{ℕ, _*_}
 use lib.ListN.{length, take}
-use Rattle.index.specs.Rows.{rowWidth}
+use Rattle.index.specs.Rows.{scratchWidth}
 use Rattle.index.specs.Columns.{identifierColumn, logicalColumn, Bounded}
 use Rattle.ordered.specs.Ordered.{Filed}
 use Rattle.elements.specs.declared.Row.{Row}
 use Rattle.elements.specs.Judge.{Element}
-use Rattle.elements.specs.Rows.{numbers}
+use Rattle.elements.specs.ElementRows.{numbers}
 use Rattle.elements.specs.Says.{Says}
 
 -- each row says what its element says
@@ -28,6 +28,6 @@ pub record Indexes (s scratch head next head2 next2 : List ℕ) (n : ℕ) : Type
 -- n elements are done: their rows are the scratch's first, and are indexed
 pub record Keeps (s scratch head next head2 next2 : List ℕ) (n : ℕ) (rows : List Row) (elements : List Element) : Type 0 where
   pub counted : length elements ≡ n
-  pub written : take (n * rowWidth) scratch ≡ numbers rows
+  pub written : take (n * scratchWidth) scratch ≡ numbers rows
   pub saying : Saying s rows elements
   pub indexes : Indexes s scratch head next head2 next2 n

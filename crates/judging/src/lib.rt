@@ -11,21 +11,21 @@ ghost use mathlib.Core.Bool.{true};
 ghost use mathlib.Core.List.{List};
 ghost use Prim.Native.Nat.{ℕ, _*_, _≤_};
 ghost use lib.ListN.{length, take};
-ghost use Rattle.octets.specs.Walk.{streamLimit, none};
+ghost use Rattle.octets.specs.Walk.{streamLimit, noItems};
 ghost use Rattle.runs.specs.Runs.{itemsOf, Fine};
 ghost use Rattle.names.specs.Hash.{hash};
 ghost use Rattle.portions.specs.Portions.{mostPortions};
 ghost use Rattle.portions.specs.Bounds.{bounded, Inside};
 ghost use Rattle.index.specs.Columns.{Bounded};
 ghost use Rattle.ordered.specs.Ordered.{Filed};
-ghost use Rattle.elements.specs.Rows.{bytesIn};
+ghost use Rattle.elements.specs.ElementRows.{bytesIn};
 ghost use Rattle.elements.specs.Says.{Placed, RowPlaced};
 ghost use Rattle.judging.specs.Done.{Indexes};
 ghost use Rattle.judging.specs.Judges.{earlyRefusal, Taken, hashesOf, TellsTwice, MayBeBare, JudgesAfter};
 
-// An item of the stream that is to be judged: its octet, where it stands, and the run inside it.
+// An item of the stream that is to be judged: the code of its type field, where it stands, and the run inside it.
 pub struct PlacedItem {
-    pub octet: usize,
+    pub code: usize,
     pub first: usize,
     pub past: usize,
     pub inner: Run,
@@ -48,22 +48,22 @@ const MOST_ELEMENTS: usize = 4096;
 const PROFILE: usize = 0xA0;
 
 // Rules 9 to 11 for element n: the number of the one that refuses, or 0. `known` is the octet of its shape.
-pub fn early(n: usize, octet: usize, known: usize) -> usize
-    ensures { λ r. ⌜ r ≡ earlyRefusal n octet known ⌝ }
+pub fn early(n: usize, code: usize, known: usize) -> usize
+    ensures { λ r. ⌜ r ≡ earlyRefusal n code known ⌝ }
 {
     if MOST_ELEMENTS <= n {
         return 9;
     }
-    if octet != known {
+    if code != known {
         return 10;
     }
     if n == 0 {
-        if octet != PROFILE {
+        if code != PROFILE {
             return 11;
         }
         return 0;
     }
-    if octet == PROFILE {
+    if code == PROFILE {
         return 11;
     }
     0
@@ -167,11 +167,11 @@ fn has_double(
     portions::has_repeats(s, bounds, seen.count)
 }
 
-// Whether an element with the octet may have no items: the profile, and an object, whichever the edition.
-fn may_be_bare(octet: usize) -> bool
-    ensures { λ b. ⌜ (b ≡ true → (edition : Edition) → MayBeBare edition octet) ⌝ }
+// Whether an element with the code may have no items: the profile, and an object, whichever the edition.
+fn may_be_bare(code: usize) -> bool
+    ensures { λ b. ⌜ (b ≡ true → (edition : Edition) → MayBeBare edition code) ⌝ }
 {
-    match octet {
+    match code {
         0xA0 | 0xA2 | 0xA6 => true,
         _ => false,
     }
@@ -179,17 +179,17 @@ fn may_be_bare(octet: usize) -> bool
 
 // Rules 9 to 15 for element n, in which nothing stands and nothing has to: it has no name, so it shares none.
 fn judge_bare(n: usize, item: PlacedItem) -> Judgement
-    requires { ⌜ ((edition : Edition) → MayBeBare edition (item .octet)) × (item .first ≤ item .past) ⌝ }
-    ensures { λ r. ⌜ ((edition : Edition) (s scratch head next head2 next2 : List ℕ) → itemsOf s (item .inner) ≡ none → item .past ≤ length s
+    requires { ⌜ ((edition : Edition) → MayBeBare edition (item .code)) × (item .first ≤ item .past) ⌝ }
+    ensures { λ r. ⌜ ((edition : Edition) (s scratch head next head2 next2 : List ℕ) → itemsOf s (item .inner) ≡ noItems → item .past ≤ length s
         → JudgesAfter edition s scratch head next head2 next2 n item r) ⌝ }
 {
-    let number = early(n, item.octet, item.octet);
+    let number = early(n, item.code, item.code);
     if number != 0 {
         return Judgement::Fails { number };
     }
     Judgement::Passes {
         row: Row {
-            kind: item.octet % 32,
+            kind: item.code % 32,
             object: elements::NO_TYPE,
             whole: Span {
                 first: item.first,
@@ -226,8 +226,8 @@ fn judge_any(
     ensures { λ r. ⌜ JudgesAfter edition (now (s .entry)) (now (rows .entry)) (now (head .entry)) (now (next .entry)) (now (head2 .entry))
         (now (next2 .entry)) n item r ⌝ }
 {
-    let shape = elements::shape_of(edition, item.octet);
-    let number = early(n, item.octet, shape.octet);
+    let shape = elements::shape_of(edition, item.code);
+    let number = early(n, item.code, shape.octet);
     if number != 0 {
         return Judgement::Fails { number };
     }
@@ -265,7 +265,7 @@ pub fn judge_element(
         (now (next2 .entry)) n item r ⌝ }
 {
     if runs::is_over(s, item.inner) {
-        if may_be_bare(item.octet) {
+        if may_be_bare(item.code) {
             return judge_bare(n, item);
         }
     }

@@ -15,12 +15,12 @@ use Rattle.elements.specs.declared.Edition.{Edition}
 use Rattle.elements.specs.declared.Holder.{Holder}
 use Rattle.elements.specs.declared.Row.{Row}
 use Rattle.elements.specs.Judge.{Content, single, inPieces, contentOf, joinedContent, Element, elementOf}
-use Rattle.elements.specs.Rows.{rowOf}
+use Rattle.elements.specs.ElementRows.{rowOf}
 use Rattle.elements.specs.Says.{Bounds}
 use Rattle.elements.specs.Frames.{HoldsContent, HoldingShape}
 use Rattle.judging.specs.declared.PlacedItem.{PlacedItem}
 use Rattle.judging.specs.Judges.{shapeBy}
-use Rattle.letters.specs.Letter.{rowsOfStream}
+use Rattle.letters.specs.Letter.{rowsIn}
 use Rattle.letters.specs.Scratch.{Filled}
 use Rattle.letters.specs.Content.{RowIn, ElementAt, heldBy, HeldWhole, HeldAs, HoldsElement}
 use Rattle.judging.proofs.Lists.{at-below}
@@ -35,20 +35,20 @@ held-by s holder fields e fine (inPieces run) h = rw (h .pieced) (record { fine 
 
 -- the item that an element is holds its content
 pub holds-element : {edition : Edition} {s : List ℕ} {j : ℕ} {item : PlacedItem} → ElementAt edition s j item
-    → {holder : Holder} → HoldingShape s (shapeBy edition (item .octet)) (item .inner) holder → HoldsElement edition s j (heldBy holder)
+    → {holder : Holder} → HoldingShape s (shapeBy edition (item .code)) (item .inner) holder → HoldsElement edition s j (heldBy holder)
 unfolding elementOf rowOf
 holds-element {edition} {s} {j} {item} at {holder} holding elements row element judged stands there =
     let said = at .said elements row element judged stands there in
     let fields : row .content ≡ holder .value = ap (λ (r : Row). r .content) (said .row-is) ∙ sym (holding .pair) in
     subst (λ (e : Element). HeldAs s (row .content) (e .content) (heldBy holder)) (sym (said .element-is))
-    (held-by s holder (row .content) fields (holding .fine) (contentOf (shapeBy edition (item .octet) .contents) (treeIn s (item .inner))) (holding .held))
+    (held-by s holder (row .content) fields (holding .fine) (contentOf (shapeBy edition (item .code) .contents) (treeIn s (item .inner))) (holding .held))
 
 -- the rows that the judge of a letter left have each of its elements
 pub filled-row-in : {edition : Edition} {s scratch head next head2 next2 : List ℕ} {count : ℕ} → Filled edition s scratch head next head2 next2 count
     → (j : ℕ) → j < count → RowIn edition s scratch j
 filled-row-in {edition} {s} filled j l =
     let holds = filled .holds in
-    let (row, stands) = at-below (rowsOfStream edition s) j (omega (arith, saying-length (holds .saying), holds .counted)) in
+    let (row, stands) = at-below (rowsIn edition s) j (omega (arith, saying-length (holds .saying), holds .counted)) in
     record {
       within = omega (arith, holds .indexes .identifiers .in-table);
       row = row;

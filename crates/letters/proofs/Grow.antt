@@ -6,14 +6,14 @@ use native.Mathlib.Omega.{arith}
 use lib.ListN.{length, getD, length-append}
 use lib.Seq.{slice, sets}
 use Rattle.octets.specs.Walk.{streamLimit}
-use Rattle.index.specs.Rows.{rowWidth}
+use Rattle.index.specs.Rows.{scratchWidth}
 use Rattle.index.specs.Columns.{identifierColumn, logicalColumn, valueAt, Bounded}
 use Rattle.ordered.specs.Ordered.{Filed}
 use Rattle.index.proofs.Rows.{row-value, row-bounded}
 use Rattle.ordered.proofs.Rows.{row-filed}
 use Rattle.elements.specs.declared.Row.{Row}
 use Rattle.elements.specs.Judge.{Element}
-use Rattle.elements.specs.Rows.{cells}
+use Rattle.elements.specs.ElementRows.{cells}
 use Rattle.elements.specs.Says.{Says, RowPlaced}
 use Rattle.letters.specs.Numbers.{Narrow}
 use Rattle.judging.specs.Done.{more, Indexes, Keeps}
@@ -36,8 +36,8 @@ pub record Written (s scratch head next : List ℕ) (column n : ℕ) (bytes : Li
   pub value : valueAt s scratch column n ≡ bytes
 
 module _ {s scratch head next head2 next2 scratch' : List ℕ} {n : ℕ} {row : Row} (indexes : Indexes s scratch head next head2 next2 n)
-    (long : n * rowWidth + rowWidth ≤ length scratch) (placed : RowPlaced s row) (stored : scratch' ≡ sets scratch (n * rowWidth) (cells row)) where
-  written-at : (column : ℕ) → column + 1 < rowWidth → {head next : List ℕ} → Bounded s scratch column n → Filed s scratch column head next n
+    (long : n * scratchWidth + scratchWidth ≤ length scratch) (placed : RowPlaced s row) (stored : scratch' ≡ sets scratch (n * scratchWidth) (cells row)) where
+  written-at : (column : ℕ) → column + 1 < scratchWidth → {head next : List ℕ} → Bounded s scratch column n → Filed s scratch column head next n
       → getD (cells row) column 0 ≤ getD (cells row) (column + 1) 0 → getD (cells row) (column + 1) 0 ≤ length s
       → Written s scratch' head next column n (slice (getD (cells row) column 0) (getD (cells row) (column + 1) 0) s)
   written-at column in-row {head} {next} b x order inside =

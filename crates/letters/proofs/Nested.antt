@@ -2,30 +2,30 @@
 -- the next. By the rules of the walk. Assumes nothing.
 use mathlib.Core.Path.{_≡_, refl, sym, _∙_}
 use mathlib.Core.Bool.{Bool, true, false, false≢true}
-use mathlib.Core.Option.{Option, some, none as nowhere}
+use mathlib.Core.Option.{Option, some, none}
 use mathlib.Core.List.{List}
 use Prim.Native.Nat.{ℕ, _+_, _≤_}
 use native.Mathlib.Omega.{arith}
 use borrow.Table.Steps.{cases}
 use lib.Dec.{eqb}
-use Rattle.octets.specs.Walk.{Items, none, item, End, ends, pastOf, startOf}
+use Rattle.octets.specs.Walk.{Items, noItems, item, End, ends, pastOf, startOf}
 use Rattle.octets.specs.Rules.{Runs, at-limit, unclosed, closes, refuses, primitive, passes, breaks}
 use Rattle.octets.proofs.Turns.{header-ok}
 use Rattle.tree.specs.Accepts.{Whole}
 use Rattle.runs.proofs.Laws.{starts-at}
 use Rattle.contents.specs.Search.{boundsOf, itemsIn}
 use Rattle.elements.specs.Shape.{Contents, profile, described, unit, style, protected}
-use Rattle.elements.specs.Rows.{boundsAt, bodyIn}
-use Rattle.letters.specs.Letter.{Within, absent, present}
+use Rattle.elements.specs.ElementRows.{boundsAt, bodyIn}
+use Rattle.letters.specs.Letter.{Within, not-there, present}
 
 -- all values lie between two places
 abbrev pub Nested : (from to : ℕ) → Items → Type 0
-Nested from to none = Unit {0}
-Nested from to (item at octet first past inside after) = (from ≤ first) × (first ≤ past) × (past ≤ to) × Nested from to inside × Nested from to after
+Nested from to noItems = Unit {0}
+Nested from to (item at code first past inside after) = (from ≤ first) × (first ≤ past) × (past ≤ to) × Nested from to inside × Nested from to after
 
 wider : (from to from' to' : ℕ) → from' ≤ from → to ≤ to' → (i : Items) → Nested from to i → Nested from' to' i
-wider from to from' to' low high none w = tt
-wider from to from' to' low high (item at octet first past inside after) w =
+wider from to from' to' low high noItems w = tt
+wider from to from' to' low high (item at code first past inside after) w =
     (omega (arith, w .0), w .1, omega (arith, w .2), wider from to from' to' low high inside (w .3), wider from to from' to' low high after (w .4))
 
 -- a run from `at` that ended: its items lie before next, and a closing mark is two octets
@@ -81,8 +81,8 @@ stays (breaks l p q v) end e = let z : _≡_ {A = ℕ} 0 1 = cc in absurd (omega
 
 -- each item of a run that is not marked lies before the next, or the run's end
 abbrev pub Separate : (end : ℕ) → Items → Type 0
-Separate end none = Unit {0}
-Separate end (item at octet first past inside after) = Nested at (startOf end after) inside × Separate end after
+Separate end noItems = Unit {0}
+Separate end (item at code first past inside after) = Nested at (startOf end after) inside × Separate end after
 
 pub separate : {s : List ℕ} {room at limit : ℕ} {marked : Bool} {i : Items} {e : End} → Runs s room at limit marked i e → marked ≡ false → Whole e
     → Separate limit i
@@ -100,18 +100,18 @@ separate (breaks l p q v) m w = absurd w
 module _ (from to : ℕ) where
   pub bounds-within : (octet : ℕ) (i : Items) → Nested from to i → Within from to (boundsOf octet i)
   unfolding boundsOf
-  bounds-within octet none w = absent refl
+  bounds-within octet noItems w = not-there refl
   bounds-within octet (item at type first past inside after) w =
       cases (eqb type octet) (λ t. rw t (present (w .0) (w .1) (w .2))) (λ t. rw t (bounds-within octet after (w .4)))
 
   items-within : (octet : ℕ) (i : Items) → Nested from to i → Nested from to (itemsIn octet i)
   unfolding itemsIn
-  items-within octet none w = tt
+  items-within octet noItems w = tt
   items-within octet (item at type first past inside after) w =
       cases (eqb type octet) (λ t. rw t (w .3)) (λ t. rw t (items-within octet after (w .4)))
 
   pub bounds-at-within : (octet : Option ℕ) (i : Items) → Nested from to i → Within from to (boundsAt octet i)
-  bounds-at-within nowhere i w = absent refl
+  bounds-at-within none i w = not-there refl
   bounds-at-within (some octet) i w = bounds-within octet i w
 
   pub body-within : (contents : Contents) (i : Items) → Nested from to i → Nested from to (bodyIn contents i)

@@ -10,7 +10,7 @@ use borrow.Table.Steps.{cases}
 use lib.Dec.{eqb}
 use lib.ListN.{length, getElem?, length-append}
 use Rattle.headers.specs.Head.{constructed, typeField}
-use Rattle.octets.specs.Walk.{Items, none, item, End, Walked, deepest, run, startOf}
+use Rattle.octets.specs.Walk.{Items, noItems, item, End, Walked, deepest, run, startOf}
 use Rattle.octets.specs.Rules.{Runs, at-limit, unclosed, closes, refuses, primitive, passes, breaks}
 use Rattle.octets.proofs.RulesHold.{derived, derives}
 use Rattle.tree.specs.Tree.{Tree, empty, leaf, branch, plain, treeOf}
@@ -21,10 +21,10 @@ use Rattle.elements.specs.declared.Row.{Row}
 use Rattle.elements.specs.declared.Edition.{Edition}
 use Rattle.elements.specs.Shape.{shapeOf}
 use Rattle.elements.specs.Judge.{Element, elementOf, refusalOf, Judged, accepted, refused, judgeOne, judgeFrom, judge}
-use Rattle.elements.specs.Rows.{rowOf, rowsOf}
+use Rattle.elements.specs.ElementRows.{rowOf, rowsOf}
 use Rattle.judging.specs.declared.PlacedItem.{PlacedItem}
 use Rattle.judging.specs.Judges.{shapeBy, elementBy}
-use Rattle.letters.specs.Letter.{itemsOfStream, rowsOfStream}
+use Rattle.letters.specs.Letter.{itemsOfStream, rowsIn}
 use Rattle.letters.specs.Content.{ElementAt}
 use Rattle.runs.proofs.Laws.{start-at}
 use Rattle.judging.proofs.Lists.{below-length, at-front, at-end}
@@ -33,8 +33,8 @@ use Rattle.judging.proofs.Steps.{judged-one, judge-some}
 -- the items of a run from its item j on
 abbrev pub from : ℕ → Items → Items
 from zero items = items
-from (suc j) none = none
-from (suc j) (item at octet first past inside after) = from j after
+from (suc j) noItems = noItems
+from (suc j) (item at code first past inside after) = from j after
 
 -- a run from one of its items on, by its rules
 pub record Begins (s : List ℕ) (room limit : ℕ) (marked : Bool) (items : Items) (end : End) : Type 0 where
@@ -61,30 +61,30 @@ begins (breaks l p q v) (suc j) k = absurd (omega arith)
 row-starts : (edition : Edition) (s : List ℕ) (items : Items) (j : ℕ) (row : Row) → getElem? (rowsOf edition s items) j ≡ some row
     → row .whole .first ≡ startOf (length s) (from j items)
 unfolding rowsOf rowOf
-row-starts edition s none j row e = let z : _≡_ {A = ℕ} 0 1 = cc in absurd (omega arith)
-row-starts edition s (item at octet first past inside after) zero row e =
-    let own : rowOf (shapeOf edition (typeField octet)) s at (startOf (length s) after) inside ≡ row = cc in sym (ap (λ (r : Row). r .whole .first) own)
-row-starts edition s (item at octet first past inside after) (suc j) row e = row-starts edition s after j row e
+row-starts edition s noItems j row e = let z : _≡_ {A = ℕ} 0 1 = cc in absurd (omega arith)
+row-starts edition s (item at code first past inside after) zero row e =
+    let own : rowOf (shapeOf edition (typeField code)) s at (startOf (length s) after) inside ≡ row = cc in sym (ap (λ (r : Row). r .whole .first) own)
+row-starts edition s (item at code first past inside after) (suc j) row e = row-starts edition s after j row e
 
 -- row j is that of item j
-rows-from : (edition : Edition) (s : List ℕ) (items : Items) (j : ℕ) (at octet first past : ℕ) (inside after : Items)
-    → from j items ≡ item at octet first past inside after
-    → getElem? (rowsOf edition s items) j ≡ some (rowOf (shapeOf edition (typeField octet)) s at (startOf (length s) after) inside)
+rows-from : (edition : Edition) (s : List ℕ) (items : Items) (j : ℕ) (at code first past : ℕ) (inside after : Items)
+    → from j items ≡ item at code first past inside after
+    → getElem? (rowsOf edition s items) j ≡ some (rowOf (shapeOf edition (typeField code)) s at (startOf (length s) after) inside)
 unfolding rowsOf
-rows-from edition s none zero at octet first past inside after e = let z : _≡_ {A = ℕ} 0 1 = cc in absurd (omega arith)
-rows-from edition s none (suc j) at octet first past inside after e = let z : _≡_ {A = ℕ} 0 1 = cc in absurd (omega arith)
-rows-from edition s (item a o f p i t) zero at octet first past inside after e = ap (λ (x : Items). getElem? (rowsOf edition s x) 0) e
-rows-from edition s (item a o f p i t) (suc j) at octet first past inside after e = rows-from edition s t j at octet first past inside after e
+rows-from edition s noItems zero at code first past inside after e = let z : _≡_ {A = ℕ} 0 1 = cc in absurd (omega arith)
+rows-from edition s noItems (suc j) at code first past inside after e = let z : _≡_ {A = ℕ} 0 1 = cc in absurd (omega arith)
+rows-from edition s (item a o f p i t) zero at code first past inside after e = ap (λ (x : Items). getElem? (rowsOf edition s x) 0) e
+rows-from edition s (item a o f p i t) (suc j) at code first past inside after e = rows-from edition s t j at code first past inside after e
 
 rows-length : (edition : Edition) (s : List ℕ) (items : Items) → length (rowsOf edition s items) ≡ tops items
 unfolding rowsOf
-rows-length edition s none = refl
-rows-length edition s (item at octet first past inside after) = ap suc (rows-length edition s after)
+rows-length edition s noItems = refl
+rows-length edition s (item at code first past inside after) = ap suc (rows-length edition s after)
 
 -- primitive items have nothing inside
 abbrev Hollow : Items → Type 0
-Hollow none = Unit {0}
-Hollow (item at octet first past inside after) = (constructed octet ≡ false → inside ≡ none) × Hollow after
+Hollow noItems = Unit {0}
+Hollow (item at code first past inside after) = (constructed code ≡ false → inside ≡ noItems) × Hollow after
 
 hollow : {s : List ℕ} {room at limit : ℕ} {marked : Bool} {items : Items} {end : End} → Runs s room at limit marked items end → Hollow items
 hollow (at-limit p) = tt
@@ -128,14 +128,14 @@ module _ (edition : Edition) (s : List ℕ) (elements : List Element) where
     judged : judgeFrom edition done (plain s items) ≡ accepted elements
     hollow-rest : Hollow items
 
-  module _ {at octet first past : ℕ} {inside after : Items} {n : ℕ} (w : Rest (item at octet first past inside after) n) where
+  module _ {at code first past : ℕ} {inside after : Items} {n : ℕ} (w : Rest (item at code first past inside after) n) where
     abbrev own : Element
-    own = elementBy edition octet (plain s inside)
+    own = elementBy edition code (plain s inside)
 
     passed : judgeFrom edition (w .done ++ own ∷ []) (plain s after) ≡ accepted elements
     passed =
-        passes-one edition (w .done) (typeField octet) (plain s inside) (λ more. judgeFrom edition more (plain s after)) elements
-        (sym (judged-one edition s (w .done) at octet first past inside after (w .hollow-rest .0)) ∙ w .judged)
+        passes-one edition (w .done) (typeField code) (plain s inside) (λ more. judgeFrom edition more (plain s after)) elements
+        (sym (judged-one edition s (w .done) at code first past inside after (w .hollow-rest .0)) ∙ w .judged)
 
     -- element n is that of the first item that is left
     own-stands : getElem? elements n ≡ some own
@@ -150,15 +150,15 @@ module _ (edition : Edition) (s : List ℕ) (elements : List Element) where
     }
 
   rest-from : (items : Items) (n : ℕ) → Rest items n → (j : ℕ) → j < tops items → Rest (from j items) (n + j)
-  rest-from none n w j l = absurd (omega arith)
-  rest-from (item at octet first past inside after) n w zero l =
-      let e : n ≡ n + 0 = omega arith in subst (Rest (item at octet first past inside after)) e w
-  rest-from (item at octet first past inside after) n w (suc j) l =
+  rest-from noItems n w j l = absurd (omega arith)
+  rest-from (item at code first past inside after) n w zero l =
+      let e : n ≡ n + 0 = omega arith in subst (Rest (item at code first past inside after)) e w
+  rest-from (item at code first past inside after) n w (suc j) l =
       let e : n + 1 + j ≡ n + suc j = omega arith in subst (Rest (from j after)) e (rest-from after (n + 1) (one-less w) j (omega arith))
 
-module _ (edition : Edition) {s : List ℕ} (fine : Fine s (wholeStream s)) (j : ℕ) (row : Row) (stands : getElem? (rowsOfStream edition s) j ≡ some row) where
+module _ (edition : Edition) {s : List ℕ} (fine : Fine s (wholeStream s)) (j : ℕ) (row : Row) (stands : getElem? (rowsIn edition s) j ≡ some row) where
   below : j < tops (itemsOfStream s)
-  below = omega (arith, below-length (rowsOfStream edition s) j row stands, rows-length edition s (itemsOfStream s))
+  below = omega (arith, below-length (rowsIn edition s) j row stands, rows-length edition s (itemsOfStream s))
 
   abbrev rules : Runs s deepest 0 (length s) false (itemsOfStream s) (walkIn s (wholeStream s) .how)
   rules = derives deepest s 0 (length s) false (fine .order)
@@ -186,33 +186,33 @@ module _ (edition : Edition) {s : List ℕ} (fine : Fine s (wholeStream s)) (j :
     whole = subst (λ (w : Walked). Whole (w .how)) (sym walked) (fine .whole);
   }
 
-  pub rest-some : itemsOf s restFrom ≡ none → ⊥
+  pub rest-some : itemsOf s restFrom ≡ noItems → ⊥
   rest-some e = omega (arith, here .some-left, ap tops (sym rest-items ∙ e))
 
   -- what is met there is the element
-  module _ (octet first past : ℕ) (inside after : Items) (met : itemsOf s restFrom ≡ item (row .whole .first) octet first past inside after)
+  module _ (code first past : ℕ) (inside after : Items) (met : itemsOf s restFrom ≡ item (row .whole .first) code first past inside after)
       (elements : List Element) (judged : judge edition (treeOf s) ≡ accepted elements)
       (element : Element) (there : getElem? elements j ≡ some element) where
-    item-is : from j (itemsOfStream s) ≡ item (row .whole .first) octet first past inside after
+    item-is : from j (itemsOfStream s) ≡ item (row .whole .first) code first past inside after
     item-is = sym rest-items ∙ met
 
     from-first : judgeFrom edition [] (treeOf s) ≡ accepted elements
     from-first = sym (judge-some edition s (itemsOfStream s) (omega (arith, below))) ∙ judged
 
-    last : Rest edition s elements (item (row .whole .first) octet first past inside after) j
+    last : Rest edition s elements (item (row .whole .first) code first past inside after) j
     last =
         let none-done : Rest edition s elements (itemsOfStream s) 0 = record { done = []; counted = refl; judged = from-first; hollow-rest = hollow rules } in
         let e : 0 + j ≡ j = omega arith in
         subst (λ (i : Items). Rest edition s elements i j) item-is
         (subst (Rest edition s elements (from j (itemsOfStream s))) e (rest-from edition s elements (itemsOfStream s) 0 none-done j below))
 
-    own-row : row ≡ rowOf (shapeBy edition octet) s (row .whole .first) (startOf (length s) after) inside
-    own-row = let same-row = rows-from edition s (itemsOfStream s) j (row .whole .first) octet first past inside after item-is in cc
+    own-row : row ≡ rowOf (shapeBy edition code) s (row .whole .first) (startOf (length s) after) inside
+    own-row = let same-row = rows-from edition s (itemsOfStream s) j (row .whole .first) code first past inside after item-is in cc
 
-    own-element : element ≡ elementBy edition octet (plain s inside)
+    own-element : element ≡ elementBy edition code (plain s inside)
     own-element = let own = own-stands edition s elements last in cc
 
-  pub element-at : (placed : PlacedItem) {first past : ℕ} {rest : Run} → Meeting s restFrom (placed .octet) first past (placed .inner) rest
+  pub element-at : (placed : PlacedItem) {first past : ℕ} {rest : Run} → Meeting s restFrom (placed .code) first past (placed .inner) rest
       → placed .first ≡ row .whole .first → placed .past ≡ rest .at → ElementAt edition s j placed
   element-at placed {first} {past} {rest} m starts ends = record {
     fine = m .inner-fine;
@@ -220,13 +220,13 @@ module _ (edition : Edition) {s : List ℕ} (fine : Fine s (wholeStream s)) (j :
         let same : row ≡ other = cc in
         let inside = itemsOf s (placed .inner) in
         let after = itemsOf s rest in
-        let shape = shapeBy edition (placed .octet) in
+        let shape = shapeBy edition (placed .code) in
         let ends-there : startOf (length s) after ≡ placed .past =
         ap (λ (end : ℕ). startOf end after) (sym (m .rest-limit)) ∙ start-at (m .rest-fine) (m .rest-marked) ∙ sym ends in
         record {
-          row-is = sym same ∙ own-row (placed .octet) first past inside after (m .tree) elements judged element there
+          row-is = sym same ∙ own-row (placed .code) first past inside after (m .tree) elements judged element there
               ∙ ap (λ (at : ℕ). rowOf shape s at (startOf (length s) after) inside) (sym starts)
               ∙ ap (λ (end : ℕ). rowOf shape s (placed .first) end inside) ends-there;
-          element-is = own-element (placed .octet) first past inside after (m .tree) elements judged element there;
+          element-is = own-element (placed .code) first past inside after (m .tree) elements judged element there;
         };
   }

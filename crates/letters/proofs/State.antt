@@ -9,7 +9,7 @@ use borrow.Author.Tests.{eqb-true, eqb-false}
 use borrow.Table.Steps.{cases}
 use lib.Dec.{eqb}
 use lib.ListN.{length}
-use Rattle.octets.specs.Walk.{Items, none, item, startOf}
+use Rattle.octets.specs.Walk.{Items, noItems, item, startOf}
 use Rattle.tree.specs.Tree.{plain, treeOf}
 use Rattle.runs.specs.declared.Run.{Run}
 use Rattle.runs.specs.Runs.{itemsOf, treeIn, wholeStream, tops, Fine, Meeting}
@@ -21,11 +21,11 @@ use Rattle.ordered.proofs.Rows.{filed-none}
 use Rattle.elements.specs.declared.Row.{Row}
 use Rattle.elements.specs.declared.Edition.{Edition}
 use Rattle.elements.specs.Judge.{Element, mostElements, judgeFrom, judge}
-use Rattle.elements.specs.Rows.{rowsOf, numbers, placeOf}
+use Rattle.elements.specs.ElementRows.{rowsOf, numbers, placeOf}
 use Rattle.judging.specs.declared.Hashes.{Hashes}
 use Rattle.judging.specs.declared.PlacedItem.{PlacedItem}
 use Rattle.judging.specs.declared.Judgement.the-variants.{Fails}
-use Rattle.letters.specs.Letter.{itemsOfStream, rowsOfStream}
+use Rattle.letters.specs.Letter.{itemsOfStream, rowsIn}
 use Rattle.judging.specs.Done.{none, Keeps}
 use Rattle.letters.specs.Scratch.{Filled, Stopped, GivesVerdict}
 use Rattle.letters.specs.Lent.{rowsNeeded, Lent, endVerdict}
@@ -41,7 +41,7 @@ pub record Judging (edition : Edition) (s scratch head next head2 next2 : List �
   pub done : List Element
   pub holds : Keeps s scratch head next head2 next2 n table done
   pub judged : judgeFrom edition [] (treeOf s) ≡ judgeFrom edition done (treeIn s cur)
-  pub tabled : rowsOfStream edition s ≡ table ++ rowsOf edition s (itemsOf s cur)
+  pub tabled : rowsIn edition s ≡ table ++ rowsOf edition s (itemsOf s cur)
   pub counted : tops (itemsOfStream s) ≡ n + tops (itemsOf s cur)
   pub placed : (k : ℕ) → placeOf (n + k) (itemsOfStream s) ≡ placeOf k (itemsOf s cur)
 
@@ -58,7 +58,7 @@ judging-none edition s scratch head next head2 next2 bounds lent fine = record {
   holds = record {
     counted = refl;
     written = refl;
-    saying = none;
+    saying = noItems;
     indexes = record {
       identifiers = bounded-none s scratch identifierColumn (omega arith);
       logicals = bounded-none s scratch logicalColumn (omega arith);
@@ -74,20 +74,20 @@ judging-none edition s scratch head next head2 next2 bounds lent fine = record {
 
 module _ {edition : Edition} {s scratch head next head2 next2 : List ℕ} {n : ℕ} {cur : Run} (j : Judging edition s scratch head next head2 next2 n cur) where
   -- no element is left
-  module _ (end : itemsOf s cur ≡ none) where
+  module _ (end : itemsOf s cur ≡ noItems) where
     whole-count : tops (itemsOfStream s) ≡ n
     whole-count = omega (arith, j .counted, ap tops end)
 
     end-empty : n ≡ 0 → Stopped edition s 11 0
     unfolding judge placeOf
     end-empty e =
-        let empty-stream : itemsOfStream s ≡ none = no-tops (itemsOfStream s) (whole-count ∙ e) in
+        let empty-stream : itemsOfStream s ≡ noItems = no-tops (itemsOfStream s) (whole-count ∙ e) in
         record { element = 0; judged = ap (λ (i : Items). judge edition (plain s i)) empty-stream; placed = sym (ap (placeOf 0) empty-stream) }
 
     end-filled : (n ≡ 0 → ⊥) → Filled edition s scratch head next head2 next2 n
     unfolding judgeFrom rowsOf
     end-filled some =
-        let all-rows : rowsOfStream edition s ≡ j .table = j .tabled ∙ ap (λ (i : Items). j .table ++ rowsOf edition s i) end ∙ append-nil (j .table) in
+        let all-rows : rowsIn edition s ≡ j .table = j .tabled ∙ ap (λ (i : Items). j .table ++ rowsOf edition s i) end ∙ append-nil (j .table) in
         record {
           elements = j .done;
           judged = judge-some edition s (itemsOfStream s) (omega (arith, whole-count, some)) ∙ j .judged ∙ ap (λ (i : Items). judgeFrom edition (j .done) (plain s i)) end;
@@ -98,9 +98,9 @@ module _ {edition : Edition} {s scratch head next head2 next2 : List ℕ} {n : �
     end-gives = cases (eqb n 0) (λ t. rw t (end-empty (eqb-true n 0 t))) (λ t. rw t (end-filled (eqb-false n 0 t)))
 
   -- an element is met
-  module _ {octet first past : ℕ} {inner rest : Run} (m : Meeting s cur octet first past inner rest) where
+  module _ {code first past : ℕ} {inner rest : Run} (m : Meeting s cur code first past inner rest) where
     abbrev here : PlacedItem
-    here = record { octet = octet; first = cur .at; past = rest .at; inner = inner }
+    here = record { code = code; first = cur .at; past = rest .at; inner = inner }
 
     some-left : 0 < tops (itemsOfStream s)
     some-left = omega (arith, j .counted, ap tops (m .tree))
@@ -109,7 +109,7 @@ module _ {edition : Edition} {s scratch head next head2 next2 : List ℕ} {n : �
     met-judged = judge-some edition s (itemsOfStream s) some-left ∙ j .judged
 
     met-tree : judgeFrom edition (j .done) (treeIn s cur)
-        ≡ judgeFrom edition (j .done) (plain s (item (cur .at) octet first past (itemsOf s inner) (itemsOf s rest)))
+        ≡ judgeFrom edition (j .done) (plain s (item (cur .at) code first past (itemsOf s inner) (itemsOf s rest)))
     met-tree = ap (λ (i : Items). judgeFrom edition (j .done) (plain s i)) (m .tree)
 
     -- and refused: element n stands there
@@ -120,14 +120,14 @@ module _ {edition : Edition} {s scratch head next head2 next2 : List ℕ} {n : �
         record {
           element = length (j .done);
           judged = met-judged ∙ met-tree
-              ∙ judged-refused edition s (j .done) (cur .at) octet first past (itemsOf s inner) (itemsOf s rest) (nothing-inside (j .fine) m) number (w .0) (w .1);
+              ∙ judged-refused edition s (j .done) (cur .at) code first past (itemsOf s inner) (itemsOf s rest) (nothing-inside (j .fine) m) number (w .0) (w .1);
           placed = sym (ap (λ (i : ℕ). placeOf i (itemsOfStream s)) (sym this) ∙ j .placed 0 ∙ ap (placeOf 0) (m .tree));
         }
 
     -- and passed: there is room for its row
     module _ {row : Row} {hashes : Hashes} (w : Passing edition s (j .done) here row hashes) where
       pub few : n < mostElements
-      few = omega (arith, unrefused-few edition (j .done) octet (treeIn s inner) (w .unrefused), j .holds .counted)
+      few = omega (arith, unrefused-few edition (j .done) code (treeIn s inner) (w .unrefused), j .holds .counted)
 
       pub needed : n < rowsNeeded s
       needed = omega (arith, few, j .counted, ap tops (m .tree))
@@ -141,7 +141,7 @@ module _ {edition : Edition} {s scratch head next head2 next2 : List ℕ} {n : �
       rows-here = ap (rowsOf edition s) (m .tree) ∙ rw (ends-there, ← w .row-is)
 
       pub judging-more : {scratch' head' next' head2' next2' : List ℕ}
-          → Keeps s scratch' head' next' head2' next2' (n + 1) (j .table ++ row ∷ []) (j .done ++ elementBy edition octet (treeIn s inner) ∷ [])
+          → Keeps s scratch' head' next' head2' next2' (n + 1) (j .table ++ row ∷ []) (j .done ++ elementBy edition code (treeIn s inner) ∷ [])
           → Judging edition s scratch' head' next' head2' next2' (n + 1) rest
       unfolding placeOf
       judging-more holds = record {
@@ -149,10 +149,10 @@ module _ {edition : Edition} {s scratch head next head2 next2 : List ℕ} {n : �
         unmarked = m .rest-marked ∙ j .unmarked;
         to-end = m .rest-limit ∙ j .to-end;
         table = j .table ++ row ∷ [];
-        done = j .done ++ elementBy edition octet (treeIn s inner) ∷ [];
+        done = j .done ++ elementBy edition code (treeIn s inner) ∷ [];
         holds = holds;
         judged = j .judged ∙ met-tree
-            ∙ judged-passed edition s (j .done) (cur .at) octet first past (itemsOf s inner) (itemsOf s rest) (nothing-inside (j .fine) m) (w .unrefused);
+            ∙ judged-passed edition s (j .done) (cur .at) code first past (itemsOf s inner) (itemsOf s rest) (nothing-inside (j .fine) m) (w .unrefused);
         tabled = j .tabled ∙ ap (λ (l : List Row). j .table ++ l) rows-here ∙ sym (append-assoc (j .table) (row ∷ []) (rowsOf edition s (itemsOf s rest)));
         counted = omega (arith, j .counted, ap tops (m .tree));
         placed = λ k.

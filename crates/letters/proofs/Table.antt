@@ -7,7 +7,7 @@ use Prim.Native.Nat.{ℕ, zero, suc}
 use native.Mathlib.Omega.{arith}
 use lib.ListN.{length, getElem?}
 use Rattle.headers.specs.Head.{typeField}
-use Rattle.octets.specs.Walk.{Items, none, item, startOf}
+use Rattle.octets.specs.Walk.{Items, noItems, item, startOf}
 use Rattle.octets.proofs.RulesHold.{derives}
 use Rattle.tree.specs.Tree.{plain, treeOf}
 use Rattle.runs.specs.Runs.{wholeStream, Fine}
@@ -17,9 +17,9 @@ use Rattle.elements.specs.declared.Row.{Row}
 use Rattle.elements.specs.declared.Edition.{Edition}
 use Rattle.elements.specs.Shape.{Shape, shapeOf}
 use Rattle.elements.specs.Judge.{identifierOctet, logicalOctet, portionsOctet, single, Element}
-use Rattle.elements.specs.Rows.{bodyIn, contentOctet, rowOf, rowsOf, bytesIn}
+use Rattle.elements.specs.ElementRows.{bodyIn, contentOctet, rowOf, rowsOf, bytesIn}
 use Rattle.elements.specs.Says.{Contains, Says}
-use Rattle.letters.specs.Letter.{itemsOfStream, rowsOfStream, EndToEnd, PairsWithin}
+use Rattle.letters.specs.Letter.{itemsOfStream, rowsIn, EndToEnd, PairsWithin}
 use Rattle.letters.specs.Scratch.{Filled}
 use Rattle.letters.specs.Apart.{Apart}
 use Rattle.judging.proofs.Rows.{RowOf, row-of}
@@ -28,13 +28,13 @@ use Rattle.letters.proofs.Apart.{accepted-apart}
 
 rows-meet : (edition : Edition) (s : List ℕ) (items : Items) → EndToEnd (startOf (length s) items) (length s) (rowsOf edition s items)
 unfolding rowsOf rowOf
-rows-meet edition s none = refl
-rows-meet edition s (item at octet first past inside after) = (refl, rows-meet edition s after)
+rows-meet edition s noItems = refl
+rows-meet edition s (item at code first past inside after) = (refl, rows-meet edition s after)
 
 -- "Elements meet end to end from 0 to the stream's length."
-pub end-to-end : (edition : Edition) (s : List ℕ) → Fine s (wholeStream s) → EndToEnd 0 (length s) (rowsOfStream edition s)
+pub end-to-end : (edition : Edition) (s : List ℕ) → Fine s (wholeStream s) → EndToEnd 0 (length s) (rowsIn edition s)
 end-to-end edition s fine =
-    subst (λ (from : ℕ). EndToEnd from (length s) (rowsOfStream edition s)) (start-at fine refl) (rows-meet edition s (itemsOfStream s))
+    subst (λ (from : ℕ). EndToEnd from (length s) (rowsIn edition s)) (start-at fine refl) (rows-meet edition s (itemsOfStream s))
 
 row-within : (shape : Shape) (s : List ℕ) (first past : ℕ) (items : Items) → Nested first past items → PairsWithin (rowOf shape s first past items)
 unfolding rowOf
@@ -50,16 +50,16 @@ row-within shape s first past items nested =
 rows-within : (edition : Edition) (s : List ℕ) (items : Items) → Separate (length s) items → (j : ℕ) (row : Row)
     → getElem? (rowsOf edition s items) j ≡ some row → PairsWithin row
 unfolding rowsOf
-rows-within edition s none w j row e = let z : _≡_ {A = ℕ} 0 1 = cc in absurd (omega arith)
-rows-within edition s (item at octet first past inside after) w zero row e =
-    let shape = shapeOf edition (typeField octet) in
+rows-within edition s noItems w j row e = let z : _≡_ {A = ℕ} 0 1 = cc in absurd (omega arith)
+rows-within edition s (item at code first past inside after) w zero row e =
+    let shape = shapeOf edition (typeField code) in
     let own : rowOf shape s at (startOf (length s) after) inside ≡ row = cc in
     subst PairsWithin own (row-within shape s at (startOf (length s) after) inside (w .0))
-rows-within edition s (item at octet first past inside after) w (suc j) row e = rows-within edition s after (w .1) j row e
+rows-within edition s (item at code first past inside after) w (suc j) row e = rows-within edition s after (w .1) j row e
 
 -- every pair of a row lies in its element
 pub pairs-within : (edition : Edition) (s : List ℕ) → Fine s (wholeStream s) → (j : ℕ) (row : Row)
-    → getElem? (rowsOfStream edition s) j ≡ some row → PairsWithin row
+    → getElem? (rowsIn edition s) j ≡ some row → PairsWithin row
 pairs-within edition s fine =
     let r = wholeStream s in
     rows-within edition s (itemsOfStream s) (separate (derives (r .room) s (r .at) (r .limit) (r .marked) (fine .order)) refl (fine .whole))
@@ -71,7 +71,7 @@ module _ {edition : Edition} {s scratch head next head2 next2 : List ℕ} {count
   filled-apart = accepted-apart edition (treeOf s) (filled .elements) (filled .judged)
 
   -- each has its row
-  pub filled-row : (j : ℕ) (e : Element) → getElem? (filled .elements) j ≡ some e → RowOf s (rowsOfStream edition s) j e
+  pub filled-row : (j : ℕ) (e : Element) → getElem? (filled .elements) j ≡ some e → RowOf s (rowsIn edition s) j e
   filled-row = row-of (filled .holds .saying)
 
 -- the content pair of a row bounds the content of its element

@@ -11,37 +11,37 @@ use Rattle.runs.specs.declared.Run.{Run}
 use Rattle.runs.specs.Runs.{itemsOf, treeIn, Fine}
 use Rattle.contents.specs.declared.Span.{Span}
 use Rattle.contents.specs.Search.{Value}
-use Rattle.index.specs.Rows.{rowWidth}
+use Rattle.index.specs.Rows.{scratchWidth}
 use Rattle.index.specs.Columns.{wholeColumn, firstAt}
 use Rattle.elements.specs.declared.Edition.{Edition}
 use Rattle.elements.specs.declared.Holder.{Holder}
 use Rattle.elements.specs.declared.Row.{Row}
 use Rattle.elements.specs.Judge.{Content, single, inPieces, Element, accepted, judge}
-use Rattle.elements.specs.Rows.{rowOf}
+use Rattle.elements.specs.ElementRows.{rowOf}
 use Rattle.elements.specs.Says.{Bounds}
 use Rattle.judging.specs.declared.PlacedItem.{PlacedItem}
 use Rattle.judging.specs.Judges.{shapeBy, elementBy}
 use Rattle.letters.specs.declared.Held.{Held}
 use Rattle.letters.specs.declared.Held.the-variants.{Part, Pieces}
-use Rattle.letters.specs.Letter.{rowsOfStream}
+use Rattle.letters.specs.Letter.{rowsIn}
 
 -- the rows of a stream have a row j, and tell where its element begins
 pub record RowIn (edition : Edition) (s rows : List ℕ) (j : ℕ) : Type 0 where
-  pub within : j * rowWidth + rowWidth ≤ length rows
+  pub within : j * scratchWidth + scratchWidth ≤ length rows
   pub row : Row
-  pub stands : getElem? (rowsOfStream edition s) j ≡ some row
+  pub stands : getElem? (rowsIn edition s) j ≡ some row
   pub first : firstAt rows wholeColumn j ≡ row .whole .first
 
 -- a row and an element of a letter are those of an item
 pub record SaidBy (edition : Edition) (s : List ℕ) (item : PlacedItem) (row : Row) (element : Element) : Type 0 where
-  pub row-is : row ≡ rowOf (shapeBy edition (item .octet)) s (item .first) (item .past) (itemsOf s (item .inner))
-  pub element-is : element ≡ elementBy edition (item .octet) (treeIn s (item .inner))
+  pub row-is : row ≡ rowOf (shapeBy edition (item .code)) s (item .first) (item .past) (itemsOf s (item .inner))
+  pub element-is : element ≡ elementBy edition (item .code) (treeIn s (item .inner))
 
 -- the element in row j, as an item: what is inside it can be met, and if the stream is a letter, row and element j are those of the item
 pub record ElementAt (edition : Edition) (s : List ℕ) (j : ℕ) (item : PlacedItem) : Type 0 where
   pub fine : Fine s (item .inner)
   pub said : (elements : List Element) (row : Row) (element : Element) → judge edition (treeOf s) ≡ accepted elements
-      → getElem? (rowsOfStream edition s) j ≡ some row → getElem? elements j ≡ some element → SaidBy edition s item row element
+      → getElem? (rowsIn edition s) j ≡ some row → getElem? elements j ≡ some element → SaidBy edition s item row element
 
 -- a holder as either
 abbrev pub heldBy : Holder → Held
@@ -67,4 +67,4 @@ HeldAs s fields content (Pieces run) = HeldInPieces s run content
 abbrev pub HoldsElement : Edition → (s : List ℕ) (j : ℕ) → Held → Type 0
 HoldsElement edition s j held =
     (elements : List Element) (row : Row) (element : Element) → judge edition (treeOf s) ≡ accepted elements
-    → getElem? (rowsOfStream edition s) j ≡ some row → getElem? elements j ≡ some element → HeldAs s (row .content) (element .content) held
+    → getElem? (rowsIn edition s) j ≡ some row → getElem? elements j ≡ some element → HeldAs s (row .content) (element .content) held

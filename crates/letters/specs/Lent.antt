@@ -8,7 +8,7 @@ use lib.ListN.{length}
 use Rattle.runs.specs.Runs.{tops}
 use Rattle.names.specs.Hash.{hashes}
 use Rattle.portions.specs.Portions.{mostPortions}
-use Rattle.index.specs.Rows.{rowWidth}
+use Rattle.index.specs.Rows.{scratchWidth}
 use Rattle.index.specs.Index.{Empty}
 use Rattle.ordered.specs.Ordered.{markOf}
 use Rattle.elements.specs.Judge.{mostElements}
@@ -28,7 +28,7 @@ pub record Lent (s scratch head next head2 next2 bounds : List ℕ) : Type 0 whe
   pub some-heads2 : 0 < length head2
   pub few-heads2 : length head2 ≤ hashes
   pub empty-heads2 : Empty head2
-  pub rows : rowsNeeded s * rowWidth ≤ length scratch
+  pub rows : rowsNeeded s * scratchWidth ≤ length scratch
   pub links : rowsNeeded s < length next
   pub unmarked : markOf next ≡ 0
   pub links2 : rowsNeeded s < length next2

@@ -14,7 +14,7 @@ use Rattle.contents.specs.declared.Span.{Span}
 use Rattle.elements.specs.declared.Row.{Row}
 use Rattle.elements.specs.declared.Edition.{Edition}
 use Rattle.elements.specs.Judge.{accepted, judge, Element, Judged, refused}
-use Rattle.elements.specs.Rows.{placeOf, rowsOf, noSpan}
+use Rattle.elements.specs.ElementRows.{placeOf, rowsOf, noSpan}
 
 -- the items of a stream, with their places
 abbrev pub itemsOfStream : List ℕ → Items
@@ -35,12 +35,12 @@ byWalk edition s (Ended at headers) = afterWalk (itemsOfStream s) headers (judge
 byWalk edition s (Refused number place headers) = refusal number place headers
 
 -- what a stream is by rules 1 to 15
-unfoldable pub letterOf : Edition → List ℕ → Letter
-letterOf edition s = byWalk edition s (walkOf s)
+unfoldable pub letterIn : Edition → List ℕ → Letter
+letterIn edition s = byWalk edition s (walkOf s)
 
 -- the rows of a stream that is a letter
-abbrev pub rowsOfStream : Edition → List ℕ → List Row
-rowsOfStream edition s = rowsOf edition s (itemsOfStream s)
+abbrev pub rowsIn : Edition → List ℕ → List Row
+rowsIn edition s = rowsOf edition s (itemsOfStream s)
 
 -- "Elements meet end to end": the first row begins at from, each where the one before it ends, and the last ends at to
 abbrev pub EndToEnd : (from to : ℕ) → List Row → Type 0
@@ -49,7 +49,7 @@ EndToEnd from to (row ∷ rows) = (row .whole .first ≡ from) × EndToEnd (row 
 
 -- "Absent is 0 and 0"; any other pair bounds a value that lies in its element
 pub data Within (from to : ℕ) (pair : Span) : Type 0 where
-  absent : pair ≡ noSpan → Within from to pair
+  not-there : pair ≡ noSpan → Within from to pair
   present : from ≤ pair .first → pair .first ≤ pair .past → pair .past ≤ to → Within from to pair
 
 -- every pair of a row lies in its element

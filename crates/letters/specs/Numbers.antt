@@ -2,7 +2,7 @@
 use Prim.Native.Nat.{ℕ, _<_}
 use mathlib.Core.List.{List, [], _∷_}
 use Rattle.elements.specs.declared.Row.{Row}
-use Rattle.elements.specs.Rows.{cells}
+use Rattle.elements.specs.ElementRows.{cells}
 
 -- all numbers of a list are below another
 abbrev pub Below : (limit : ℕ) → List ℕ → Type 0

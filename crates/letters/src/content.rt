@@ -35,7 +35,7 @@ pub fn element_at(edition: Edition, s: &[u8], rows: &[u32], j: usize) -> PlacedI
     requires { ⌜ Fine (now s) (wholeStream (now s)) × RowIn edition (now s) (now rows) j ⌝ }
     ensures { λ item. ⌜ ElementAt edition (now (s .entry)) j item ⌝ }
 {
-    let at = wide(rows[j * index::ROW_WIDTH + index::WHOLE]);
+    let at = wide(rows[j * index::SCRATCH_WIDTH + index::WHOLE]);
     let whole = runs::whole_stream(s);
     let from = Run {
         at,
@@ -45,19 +45,19 @@ pub fn element_at(edition: Edition, s: &[u8], rows: &[u32], j: usize) -> PlacedI
     };
     match runs::meet(s, from) {
         Met::End => PlacedItem {
-            octet: 0,
+            code: 0,
             first: at,
             past: at,
             inner: from,
         },
         Met::Item {
-            octet,
+            code,
             first: _,
             past: _,
             inner,
             rest,
         } => PlacedItem {
-            octet,
+            code,
             first: at,
             past: rest.at,
             inner,
@@ -72,5 +72,5 @@ pub fn content_of(edition: Edition, s: &[u8], rows: &[u32], j: usize) -> Held
 {
     let item = element_at(edition, s, rows, j);
     let inner = item.inner;
-    held_by(elements::holder_in(s, elements::shape_of(edition, item.octet), inner))
+    held_by(elements::holder_in(s, elements::shape_of(edition, item.code), inner))
 }

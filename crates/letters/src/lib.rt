@@ -44,7 +44,7 @@ pub fn has_more(s: &[u8], most: usize) -> bool
         match runs::meet(s, cur) {
             Met::End => return false,
             Met::Item {
-                octet: _,
+                code: _,
                 first: _,
                 past: _,
                 inner: _,
@@ -94,14 +94,14 @@ pub fn judge_stream(
         match runs::meet(s, cur) {
             Met::End => return at_end(n),
             Met::Item {
-                octet,
+                code,
                 first: _,
                 past: _,
                 inner,
                 rest,
             } => {
                 let item = PlacedItem {
-                    octet,
+                    code,
                     first: cur.at,
                     past: rest.at,
                     inner,

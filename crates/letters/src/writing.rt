@@ -6,9 +6,9 @@ ghost use Prim.Native.Nat.{_+_, _*_, _<_, _≤_};
 ghost use lib.ListN.{length};
 ghost use lib.Seq.{sets, paste};
 ghost use Rattle.octets.specs.Walk.{streamLimit};
-ghost use Rattle.index.specs.Rows.{rowWidth};
+ghost use Rattle.index.specs.Rows.{scratchWidth};
 ghost use Rattle.elements.specs.Judge.{mostElements};
-ghost use Rattle.elements.specs.Rows.{cells};
+ghost use Rattle.elements.specs.ElementRows.{cells};
 ghost use Rattle.elements.specs.Says.{RowPlaced};
 ghost use Rattle.letters.specs.Numbers.{Narrow};
 ghost use Rattle.judging.specs.Done.{Indexes};
@@ -53,11 +53,11 @@ fn cells_of(row: Row) -> [u32; 12]
 
 // Writes the twelve numbers of a row.
 fn put_row(rows: &mut [u32], at: usize, row: Row)
-    requires { ⌜ (at + rowWidth ≤ length (now rows)) × Narrow row ⌝ }
+    requires { ⌜ (at + scratchWidth ≤ length (now rows)) × Narrow row ⌝ }
     ensures { λ _. ⌜ now (rows .exit) ≡ sets (now (rows .entry)) at (cells row) ⌝ }
 {
     let numbers = cells_of(row);
-    copy_numbers(&numbers, index::ROW_WIDTH, rows, at);
+    copy_numbers(&numbers, index::SCRATCH_WIDTH, rows, at);
 }
 
 // Writes row n, and adds it to both indexes.
@@ -74,11 +74,11 @@ pub fn add_row(
 )
     requires { ⌜ Indexes (now s) (now rows) (now head) (now next) (now head2) (now next2) n ⌝ }
     requires { ⌜ RowPlaced (now s) row × (hashes ≡ hashesOf (now s) row) × (length (now s) ≤ streamLimit) ⌝ }
-    requires { ⌜ (n * rowWidth + rowWidth ≤ length (now rows)) × (n + 1 < length (now next)) × (n + 1 < length (now next2)) × (n < mostElements) ⌝ }
+    requires { ⌜ (n * scratchWidth + scratchWidth ≤ length (now rows)) × (n + 1 < length (now next)) × (n + 1 < length (now next2)) × (n < mostElements) ⌝ }
     ensures { λ _. ⌜ Grows (now (s .entry)) (now (rows .entry)) (now (head .entry)) (now (next .entry)) (now (head2 .entry)) (now (next2 .entry))
         (now (rows .exit)) (now (head .exit)) (now (next .exit)) (now (head2 .exit)) (now (next2 .exit)) n row ⌝ }
 {
-    put_row(rows, n * index::ROW_WIDTH, row);
+    put_row(rows, n * index::SCRATCH_WIDTH, row);
     ordered::insert(s, rows, head, next, n, index::IDENTIFIER, hashes.identifier);
     ordered::insert(s, rows, head2, next2, n, index::LOGICAL, hashes.logical);
 }

@@ -15,15 +15,15 @@ use Rattle.laws.proofs.Tests.{cond-holds}
 use Rattle.octets.specs.Walk.{streamLimit}
 use Rattle.normal.specs.Normal.{normalForm}
 use Rattle.elements.specs.declared.Edition.{Edition}
-use Rattle.letters.specs.Letter.{letter}
+use Rattle.letters.specs.Letter.{letter, letterIn}
 use Rattle.reading.specs.declared.Side.the-variants.{Layout, Logical}
 use Rattle.answers.specs.declared.Written.{Written}
-use Rattle.answers.specs.Answers.{letterIn, matchesBy, fetched, joinedIn}
+use Rattle.answers.specs.Answers.{matchesBy, fetched, joinedIn}
 use Rattle.making.specs.declared.Entry.{Entry}
-use Rattle.making.specs.Entries.{Said, saidBy, Judged, fit, refused, judge}
+use Rattle.making.specs.Entries.{Said, saidBy, JudgedEntries, fit, refusedEntry, judgeEntries}
 use Rattle.making.specs.Stream.{streamOf}
 use Rattle.made.specs.Reads.{unitElement, elementsOf, unitAt, matchesFrom, itemsFor}
-use Rattle.making.specs.Answers.{madeBy, made, madeOutput, MakeOutcome}
+use Rattle.making.specs.Answers.{madeBy, madeOf, madeOutput, MakeOutcome}
 use Rattle.made.specs.Editions.{TakesAll}
 use Rattle.made.specs.Promises.{Reads, writtenBy, Readable, Answers}
 use Rattle.making.proofs.Fitting.{AllFit, fitting-from}
@@ -32,8 +32,8 @@ use Rattle.made.proofs.Letters.{reads}
 use Rattle.made.proofs.Refusals.{refuses}
 
 -- a refusal gives no length
-no-length : (j : Judged) (out : List ℕ) → (madeBy j out .number ≡ 0 → ⊥) → madeBy j out .length ≡ 0
-no-length (refused number entry) out = λ n. refl
+no-length : (j : JudgedEntries) (out : List ℕ) → (madeBy j out .number ≡ 0 → ⊥) → madeBy j out .length ≡ 0
+no-length (refusedEntry number entry) out = λ n. refl
 no-length (fit said) out =
     let form = streamOf said in
     cond-holds (λ (a : Written). (a .number ≡ 0 → ⊥) → a .length ≡ 0) (ltb streamLimit (length form)) (λ _ n. refl)
@@ -46,7 +46,7 @@ mapped f (y ∷ xs) (suc k) x e = mapped f xs k x e
 
 module _ (buffer : List ℕ) (entries : List Entry) (out : List ℕ) where
   pub answers : Answers buffer entries out
-  unfolding made madeOutput
+  unfolding madeOf madeOutput
   answers = record {
     refusal = λ number entry e. rw e;
     over = λ said e l. rw (e, lt-ltb streamLimit (length (streamOf said)) l);
@@ -55,18 +55,18 @@ module _ (buffer : List ℕ) (entries : List Entry) (out : List ℕ) where
         let a = le-ltb streamLimit (length (streamOf said)) l in
         let b = le-ltb (length out) (length (streamOf said)) m in
         (rw (e, a, b), rw (e, a, b));
-    untouched = λ n. (rw (ne-eqb (made buffer entries out .number) 0 n), no-length (judge buffer entries) out n);
+    untouched = λ n. (rw (ne-eqb (madeOf buffer entries out .number) 0 n), no-length (judgeEntries buffer entries) out n);
   }
 
   -- an answer 0: the entries fit, and the stream is within the limit and has room
   record Done : Type 0 where
     said : List Said
-    judged : judge buffer entries ≡ fit said
+    judged : judgeEntries buffer entries ≡ fit said
     within : length (streamOf said) ≤ streamLimit
     room : length (streamOf said) ≤ length out
 
-  done-by : (j : Judged) → judge buffer entries ≡ j → madeBy j out .number ≡ 0 → Done
-  done-by (refused number entry) e z =
+  done-by : (j : JudgedEntries) → judgeEntries buffer entries ≡ j → madeBy j out .number ≡ 0 → Done
+  done-by (refusedEntry number entry) e z =
       let i = refuses buffer .told entries number entry e .0 in
       absurd (false≢true (subst (λ (n : ℕ). isIn n (27 ∷ 14 ∷ 15 ∷ 9 ∷ []) ≡ true) z i))
   done-by (fit said) e z =
@@ -77,9 +77,9 @@ module _ (buffer : List ℕ) (entries : List Entry) (out : List ℕ) where
       (λ u. let q = rw (t, u) at z in absurd (omega arith))
       (λ u. record { said = said; judged = e; within = ltb-false streamLimit size t; room = ltb-false (length out) size u }))
 
-  done : made buffer entries out .number ≡ 0 → Done
-  unfolding made
-  done z = done-by (judge buffer entries) refl z
+  done : madeOf buffer entries out .number ≡ 0 → Done
+  unfolding madeOf
+  done z = done-by (judgeEntries buffer entries) refl z
 
   -- what stands in the output is the stream
   module _ (d : Done) where
@@ -111,7 +111,7 @@ module _ (buffer : List ℕ) (entries : List Entry) (out : List ℕ) where
     unit-so edition takes k entry e = reads-so edition takes .unit k (saidBy buffer entry) (said-at k entry e)
 
   -- An answer 0 leaves a letter in the output that reads as the entries say, in any edition that takes its elements.
-  pub readable : (edition : Edition) → TakesAll edition → made buffer entries out .number ≡ 0 → Readable edition buffer entries out
+  pub readable : (edition : Edition) → TakesAll edition → madeOf buffer entries out .number ≡ 0 → Readable edition buffer entries out
   unfolding fetched joinedIn
   readable edition takes z =
       let d = done z in
@@ -128,7 +128,7 @@ module _ (buffer : List ℕ) (entries : List Entry) (out : List ℕ) where
       }
 
 -- so it does in both editions
-pub readable-in : (edition : Edition) (buffer : List ℕ) (entries : List Entry) (out : List ℕ) → made buffer entries out .number ≡ 0
+pub readable-in : (edition : Edition) (buffer : List ℕ) (entries : List Entry) (out : List ℕ) → madeOf buffer entries out .number ≡ 0
     → Readable edition buffer entries out
 readable-in edition buffer entries out z = readable buffer entries out edition (takes edition) z
 

@@ -6,7 +6,7 @@ use mathlib.Core.List.{List, [], _∷_}
 use Prim.Native.Nat.{ℕ, zero, suc, _*_, _^_, _<_}
 use native.Mathlib.Omega.{arith}
 use lib.ListN.{length}
-use Rattle.headers.specs.Head.{number, constructed, permits, formAllowed, misfits, codeOf}
+use Rattle.headers.specs.Head.{numberBits, constructed, permits, formAllowed, misfits, codeOf}
 use Rattle.octets.specs.Walk.{deepest}
 use Rattle.tree.specs.Tree.{Tree, empty, leaf, branch, TypeField, oneOctet, Codes, nothing, primitive, definite}
 use Rattle.normal.specs.Normal.{normalOf}
@@ -38,7 +38,7 @@ codable-codes (suc room) (branch type inside after) (g, i, c) l =
     definite g (shortest (length (normalOf inside)) (omega arith)) (codable-codes room inside i (omega arith)) (codable-codes (suc room) after c (omega arith))
 
 -- a type field of one octet
-field : (octet : ℕ) → (number octet ≡ 31 → ⊥) → formAllowed octet ≡ true → TypeField (octet ∷ []) (constructed octet)
+field : (octet : ℕ) → (numberBits octet ≡ 31 → ⊥) → formAllowed octet ≡ true → TypeField (octet ∷ []) (constructed octet)
 field octet n f = oneOctet n f refl
 
 entries-codable : (said : List Said) → Codable deepest (entriesTree said)

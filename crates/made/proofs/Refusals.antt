@@ -12,8 +12,8 @@ use borrow.Table.Steps.{cases}
 use Rattle.headers.specs.Head.{isIn}
 use Rattle.elements.specs.Judge.{mostElements, firstOf, _when_}
 use Rattle.making.specs.declared.Entry.{Entry}
-use Rattle.making.specs.Entries.{Said, saidBy, partsInside, wellSpelt, used, elementsFor, entryRefusal, fit, refused, judgeFrom, judge}
-use Rattle.made.specs.Promises.{InOrder, FirstRefused, Refuses}
+use Rattle.making.specs.Entries.{Said, saidBy, partsInside, allSpelt, used, elementsFor, entryRefusal, fit, refusedEntry, judgeEntriesFrom, judgeEntries}
+use Rattle.made.specs.Promises.{EntryRefusedBy, FirstRefused, Refuses}
 use Rattle.making.proofs.Ruling.{refuses-27, refuses-14, refuses-15, refuses-9, refuses-none}
 use Rattle.making.proofs.Fitting.{one-more, fits-one, fitting-from, judged-on, fit-few, says, count-said}
 
@@ -34,9 +34,9 @@ only-nine true false c d e = absurd (omega arith)
 only-nine false b c d e = absurd (omega arith)
 
 module _ (buffer : List ℕ) where
-  told-from : (done : List Said) (entries : List Entry) (number entry : ℕ) → judgeFrom buffer done entries ≡ refused number entry
+  told-from : (done : List Said) (entries : List Entry) (number entry : ℕ) → judgeEntriesFrom buffer done entries ≡ refusedEntry number entry
       → (isIn number (27 ∷ 14 ∷ 15 ∷ 9 ∷ []) ≡ true) × (entry < length done + length entries)
-  unfolding judgeFrom entryRefusal
+  unfolding judgeEntriesFrom entryRefusal
   told-from done [] number entry e = let z : _≡_ {A = ℕ} 0 1 = cc in absurd (omega arith)
   told-from done (x ∷ entries) number entry e =
       cases (eqb (entryRefusal buffer done x) 0)
@@ -48,13 +48,13 @@ module _ (buffer : List ℕ) where
       let q = rw t at e in
       let m : entryRefusal buffer done x ≡ number = cc in
       let p : length done ≡ entry = cc in (
-        four (partsInside buffer x) (wellSpelt (saidBy buffer x)) (used done (saidBy buffer x)) (ltb mostElements (elementsFor (suc (length done)))) number m
+        four (partsInside buffer x) (allSpelt (saidBy buffer x)) (used done (saidBy buffer x)) (ltb mostElements (elementsFor (suc (length done)))) number m
             (λ z. eqb-false (entryRefusal buffer done x) 0 t (m ∙ z)),
         omega arith,
       ))
 
   -- each number by its own test, if those before it pass
-  order : (done : List Said) (entry : Entry) → InOrder buffer done entry
+  order : (done : List Said) (entry : Entry) → EntryRefusedBy buffer done entry
   order done entry = record {
     outside = refuses-27 buffer done entry;
     misspelt = refuses-14 buffer done entry;
@@ -64,8 +64,8 @@ module _ (buffer : List ℕ) where
   }
 
   -- 9 at an entry, after some that are within the elements
-  nine-from : (done : List Said) (entries : List Entry) (entry : ℕ) → length done ≤ 2047 → judgeFrom buffer done entries ≡ refused 9 entry → entry ≡ 2047
-  unfolding judgeFrom entryRefusal
+  nine-from : (done : List Said) (entries : List Entry) (entry : ℕ) → length done ≤ 2047 → judgeEntriesFrom buffer done entries ≡ refusedEntry 9 entry → entry ≡ 2047
+  unfolding judgeEntriesFrom entryRefusal
   nine-from done [] entry l e = let z : _≡_ {A = ℕ} 0 1 = cc in absurd (omega arith)
   nine-from done (x ∷ entries) entry l e =
       cases (eqb (entryRefusal buffer done x) 0)
@@ -77,12 +77,12 @@ module _ (buffer : List ℕ) where
       let q = rw t at e in
       let m : entryRefusal buffer done x ≡ 9 = cc in
       let p : length done ≡ entry = cc in
-      let o = only-nine (partsInside buffer x) (wellSpelt (saidBy buffer x)) (used done (saidBy buffer x)) (ltb mostElements (elementsFor (suc (length done)))) m in
+      let o = only-nine (partsInside buffer x) (allSpelt (saidBy buffer x)) (used done (saidBy buffer x)) (ltb mostElements (elementsFor (suc (length done)))) m in
       omega (arith, ltb-true mostElements (elementsFor (suc (length done))) o))
 
   nine-one : (said : List Said) (entry : Entry) (more : List Entry) → length said ≡ 2047 → partsInside buffer entry ≡ true
-      → wellSpelt (saidBy buffer entry) ≡ true → used said (saidBy buffer entry) ≡ false → judgeFrom buffer said (entry ∷ more) ≡ refused 9 2047
-  unfolding judgeFrom entryRefusal
+      → allSpelt (saidBy buffer entry) ≡ true → used said (saidBy buffer entry) ≡ false → judgeEntriesFrom buffer said (entry ∷ more) ≡ refusedEntry 9 2047
+  unfolding judgeEntriesFrom entryRefusal
   nine-one said entry more n i w u =
       let l : mostElements < elementsFor (suc (length said)) = omega arith in
       rw (i, w, u, lt-ltb mostElements (elementsFor (suc (length said))) l, n)
@@ -92,13 +92,13 @@ module _ (buffer : List ℕ) where
     place : ℕ
     at-place : k ≡ length done + place
     before : List Said
-    fit-before : judgeFrom buffer done (take place entries) ≡ fit before
+    fit-before : judgeEntriesFrom buffer done (take place entries) ≡ fit before
     entry : Entry
     there : getElem? entries place ≡ some entry
     by : entryRefusal buffer before entry ≡ number
 
-  first-from : (done : List Said) (entries : List Entry) (number k : ℕ) → judgeFrom buffer done entries ≡ refused number k → FirstAfter done entries number k
-  unfolding judgeFrom
+  first-from : (done : List Said) (entries : List Entry) (number k : ℕ) → judgeEntriesFrom buffer done entries ≡ refusedEntry number k → FirstAfter done entries number k
+  unfolding judgeEntriesFrom
   first-from done [] number k e = let z : _≡_ {A = ℕ} 0 1 = cc in absurd (omega arith)
   first-from done (x ∷ entries) number k e =
       cases (eqb (entryRefusal buffer done x) 0)
@@ -120,13 +120,13 @@ module _ (buffer : List ℕ) where
       let p : length done ≡ k = cc in
       record { place = 0; at-place = sym p ∙ omega arith; before = done; fit-before = refl; entry = x; there = refl; by = m })
 
-  first : (entries : List Entry) (number k : ℕ) → judge buffer entries ≡ refused number k → FirstRefused buffer entries number k
+  first : (entries : List Entry) (number k : ℕ) → judgeEntries buffer entries ≡ refusedEntry number k → FirstRefused buffer entries number k
   first entries number k e =
       let f = first-from [] entries number k e in
       let p : k ≡ f .place = f .at-place ∙ omega arith in
       record {
         before = f .before;
-        fit-before = ap (λ (n : ℕ). judge buffer (take n entries)) p ∙ f .fit-before;
+        fit-before = ap (λ (n : ℕ). judgeEntries buffer (take n entries)) p ∙ f .fit-before;
         entry = f .entry;
         there = ap (getElem? entries) p ∙ f .there;
         by = f .by;

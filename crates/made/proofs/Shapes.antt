@@ -7,11 +7,11 @@ use Rattle.portions.specs.Portions.{allPortions, values, wellSpelt}
 use Rattle.elements.specs.Shape.{shapeOf}
 use Rattle.elements.specs.declared.Edition.{Edition}
 use Rattle.elements.specs.declared.Edition.the-variants.{Of1988, Of1993}
-use Rattle.elements.specs.Judge.{bodyOf, contentOf, elementOf, ordered, asTabled, namesFit, shapeRefusal}
+use Rattle.elements.specs.Judge.{bodyOf, contentOf, elementOf, itemsInOrder, asTabled, namesFit, shapeRefusal}
 use Rattle.made.specs.Editions.{TakesAll}
 
 pub takes-1988 : TakesAll Of1988
-unfolding amount firstValue firstRun inOrder onlyPieces allPortions values wellSpelt shapeOf bodyOf contentOf elementOf ordered asTabled namesFit shapeRefusal
+unfolding amount firstValue firstRun inOrder onlyPieces allPortions values wellSpelt shapeOf bodyOf contentOf elementOf itemsInOrder asTabled namesFit shapeRefusal
 takes-1988 = record {
   profile = record { known = refl; passes = refl; says = refl };
   block = λ said spelt. record { known = refl; passes = rw (spelt .identifier, spelt .portion); says = refl };
@@ -19,7 +19,7 @@ takes-1988 = record {
 }
 
 pub takes-1993 : TakesAll Of1993
-unfolding amount firstValue firstRun inOrder onlyPieces allPortions values wellSpelt shapeOf bodyOf contentOf elementOf ordered asTabled namesFit shapeRefusal
+unfolding amount firstValue firstRun inOrder onlyPieces allPortions values wellSpelt shapeOf bodyOf contentOf elementOf itemsInOrder asTabled namesFit shapeRefusal
 takes-1993 = record {
   profile = record { known = refl; passes = refl; says = refl };
   block = λ said spelt. record { known = refl; passes = rw (spelt .identifier, spelt .portion); says = refl };

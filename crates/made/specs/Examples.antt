@@ -6,7 +6,7 @@ use lib.ListN.{replicate}
 use Rattle.contents.specs.declared.Span.{Span}
 use Rattle.answers.specs.declared.Written.{Written}
 use Rattle.making.specs.declared.Entry.{Entry}
-use Rattle.making.specs.Answers.{notMade, made, madeOutput}
+use Rattle.making.specs.Answers.{notMade, madeOf, madeOutput}
 
 pub record Example : Type 0 where
   pub entries : List Entry
@@ -47,4 +47,4 @@ examples =
 
 -- what comes out
 abbrev pub outcome : Example → Example
-outcome e = record { entries = e .entries; out = e .out; answer = made buffer (e .entries) (e .out); after = madeOutput buffer (e .entries) (e .out) }
+outcome e = record { entries = e .entries; out = e .out; answer = madeOf buffer (e .entries) (e .out); after = madeOutput buffer (e .entries) (e .out) }

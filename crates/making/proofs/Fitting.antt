@@ -12,7 +12,7 @@ use borrow.Author.Tests.{ltb-false, eqb-true}
 use borrow.Table.Steps.{cases}
 use Rattle.elements.specs.Judge.{mostElements, firstOf, _when_}
 use Rattle.making.specs.declared.Entry.{Entry}
-use Rattle.making.specs.Entries.{Said, saidBy, partsInside, wellSpelt, used, elementsFor, entryRefusal, fit, judgeFrom, judge, Spelt}
+use Rattle.making.specs.Entries.{Said, saidBy, partsInside, allSpelt, used, elementsFor, entryRefusal, fit, judgeEntriesFrom, judgeEntries, Spelt}
 use Rattle.making.proofs.Spelling.{spelt}
 
 -- an entry fits after those that are done
@@ -56,16 +56,16 @@ passed false b c d e = absurd (omega arith)
 module _ (buffer : List ℕ) where
   -- it passes 27 and 14
   pub passed-tests : (done : List Said) (entry : Entry) → entryRefusal buffer done entry ≡ 0
-      → (partsInside buffer entry ≡ true) × (wellSpelt (saidBy buffer entry) ≡ true)
+      → (partsInside buffer entry ≡ true) × (allSpelt (saidBy buffer entry) ≡ true)
   unfolding entryRefusal
   passed-tests done entry e =
-      let p = passed (partsInside buffer entry) (wellSpelt (saidBy buffer entry)) (used done (saidBy buffer entry)) (ltb mostElements (elementsFor (suc (length done)))) e in
+      let p = passed (partsInside buffer entry) (allSpelt (saidBy buffer entry)) (used done (saidBy buffer entry)) (ltb mostElements (elementsFor (suc (length done)))) e in
       (p .first, p .second)
 
   pub fits-one : (done : List Said) (entry : Entry) → entryRefusal buffer done entry ≡ 0 → Fits done (saidBy buffer entry)
   unfolding entryRefusal
   fits-one done entry e =
-      let p = passed (partsInside buffer entry) (wellSpelt (saidBy buffer entry)) (used done (saidBy buffer entry)) (ltb mostElements (elementsFor (suc (length done)))) e in
+      let p = passed (partsInside buffer entry) (allSpelt (saidBy buffer entry)) (used done (saidBy buffer entry)) (ltb mostElements (elementsFor (suc (length done)))) e in
       record {
         well = spelt (saidBy buffer entry) (p .second);
         fresh = p .third;
@@ -77,8 +77,8 @@ module _ (buffer : List ℕ) where
     pub says : said ≡ done ++ map (saidBy buffer) entries
     pub all-fit : AllFit done (map (saidBy buffer) entries)
 
-  pub fitting-from : (done : List Said) (entries : List Entry) (said : List Said) → judgeFrom buffer done entries ≡ fit said → Fitting done entries said
-  unfolding judgeFrom
+  pub fitting-from : (done : List Said) (entries : List Entry) (said : List Said) → judgeEntriesFrom buffer done entries ≡ fit said → Fitting done entries said
+  unfolding judgeEntriesFrom
   fitting-from done [] said e =
       let p : done ≡ said = cc in
       record { says = sym p ∙ sym (append-nil done); all-fit = tt }
@@ -93,17 +93,17 @@ module _ (buffer : List ℕ) where
       (λ t. let q = rw t at e in let z : _≡_ {A = ℕ} 0 1 = cc in absurd (omega arith))
 
   -- entries after some that fit
-  pub judged-on : (done : List Said) (entries rest : List Entry) (said : List Said) → judgeFrom buffer done entries ≡ fit said
-      → judgeFrom buffer done (entries ++ rest) ≡ judgeFrom buffer said rest
-  unfolding judgeFrom
-  judged-on done [] rest said e = let p : done ≡ said = cc in ap (λ (d : List Said). judgeFrom buffer d rest) p
+  pub judged-on : (done : List Said) (entries rest : List Entry) (said : List Said) → judgeEntriesFrom buffer done entries ≡ fit said
+      → judgeEntriesFrom buffer done (entries ++ rest) ≡ judgeEntriesFrom buffer said rest
+  unfolding judgeEntriesFrom
+  judged-on done [] rest said e = let p : done ≡ said = cc in ap (λ (d : List Said). judgeEntriesFrom buffer d rest) p
   judged-on done (x ∷ entries) rest said e =
       cases (eqb (entryRefusal buffer done x) 0)
       (λ t. rw t (judged-on (done ++ (saidBy buffer x ∷ [])) entries rest said (rw t at e)))
       (λ t. let q = rw t at e in let z : _≡_ {A = ℕ} 0 1 = cc in absurd (omega arith))
 
-  pub says : (entries : List Entry) (said : List Said) → judge buffer entries ≡ fit said → said ≡ map (saidBy buffer) entries
+  pub says : (entries : List Entry) (said : List Said) → judgeEntries buffer entries ≡ fit said → said ≡ map (saidBy buffer) entries
   says entries said e = fitting-from [] entries said e .says
 
-  pub count-said : (entries : List Entry) (said : List Said) → judge buffer entries ≡ fit said → length said ≡ length entries
+  pub count-said : (entries : List Entry) (said : List Said) → judgeEntries buffer entries ≡ fit said → length said ≡ length entries
   count-said entries said e = ap length (says entries said e) ∙ length-map entries (saidBy buffer)

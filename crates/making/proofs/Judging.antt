@@ -7,12 +7,12 @@ use native.Mathlib.Numerals.{add-one}
 use native.Mathlib.Omega.{arith}
 use lib.ListN.{length, replicate, length-replicate, getD-replicate}
 use Rattle.names.specs.Hash.{hashes}
-use Rattle.index.specs.Rows.{rowWidth}
+use Rattle.index.specs.Rows.{scratchWidth}
 use Rattle.index.specs.Index.{Empty}
 use Rattle.ordered.specs.Ordered.{markOf}
 use Rattle.answers.specs.declared.Reason.{Reason}
 use Rattle.making.specs.declared.Entry.{Entry}
-use Rattle.making.specs.Entries.{Said, saidBy, entryRefusal, fit, refused, judgeFrom, judge}
+use Rattle.making.specs.Entries.{Said, saidBy, entryRefusal, fit, refusedEntry, judgeEntriesFrom, judgeEntries}
 use Rattle.making.specs.Answers.{reasonOf}
 use Rattle.making.specs.Flat.{entryWidth, entryAt, entriesIn}
 use Rattle.making.specs.Keeps.{Keeps, Roomy}
@@ -39,7 +39,7 @@ no-mark : (n : ℕ) → 0 < n → markOf (replicate n 0) ≡ 0
 no-mark n some = getD-replicate n (length (replicate {A = ℕ} n 0) - 1) 0 0 (omega (arith, zeros n))
 
 -- arrays of zeros are what is lent
-pub zeros-roomy : (numbers : List ℕ) (rows heads links : ℕ) → (length numbers / entryWidth < links) ⊎ (2047 < links) → links * rowWidth ≤ rows + rowWidth
+pub zeros-roomy : (numbers : List ℕ) (rows heads links : ℕ) → (length numbers / entryWidth < links) ⊎ (2047 < links) → links * scratchWidth ≤ rows + scratchWidth
     → 0 < heads → heads ≤ hashes → Roomy numbers (replicate rows 0) (replicate heads 0) (replicate links 0)
 zeros-roomy numbers rows heads links enough room some few = record {
   some-heads = omega (arith, zeros heads);
@@ -53,11 +53,11 @@ zeros-roomy numbers rows heads links enough room some few = record {
 
 pub record Judging (buffer numbers rows head next : List ℕ) (k : ℕ) : Type 0 where
   pub done : List Said
-  pub so-far : judge buffer (entriesIn numbers k) ≡ fit done
+  pub so-far : judgeEntries buffer (entriesIn numbers k) ≡ fit done
   pub keeps : Keeps buffer rows head next k done
 
 pub judging-none : (buffer numbers rows head next : List ℕ) → Roomy numbers rows head next → Judging buffer numbers rows head next 0
-unfolding entriesIn judgeFrom
+unfolding entriesIn judgeEntriesFrom
 judging-none buffer numbers rows head next roomy =
     record { done = []; so-far = refl; keeps = keeps-none buffer rows head next (roomy .some-heads) (roomy .few-heads) (roomy .empty-heads) (roomy .some-links) (roomy .unmarked) }
 
@@ -72,9 +72,9 @@ module _ {buffer numbers rows head next : List ℕ} {k : ℕ} (j : Judging buffe
 
   -- entry k is refused: that is the answer
   pub stopped-at : (number m : ℕ) → k < m → number ≡ entryRefusal buffer (j .done) (entryAt numbers k) → (number ≡ 0 → ⊥)
-      → record { number = number; place = k } ≡ reasonOf (judge buffer (entriesIn numbers m))
+      → record { number = number; place = k } ≡ reasonOf (judgeEntries buffer (entriesIn numbers m))
   stopped-at number m l e n =
-      ap (λ (x : ℕ). reasonOf (refused x k)) e
+      ap (λ (x : ℕ). reasonOf (refusedEntry x k)) e
       ∙ sym (ap reasonOf (refused-at buffer numbers k (j .done) (j .so-far) (λ z. n (e ∙ z)) m l))
 
   -- entry k passes
@@ -82,10 +82,10 @@ module _ {buffer numbers rows head next : List ℕ} {k : ℕ} (j : Judging buffe
       → Keeps buffer rows' head' next' (k + 1) (j .done ++ (saidBy buffer (entryAt numbers k) ∷ [])) → Judging buffer numbers rows' head' next' (k + 1)
   judging-more e keeps = record {
     done = j .done ++ (saidBy buffer (entryAt numbers k) ∷ []);
-    so-far = ap (λ (n : ℕ). judge buffer (entriesIn numbers n)) (add-one k) ∙ fits-on buffer numbers k (j .done) (j .so-far) (sym e);
+    so-far = ap (λ (n : ℕ). judgeEntries buffer (entriesIn numbers n)) (add-one k) ∙ fits-on buffer numbers k (j .done) (j .so-far) (sym e);
     keeps = keeps;
   }
 
   -- no entry is left
-  pub none-left : record { number = 0; place = 0 } ≡ reasonOf (judge buffer (entriesIn numbers k))
+  pub none-left : record { number = 0; place = 0 } ≡ reasonOf (judgeEntries buffer (entriesIn numbers k))
   none-left = sym (ap reasonOf (j .so-far))

@@ -9,7 +9,7 @@ use lib.Seq.{slice, getD-set-same, getD-set-other}
 use borrow.Author.Tests.{eqb-true, eqb-false}
 use borrow.Table.Steps.{cases}
 use Rattle.names.specs.Hash.{hashes}
-use Rattle.index.specs.Rows.{rowWidth}
+use Rattle.index.specs.Rows.{scratchWidth}
 use Rattle.index.specs.Columns.{identifierColumn, kindAt, firstAt, pastAt, valueAt, Bounded}
 use Rattle.index.specs.Index.{Empty}
 use Rattle.ordered.specs.Ordered.{markOf, Filed}
@@ -32,35 +32,35 @@ keeps-none buffer rows head next some few empty links unmarked = record {
 }
 
 -- the rows with row n written: its kind, and the bounds of its identifier
-module _ (rows : List ℕ) (n first past : ℕ) (long : n * rowWidth + rowWidth ≤ length rows) where
+module _ (rows : List ℕ) (n first past : ℕ) (long : n * scratchWidth + scratchWidth ≤ length rows) where
   abbrev pub rowPut : List ℕ
-  rowPut = set (set (set rows (n * rowWidth) blockKind) (n * rowWidth + 4) first) (n * rowWidth + 4 + 1) past
+  rowPut = set (set (set rows (n * scratchWidth) blockKind) (n * scratchWidth + 4) first) (n * scratchWidth + 4 + 1) past
 
   pub put-kept : Kept rows rowPut n
   put-kept i l =
-      getD-set-other (set (set rows (n * rowWidth) blockKind) (n * rowWidth + 4) first) (n * rowWidth + 4 + 1) i past 0 (λ e. absurd (omega arith))
-      ∙ getD-set-other (set rows (n * rowWidth) blockKind) (n * rowWidth + 4) i first 0 (λ e. absurd (omega arith))
-      ∙ getD-set-other rows (n * rowWidth) i blockKind 0 (λ e. absurd (omega arith))
+      getD-set-other (set (set rows (n * scratchWidth) blockKind) (n * scratchWidth + 4) first) (n * scratchWidth + 4 + 1) i past 0 (λ e. absurd (omega arith))
+      ∙ getD-set-other (set rows (n * scratchWidth) blockKind) (n * scratchWidth + 4) i first 0 (λ e. absurd (omega arith))
+      ∙ getD-set-other rows (n * scratchWidth) i blockKind 0 (λ e. absurd (omega arith))
 
   pub put-length : length rowPut ≡ length rows
   put-length = simp length-set refl
 
   pub put-kind : kindAt rowPut n ≡ blockKind
   put-kind =
-      getD-set-other (set (set rows (n * rowWidth) blockKind) (n * rowWidth + 4) first) (n * rowWidth + 4 + 1) (n * rowWidth) past 0 (λ e. absurd (omega arith))
-      ∙ getD-set-other (set rows (n * rowWidth) blockKind) (n * rowWidth + 4) (n * rowWidth) first 0 (λ e. absurd (omega arith))
-      ∙ getD-set-same rows (n * rowWidth) blockKind 0 (omega arith)
+      getD-set-other (set (set rows (n * scratchWidth) blockKind) (n * scratchWidth + 4) first) (n * scratchWidth + 4 + 1) (n * scratchWidth) past 0 (λ e. absurd (omega arith))
+      ∙ getD-set-other (set rows (n * scratchWidth) blockKind) (n * scratchWidth + 4) (n * scratchWidth) first 0 (λ e. absurd (omega arith))
+      ∙ getD-set-same rows (n * scratchWidth) blockKind 0 (omega arith)
 
   pub put-first : firstAt rowPut identifierColumn n ≡ first
   put-first =
-      let size : length (set rows (n * rowWidth) blockKind) ≡ length rows = simp length-set refl in
-      getD-set-other (set (set rows (n * rowWidth) blockKind) (n * rowWidth + 4) first) (n * rowWidth + 4 + 1) (n * rowWidth + 4) past 0 (λ e. absurd (omega arith))
-      ∙ getD-set-same (set rows (n * rowWidth) blockKind) (n * rowWidth + 4) first 0 (omega arith)
+      let size : length (set rows (n * scratchWidth) blockKind) ≡ length rows = simp length-set refl in
+      getD-set-other (set (set rows (n * scratchWidth) blockKind) (n * scratchWidth + 4) first) (n * scratchWidth + 4 + 1) (n * scratchWidth + 4) past 0 (λ e. absurd (omega arith))
+      ∙ getD-set-same (set rows (n * scratchWidth) blockKind) (n * scratchWidth + 4) first 0 (omega arith)
 
   pub put-past : pastAt rowPut identifierColumn n ≡ past
   put-past =
-      let size : length (set (set rows (n * rowWidth) blockKind) (n * rowWidth + 4) first) ≡ length rows = simp length-set refl in
-      getD-set-same (set (set rows (n * rowWidth) blockKind) (n * rowWidth + 4) first) (n * rowWidth + 4 + 1) past 0 (omega arith)
+      let size : length (set (set rows (n * scratchWidth) blockKind) (n * scratchWidth + 4) first) ≡ length rows = simp length-set refl in
+      getD-set-same (set (set rows (n * scratchWidth) blockKind) (n * scratchWidth + 4) first) (n * scratchWidth + 4 + 1) past 0 (omega arith)
 
   module _ (buffer : List ℕ) where
     pub put-value : valueAt buffer rowPut identifierColumn n ≡ slice first past buffer

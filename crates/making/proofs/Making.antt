@@ -16,9 +16,9 @@ use Rattle.answers.specs.declared.Reason.{Reason}
 use Rattle.answers.specs.declared.Written.{Written}
 use Rattle.answers.specs.Answers.{onto}
 use Rattle.making.specs.declared.Entry.{Entry}
-use Rattle.making.specs.Entries.{Said, saidBy, partsInside, wellSpelt, Judged, entryRefusal, fit, refused, judgeFrom, judge}
+use Rattle.making.specs.Entries.{Said, saidBy, partsInside, allSpelt, JudgedEntries, entryRefusal, fit, refusedEntry, judgeEntriesFrom, judgeEntries}
 use Rattle.making.specs.Stream.{streamOf}
-use Rattle.making.specs.Answers.{notMade, reasonOf, made, madeOutput, MakeOutcome}
+use Rattle.making.specs.Answers.{notMade, reasonOf, madeOf, madeOutput, MakeOutcome}
 use Rattle.making.specs.Flat.{entryWidth, entryAt, entriesIn, entriesOf, saidIn}
 use Rattle.making.specs.Octets.{streamOctets, capped}
 use Rattle.making.specs.Lent.{EntryLies, AllLie, sizeFor}
@@ -32,11 +32,11 @@ module _ (buffer : List ℕ) where
   -- entries that fit, in two parts
   record Parted (done : List Said) (front back : List Entry) (said : List Said) : Type 0 where
     mid : List Said
-    front-fits : judgeFrom buffer done front ≡ fit mid
-    back-fits : judgeFrom buffer mid back ≡ fit said
+    front-fits : judgeEntriesFrom buffer done front ≡ fit mid
+    back-fits : judgeEntriesFrom buffer mid back ≡ fit said
 
-  parted : (done : List Said) (front back : List Entry) (said : List Said) → judgeFrom buffer done (front ++ back) ≡ fit said → Parted done front back said
-  unfolding judgeFrom
+  parted : (done : List Said) (front back : List Entry) (said : List Said) → judgeEntriesFrom buffer done (front ++ back) ≡ fit said → Parted done front back said
+  unfolding judgeEntriesFrom
   parted done [] back said e = record { mid = done; front-fits = refl; back-fits = e }
   parted done (x ∷ front) back said e =
       cases (eqb (entryRefusal buffer done x) 0)
@@ -45,8 +45,8 @@ module _ (buffer : List ℕ) where
       record { mid = p .mid; front-fits = rw t (p .front-fits); back-fits = p .back-fits })
       (λ t. let q = rw t at e in let z : _≡_ {A = ℕ} 0 1 = cc in absurd (omega arith))
 
-  one-fits : (done : List Said) (entry : Entry) (said : List Said) → judgeFrom buffer done (entry ∷ []) ≡ fit said → EntryLies buffer entry
-  unfolding judgeFrom
+  one-fits : (done : List Said) (entry : Entry) (said : List Said) → judgeEntriesFrom buffer done (entry ∷ []) ≡ fit said → EntryLies buffer entry
+  unfolding judgeEntriesFrom
   one-fits done entry said e =
       cases (eqb (entryRefusal buffer done entry) 0)
       (λ t.
@@ -55,7 +55,7 @@ module _ (buffer : List ℕ) where
       (λ t. let q = rw t at e in let z : _≡_ {A = ℕ} 0 1 = cc in absurd (omega arith))
 
   -- entries that fit lie in the buffer
-  fit-lie : (numbers : List ℕ) (m : ℕ) (said : List Said) → judge buffer (entriesIn numbers m) ≡ fit said → LieUpTo buffer numbers m
+  fit-lie : (numbers : List ℕ) (m : ℕ) (said : List Said) → judgeEntries buffer (entriesIn numbers m) ≡ fit said → LieUpTo buffer numbers m
   unfolding entriesIn
   fit-lie numbers zero said e k l = absurd (omega arith)
   fit-lie numbers (suc m) said e k l =
@@ -65,8 +65,8 @@ module _ (buffer : List ℕ) where
       (λ t. fit-lie numbers m (p .mid) (p .front-fits) k (omega (arith, eqb-false k m t)))
 
   -- a refusal has a number
-  refused-some : (done : List Said) (entries : List Entry) (number k : ℕ) → judgeFrom buffer done entries ≡ refused number k → number ≡ 0 → ⊥
-  unfolding judgeFrom
+  refused-some : (done : List Said) (entries : List Entry) (number k : ℕ) → judgeEntriesFrom buffer done entries ≡ refusedEntry number k → number ≡ 0 → ⊥
+  unfolding judgeEntriesFrom
   refused-some done [] number k e z = let y : _≡_ {A = ℕ} 0 1 = cc in omega arith
   refused-some done (x ∷ entries) number k e z =
       cases (eqb (entryRefusal buffer done x) 0)
@@ -81,27 +81,27 @@ module _ (buffer numbers out : List ℕ) where
   entries = entriesOf numbers
 
   -- an entry is refused
-  refused-by : (j : Judged) → judge buffer entries ≡ j → (reasonOf j .number ≡ 0 → ⊥)
+  refused-by : (j : JudgedEntries) → judgeEntries buffer entries ≡ j → (reasonOf j .number ≡ 0 → ⊥)
       → MakeOutcome buffer entries out (notMade (reasonOf j .number) (reasonOf j .place)) out
-  unfolding made madeOutput
-  refused-by (refused number k) e n = record { answered = rw e; put = rw (e, ne-eqb number 0 n) }
+  unfolding madeOf madeOutput
+  refused-by (refusedEntry number k) e n = record { answered = rw e; put = rw (e, ne-eqb number 0 n) }
   refused-by (fit said) e n = absurd (n refl)
 
-  pub make-refused : (reason : Reason) → reason ≡ reasonOf (judge buffer entries) → (reason .number ≡ 0 → ⊥)
+  pub make-refused : (reason : Reason) → reason ≡ reasonOf (judgeEntries buffer entries) → (reason .number ≡ 0 → ⊥)
       → MakeOutcome buffer entries out (notMade (reason .number) (reason .place)) out
   make-refused reason e n =
       subst (λ (r : Reason). MakeOutcome buffer entries out (notMade (r .number) (r .place)) out) (sym e)
-      (refused-by (judge buffer entries) refl (λ z. n (ap (λ (r : Reason). r .number) e ∙ z)))
+      (refused-by (judgeEntries buffer entries) refl (λ z. n (ap (λ (r : Reason). r .number) e ∙ z)))
 
   -- no entry is refused
-  fits-by : (j : Judged) → judge buffer entries ≡ j → reasonOf j .number ≡ 0 → judge buffer entries ≡ fit (saidIn buffer numbers)
-  fits-by (refused number k) e z = absurd (refused-some buffer [] entries number k e z)
+  fits-by : (j : JudgedEntries) → judgeEntries buffer entries ≡ j → reasonOf j .number ≡ 0 → judgeEntries buffer entries ≡ fit (saidIn buffer numbers)
+  fits-by (refusedEntry number k) e z = absurd (refused-some buffer [] entries number k e z)
   fits-by (fit said) e z = e ∙ ap fit (says buffer entries said e)
 
-  pub make-fits : (reason : Reason) → reason ≡ reasonOf (judge buffer entries) → reason .number ≡ 0 → judge buffer entries ≡ fit (saidIn buffer numbers)
-  make-fits reason e z = fits-by (judge buffer entries) refl (sym (ap (λ (r : Reason). r .number) e) ∙ z)
+  pub make-fits : (reason : Reason) → reason ≡ reasonOf (judgeEntries buffer entries) → reason .number ≡ 0 → judgeEntries buffer entries ≡ fit (saidIn buffer numbers)
+  make-fits reason e z = fits-by (judgeEntries buffer entries) refl (sym (ap (λ (r : Reason). r .number) e) ∙ z)
 
-  module _ (fits : judge buffer entries ≡ fit (saidIn buffer numbers)) where
+  module _ (fits : judgeEntries buffer entries ≡ fit (saidIn buffer numbers)) where
     pub make-lie : AllLie buffer numbers
     make-lie = fit-lie buffer numbers (length numbers / entryWidth) (saidIn buffer numbers) fits
 
@@ -118,7 +118,7 @@ module _ (buffer numbers out : List ℕ) where
 
     -- 17
     pub make-long : (size : ℕ) → size ≡ capped (sizeFor numbers) → streamLimit < size → MakeOutcome buffer entries out (notMade 17 0) out
-    unfolding made madeOutput
+    unfolding madeOf madeOutput
     make-long size e l =
         let over : streamLimit < length stream
         = capped-cases (sizeFor numbers) (λ n. n ≡ size → streamLimit < length stream) (λ m f. omega (arith, size-is)) (λ m f. omega (arith, size-is)) (sym e) in
@@ -132,7 +132,7 @@ module _ (buffer numbers out : List ℕ) where
     module _ (within : sizeFor numbers ≤ streamLimit) where
       -- 18
       pub make-short : length out < sizeFor numbers → MakeOutcome buffer entries out (notMade 18 0) out
-      unfolding made madeOutput
+      unfolding madeOf madeOutput
       make-short l =
           let t = le-ltb streamLimit (length stream) (omega (arith, size-is)) in
           let u = lt-ltb (length out) (length stream) (omega (arith, size-is)) in
@@ -144,7 +144,7 @@ module _ (buffer numbers out : List ℕ) where
       -- the letter is written
       pub make-written : sizeFor numbers ≤ length out → (past : ℕ) (after : List ℕ) → PutsOctets out 0 (streamOctets (saidIn buffer numbers)) past after
           → MakeOutcome buffer entries out (record { number = 0; place = 0; length = past }) after
-      unfolding made madeOutput
+      unfolding madeOf madeOutput
       make-written l past after puts =
           let t = le-ltb streamLimit (length stream) (omega (arith, size-is)) in
           let u = le-ltb (length out) (length stream) (omega (arith, size-is)) in

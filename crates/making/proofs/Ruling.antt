@@ -11,9 +11,9 @@ use Rattle.names.specs.Names.{spaceByte, longestIdentifier, isIdentifier, isPor
 use Rattle.contents.specs.declared.Span.{Span}
 use Rattle.portions.specs.Portions.{all}
 use Rattle.elements.specs.Judge.{mostElements}
-use Rattle.elements.specs.Rows.{bytesIn}
+use Rattle.elements.specs.ElementRows.{bytesIn}
 use Rattle.making.specs.declared.Entry.{Entry}
-use Rattle.making.specs.Entries.{Said, saidBy, inside, partsInside, unitName, wellSpelt, used, elementsFor, entryRefusal}
+use Rattle.making.specs.Entries.{Said, saidBy, inside, partsInside, unitName, allSpelt, used, elementsFor, entryRefusal}
 use Rattle.making.specs.Lent.{PartLies, namesOf, EntryLies}
 use Rattle.making.proofs.Sizes.{part-size}
 
@@ -64,8 +64,8 @@ module _ (buffer : List ℕ) where
     portion-lies = part-lies (entry .portion) (lie .1)
 
     -- what 27 and 14 leave of an entry
-    pub entry-lies : wellSpelt (saidBy buffer entry) ≡ true → EntryLies buffer entry
-    unfolding wellSpelt
+    pub entry-lies : allSpelt (saidBy buffer entry) ≡ true → EntryLies buffer entry
+    unfolding allSpelt
     entry-lies w =
         let said = saidBy buffer entry in
         let p = all-pass (isIdentifier (said .identifier)) (isPortion (said .portion)) (leb (length (unitName said)) longestIdentifier) w in
@@ -83,11 +83,11 @@ module _ (buffer : List ℕ) where
     refuses-27 i = rw i
 
     module _ (i : partsInside buffer entry ≡ true) where
-      pub refuses-14 : wellSpelt (saidBy buffer entry) ≡ false → entryRefusal buffer done entry ≡ 14
+      pub refuses-14 : allSpelt (saidBy buffer entry) ≡ false → entryRefusal buffer done entry ≡ 14
       unfolding entryRefusal
       refuses-14 w = rw (i, w)
 
-      module _ (w : wellSpelt (saidBy buffer entry) ≡ true) where
+      module _ (w : allSpelt (saidBy buffer entry) ≡ true) where
         pub refuses-15 : used done (saidBy buffer entry) ≡ true → entryRefusal buffer done entry ≡ 15
         unfolding entryRefusal
         refuses-15 u = rw (i, w, u)

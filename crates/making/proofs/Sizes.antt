@@ -11,7 +11,7 @@ use borrow.Table.Steps.{cases}
 use Rattle.names.specs.Names.{spaceByte}
 use Rattle.octets.specs.Walk.{streamLimit}
 use Rattle.contents.specs.declared.Span.{Span}
-use Rattle.elements.specs.Rows.{bytesIn}
+use Rattle.elements.specs.ElementRows.{bytesIn}
 use Rattle.making.specs.declared.Entry.{Entry}
 use Rattle.making.specs.Entries.{Said, saidBy}
 use Rattle.making.specs.Octets.{nameSize, unitSize, entrySizeBy, entrySize, header, blockFront, portionFront, unitFront, blockOctets, unitOctets, capped}

@@ -7,7 +7,7 @@ use lib.Dec.{eqb, leb}
 use lib.ListN.{length}
 use borrow.Table.Steps.{cases}
 use Rattle.names.specs.Names.{spaceByte, longestIdentifier, longestPortion, isDigit, grouped, isIdentifier, allDigits, isPortion}
-use Rattle.making.specs.Entries.{Said, unitName, wellSpelt, Spelt}
+use Rattle.making.specs.Entries.{Said, unitName, allSpelt, Spelt}
 
 -- allDigits go on with a group
 digits-group : (ys : List ℕ) → allDigits ys ≡ true → grouped true ys ≡ true
@@ -37,8 +37,8 @@ grouped-more inGroup (x ∷ xs) ys e f =
     rw (t, p .0) (grouped-more false xs ys (p .1) f))
 
 -- what 14 leaves
-pub spelt : (said : Said) → wellSpelt said ≡ true → Spelt said
-unfolding wellSpelt isIdentifier
+pub spelt : (said : Said) → allSpelt said ≡ true → Spelt said
+unfolding allSpelt isIdentifier
 spelt said e =
     let p = and-eq-true-iff (isIdentifier (said .identifier)) (isPortion (said .portion) && (leb (length (unitName said)) longestIdentifier && true)) .0 e in
     let q = and-eq-true-iff (isPortion (said .portion)) (leb (length (unitName said)) longestIdentifier && true) .0 (p .1) in

@@ -19,7 +19,7 @@ use Rattle.index.specs.Rows.{nameSpaceOf}
 use Rattle.index.specs.Index.{Has, FindsRow}
 use Rattle.judging.proofs.Lists.{below-length, at-below, any-true, any-false}
 use Rattle.making.specs.declared.Entry.{Entry}
-use Rattle.making.specs.Entries.{Said, saidBy, unitName, used, entryRefusal, refused, judgeFrom, Spelt}
+use Rattle.making.specs.Entries.{Said, saidBy, unitName, used, entryRefusal, refusedEntry, judgeEntriesFrom, Spelt}
 use Rattle.making.specs.Octets.{entrySize, entryOctets, blockOctets, unitOctets, entriesOctets, entriesSize}
 use Rattle.making.specs.Keeps.{blockSpace, Keeps, isFound}
 use Rattle.making.proofs.Fitting.{AllFit}
@@ -28,13 +28,13 @@ use Rattle.making.proofs.Octets.{Short}
 -- one entry judged: the judge goes on with the next, or ends
 module _ (buffer : List ℕ) (done : List Said) (entry : Entry) (entries : List Entry) where
   pub judge-more : entryRefusal buffer done entry ≡ 0
-      → judgeFrom buffer done (entry ∷ entries) ≡ judgeFrom buffer (done ++ (saidBy buffer entry ∷ [])) entries
-  unfolding judgeFrom
+      → judgeEntriesFrom buffer done (entry ∷ entries) ≡ judgeEntriesFrom buffer (done ++ (saidBy buffer entry ∷ [])) entries
+  unfolding judgeEntriesFrom
   judge-more e = rw e
 
   pub judge-stops : (entryRefusal buffer done entry ≡ 0 → ⊥)
-      → judgeFrom buffer done (entry ∷ entries) ≡ refused (entryRefusal buffer done entry) (length done)
-  unfolding judgeFrom
+      → judgeEntriesFrom buffer done (entry ∷ entries) ≡ refusedEntry (entryRefusal buffer done entry) (length done)
+  unfolding judgeEntriesFrom
   judge-stops n = rw (ne-eqb (entryRefusal buffer done entry) 0 n)
 
 -- 15 by the index: a row with the identifier is found exactly when it was used before

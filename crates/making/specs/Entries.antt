@@ -11,7 +11,7 @@ use lib.ListN.{length}
 use Rattle.names.specs.Names.{spaceByte, longestIdentifier, isIdentifier, isPortion, same}
 use Rattle.contents.specs.declared.Span.{Span}
 use Rattle.portions.specs.Portions.{all, any}
-use Rattle.elements.specs.Rows.{bytesIn}
+use Rattle.elements.specs.ElementRows.{bytesIn}
 use Rattle.elements.specs.Judge.{mostElements, firstOf, _when_}
 use Rattle.making.specs.declared.Entry.{Entry}
 
@@ -40,8 +40,8 @@ abbrev pub unitName : Said → List ℕ
 unitName said = said .identifier ++ spaceByte ∷ said .portion
 
 -- 14 "a bad identifier or portion or a unit identifier over 64 bytes"
-unfoldable pub wellSpelt : Said → Bool
-wellSpelt said =
+unfoldable pub allSpelt : Said → Bool
+allSpelt said =
     all (isIdentifier (said .identifier) ∷ isPortion (said .portion) ∷ leb (length (unitName said)) longestIdentifier ∷ [])
 
 -- what 14 leaves of an entry: its identifier, its portion and its unit identifier are well spelt
@@ -62,24 +62,24 @@ elementsFor entries = 1 + 2 * entries
 unfoldable pub entryRefusal : (buffer : List ℕ) → (done : List Said) → Entry → ℕ
 entryRefusal buffer done entry =
     firstOf ((27 when not (partsInside buffer entry))
-    ∷ (14 when not (wellSpelt (saidBy buffer entry)))
+    ∷ (14 when not (allSpelt (saidBy buffer entry)))
     ∷ (15 when used done (saidBy buffer entry))
     ∷ (9 when ltb mostElements (elementsFor (suc (length done))))
     ∷ [])
 
 -- No entry is refused, and this is what they say; or the first that is refused, by a number.
-pub data Judged : Type 0 where
-  fit : List Said → Judged
-  refused : (number entry : ℕ) → Judged
+pub data JudgedEntries : Type 0 where
+  fit : List Said → JudgedEntries
+  refusedEntry : (number entry : ℕ) → JudgedEntries
 
 -- "entries in order": those after the ones that are done
-unfoldable pub judgeFrom : (buffer : List ℕ) → (done : List Said) → List Entry → Judged
-judgeFrom buffer done [] = fit done
-judgeFrom buffer done (entry ∷ entries) =
+unfoldable pub judgeEntriesFrom : (buffer : List ℕ) → (done : List Said) → List Entry → JudgedEntries
+judgeEntriesFrom buffer done [] = fit done
+judgeEntriesFrom buffer done (entry ∷ entries) =
     let n = entryRefusal buffer done entry in
-    let more = judgeFrom buffer (done ++ (saidBy buffer entry ∷ [])) entries in
-    cond (eqb n 0) more (refused n (length done))
+    let more = judgeEntriesFrom buffer (done ++ (saidBy buffer entry ∷ [])) entries in
+    cond (eqb n 0) more (refusedEntry n (length done))
 
 -- all entries, "from 0"
-abbrev pub judge : (buffer : List ℕ) → List Entry → Judged
-judge buffer entries = judgeFrom buffer [] entries
+abbrev pub judgeEntries : (buffer : List ℕ) → List Entry → JudgedEntries
+judgeEntries buffer entries = judgeEntriesFrom buffer [] entries

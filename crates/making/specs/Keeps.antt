@@ -10,11 +10,11 @@ use Rattle.names.specs.Hash.{hashes, hash}
 use Rattle.contents.specs.declared.Span.{Span}
 use Rattle.index.specs.declared.RowFound.{RowFound}
 use Rattle.index.specs.declared.RowFound.the-variants.{At, Nothing}
-use Rattle.index.specs.Rows.{rowWidth}
+use Rattle.index.specs.Rows.{scratchWidth}
 use Rattle.index.specs.Columns.{identifierColumn, kindAt, valueAt, Bounded}
 use Rattle.index.specs.Index.{Empty}
 use Rattle.ordered.specs.Ordered.{markOf, Filed}
-use Rattle.elements.specs.Rows.{bytesIn}
+use Rattle.elements.specs.ElementRows.{bytesIn}
 use Rattle.making.specs.declared.Entry.{Entry}
 use Rattle.making.specs.declared.rules.Ruled.{Ruled}
 use Rattle.making.specs.Entries.{Said, Spelt, saidBy, used, entryRefusal}
@@ -68,7 +68,7 @@ pub record Roomy (numbers rows head next : List ℕ) : Type 0 where
   pub some-heads : 0 < length head
   pub few-heads : length head ≤ hashes
   pub empty-heads : Empty head
-  pub rows-fit : (k : ℕ) → k < length numbers / entryWidth → k < 2047 → k * rowWidth + rowWidth ≤ length rows
+  pub rows-fit : (k : ℕ) → k < length numbers / entryWidth → k < 2047 → k * scratchWidth + scratchWidth ≤ length rows
   pub some-links : 0 < length next
   pub unmarked : markOf next ≡ 0
   pub links-fit : (k : ℕ) → k < length numbers / entryWidth → k < 2047 → k + 1 < length next

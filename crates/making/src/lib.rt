@@ -7,7 +7,7 @@ use octets::STREAM_LIMIT;
 ghost use mathlib.Core.Path.{_≡_};
 ghost use Prim.Native.Nat.{_+_, _*_, _/_, _<_, _≤_};
 ghost use lib.ListN.{length};
-ghost use Rattle.making.specs.Entries.{judge};
+ghost use Rattle.making.specs.Entries.{judgeEntries};
 ghost use Rattle.making.specs.Answers.{reasonOf, MakeOutcome};
 ghost use Rattle.making.specs.Flat.{entryWidth, spanAt, entryAt, entriesOf};
 
@@ -64,7 +64,7 @@ fn entry_at(numbers: &[u32], k: usize) -> Entry
 // The refusal of entries that are few, with scratch that is soon cleared.
 fn judge_few(buffer: &[u8], numbers: &[u32]) -> Reason
     requires { ⌜ length (now numbers) / entryWidth ≤ 128 ⌝ }
-    ensures { λ r. ⌜ r ≡ reasonOf (judge (now (buffer .entry)) (entriesOf (now (numbers .entry)))) ⌝ }
+    ensures { λ r. ⌜ r ≡ reasonOf (judgeEntries (now (buffer .entry)) (entriesOf (now (numbers .entry)))) ⌝ }
 {
     let mut rows = [0u32; 1536];
     let mut head = [0u16; 256];
@@ -74,7 +74,7 @@ fn judge_few(buffer: &[u8], numbers: &[u32]) -> Reason
 
 // The refusal of any entries, with scratch for as many as fit.
 fn judge_many(buffer: &[u8], numbers: &[u32]) -> Reason
-    ensures { λ r. ⌜ r ≡ reasonOf (judge (now (buffer .entry)) (entriesOf (now (numbers .entry)))) ⌝ }
+    ensures { λ r. ⌜ r ≡ reasonOf (judgeEntries (now (buffer .entry)) (entriesOf (now (numbers .entry)))) ⌝ }
 {
     let mut rows = [0u32; 24564];
     let mut head = [0u16; 4096];
@@ -84,7 +84,7 @@ fn judge_many(buffer: &[u8], numbers: &[u32]) -> Reason
 
 // The refusal of entries: its number and place, 0 and 0 if there is none.
 fn refused_by(buffer: &[u8], numbers: &[u32]) -> Reason
-    ensures { λ r. ⌜ r ≡ reasonOf (judge (now (buffer .entry)) (entriesOf (now (numbers .entry)))) ⌝ }
+    ensures { λ r. ⌜ r ≡ reasonOf (judgeEntries (now (buffer .entry)) (entriesOf (now (numbers .entry)))) ⌝ }
 {
     if numbers.len() / ENTRY_WIDTH <= FEW_ENTRIES {
         return judge_few(buffer, numbers);

@@ -13,11 +13,11 @@ ghost use Prim.Native.Nat.{ℕ, _+_, _*_, _<_, _≤_};
 ghost use lib.ListN.{length};
 ghost use lib.Seq.{slice};
 ghost use Rattle.names.specs.Hash.{hash};
-ghost use Rattle.index.specs.Rows.{rowWidth};
+ghost use Rattle.index.specs.Rows.{scratchWidth};
 ghost use Rattle.index.specs.Columns.{identifierColumn, Bounded};
 ghost use Rattle.ordered.specs.Ordered.{Filed};
-ghost use Rattle.elements.specs.Rows.{bytesIn};
-ghost use Rattle.making.specs.Entries.{Said, saidBy, inside, partsInside, wellSpelt, judge};
+ghost use Rattle.elements.specs.ElementRows.{bytesIn};
+ghost use Rattle.making.specs.Entries.{Said, saidBy, inside, partsInside, allSpelt, judgeEntries};
 ghost use Rattle.making.specs.Answers.{reasonOf};
 ghost use Rattle.making.specs.Flat.{entriesOf};
 ghost use Rattle.making.specs.Lent.{PartLies};
@@ -72,7 +72,7 @@ fn parts_lie(buffer: &[u8], entry: Entry) -> bool
 // 14: whether the names of an entry are well spelt, and its unit identifier is not too long.
 fn is_well_spelt(buffer: &[u8], entry: Entry) -> bool
     requires { ⌜ PartLies (now buffer) (entry .identifier) × PartLies (now buffer) (entry .portion) ⌝ }
-    ensures { λ r. ⌜ r ≡ wellSpelt (saidBy (now (buffer .entry)) entry) ⌝ }
+    ensures { λ r. ⌜ r ≡ allSpelt (saidBy (now (buffer .entry)) entry) ⌝ }
 {
     let identifier = entry.identifier;
     let portion = entry.portion;
@@ -168,12 +168,12 @@ fn keep(
     hashed: usize,
 )
     requires { ⌜ Bounded (now buffer) (now rows) identifierColumn n × Filed (now buffer) (now rows) identifierColumn (now head) (now next) n ⌝ }
-    requires { ⌜ (n * rowWidth + rowWidth ≤ length (now rows)) × (n + 1 < length (now next)) × (n < 2047) ⌝ }
+    requires { ⌜ (n * scratchWidth + scratchWidth ≤ length (now rows)) × (n + 1 < length (now next)) × (n < 2047) ⌝ }
     requires { ⌜ (first ≤ past) × (past ≤ length (now buffer)) × (hashed ≡ hash (slice first past (now buffer))) ⌝ }
     ensures { λ _. ⌜ KeepsOn (now (buffer .entry)) (now (rows .entry)) (now (head .entry)) (now (next .entry)) n first past (now (rows .exit))
         (now (head .exit)) (now (next .exit)) ⌝ }
 {
-    let at = n * index::ROW_WIDTH;
+    let at = n * index::SCRATCH_WIDTH;
     rows[at] = BLOCK;
     rows[at + index::IDENTIFIER] = first;
     rows[at + index::IDENTIFIER + 1] = past;
@@ -189,7 +189,7 @@ pub fn judge_entries(
     next: &mut [u16],
 ) -> Reason
     requires { ⌜ Roomy (now numbers) (now rows) (now head) (now next) ⌝ }
-    ensures { λ r. ⌜ r ≡ reasonOf (judge (now (buffer .entry)) (entriesOf (now (numbers .entry)))) ⌝ }
+    ensures { λ r. ⌜ r ≡ reasonOf (judgeEntries (now (buffer .entry)) (entriesOf (now (numbers .entry)))) ⌝ }
 {
     let count = numbers.len() / ENTRY_WIDTH;
     let mut k: usize = 0;

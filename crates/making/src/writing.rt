@@ -11,7 +11,7 @@ ghost use Rattle.names.specs.Names.{spaceByte};
 ghost use Rattle.octets.specs.Walk.{streamLimit};
 ghost use Rattle.normal.specs.Passes.{PutsOctets};
 ghost use Rattle.normal.specs.Normal.{furtherOctets};
-ghost use Rattle.elements.specs.Rows.{bytesIn};
+ghost use Rattle.elements.specs.ElementRows.{bytesIn};
 ghost use Rattle.making.specs.Entries.{saidBy};
 ghost use Rattle.making.specs.Octets.{
   itemSize,

@@ -17,7 +17,7 @@ use Rattle.normal.proofs.Passes.{Turn, Meets, turned, run-left, form-sm
 use Rattle.normal.specs.declared.Ahead.the-variants.{Last}
 
 -- a primitive value is its own normal form
-pub plain-measured : (room : ℕ) (s : List ℕ) (h : Header) → ValueEnds room s h → constructed (h .octet) ≡ false
+pub plain-measured : (room : ℕ) (s : List ℕ) (h : Header) → ValueEnds room s h → constructed (h .code) ≡ false
     → ValueMeasures room s h (record { next = h .bound; size = h .bound - h .start; shortest = true })
 plain-measured room s h v k =
     let (e, f) = value-plain room s h k in
@@ -26,13 +26,13 @@ plain-measured room s h v k =
       measures = record {
         past = sym (ap endOf e);
         size = sym (ap length f ∙ length-slice (h .start) (h .bound) s (v .within));
-        own = λ _. (f ∙ ap (λ (j : ℕ). slice (h .start) j s) (sym z), z ∙ ap (λ (x : Bool). pastOf x (h .bound)) (sym (unmarked (h .marked) (h .octet) (v .mark) k)));
+        own = λ _. (f ∙ ap (λ (j : ℕ). slice (h .start) j s) (sym z), z ∙ ap (λ (x : Bool). pastOf x (h .bound)) (sym (unmarked (h .marked) (h .code) (v .mark) k)));
       };
       inner = λ e′. absurd (false≢true (sym e′));
     }
 
 -- a constructed one is a run
-pub run-measured : (room : ℕ) (s : List ℕ) (h : Header) → constructed (h .octet) ≡ true → (m : Measured)
+pub run-measured : (room : ℕ) (s : List ℕ) (h : Header) → constructed (h .code) ≡ true → (m : Measured)
     → RunMeasures (room - 1) s (h .start) (h .bound) (h .marked) m → ValueMeasures room s h m
 run-measured room s h k m v = let (e, f) = value-run room s h k in record { measures = rw (e, f) v; inner = λ _. k }
 
@@ -62,11 +62,11 @@ module _ (room : ℕ) (s : List ℕ) (from limit : ℕ) (marked : Bool) where
 
     module _ (h : Header) (u : Turn room s at limit marked h) (m : Measured) (v : ValueMeasures room s h m) where
       -- what is counted then is bounded
-      pub bounded : RunEnds room s from limit marked → size + (headerSize (h .octet) (m .size) + m .size) ≤ 3 * length s
+      pub bounded : RunEnds room s from limit marked → size + (headerSize (h .code) (m .size) + m .size) ≤ 3 * length s
       bounded r = let t = turned room s at limit marked h u m v in omega (arith, form-small room s from limit marked r, c .sum)
 
       -- an item that stands as in the normal form
-      item-own : Octets s → h .marked ≡ false → m .shortest ≡ true → h .start ≡ at + headerSize (h .octet) (m .size)
+      item-own : Octets s → h .marked ≡ false → m .shortest ≡ true → h .start ≡ at + headerSize (h .code) (m .size)
           → normalFrom room s at limit marked ≡ slice at (m .next) s ++ normalFrom room s (m .next) limit marked
       item-own o n b p =
           let (form, z) = v .measures .own b in
@@ -74,20 +74,20 @@ module _ (room : ℕ) (s : List ℕ) (from limit : ℕ) (marked : Bool) where
           let bound : h .bound ≡ h .start + m .size = sym (next ∙ v .measures .past ∙ u .definite n) in
           let rest = normalFrom room s (m .next) limit marked in
           let value = slice (h .start) (m .next) s in
-          let head : slice at (h .start) s ≡ typeField (h .octet) ++ lengthOctets (m .size) = own-header s at limit room h o (u .read) n (m .size) bound p in
+          let head : slice at (h .start) s ≡ typeField (h .code) ++ lengthOctets (m .size) = own-header s at limit room h o (u .read) n (m .size) bound p in
           let inner : normalIn room s h ≡ value = form ∙ ap (λ (k : ℕ). slice (h .start) k s) next in
           let len : lengthOctets (length (normalIn room s h)) ≡ lengthOctets (m .size) = ap lengthOctets (sym (v .measures .size)) in
           turned room s at limit marked h u m v .3
-          ∙ ap (λ (l : List ℕ). typeField (h .octet) ++ (l ++ (normalIn room s h ++ rest))) len
-          ∙ ap (λ (l : List ℕ). typeField (h .octet) ++ (lengthOctets (m .size) ++ (l ++ rest))) inner
-          ∙ sym (append-assoc (typeField (h .octet)) (lengthOctets (m .size)) (value ++ rest))
+          ∙ ap (λ (l : List ℕ). typeField (h .code) ++ (l ++ (normalIn room s h ++ rest))) len
+          ∙ ap (λ (l : List ℕ). typeField (h .code) ++ (lengthOctets (m .size) ++ (l ++ rest))) inner
+          ∙ sym (append-assoc (typeField (h .code)) (lengthOctets (m .size)) (value ++ rest))
           ∙ ap (λ (l : List ℕ). l ++ (value ++ rest)) (sym head)
           ∙ sym (append-assoc (slice at (h .start) s) value rest)
           ∙ ap (λ (l : List ℕ). l ++ rest) (slice-join s at (h .start) (m .next) (omega arith) (omega arith))
 
       -- a turn counts the item
-      pub item-counted : Octets s → (size′ : ℕ) (shortest′ : Bool) → size′ ≡ size + headerSize (h .octet) (m .size) + m .size
-          → (shortest′ ≡ true → (shortest ≡ true) × (h .marked ≡ false) × (m .shortest ≡ true) × (h .start ≡ at + headerSize (h .octet) (m .size)))
+      pub item-counted : Octets s → (size′ : ℕ) (shortest′ : Bool) → size′ ≡ size + headerSize (h .code) (m .size) + m .size
+          → (shortest′ ≡ true → (shortest ≡ true) × (h .marked ≡ false) × (m .shortest ≡ true) × (h .start ≡ at + headerSize (h .code) (m .size)))
           → Counted (m .next) size′ shortest′
       item-counted o size′ shortest′ e k =
           let (later, within, rest, form, len) = turned room s at limit marked h u m v in

@@ -36,8 +36,8 @@ octets-here s at xs o (rest, e) =
     octets-first xs rest (λ i. subst (λ (l : List ℕ). octetAt l i < 256) e (rw (getD-drop at s i 0) (o (at + i))))
 
 -- the type field of an item is octets
-pub octets-field : (s : List ℕ) (at limit room : ℕ) (h : Header) → Octets s → ReadFrom s at limit room h → Octets (typeField (h .octet))
-octets-field s at limit room h o r = octets-first (typeField (h .octet)) (r .len) (octets-here s at (typeField (h .octet) ++ r .len) o (r .here))
+pub octets-field : (s : List ℕ) (at limit room : ℕ) (h : Header) → Octets s → ReadFrom s at limit room h → Octets (typeField (h .code))
+octets-field s at limit room h o r = octets-first (typeField (h .code)) (r .len) (octets-here s at (typeField (h .code) ++ r .len) o (r .here))
 
 -- the digits of a number that octets say, are these octets
 digits-of : (k n : ℕ) (ds : List ℕ) → Octets ds → numberOctets (k + length ds) (bigEndianFrom n ds) ≡ numberOctets k n ++ ds
@@ -65,12 +65,12 @@ only (long {octets} a b) o e =
 
 -- a definite header that is as short as it can be
 pub own-header : (s : List ℕ) (at limit room : ℕ) (h : Header) → Octets s → ReadFrom s at limit room h → h .marked ≡ false
-    → (size : ℕ) → h .bound ≡ h .start + size → h .start ≡ at + headerSize (h .octet) size
-    → slice at (h .start) s ≡ typeField (h .octet) ++ lengthOctets size
+    → (size : ℕ) → h .bound ≡ h .start + size → h .start ≡ at + headerSize (h .code) size
+    → slice at (h .start) s ≡ typeField (h .code) ++ lengthOctets size
 own-header s at limit room h o r m size b p =
-    let (n, w, l, _) = subst (λ (x : Bool). Sized x (h .octet) (h .start) (h .bound) limit (r .len)) m (r .sized) in
+    let (n, w, l, _) = subst (λ (x : Bool). Sized x (h .code) (h .start) (h .bound) limit (r .len)) m (r .sized) in
     let e : n ≡ size = omega arith in
-    let type = typeField (h .octet) in
+    let type = typeField (h .code) in
     let k = octets-second type (r .len) (octets-here s at (type ++ r .len) o (r .here)) in
     let count : length (r .len) ≡ furtherOctets size + 1 = omega (arith, r .past, length-append type (r .len)) in
     sliced s at (type ++ r .len) (h .start) (r .past) (r .here)

@@ -63,18 +63,18 @@ past-ok start bound n (ends next) o w = (omega arith, omega arith)
 past-ok start bound n (stops number place) o w = absurd w
 
 module _ (room : ℕ) (s : List ℕ) (h : Header) where
-  pub value-run : constructed (h .octet) ≡ true
+  pub value-run : constructed (h .code) ≡ true
       → (valueOf room s h .how ≡ run (room - 1) s (h .start) (h .bound) (h .marked) .how)
       × (normalIn room s h ≡ normalFrom (room - 1) s (h .start) (h .bound) (h .marked))
   unfolding valueOf normalIn
   value-run e = (rw e, rw e)
 
-  pub value-plain : constructed (h .octet) ≡ false → (valueOf room s h .how ≡ ends (h .bound)) × (normalIn room s h ≡ slice (h .start) (h .bound) s)
+  pub value-plain : constructed (h .code) ≡ false → (valueOf room s h .how ≡ ends (h .bound)) × (normalIn room s h ≡ slice (h .start) (h .bound) s)
   unfolding valueOf normalIn
   value-plain e = (rw e, rw e)
 
   -- a constructed value is a run that ended
-  pub value-run-ends : ValueEnds room s h → constructed (h .octet) ≡ true → RunEnds (room - 1) s (h .start) (h .bound) (h .marked)
+  pub value-run-ends : ValueEnds room s h → constructed (h .code) ≡ true → RunEnds (room - 1) s (h .start) (h .bound) (h .marked)
   value-run-ends v e = record { order = v .order; within = v .within; small = v .small; whole = subst Whole (value-run e .0) (v .whole) }
 
   -- it ends within its bounds
@@ -82,11 +82,11 @@ module _ (room : ℕ) (s : List ℕ) (h : Header) where
   unfolding valueOf
   value-past a w =
       past-ok (h .start) (h .bound) (count (valueOf room s h .items)) (valueOf room s h .how)
-      (value-ok (constructed (h .octet)) h (λ g. run (room - 1) s (g .start) (g .bound) (g .marked)) a
+      (value-ok (constructed (h .code)) h (λ g. run (room - 1) s (g .start) (g .bound) (g .marked)) a
       (λ g b. run-ok (room - 1) s (g .start) (g .bound) (g .marked) b)) w
 
   -- a definite one ends where its length says
-  value-end : ValueEnds room s h → (b : Bool) → constructed (h .octet) ≡ b → h .marked ≡ false → endOf (valueOf room s h .how) ≡ h .bound
+  value-end : ValueEnds room s h → (b : Bool) → constructed (h .code) ≡ b → h .marked ≡ false → endOf (valueOf room s h .how) ≡ h .bound
   value-end v true e m =
       ap endOf (value-run e .0) ∙ form-end (room - 1) s (h .start) (h .bound) (h .marked) (value-run-ends v e) m
   value-end v false e m = ap endOf (value-plain e .0)
@@ -117,7 +117,7 @@ unmarked true octet i c = sym (i refl) ∙ c
 -- a run goes on after an item, if the walk of the item's value ended
 turn-of : (at : ℕ) (h : Header) (inside : Items) (e : End) (more : ℕ → Walked) (w : Walked) → w ≡ follow at h inside e more → Whole (w .how)
     → Whole e × (w .how ≡ more (endOf e) .how)
-    × (w .items ≡ item at (h .octet) (h .start) (pastOf (h .marked) (endOf e)) inside (more (endOf e) .items))
+    × (w .items ≡ item at (h .code) (h .start) (pastOf (h .marked) (endOf e)) inside (more (endOf e) .items))
 turn-of at h inside (ends next) more w p o = (tt, ap (λ (x : Walked). x .how) p, ap (λ (x : Walked). x .items) p)
 turn-of at h inside (stops n place) more w p o = absurd (subst (λ (x : Walked). Whole (x .how)) p o)
 
@@ -132,7 +132,7 @@ module _ (room : ℕ) (s : List ℕ) (at limit : ℕ) (marked : Bool) where
     pub definite : h .marked ≡ false → endOf (valueOf room s h .how) ≡ h .bound
     pub rest : run room s at limit marked .how ≡ run room s (endOf (valueOf room s h .how)) limit marked .how
     pub form : normalFrom room s at limit marked
-        ≡ coded (typeField (h .octet)) (normalIn room s h) (normalFrom room s (endOf (valueOf room s h .how)) limit marked)
+        ≡ coded (typeField (h .code)) (normalIn room s h) (normalFrom room s (endOf (valueOf room s h .how)) limit marked)
 
   -- what was met
   abbrev pub Meets : Ahead → Type 0
@@ -149,7 +149,7 @@ module _ (room : ℕ) (s : List ℕ) (at limit : ℕ) (marked : Bool) where
         let (i, k, t) = turn-of at h (v .items) (v .how) (λ n. run room s n limit marked) (run room s at limit marked) (at-head room s at limit marked l (Item h) e) (r .whole) in
         let b = value-past room s h (o .order) i in
         let inside : ValueEnds room s h = record { deep = o .deep; order = o .order; within = omega arith; small = r .small; whole = i; mark = o .mark } in
-        let definite = value-end room s h inside (constructed (h .octet)) refl in
+        let definite = value-end room s h inside (constructed (h .code)) refl in
         record {
           lies = o;
           read = read-from s at limit room marked l (r .within) h e;
@@ -159,11 +159,11 @@ module _ (room : ℕ) (s : List ℕ) (at limit : ℕ) (marked : Bool) where
           definite = definite;
           rest = k;
           form = ap (λ (x : Items). normalOf (plain s x)) t
-              ∙ form-of (constructed (h .octet)) (typeField (h .octet)) (slice (h .start) (pastOf (h .marked) next) s) (slice (h .start) (h .bound) s)
+              ∙ form-of (constructed (h .code)) (typeField (h .code)) (slice (h .start) (pastOf (h .marked) next) s) (slice (h .start) (h .bound) s)
               (plain s (v .items)) (plain s (run room s next limit marked .items)) (normalOf (plain s (run (room - 1) s (h .start) (h .bound) (h .marked) .items)))
               (λ c. rw c)
               (λ c.
-              let m = unmarked (h .marked) (h .octet) (o .mark) c in
+              let m = unmarked (h .marked) (h .code) (o .mark) c in
               ap (λ (k : ℕ). slice (h .start) k s) (ap (λ (b : Bool). pastOf b next) m ∙ definite m));
         }
 
@@ -207,8 +207,8 @@ run-left room s at limit marked r next l e = record { order = l; within = r .wit
 pub turned : (room : ℕ) (s : List ℕ) (at limit : ℕ) (marked : Bool) (h : Header) → Turn room s at limit marked h
     → (m : Measured) → ValueMeasures room s h m
     → (at + 2 ≤ m .next) × (m .next ≤ limit) × (run room s at limit marked .how ≡ run room s (m .next) limit marked .how)
-    × (normalFrom room s at limit marked ≡ coded (typeField (h .octet)) (normalIn room s h) (normalFrom room s (m .next) limit marked))
-    × (length (normalFrom room s at limit marked) ≡ headerSize (h .octet) (m .size) + m .size + length (normalFrom room s (m .next) limit marked))
+    × (normalFrom room s at limit marked ≡ coded (typeField (h .code)) (normalIn room s h) (normalFrom room s (m .next) limit marked))
+    × (length (normalFrom room s at limit marked) ≡ headerSize (h .code) (m .size) + m .size + length (normalFrom room s (m .next) limit marked))
 turned room s at limit marked h u m v =
-    let e = ap length (u .form) ∙ coded-length (typeField (h .octet)) (normalIn room s h) (normalFrom room s (endOf (valueOf room s h .how)) limit marked) in
+    let e = ap length (u .form) ∙ coded-length (typeField (h .code)) (normalIn room s h) (normalFrom room s (endOf (valueOf room s h .how)) limit marked) in
     rw (v .measures .past, v .measures .size) (u .later, u .within, u .rest, u .form, omega arith)

@@ -64,7 +64,7 @@ module _ (room : ℕ) (s : List ℕ) (from limit : ℕ) (marked : Bool) (out₀ 
     module _ (h : Header) (u : Turn room s at limit marked h) (m : Measured) (v : ValueMeasures room s h m) where
       -- there is room for the item, and it is not too long
       pub fits : begin + length (normalFrom room s from limit marked) ≤ length out₀
-          → (pos + (headerSize (h .octet) (m .size) + m .size) ≤ length out) × (m .size ≤ 3 * length s)
+          → (pos + (headerSize (h .code) (m .size) + m .size) ≤ length out) × (m .size ≤ 3 * length s)
       fits l =
           let t = turned room s at limit marked h u m v in
           let k = form-small room s at limit marked (c .left) in
@@ -72,11 +72,11 @@ module _ (room : ℕ) (s : List ℕ) (from limit : ℕ) (marked : Bool) (out₀ 
 
       -- a turn writes the item
       pub item-put : (past pos′ : ℕ) (mid out′ : List ℕ)
-          → PutsOctets out pos (typeField (h .octet) ++ lengthOctets (m .size)) past mid → PutsOctets mid past (normalIn room s h) pos′ out′
+          → PutsOctets out pos (typeField (h .code) ++ lengthOctets (m .size)) past mid → PutsOctets mid past (normalIn room s h) pos′ out′
           → PutSoFar (m .next) pos′ out′
       item-put past pos′ mid out′ p q =
           let (later, within, rest, form, len) = turned room s at limit marked h u m v in
-          let type = typeField (h .octet) in
+          let type = typeField (h .code) in
           let p′ = subst (λ (k : ℕ). PutsOctets out pos (type ++ lengthOctets k) past mid) (v .measures .size) p in
           let put = put-coded out mid out′ pos type (normalIn room s h) (normalFrom room s (m .next) limit marked) past pos′ p′ q in
           record {

@@ -34,7 +34,7 @@ pub record ValueEnds (room : ℕ) (s : List ℕ) (h : Header) : Type 0 where
   pub within : h .bound ≤ length s
   pub small : length s ≤ streamLimit
   pub whole : Whole (valueOf room s h .how)
-  pub mark : h .marked ≡ true → constructed (h .octet) ≡ true
+  pub mark : h .marked ≡ true → constructed (h .code) ≡ true
 
 -- where a walk ended
 abbrev pub endOf : End → ℕ
@@ -48,7 +48,7 @@ normalFrom room s at limit marked = normalOf (plain s (run room s at limit marke
 -- the normal form of the value of an item
 unfoldable pub normalIn : (room : ℕ) → List ℕ → Header → List ℕ
 normalIn room s h =
-    cond (constructed (h .octet)) (normalFrom (room - 1) s (h .start) (h .bound) (h .marked)) (slice (h .start) (h .bound) s)
+    cond (constructed (h .code)) (normalFrom (room - 1) s (h .start) (h .bound) (h .marked)) (slice (h .start) (h .bound) s)
 
 -- what a pass meets at `at`: an item, or the end of the run with the place past it
 abbrev pub aheadBy : (at : ℕ) → Head → Ahead
@@ -60,8 +60,8 @@ unfoldable pub aheadAt : (room : ℕ) → List ℕ → (at limit : ℕ) → (mar
 aheadAt room s at limit marked = cond (leb limit at) (Last limit) (aheadBy at (headAt s at limit marked room))
 
 -- how many octets come before a value of so many in the normal form of an item: its type field and its length octets
-abbrev pub headerSize : (octet size : ℕ) → ℕ
-headerSize octet size = length (typeField octet) + 1 + furtherOctets size
+abbrev pub headerSize : (code size : ℕ) → ℕ
+headerSize code size = length (typeField code) + 1 + furtherOctets size
 
 -- Octets from `from` on, whose walk ended so, were measured: where they end, how long their normal form is, and perhaps that they are
 -- their own normal form already.
@@ -76,7 +76,7 @@ RunMeasures room s from limit marked m = Measures s from marked (run room s from
 -- Only a constructed value may not be its own normal form.
 pub record ValueMeasures (room : ℕ) (s : List ℕ) (h : Header) (m : Measured) : Type 0 where
   pub measures : Measures s (h .start) (h .marked) (valueOf room s h .how) (normalIn room s h) m
-  pub inner : m .shortest ≡ false → constructed (h .octet) ≡ true
+  pub inner : m .shortest ≡ false → constructed (h .code) ≡ true
 
 -- Octets were written from begin up to past, and nothing else.
 pub record PutsOctets (before : List ℕ) (begin : ℕ) (octets : List ℕ) (past : ℕ) (after : List ℕ) : Type 0 where

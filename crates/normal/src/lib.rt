@@ -89,11 +89,11 @@ pub fn put_length(out: &mut [u8], at: usize, len: u32) -> usize
 }
 
 // How many octets come before a value of `size` octets.
-fn header_size(octet: usize, size: usize) -> usize
+fn header_size(code: usize, size: usize) -> usize
     requires { ⌜ size < 4294967296 ⌝ }
-    ensures { λ r. ⌜ r ≡ headerSize octet size ⌝ }
+    ensures { λ r. ⌜ r ≡ headerSize code size ⌝ }
 {
-    headers::field_size(octet) + 1 + further_octets(size as u32)
+    headers::field_size(code) + 1 + further_octets(size as u32)
 }
 
 // What stands at `at` in a run that was walked to its end.
@@ -139,11 +139,11 @@ fn measure_item(s: &[u8], h: Header, room: usize) -> Measured
     requires { ⌜ ValueEnds room (now s) h ⌝ }
     ensures { λ r. ⌜ ValueMeasures room (now (s .entry)) h r ⌝ }
 {
-    let octet = h.octet;
+    let code = h.code;
     let start = h.start;
     let bound = h.bound;
     let marked = h.marked;
-    if octet / 32 % 2 == 1 {
+    if code / 32 % 2 == 1 {
         measure_run(s, start, bound, marked, room - 1)
     } else {
         Measured {
@@ -166,7 +166,7 @@ fn measure_run(s: &[u8], from: usize, limit: usize, marked: bool, room: usize) -
         match meet(s, at, limit, marked, room) {
             Ahead::Item(h) => {
                 let m = measure_item(s, h, room);
-                let head = header_size(h.octet, m.size);
+                let head = header_size(h.code, m.size);
                 shortest = stays_shortest(shortest, at, h, m, head);
                 size = size + head + m.size;
                 at = m.next;
@@ -196,15 +196,15 @@ pub fn put_value(s: &[u8], start: usize, bound: usize, out: &mut [u8], begin: us
 }
 
 // Writes a type field as it was read, and says the place past it.
-fn put_field(out: &mut [u8], at: usize, octet: usize) -> usize
-    requires { ⌜ Octets (typeField octet) × (at + length (typeField octet) ≤ length (now out)) ⌝ }
-    ensures { λ r. ⌜ PutsOctets (now (out .entry)) at (typeField octet) r (now (out .exit)) ⌝ }
+fn put_field(out: &mut [u8], at: usize, code: usize) -> usize
+    requires { ⌜ Octets (typeField code) × (at + length (typeField code) ≤ length (now out)) ⌝ }
+    ensures { λ r. ⌜ PutsOctets (now (out .entry)) at (typeField code) r (now (out .exit)) ⌝ }
 {
-    out[at] = (octet % 256) as u8;
-    if octet % 32 != 31 {
+    out[at] = (code % 256) as u8;
+    if code % 32 != 31 {
         return at + 1;
     }
-    let rest = octet / 256;
+    let rest = code / 256;
     out[at + 1] = (rest % 256) as u8;
     if rest < 0x80 {
         return at + 2;
@@ -214,11 +214,11 @@ fn put_field(out: &mut [u8], at: usize, octet: usize) -> usize
 }
 
 // Writes a type field and the length octets of a value of `size` octets, and says the place past them.
-fn put_header(out: &mut [u8], begin: usize, octet: usize, size: usize) -> usize
-    requires { ⌜ (size < 4294967296) × Octets (typeField octet) × (begin + headerSize octet size ≤ length (now out)) ⌝ }
-    ensures { λ r. ⌜ PutsOctets (now (out .entry)) begin (typeField octet ++ lengthOctets size) r (now (out .exit)) ⌝ }
+fn put_header(out: &mut [u8], begin: usize, code: usize, size: usize) -> usize
+    requires { ⌜ (size < 4294967296) × Octets (typeField code) × (begin + headerSize code size ≤ length (now out)) ⌝ }
+    ensures { λ r. ⌜ PutsOctets (now (out .entry)) begin (typeField code ++ lengthOctets size) r (now (out .exit)) ⌝ }
 {
-    let past = put_field(out, begin, octet);
+    let past = put_field(out, begin, code);
     put_length(out, past, size as u32)
 }
 
@@ -258,7 +258,7 @@ fn put_run(
         match meet(s, at, limit, marked, room) {
             Ahead::Item(h) => {
                 let m = measure_item(s, h, room);
-                let past = put_header(out, pos, h.octet, m.size);
+                let past = put_header(out, pos, h.code, m.size);
                 pos = put_item(s, h, m, room, out, past);
                 at = m.next;
             }

@@ -4,7 +4,7 @@ use mathlib.Core.Bool.{Bool}
 use mathlib.Core.List.{List}
 use Prim.Native.Nat.{ℕ, _<_, _≤_}
 use native.Mathlib.Omega.{arith}
-use Rattle.octets.specs.Walk.{Items, none, item, End, ends, stops, run}
+use Rattle.octets.specs.Walk.{Items, noItems, item, End, ends, stops, run}
 use Rattle.octets.specs.Rules.{Runs, at-limit, unclosed, closes, refuses, primitive, passes, breaks}
 use Rattle.headers.proofs.Conditions.{two-to-eight}
 use Rattle.octets.proofs.Turns.{header-ok}
@@ -37,8 +37,8 @@ run-stops room s at limit marked l = stops-derived (derives room s at limit mark
 
 -- every top item stands before the limit
 pub data Before (limit : ℕ) : Items → Type 0 where
-  nothing : Before limit none
-  stands : {at octet start past : ℕ} {inside after : Items} → at < limit → Before limit after → Before limit (item at octet start past inside after)
+  nothing : Before limit noItems
+  stands : {at code start past : ℕ} {inside after : Items} → at < limit → Before limit after → Before limit (item at code start past inside after)
 
 before-derived : {s : List ℕ} {room at limit : ℕ} {marked : Bool} {i : Items} {e : End} → Runs s room at limit marked i e → Before limit i
 before-derived (at-limit p) = nothing

@@ -52,14 +52,14 @@ abbrev More : List ℕ → (room limit : ℕ) → (marked : Bool) → Header →
 More s room limit marked h more = (next : ℕ) → h .start ≤ next → next ≤ h .bound → Derives s room next limit marked (more next)
 
 derives-follow : (s : List ℕ) (room at limit : ℕ) (marked : Bool) (h : Header) → at < limit → headAt s at limit marked room ≡ Item h
-    → constructed (h .octet) ≡ true → (inside : Items) (e : End) → EndOk (h .start) (h .bound) (count inside) e
+    → constructed (h .code) ≡ true → (inside : Items) (e : End) → EndOk (h .start) (h .bound) (count inside) e
     → Runs s (room - 1) (h .start) (h .bound) (h .marked) inside e → (more : ℕ → Walked) → More s room limit marked h more
     → Derives s room at limit marked (follow at h inside e more)
 derives-follow s room at limit marked h l p q inside (ends next) o v more m = passes l p q v (m next (omega arith) (o .1))
 derives-follow s room at limit marked h l p q inside (stops n place) o v more m = breaks l p q v
 
 derives-item : (s : List ℕ) (room at limit : ℕ) (marked : Bool) (h : Header) → at < limit → headAt s at limit marked room ≡ Item h
-    → h .start ≤ h .bound → (b : Bool) → constructed (h .octet) ≡ b → (f : Header → Walked) → WalkOk (h .start) (h .bound) (f h)
+    → h .start ≤ h .bound → (b : Bool) → constructed (h .code) ≡ b → (f : Header → Walked) → WalkOk (h .start) (h .bound) (f h)
     → Derives s (room - 1) (h .start) (h .bound) (h .marked) (f h) → (more : ℕ → Walked) → More s room limit marked h more
     → Derives s room at limit marked (follow at h (value b h f .items) (value b h f .how) more)
 derives-item s room at limit marked h l p a true q f o r more m =
@@ -72,7 +72,7 @@ derives-head : (s : List ℕ) (room at limit : ℕ) (marked : Bool) (head : Head
     → (more : ℕ → Walked) → ((next : ℕ) → at < next → next ≤ limit → Derives s room next limit marked (more next))
     → Derives s room at limit marked (onHead at head f more)
 derives-head s room at limit marked (Item h) l p o f k r more m =
-    derives-item s room at limit marked h l p (o .order) (constructed (h .octet)) refl f (k h (o .order)) (r h (o .header) (o .order) (o .within)) more
+    derives-item s room at limit marked h l p (o .order) (constructed (h .code)) refl f (k h (o .order)) (r h (o .header) (o .order) (o .within)) more
     (λ next x y. m next (omega arith) (omega arith))
 derives-head s room at limit marked ClosingMark l p o f k r more m = closes l p
 derives-head s room at limit marked (Refusal n q) l p o f k r more m = refuses l (refused-exactly s at limit marked room n q .0 p)

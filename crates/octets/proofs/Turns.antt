@@ -11,7 +11,7 @@ use Rattle.headers.specs.declared.Head.the-variants.{Item, ClosingMark, Refusal
 use Rattle.octets.specs.declared.Outcome.{Outcome}
 use Rattle.octets.specs.declared.Outcome.the-variants.{Ended, Refused}
 use Rattle.headers.specs.Head.{constructed, headAt}
-use Rattle.octets.specs.Walk.{Items, none, item, count, End, ends, stops, Walked, ended, stopped, pastOf, follow, onHead, run, outcomeOf, answer}
+use Rattle.octets.specs.Walk.{Items, noItems, item, count, End, ends, stops, Walked, ended, stopped, pastOf, follow, onHead, run, outcomeOf, answer}
 use Rattle.octets.specs.Further.{valueOf, plus}
 use Rattle.headers.proofs.Lies.{HeadOk, head-ok}
 use Rattle.octets.proofs.Walks.{EndOk, value-ok, run-ok, run-step}
@@ -90,7 +90,7 @@ pub value-outcome : (room : ℕ) (s : List ℕ) (h : Header) → h .start ≤ h 
 unfolding valueOf
 value-outcome room s h l =
     answer-ok (h .start) (h .bound) _ (valueOf room s h .how)
-    (value-ok (constructed (h .octet)) h (λ g. run (room - 1) s (g .start) (g .bound) (g .marked)) l
+    (value-ok (constructed (h .code)) h (λ g. run (room - 1) s (g .start) (g .bound) (g .marked)) l
     (λ g b. run-ok (room - 1) s (g .start) (g .bound) (g .marked) b))
 
 -- what a header that was read tells
@@ -124,10 +124,10 @@ answer-stops n (ends to) number place k p = let z : _≡_ {A = ℕ} 0 1 = cc in 
 answer-stops n (stops m q) number place k p = cc
 
 module _ (room : ℕ) (s : List ℕ) (at limit : ℕ) (marked : Bool) (l : at < limit) where
-  pub tree-closes : headAt s at limit marked room ≡ ClosingMark → run room s at limit marked .items ≡ none
+  pub tree-closes : headAt s at limit marked room ≡ ClosingMark → run room s at limit marked .items ≡ noItems
   tree-closes e = ap (λ (w : Walked). w .items) (at-head room s at limit marked l ClosingMark e)
 
-  pub tree-refuses : (number place : ℕ) → headAt s at limit marked room ≡ Refusal number place → run room s at limit marked .items ≡ none
+  pub tree-refuses : (number place : ℕ) → headAt s at limit marked room ≡ Refusal number place → run room s at limit marked .items ≡ noItems
   tree-refuses number place e = ap (λ (w : Walked). w .items) (at-head room s at limit marked l (Refusal number place) e)
 
   module _ (h : Header) (e : headAt s at limit marked room ≡ Item h) where
@@ -137,14 +137,14 @@ module _ (room : ℕ) (s : List ℕ) (at limit : ℕ) (marked : Bool) (l : at < 
     at-item = ap (λ (w : Walked). w .items) (at-head room s at limit marked l (Item h) e)
 
     pub tree-passes : (next k : ℕ) → answer (valueOf room s h) ≡ Ended next k → run room s at limit marked .items
-        ≡ item at (h .octet) (h .start) (pastOf (h .marked) next) (valueOf room s h .items) (run room s next limit marked .items)
+        ≡ item at (h .code) (h .start) (pastOf (h .marked) next) (valueOf room s h .items) (run room s next limit marked .items)
     tree-passes next k p = at-item ∙ rw (answer-ends (count (valueOf room s h .items)) (valueOf room s h .how) next k p)
 
     pub tree-breaks : (number place k : ℕ) → answer (valueOf room s h) ≡ Refused number place k → run room s at limit marked .items
-        ≡ item at (h .octet) (h .start) (h .bound) (valueOf room s h .items) none
+        ≡ item at (h .code) (h .start) (h .bound) (valueOf room s h .items) noItems
     tree-breaks number place k p = at-item ∙ rw (answer-stops (count (valueOf room s h .items)) (valueOf room s h .how) number place k p)
 
-pub tree-ends : (room : ℕ) (s : List ℕ) (limit : ℕ) (marked : Bool) → run room s limit limit marked .items ≡ none
+pub tree-ends : (room : ℕ) (s : List ℕ) (limit : ℕ) (marked : Bool) → run room s limit limit marked .items ≡ noItems
 tree-ends room s limit true =
     let e : run room s limit limit true ≡ stopped 7 limit = run-step room s limit limit true (omega arith) ∙ rw (le-leb limit limit (omega arith)) in
     ap (λ (w : Walked). w .items) e

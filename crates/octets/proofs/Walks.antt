@@ -45,8 +45,8 @@ value-ok false h f l r = omega arith
 head-step-ok : (at limit room : ℕ) → at ≤ limit → (head : Head) → HeadOk at limit room head → (f : Header → Walked) → RunOk f
     → (more : ℕ → Walked) → MoreOk limit more → WalkOk at limit (onHead at head f more)
 head-step-ok at limit room l (Item h) o f r more m =
-    let v = value (constructed (h .octet)) h f in
-    follow-ok at limit h (o .header) (o .within) (v .items) (v .how) (value-ok (constructed (h .octet)) h f (o .order) r) more m
+    let v = value (constructed (h .code)) h f in
+    follow-ok at limit h (o .header) (o .within) (v .items) (v .how) (value-ok (constructed (h .code)) h f (o .order) r) more m
 head-step-ok at limit room l ClosingMark o f r more m = omega arith
 head-step-ok at limit room l (Refusal n place) o f r more m = omega arith
 
@@ -84,7 +84,7 @@ pub follow-same : (at limit : ℕ) (h : Header) → at + 2 ≤ h .start → h .b
     → EndOk (h .start) (h .bound) (count inside) e → (more other : ℕ → Walked) → SameMore at limit more other
     → follow at h inside e more ≡ follow at h inside e other
 follow-same at limit h a b inside (ends next) o more other m =
-    ap (λ (w : Walked). record { items = item at (h .octet) (h .start) (pastOf (h .marked) next) inside (w .items); how = w .how }) (m next (omega arith) (omega arith))
+    ap (λ (w : Walked). record { items = item at (h .code) (h .start) (pastOf (h .marked) next) inside (w .items); how = w .how }) (m next (omega arith) (omega arith))
 follow-same at limit h a b inside (stops n place) o more other m = refl
 
 value-same : (b : Bool) (h : Header) (f g : Header → Walked) → f h ≡ g h → value b h f ≡ value b h g
@@ -94,7 +94,7 @@ value-same false h f g e = refl
 head-same : (at limit room : ℕ) (head : Head) → HeadOk at limit room head → (f g : Header → Walked) → RunOk f → SameRun at limit f g
     → (more other : ℕ → Walked) → SameMore at limit more other → onHead at head f more ≡ onHead at head g other
 head-same at limit room (Item h) o f g r e more other m =
-    let b = constructed (h .octet) in
+    let b = constructed (h .code) in
     let v = value b h f in
     follow-same at limit h (o .header) (o .within) (v .items) (v .how) (value-ok b h f (o .order) r) more other m
     ∙ ap (λ (w : Walked). follow at h (w .items) (w .how) other) (value-same b h f g (e h (o .header) (o .order) (o .within)))

@@ -12,7 +12,7 @@ use Rattle.octets.specs.Walk.{Walked, value, run, step, ended}
 
 -- the value of the item with the header h, which is at the first of room levels
 unfoldable pub valueOf : (room : ℕ) → List ℕ → Header → Walked
-valueOf room s h = value (constructed (h .octet)) h (λ g. run (room - 1) s (g .start) (g .bound) (g .marked))
+valueOf room s h = value (constructed (h .code)) h (λ g. run (room - 1) s (g .start) (g .bound) (g .marked))
 
 -- the item at `at` alone, with nothing walked after it
 unfoldable pub oneOf : (room : ℕ) → List ℕ → (at limit : ℕ) → Walked

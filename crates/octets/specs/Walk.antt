@@ -14,16 +14,16 @@ use Rattle.octets.specs.declared.Outcome.{Outcome}
 use Rattle.octets.specs.declared.Outcome.the-variants.{Ended, Refused}
 
 -- "An item is a header with a value; a constructed value is a run of items, each with a value of its own." A run is none, or an
--- item with its place, its octet, which is the code of its type field, its value from start to past, the run inside it (none in a
--- primitive) and the items after it.
+-- item with its place, the code of its type field, its value from start to past, the run inside it (none in a primitive) and the
+-- items after it.
 pub data Items : Type 0 where
-  none : Items
-  item : (at octet start past : ℕ) → (inside after : Items) → Items
+  noItems : Items
+  item : (at code start past : ℕ) → (inside after : Items) → Items
 
 -- how many items there are, at any level
 abbrev pub count : Items → ℕ
-count none = 0
-count (item at octet start past inside after) = suc (count inside + count after)
+count noItems = 0
+count (item at code start past inside after) = suc (count inside + count after)
 
 -- "stream over 1,048,576 bytes"
 abbrev pub streamLimit : ℕ
@@ -43,10 +43,10 @@ pub record Walked : Type 0 where
   pub how : End
 
 abbrev pub ended : ℕ → Walked
-ended at = record { items = none; how = ends at }
+ended at = record { items = noItems; how = ends at }
 
 abbrev pub stopped : ℕ → ℕ → Walked
-stopped number place = record { items = none; how = stops number place }
+stopped number place = record { items = noItems; how = stops number place }
 
 -- "Closing marks lie .. in no value": where a value ends whose run ended before next
 abbrev pub pastOf : (marked : Bool) → (next : ℕ) → ℕ
@@ -57,9 +57,9 @@ pastOf marked next = cond marked (next - 2) next
 abbrev pub follow : ℕ → Header → Items → End → (ℕ → Walked) → Walked
 follow at h inside (ends next) more =
     let w = more next in
-    record { items = item at (h .octet) (h .start) (pastOf (h .marked) next) inside (w .items); how = w .how }
+    record { items = item at (h .code) (h .start) (pastOf (h .marked) next) inside (w .items); how = w .how }
 follow at h inside (stops number place) more =
-    record { items = item at (h .octet) (h .start) (h .bound) inside none; how = stops number place }
+    record { items = item at (h .code) (h .start) (h .bound) inside noItems; how = stops number place }
 
 -- the value of an item: "a constructed value is a run of items"
 abbrev pub value : Bool → Header → (Header → Walked) → Walked
@@ -68,7 +68,7 @@ value false h run = ended (h .bound)
 
 abbrev pub onHead : ℕ → Head → (Header → Walked) → (ℕ → Walked) → Walked
 onHead at (Item h) run more =
-    let v = value (constructed (h .octet)) h run in
+    let v = value (constructed (h .code)) h run in
     follow at h (v .items) (v .how) more
 onHead at ClosingMark run more = ended (at + 2)
 onHead at (Refusal number place) run more = stopped number place
@@ -81,6 +81,7 @@ step false at limit marked head run more = onHead at head run more
 
 -- The run from `at`, counting down from fuel items one after or inside another. The count is only there so that the definition ends:
 -- `run-step` (proofs/Walks) is the equation of `run`, no count stands in it, and nothing after it looks at the count.
+-- No 0 comes out: a stop has a number of 2 to 8 (`run-stops`, proofs/Numbers).
 unfoldable pub runFor : (fuel room : ℕ) → List ℕ → (at limit : ℕ) → (marked : Bool) → Walked
 runFor zero room s at limit marked = stopped 0 at
 runFor (suc fuel) room s at limit marked =
@@ -106,5 +107,5 @@ walkOf s = cond (leb (length s) streamLimit) (answer (run deepest s 0 (length s)
 
 -- where the first item of a run stands: at end if there is none
 abbrev pub startOf : (end : ℕ) → Items → ℕ
-startOf end none = end
-startOf end (item at octet start past inside after) = at
+startOf end noItems = end
+startOf end (item at code start past inside after) = at

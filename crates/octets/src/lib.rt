@@ -29,11 +29,11 @@ fn walk_item(s: &[u8], h: Header, room: usize) -> Outcome
     requires { ⌜ (0 < room) × (h .start ≤ h .bound) × (h .bound ≤ length (now s)) ⌝ }
     ensures { λ r. ⌜ r ≡ answer (valueOf room (now (s .entry)) h) ⌝ }
 {
-    let octet = h.octet;
+    let code = h.code;
     let start = h.start;
     let bound = h.bound;
     let marked = h.marked;
-    if octet / 32 % 2 == 1 {
+    if code / 32 % 2 == 1 {
         if start != bound {
             return walk_run(s, start, bound, marked, room - 1);
         }

@@ -19,10 +19,10 @@ use Rattle.normal.specs.Short.{shortLimit, answerShort}
 use Rattle.normal.proofs.Normals.{small}
 use Rattle.elements.specs.declared.Edition.{Edition}
 use Rattle.elements.specs.Judge.{Element}
-use Rattle.letters.specs.Letter.{Letter, letter, refusal}
+use Rattle.letters.specs.Letter.{Letter, letter, refusal, letterIn}
 use Rattle.answers.specs.declared.Reason.{Reason}
 use Rattle.answers.specs.declared.Told.{Told}
-use Rattle.answers.specs.Answers.{letterIn, ruledBy, ruled}
+use Rattle.answers.specs.Answers.{ruledBy, ruled}
 use Rattle.answers.specs.Questions.{reasonTold}
 use Rattle.answers.specs.Short.{writtenShort, writtenShortOutput, ShortOutcome}
 use Rattle.answers.proofs.Small.{refusal-small}

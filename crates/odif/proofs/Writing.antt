@@ -14,10 +14,10 @@ use Rattle.normal.specs.Normal.{normalForm}
 use Rattle.normal.specs.Writes.{answerOf, outputOf}
 use Rattle.elements.specs.declared.Edition.{Edition}
 use Rattle.elements.specs.Judge.{Element}
-use Rattle.letters.specs.Letter.{letter, refusal}
+use Rattle.letters.specs.Letter.{letter, refusal, letterIn}
 use Rattle.answers.specs.declared.Written.{Written}
 use Rattle.answers.specs.declared.Told.{Told}
-use Rattle.answers.specs.Answers.{letterIn, ruled, written, writtenOutput, NormalOutcome}
+use Rattle.answers.specs.Answers.{ruled, written, writtenOutput, NormalOutcome}
 use Rattle.answers.specs.Asking.{writtenAs}
 use Rattle.answers.specs.Questions.{reasonTold}
 use Rattle.answers.proofs.Small.{refusal-small}

@@ -13,8 +13,8 @@ use Rattle.octets.specs.Walk.{walkOf}
 use Rattle.tree.specs.Tree.{Tree, treeOf}
 use Rattle.elements.specs.declared.Edition.{Edition}
 use Rattle.elements.specs.Judge.{Element, Judged, accepted, refused, judge}
-use Rattle.elements.specs.Rows.{placeOf}
-use Rattle.letters.specs.Letter.{Letter, letter, refusal, letterOf, byWalk, afterWalk, itemsOfStream}
+use Rattle.elements.specs.ElementRows.{placeOf}
+use Rattle.letters.specs.Letter.{Letter, letter, refusal, letterIn, byWalk, afterWalk, itemsOfStream}
 use Rattle.reading.specs.declared.Side.{Side}
 use Rattle.reading.specs.Match.{matches}
 use Rattle.order.specs.declared.Class.{Class}
@@ -100,25 +100,25 @@ letter-judged edition s (Ended at k) headers elements e = by-judge (judge editio
     by-judge (refused number element) e = let z : _≡_ {A = ℕ} 0 1 = cc in absurd (omega arith)
 
 module _ (edition : Edition) (class : Class) (s : List ℕ) where
-  aside : (headers : ℕ) (elements : List Element) → letterOf edition s ≡ letter headers elements → LimitsAside elements
-  unfolding letterOf
+  aside : (headers : ℕ) (elements : List Element) → letterIn edition s ≡ letter headers elements → LimitsAside elements
+  unfolding letterIn
   aside headers elements e = judged-aside edition (treeOf s) elements (letter-judged edition s (walkOf s) headers elements e)
 
-  by-fault : (headers : ℕ) (elements : List Element) → letterOf edition s ≡ letter headers elements → (f : Fault) → faultOf class elements ≡ f
+  by-fault : (headers : ℕ) (elements : List Element) → letterIn edition s ≡ letter headers elements → (f : Fault) → faultOf class elements ≡ f
       → OrderIs edition class s (byFound s elements f)
   by-fault headers elements e Nowhere p = in-order e (in-order-exactly class elements (aside headers elements e) .0 p)
   by-fault headers elements e (At n) p = out-of-order e (fault-exactly class elements (aside headers elements e) n .0 p)
 
-  by-letter : (l : Letter) → letterOf edition s ≡ l → OrderIs edition class s (byLetter class s l)
+  by-letter : (l : Letter) → letterIn edition s ≡ l → OrderIs edition class s (byLetter class s l)
   by-letter (refusal number place headers) e = by-rule e
   by-letter (letter headers elements) e = by-fault headers elements e (faultOf class elements) refl
 
   -- what is computed is the answer, and there is no other
   pub computed-is : OrderIs edition class s (orderIn edition class s)
   unfolding orderIn
-  computed-is = by-letter (letterOf edition s) refl
+  computed-is = by-letter (letterIn edition s) refl
 
-  by-found : (headers : ℕ) (elements : List Element) → letterOf edition s ≡ letter headers elements → (f : Fault) → faultOf class elements ≡ f
+  by-found : (headers : ℕ) (elements : List Element) → letterIn edition s ≡ letter headers elements → (f : Fault) → faultOf class elements ≡ f
       → byFound s elements f ≡ orderIn edition class s
   unfolding orderIn
   by-found headers elements e f p = rw (e, p)

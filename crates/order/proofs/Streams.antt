@@ -12,9 +12,9 @@ use Rattle.pieces.specs.Pieces.{onlyPieces, joined}
 use Rattle.portions.specs.Portions.{allPortions, values, wellSpelt, repeats, among}
 use Rattle.elements.specs.declared.Edition.the-variants.{Of1988, Of1993}
 use Rattle.elements.specs.Shape.{shapeOf}
-use Rattle.elements.specs.Judge.{bodyOf, contentOf, elementOf, ordered, asTabled, namesFit, clash, twice, refusalOf, judgeOne, judgeFrom, judge}
-use Rattle.elements.specs.Rows.{placeOf}
-use Rattle.letters.specs.Letter.{letterOf}
+use Rattle.elements.specs.Judge.{bodyOf, contentOf, elementOf, itemsInOrder, asTabled, namesFit, clash, twice, refusalOf, judgeOne, judgeFrom, judge}
+use Rattle.elements.specs.ElementRows.{placeOf}
+use Rattle.letters.specs.Letter.{letterIn}
 use Rattle.reading.specs.Match.{joins}
 use Rattle.order.specs.Represents.{represents, isAssociated, isRepresented, allRepresented, everything, keep}
 use Rattle.order.specs.Ranks.{rankIn}
@@ -27,14 +27,14 @@ use Rattle.order.specs.Computed.{orderIn}
 use Rattle.order.specs.Streams.{Stream, streams}
 
 pub by-class-a : map (λ (x : Stream). orderIn Of1988 A (x .stream)) streams ≡ map (λ (x : Stream). x .a) streams
-unfolding permits formAllowed bigEndianFrom misfits definiteAt indefiniteAt longAt byFirst lengthAt itemAt closingAt headAt runFor run walkOf amount firstValue firstRun inOrder onlyPieces joined allPortions values wellSpelt repeats among isDigit grouped isIdentifier allDigits isPortion same nameSpaceOf shapeOf bodyOf contentOf elementOf ordered asTabled namesFit clash twice refusalOf judgeOne judgeFrom judge placeOf letterOf xor faultFrom beginsA orderedA placedA profileFirst ascends rankA rankIn inStep listedOf orderedBy keep representsSome everything mayCome awaited allRepresented isRepresented isAssociated represents joins orderIn
+unfolding permits formAllowed bigEndianFrom misfits definiteAt indefiniteAt longAt byFirst lengthAt itemAt closingAt headAt runFor run walkOf amount firstValue firstRun inOrder onlyPieces joined allPortions values wellSpelt repeats among isDigit grouped isIdentifier allDigits isPortion same nameSpaceOf shapeOf bodyOf contentOf elementOf itemsInOrder asTabled namesFit clash twice refusalOf judgeOne judgeFrom judge placeOf letterIn xor faultFrom beginsA orderedA placedA profileFirst ascends rankA rankIn inStep listedOf orderedBy keep representsSome everything mayCome awaited allRepresented isRepresented isAssociated represents joins orderIn
 by-class-a = refl
 
 pub by-class-b : map (λ (x : Stream). orderIn Of1988 B (x .stream)) streams ≡ map (λ (x : Stream). x .b) streams
-unfolding permits formAllowed bigEndianFrom misfits definiteAt indefiniteAt longAt byFirst lengthAt itemAt closingAt headAt runFor run walkOf amount firstValue firstRun inOrder onlyPieces joined allPortions values wellSpelt repeats among isDigit grouped isIdentifier allDigits isPortion same nameSpaceOf shapeOf bodyOf contentOf elementOf ordered asTabled namesFit clash twice refusalOf judgeOne judgeFrom judge placeOf letterOf xor faultFrom beginsB orderedB scanB nextB mayGoOn rankIn allRepresented isRepresented isAssociated represents joins orderIn
+unfolding permits formAllowed bigEndianFrom misfits definiteAt indefiniteAt longAt byFirst lengthAt itemAt closingAt headAt runFor run walkOf amount firstValue firstRun inOrder onlyPieces joined allPortions values wellSpelt repeats among isDigit grouped isIdentifier allDigits isPortion same nameSpaceOf shapeOf bodyOf contentOf elementOf itemsInOrder asTabled namesFit clash twice refusalOf judgeOne judgeFrom judge placeOf letterIn xor faultFrom beginsB orderedB scanB nextB mayGoOn rankIn allRepresented isRepresented isAssociated represents joins orderIn
 by-class-b = refl
 
 -- and the same by the edition of 1993
 pub by-class-b-1993 : map (λ (x : Stream). orderIn Of1993 B (x .stream)) streams ≡ map (λ (x : Stream). x .b) streams
-unfolding permits formAllowed bigEndianFrom misfits definiteAt indefiniteAt longAt byFirst lengthAt itemAt closingAt headAt runFor run walkOf amount firstValue firstRun inOrder onlyPieces joined allPortions values wellSpelt repeats among isDigit grouped isIdentifier allDigits isPortion same nameSpaceOf shapeOf bodyOf contentOf elementOf ordered asTabled namesFit clash twice refusalOf judgeOne judgeFrom judge placeOf letterOf xor faultFrom beginsB orderedB scanB nextB mayGoOn rankIn allRepresented isRepresented isAssociated represents joins orderIn
+unfolding permits formAllowed bigEndianFrom misfits definiteAt indefiniteAt longAt byFirst lengthAt itemAt closingAt headAt runFor run walkOf amount firstValue firstRun inOrder onlyPieces joined allPortions values wellSpelt repeats among isDigit grouped isIdentifier allDigits isPortion same nameSpaceOf shapeOf bodyOf contentOf elementOf itemsInOrder asTabled namesFit clash twice refusalOf judgeOne judgeFrom judge placeOf letterIn xor faultFrom beginsB orderedB scanB nextB mayGoOn rankIn allRepresented isRepresented isAssociated represents joins orderIn
 by-class-b-1993 = refl

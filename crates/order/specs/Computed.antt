@@ -7,7 +7,7 @@ use mathlib.Core.Bool.{true}
 use mathlib.Core.List.{List, [], _++_, map}
 use Rattle.elements.specs.declared.Edition.{Edition}
 use Rattle.elements.specs.Judge.{Element}
-use Rattle.letters.specs.Letter.{Letter, letter, refusal, letterOf}
+use Rattle.letters.specs.Letter.{Letter, letter, refusal, letterIn}
 use Rattle.order.specs.declared.Class.{Class}
 use Rattle.order.specs.declared.Class.the-variants.{A, B}
 use Rattle.order.specs.declared.Fault.{Fault}
@@ -29,7 +29,7 @@ byLetter class s (letter headers elements) = byFound s elements (faultOf class e
 
 -- the order of a stream, computed
 unfoldable pub orderIn : Edition → Class → (s : List ℕ) → Ordered
-orderIn edition class s = byLetter class s (letterOf edition s)
+orderIn edition class s = byLetter class s (letterIn edition s)
 
 -- one pass over numbers
 abbrev pub passOf : Class → List Element → Fault

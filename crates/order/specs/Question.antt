@@ -9,8 +9,8 @@ use lib.Dec.{ltb}
 use lib.ListN.{length}
 use Rattle.elements.specs.declared.Edition.{Edition}
 use Rattle.elements.specs.Judge.{Element}
-use Rattle.elements.specs.Rows.{placeOf}
-use Rattle.letters.specs.Letter.{letter, refusal, letterOf, itemsOfStream}
+use Rattle.elements.specs.ElementRows.{placeOf}
+use Rattle.letters.specs.Letter.{letter, refusal, letterIn, itemsOfStream}
 use Rattle.order.specs.declared.Class.{Class}
 use Rattle.order.specs.declared.Ordered.{Ordered}
 use Rattle.order.specs.Begins.{InOrder, FaultAt}
@@ -29,10 +29,10 @@ octetAt s elements n = cond (ltb n (length elements)) (placeOf n (itemsOfStream 
 -- THE ORDER of a stream: what is answered of it, by `InOrder` and `FaultAt` alone
 pub data OrderIs (edition : Edition) (class : Class) (s : List ℕ) : Ordered → Type 0 where
   -- "after 15": what rules 1 to 15 refuse is refused as they say
-  by-rule : {number place headers : ℕ} → letterOf edition s ≡ refusal number place headers → OrderIs edition class s (verdict number place)
-  in-order : {headers : ℕ} {elements : List Element} → letterOf edition s ≡ letter headers elements
+  by-rule : {number place headers : ℕ} → letterIn edition s ≡ refusal number place headers → OrderIs edition class s (verdict number place)
+  in-order : {headers : ℕ} {elements : List Element} → letterIn edition s ≡ letter headers elements
       → InOrder class elements → OrderIs edition class s (verdict 0 0)
-  out-of-order : {headers n : ℕ} {elements : List Element} → letterOf edition s ≡ letter headers elements
+  out-of-order : {headers n : ℕ} {elements : List Element} → letterIn edition s ≡ letter headers elements
       → FaultAt class elements n → OrderIs edition class s (verdict outOfOrder (octetAt s elements n))
 
 -- What is promised of the answer.
@@ -41,8 +41,8 @@ pub record Answered (edition : Edition) (class : Class) (s : List ℕ) : Type 0 
   pub some : (r : Ordered) × OrderIs edition class s r
   pub one : (a b : Ordered) → OrderIs edition class s a → OrderIs edition class s b → a ≡ b
   -- "at the first element such that the elements through it begin no run": its first octet
-  pub at-element : (headers n : ℕ) (elements : List Element) → letterOf edition s ≡ letter headers elements → n < length elements
+  pub at-element : (headers n : ℕ) (elements : List Element) → letterIn edition s ≡ letter headers elements → n < length elements
       → FaultAt class elements n → OrderIs edition class s (verdict outOfOrder (placeOf n (itemsOfStream s)))
   -- "at the stream's length if only the end is missing"
-  pub at-length : (headers : ℕ) (elements : List Element) → letterOf edition s ≡ letter headers elements
+  pub at-length : (headers : ℕ) (elements : List Element) → letterIn edition s ≡ letter headers elements
       → FaultAt class elements (length elements) → OrderIs edition class s (verdict outOfOrder (length s))

@@ -164,7 +164,7 @@ pub fn insert(
         insert_any(&*s, &*rows, head, next, n, column, hashed);
         return;
     }
-    let at = n * index::ROW_WIDTH + column;
+    let at = n * index::SCRATCH_WIDTH + column;
     if rows[at + 1] <= rows[at] {
         return;
     }

@@ -9,7 +9,7 @@ ghost use lib.ListN.{length};
 ghost use lib.Seq.{slice};
 ghost use Rattle.names.specs.Names.{same};
 ghost use Rattle.names.specs.Asked.{spelling, AskedWithin};
-ghost use Rattle.index.specs.Rows.{rowWidth};
+ghost use Rattle.index.specs.Rows.{scratchWidth};
 ghost use Rattle.index.specs.Columns.{firstAt, pastAt};
 ghost use Rattle.index.specs.Index.{named};
 ghost use Rattle.ordered.specs.Order.{less};
@@ -90,14 +90,14 @@ fn is_spelt(s: &[u8], asked: Asked, first: usize, past: usize) -> bool
 
 // Whether the name asked for, in its name space, comes before row j.
 pub fn is_before(s: &[u8], rows: &[u32], column: usize, j: usize, space: u8, asked: Asked) -> bool
-    requires { ⌜ column + 1 < rowWidth ⌝ }
-    requires { ⌜ j * rowWidth + rowWidth ≤ length (now rows) ⌝ }
+    requires { ⌜ column + 1 < scratchWidth ⌝ }
+    requires { ⌜ j * scratchWidth + scratchWidth ≤ length (now rows) ⌝ }
     requires { ⌜ firstAt (now rows) column j ≤ pastAt (now rows) column j ⌝ }
     requires { ⌜ pastAt (now rows) column j ≤ length (now s) ⌝ }
     requires { ⌜ AskedWithin (now s) asked ⌝ }
     ensures { λ r. ⌜ r ≡ less (space ∷ spelling (now (s .entry)) asked) (keyAt (now (s .entry)) (now (rows .entry)) column j) ⌝ }
 {
-    let at = j * index::ROW_WIDTH;
+    let at = j * index::SCRATCH_WIDTH;
     let own = index::space_of(wide32(rows[at]));
     if own != space {
         return space < own;
@@ -109,15 +109,15 @@ pub fn is_before(s: &[u8], rows: &[u32], column: usize, j: usize, space: u8, ask
 
 // Whether row j has a value, is of the name space and has the name asked for.
 pub fn is_held(s: &[u8], rows: &[u32], column: usize, j: usize, space: u8, asked: Asked) -> bool
-    requires { ⌜ column + 1 < rowWidth ⌝ }
-    requires { ⌜ j * rowWidth + rowWidth ≤ length (now rows) ⌝ }
+    requires { ⌜ column + 1 < scratchWidth ⌝ }
+    requires { ⌜ j * scratchWidth + scratchWidth ≤ length (now rows) ⌝ }
     requires { ⌜ firstAt (now rows) column j ≤ pastAt (now rows) column j ⌝ }
     requires { ⌜ pastAt (now rows) column j ≤ length (now s) ⌝ }
     requires { ⌜ AskedWithin (now s) asked ⌝ }
     ensures { λ r. ⌜ r ≡ (ltb (firstAt (now (rows .entry)) column j) (pastAt (now (rows .entry)) column j)
         && named (now (s .entry)) (now (rows .entry)) column space (spelling (now (s .entry)) asked) j) ⌝ }
 {
-    let at = j * index::ROW_WIDTH;
+    let at = j * index::SCRATCH_WIDTH;
     let first = wide32(rows[at + column]);
     let past = wide32(rows[at + column + 1]);
     if first == past {

@@ -120,7 +120,7 @@ pub fn put_in_order(s: &[u8], rows: &[u32], next: &mut [u16], from: usize, n: us
     ensures { λ _. ⌜ Ordered (now (s .entry)) (now (rows .entry)) column (now (next .exit)) from (n + 1) ⌝ }
     ensures { λ _. ⌜ Around (now (next .entry)) (now (next .exit)) from n ⌝ }
 {
-    let at = n * index::ROW_WIDTH;
+    let at = n * index::SCRATCH_WIDTH;
     let space = index::space_of(wide32(rows[at]));
     let first = wide32(rows[at + column]);
     let past = wide32(rows[at + column + 1]);

@@ -8,7 +8,7 @@ ghost use mathlib.Core.Bool.{_||_};
 ghost use Prim.Native.Nat.{_+_, _*_, _-_, _<_, _≤_};
 ghost use lib.Dec.{eqb};
 ghost use lib.ListN.{length};
-ghost use Rattle.index.specs.Rows.{rowWidth};
+ghost use Rattle.index.specs.Rows.{scratchWidth};
 ghost use Rattle.index.specs.Columns.{identifierColumn};
 ghost use Rattle.reading.specs.Ready.{spanAt, there};
 ghost use Rattle.order.specs.Ranks.{rankIn};
@@ -78,7 +78,7 @@ fn one_fewer(left: usize) -> usize
 
 // Whether what row j lists can come: it lists nothing, or it has an identifier.
 fn can_come(rows: &[u32], j: usize, lists: usize) -> bool
-    requires { ⌜ j * rowWidth + rowWidth ≤ length (now rows) ⌝ }
+    requires { ⌜ j * scratchWidth + scratchWidth ≤ length (now rows) ⌝ }
     ensures { λ r. ⌜ r ≡ (eqb lists 0 || there (spanAt (now (rows .entry)) identifierColumn j)) ⌝ }
 {
     if lists == 0 {

@@ -21,7 +21,7 @@ use Rattle.order.proofs.PassA.{pass-exactly}
 use Rattle.ranks.specs.declared.Sight.{Sight}
 use Rattle.ranks.specs.Step.{next, waiting, asState, Small}
 use Rattle.ranks.proofs.Steps.{count-few, one-few}
-use Rattle.owners.specs.Owner.{made}
+use Rattle.owners.specs.Owner.{matchOf}
 use Rattle.turns.specs.declared.Own.{Own}
 use Rattle.ordering_a.specs.declared.Walk.{Walk}
 use Rattle.turns.specs.Turns.{kindFor}
@@ -45,10 +45,10 @@ start (x ∷ xs) n c l k =
       ordered-rank = inl refl;
     }
   where
-    first : (side : Side) (row p u : ℕ) → u < 1 → made row p u ∈ matches side (x ∷ xs) → ⊥
+    first : (side : Side) (row p u : ℕ) → u < 1 → matchOf row p u ∈ matches side (x ∷ xs) → ⊥
     first side row p u h m =
         let z : u ≡ 0 = omega arith in
-        let i = unit-kind (x ∷ xs) side row p 0 (subst (λ (j : ℕ). made row p j ∈ matches side (x ∷ xs)) z m) in
+        let i = unit-kind (x ∷ xs) side row p 0 (subst (λ (j : ℕ). matchOf row p j ∈ matches side (x ∷ xs)) z m) in
         omega (arith, k)
 
 pub start-bounds : (n : ℕ) → Bounds 1 (startOf n)

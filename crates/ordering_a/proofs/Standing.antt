@@ -28,7 +28,7 @@ use Rattle.order.proofs.CountsA.{generic-count, specific-count}
 use Rattle.ranks.specs.declared.Sight.{Sight}
 use Rattle.ranks.specs.Step.{rankOf, stands, one, next, asState, Sees}
 use Rattle.ranks.proofs.Steps.{rank-seen, stands-exactly, next-exactly}
-use Rattle.owners.specs.Owner.{made}
+use Rattle.owners.specs.Owner.{matchOf}
 use Rattle.turns.specs.declared.Own.{Own}
 use Rattle.ordering_a.specs.declared.Walk.{Walk}
 use Rattle.turns.specs.Turns.{OwnIs, kindFor, ownFor, rowFor, turnFor, counts, before}
@@ -100,9 +100,9 @@ module _ (es : List Element) (aside : LimitsAside es) (k : ℕ) (below : k < len
       (λ u. let (side, p, v, l, m) = early-told es k below u in absurd (eqb-false (w .least) k t (is-least (st .no-less side k p v l m))))
       (λ u. u ∙ sym t))
     where
-      least : w .least ≡ k → (w .least ≡ length es) ⊎ ((side : Side) × (p : ℕ) × (u : ℕ) × (u < k) × (made (w .least) p u ∈ matches side es)) → any (map (isAssociated here) front) ≡ true
+      least : w .least ≡ k → (w .least ≡ length es) ⊎ ((side : Side) × (p : ℕ) × (u : ℕ) × (u < k) × (matchOf (w .least) p u ∈ matches side es)) → any (map (isAssociated here) front) ≡ true
       least e (inl z) = absurd (omega arith)
-      least e (inr (side, p, u, l, m)) = early-of es k below side p u l (subst (λ (i : ℕ). made i p u ∈ matches side es) e m)
+      least e (inr (side, p, u, l, m)) = early-of es k below side p u l (subst (λ (i : ℕ). matchOf i p u ∈ matches side es) e m)
 
       is-least : (k < k) ⊎ (w .least ≤ k) → w .least ≡ k
       is-least (inl l) = absurd (omega arith)
@@ -176,14 +176,14 @@ module _ (es : List Element) (aside : LimitsAside es) (k : ℕ) (below : k < len
     not-least : w .least ≡ k → ⊥
     not-least e = true≢false (sym (eq-eqb (w .least) k e) ∙ sym early-is ∙ passing .late)
 
-    later-low : (own : Own) → (own .later ≡ length es) ⊎ ((p : ℕ) × (k < own .later) × ((side : Side) × (made (own .later) p k ∈ matches side es))) → suc k ≤ own .later
+    later-low : (own : Own) → (own .later ≡ length es) ⊎ ((p : ℕ) × (k < own .later) × ((side : Side) × (matchOf (own .later) p k ∈ matches side es))) → suc k ≤ own .later
     later-low o (inl z) = omega arith
     later-low o (inr (p, l, m)) = l
 
-    later : (side : Side) (o : Own) → OwnIs side es (length es) k o → (o .later ≡ length es) ⊎ ((p : ℕ) × (k < o .later) × ((given : Side) × (made (o .later) p k ∈ matches given es)))
+    later : (side : Side) (o : Own) → OwnIs side es (length es) k o → (o .later ≡ length es) ⊎ ((p : ℕ) × (k < o .later) × ((given : Side) × (matchOf (o .later) p k ∈ matches given es)))
     later side o i = which (i .later-is)
       where
-        which : (o .later ≡ length es) ⊎ ((p : ℕ) × (k < o .later) × (made (o .later) p k ∈ matches side es)) → (o .later ≡ length es) ⊎ ((p : ℕ) × (k < o .later) × ((given : Side) × (made (o .later) p k ∈ matches given es)))
+        which : (o .later ≡ length es) ⊎ ((p : ℕ) × (k < o .later) × (matchOf (o .later) p k ∈ matches side es)) → (o .later ≡ length es) ⊎ ((p : ℕ) × (k < o .later) × ((given : Side) × (matchOf (o .later) p k ∈ matches given es)))
         which (inl z) = inl z
         which (inr (p, l, m)) = inr (p, l, (side, m))
 
@@ -215,7 +215,7 @@ module _ (es : List Element) (aside : LimitsAside es) (k : ℕ) (below : k < len
         let j = lesser-right (layout .later) (logical .later) in
         (l, omega arith, omega arith)
 
-    no-less : (side : Side) (row' p u : ℕ) → u < suc k → made row' p u ∈ matches side es → (row' < suc k) ⊎ (three ≤ row')
+    no-less : (side : Side) (row' p u : ℕ) → u < suc k → matchOf row' p u ∈ matches side es → (row' < suc k) ⊎ (three ≤ row')
     no-less side r p u l m = cases (eqb u k) (λ e. now (eqb-true u k e)) (λ e. let d = eqb-false u k e in before-it (st .no-less side r p u (less d) m))
       where
         less : (u ≡ k → ⊥) → u < k
@@ -233,24 +233,24 @@ module _ (es : List Element) (aside : LimitsAside es) (k : ℕ) (below : k < len
         by-logical (inl h) = inl (omega arith)
         by-logical (inr h) = let f = three-few .2 in inr (omega arith)
 
-        of-side : (given : Side) → made r p k ∈ matches given es → (r < suc k) ⊎ (three ≤ r)
+        of-side : (given : Side) → matchOf r p k ∈ matches given es → (r < suc k) ⊎ (three ≤ r)
         of-side Layout i = by-layout (a .no-later r p i)
         of-side Logical i = by-logical (b .no-later r p i)
 
         now : u ≡ k → (r < suc k) ⊎ (three ≤ r)
-        now e = of-side side (subst (λ (i : ℕ). made r p i ∈ matches side es) e m)
+        now e = of-side side (subst (λ (i : ℕ). matchOf r p i ∈ matches side es) e m)
 
     abbrev Least : ℕ → Type 0
-    Least least = (least ≡ length es) ⊎ ((side : Side) × (p : ℕ) × (u : ℕ) × (u < suc k) × (made least p u ∈ matches side es))
+    Least least = (least ≡ length es) ⊎ ((side : Side) × (p : ℕ) × (u : ℕ) × (u < suc k) × (matchOf least p u ∈ matches side es))
 
     least-is : Least three
     least-is = of-three (lesser-is (w .least) (lesser (layout .later) (logical .later))) (lesser-is (layout .later) (logical .later))
       where
-        old : (w .least ≡ length es) ⊎ ((side : Side) × (p : ℕ) × (u : ℕ) × (u < k) × (made (w .least) p u ∈ matches side es)) → Least (w .least)
+        old : (w .least ≡ length es) ⊎ ((side : Side) × (p : ℕ) × (u : ℕ) × (u < k) × (matchOf (w .least) p u ∈ matches side es)) → Least (w .least)
         old (inl z) = inl z
         old (inr (side, p, u, l, m)) = inr (side, p, u, omega arith, m)
 
-        new : (o : Own) → (o .later ≡ length es) ⊎ ((p : ℕ) × (k < o .later) × ((given : Side) × (made (o .later) p k ∈ matches given es))) → Least (o .later)
+        new : (o : Own) → (o .later ≡ length es) ⊎ ((p : ℕ) × (k < o .later) × ((given : Side) × (matchOf (o .later) p k ∈ matches given es))) → Least (o .later)
         new o (inl z) = inl z
         new o (inr (p, l, (side, m))) = inr (side, p, k, omega arith, m)
 

@@ -17,7 +17,7 @@ use Rattle.order.specs.Represents.{_∈_, LimitsAside}
 use Rattle.order.specs.ClassA.{specificRank}
 use Rattle.order.specs.declared.Fault.the-variants.{At}
 use Rattle.order.specs.PassA.{sightsA, passA, placeA}
-use Rattle.owners.specs.Owner.{made, listedAt}
+use Rattle.owners.specs.Owner.{matchOf, listedAt}
 use Rattle.ranks.specs.declared.Sight.{Sight}
 use Rattle.ranks.specs.Step.{asState, next}
 use Rattle.turns.specs.declared.Own.{Own}
@@ -69,8 +69,8 @@ pub record Standing (elements : List Element) (k : ℕ) (w : Walk) : Type 0 wher
   pub goes-on : placeA (sightsA [] elements) ≡ passA (asState (w .state)) k (sightsA (take k elements) (drop k elements))
   -- of the rows from k on that a unit before k is associated with on a side, the least; how many rows there are, if there is none
   pub least-low : k ≤ w .least
-  pub no-less : (side : Side) (row portion u : ℕ) → u < k → made row portion u ∈ matches side elements → (row < k) ⊎ (w .least ≤ row)
-  pub least-is : (w .least ≡ length elements) ⊎ ((side : Side) × (portion : ℕ) × (u : ℕ) × (u < k) × (made (w .least) portion u ∈ matches side elements))
+  pub no-less : (side : Side) (row portion u : ℕ) → u < k → matchOf row portion u ∈ matches side elements → (row < k) ⊎ (w .least ≤ row)
+  pub least-is : (w .least ≡ length elements) ⊎ ((side : Side) × (portion : ℕ) × (u : ℕ) × (u < k) × (matchOf (w .least) portion u ∈ matches side elements))
   -- there is a layout object among the elements before k
   pub layouts-is : any (map (λ e. eqb (e .kind) 2) (take k elements)) ≡ w .layouts
   -- so many portions are listed before the row, by the objects by which units are ordered; their units have been

@@ -11,17 +11,17 @@ use lib.ListN.{length, getElem?}
 use borrow.Author.Tests.{ltb-true}
 use borrow.Table.Steps.{cases}
 use Rattle.octets.specs.declared.Outcome.the-variants.{Ended}
-use Rattle.octets.specs.Walk.{Items, none, item, walkOf}
+use Rattle.octets.specs.Walk.{Items, noItems, item, walkOf}
 use Rattle.tree.specs.Tree.{treeOf}
-use Rattle.index.specs.Rows.{rowWidth}
+use Rattle.index.specs.Rows.{scratchWidth}
 use Rattle.index.specs.Columns.{wholeColumn, firstAt}
 use Rattle.elements.specs.declared.Edition.{Edition}
 use Rattle.elements.specs.declared.Row.{Row}
 use Rattle.elements.specs.Judge.{Element, judge}
-use Rattle.elements.specs.Rows.{rowOf, rowsOf, placeOf}
+use Rattle.elements.specs.ElementRows.{rowOf, rowsOf, placeOf}
 use Rattle.judging.proofs.Lists.{at-below}
 use Rattle.judging.proofs.Rows.{first-at}
-use Rattle.letters.specs.Letter.{Letter, itemsOfStream, letter, letterOf}
+use Rattle.letters.specs.Letter.{Letter, itemsOfStream, letter, letterIn}
 use Rattle.letters.specs.Scratch.{Filled}
 use Rattle.letters.proofs.Table.{filled-row}
 use Rattle.reading.proofs.Scratch.{filled-ready}
@@ -41,15 +41,15 @@ use Rattle.orders.specs.Orders.{faultPlace}
 -- the row of an item begins where the item does
 row-place : (edition : Edition) (s : List ℕ) (items : Items) (k : ℕ) (row : Row) → getElem? (rowsOf edition s items) k ≡ some row → row .whole .first ≡ placeOf k items
 unfolding rowsOf rowOf placeOf
-row-place edition s none k row e = let z : _≡_ {A = ℕ} 0 1 = cc in absurd (omega arith)
-row-place edition s (item at octet first past inside after) zero row e = ap whole-first (sym (row-is e))
+row-place edition s noItems k row e = let z : _≡_ {A = ℕ} 0 1 = cc in absurd (omega arith)
+row-place edition s (item at code first past inside after) zero row e = ap whole-first (sym (row-is e))
   where
     whole-first : Row → ℕ
     whole-first r = r .whole .first
 
     row-is : {r : Row} → some r ≡ some row → r ≡ row
     row-is f = cc
-row-place edition s (item at octet first past inside after) (suc k) row e = row-place edition s after k row e
+row-place edition s (item at code first past inside after) (suc k) row e = row-place edition s after k row e
 
 module _ {edition : Edition} {s rows head next head2 next2 : List ℕ} {count : ℕ} (filled : Filled edition s rows head next head2 next2 count) where
   pub known : Known s rows head next count
@@ -68,8 +68,8 @@ module _ {edition : Edition} {s rows head next head2 next2 : List ℕ} {count : 
       first-at (filled .holds) k (own .row) (own .stands) wholeColumn (omega arith) ∙ row-place edition s (itemsOfStream s) k (own .row) (own .stands)
 
   module _ {headers : ℕ} (walked : walkOf s ≡ Ended (length s) headers) (class : Class) where
-    is-letter : letterOf edition s ≡ letter headers (filled .elements)
-    unfolding letterOf
+    is-letter : letterIn edition s ≡ letter headers (filled .elements)
+    unfolding letterIn
     is-letter = rw (walked, filled .judged)
 
     by-fault : (found : Fault) → FaultIn class s rows count found → byFound s (filled .elements) found ≡ orderIn edition class s

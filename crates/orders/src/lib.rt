@@ -1,6 +1,6 @@
 // The order of a letter by a class: what the pass of the class finds, as a number and a place in octets.
 use elements::Edition;
-use index::ROW_WIDTH;
+use index::SCRATCH_WIDTH;
 use index::WHOLE;
 use octets::Outcome;
 use order::Class;
@@ -10,7 +10,7 @@ ghost use mathlib.Core.Path.{_≡_};
 ghost use Prim.Native.Nat.{ℕ, _*_, _≤_};
 ghost use lib.ListN.{length};
 ghost use Rattle.octets.specs.Walk.{streamLimit, walkOf};
-ghost use Rattle.index.specs.Rows.{rowWidth};
+ghost use Rattle.index.specs.Rows.{scratchWidth};
 ghost use Rattle.letters.specs.Scratch.{Filled};
 ghost use Rattle.order.specs.Fault.{FaultIn};
 ghost use Rattle.owners.specs.Owner.{Known};
@@ -32,13 +32,13 @@ fn fault_in(s: &[u8], class: Class, rows: &[u32], head: &[u16], next: &[u16], n:
 
 // 26 at an element: its first octet, or the stream's length past the last.
 fn out_of_order(stream: &[u8], rows: &[u32], count: usize, element: usize) -> Ordered
-    requires { ⌜ (count * rowWidth ≤ length (now rows)) × (length (now stream) ≤ streamLimit) ⌝ }
+    requires { ⌜ (count * scratchWidth ≤ length (now rows)) × (length (now stream) ≤ streamLimit) ⌝ }
     ensures { λ r. ⌜ r ≡ faultPlace (now (stream .entry)) (now (rows .entry)) count element ⌝ }
 {
     if element < count {
         return Ordered {
             number: OUT_OF_ORDER,
-            place: rows[element * ROW_WIDTH + WHOLE],
+            place: rows[element * SCRATCH_WIDTH + WHOLE],
         };
     }
     Ordered {

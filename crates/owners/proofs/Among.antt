@@ -9,7 +9,7 @@ use native.Mathlib.Numerals.{add-one}
 use lib.ListN.{getElem?}
 use lib.Seq.{slice}
 use borrow.Table.Steps.{cases}
-use Rattle.octets.specs.Walk.{none}
+use Rattle.octets.specs.Walk.{noItems}
 use Rattle.names.specs.Names.{same}
 use Rattle.names.proofs.Same.{same-eq, same-refl}
 use Rattle.runs.specs.declared.Run.{Run}
@@ -23,11 +23,11 @@ use Rattle.owners.proofs.Telling.{Left}
 
 module _ {s rows : List ℕ} {row : ℕ} {left : Run} {k : ℕ} (l : Left s rows row left k) (bytes : List ℕ) where
   -- none is left
-  pub among-none : itemsOf s left ≡ none → ownerAmong row k (values (treeIn s left)) bytes ≡ Nobody
+  pub among-none : itemsOf s left ≡ noItems → ownerAmong row k (values (treeIn s left)) bytes ≡ Nobody
   unfolding ownerAmong
   among-none e = ap (λ (vs : List (List ℕ)). ownerAmong row k vs bytes) (values-end s left e)
 
-  module _ {octet first past : ℕ} {inner rest : Run} (met : Meeting s left octet first past inner rest) where
+  module _ {code first past : ℕ} {inner rest : Run} (met : Meeting s left code first past inner rest) where
     next : ownerAmong row k (values (treeIn s left)) bytes ≡ ownerAmong row k (slice first past s ∷ values (treeIn s rest)) bytes
     next = ap (λ (vs : List (List ℕ)). ownerAmong row k vs bytes) (values-next met (l .only-portions))
 

@@ -34,7 +34,7 @@ use Rattle.parents.proofs.Shorter.{shorter-at, digits-whole}
 use Rattle.parents.proofs.Finding.{one-carrier}
 use Rattle.owners.specs.declared.Owner.{Owner}
 use Rattle.owners.specs.declared.Owner.the-variants.{Nobody, Of}
-use Rattle.owners.specs.Owner.{made, OwnerIs, listedAt, ownerAmong, ownerBy}
+use Rattle.owners.specs.Owner.{matchOf, OwnerIs, listedAt, ownerAmong, ownerBy}
 use Rattle.owners.proofs.Among.{Finding, at, nowhere, among-tells}
 use Rattle.owners.proofs.Cutting.{same-after, front-is, parts-are}
 
@@ -52,14 +52,14 @@ module _ {s rows : List ℕ} {n : ℕ} {elements : List Element} (ready : RowsTe
   -- a row that is no text unit
   pub no-unit : (kindAt rows u ≡ unitKind → ⊥) → OwnerIs side elements u Nobody
   no-unit other e p m =
-      let i = matches-are side elements (made e p u) m in
+      let i = matches-are side elements (matchOf e p u) m in
       other (ready .tells u (i .unit) (i .unit-there) .kind ∙ i .joined .of-unit)
 
   name-told : (on : Side) (unit : Element) → Tells s rows u unit → nameOn on unit ≡ nameIn s (spanAt rows (columnOf on) u)
   name-told Layout unit t = t .identifier
   name-told Logical unit t = t .logical
 
-  module _ {e p : ℕ} (i : IsMatch side elements (made e p u)) where
+  module _ {e p : ℕ} (i : IsMatch side elements (matchOf e p u)) where
     name-bytes : slice first past s ≡ i .joined .identifier ++ spaceByte ∷ i .portion
     name-bytes =
         name-there s (spanAt rows (columnOf side) u) (i .joined .identifier ++ spaceByte ∷ i .portion)
@@ -74,7 +74,7 @@ module _ {s rows : List ℕ} {n : ℕ} {elements : List Element} (ready : RowsTe
   -- an identifier of one group
   pub one-group : {cut : ℕ} → LastSpace s first past cut → cut ≡ past → OwnerIs side elements u Nobody
   one-group {cut} last end e p m =
-      let i = matches-are side elements (made e p u) m in
+      let i = matches-are side elements (matchOf e p u) m in
       let none : shorter (slice first past s) ≡ absent = last .cuts ∙ rw (le-ltb cut past (omega arith)) in
       let f : absent ≡ octets (i .joined .identifier) = sym none ∙ name-shorter i in
       let z : _≡_ {A = ℕ} 0 1 = cc in
@@ -91,7 +91,7 @@ module _ {s rows : List ℕ} {n : ℕ} {elements : List Element} (ready : RowsTe
     HasFront k = Has s rows identifierColumn n objectSpace front k
 
     -- a record of the unit is of an element with the name before the space, and of the portion after it
-    module _ {e p : ℕ} (i : IsMatch side elements (made e p u)) where
+    module _ {e p : ℕ} (i : IsMatch side elements (matchOf e p u)) where
       same-front : i .joined .identifier ≡ front
       same-front = let f : octets (i .joined .identifier) ≡ octets front = sym (name-shorter i) ∙ front-is last before inside in cc
 
@@ -121,7 +121,7 @@ module _ {s rows : List ℕ} {n : ℕ} {elements : List Element} (ready : RowsTe
 
     -- nobody carries that name
     pub no-carrier : ((k : ℕ) → HasFront k → ⊥) → OwnerIs side elements u Nobody
-    no-carrier never e p m = never e (has-front (matches-are side elements (made e p u) m))
+    no-carrier never e p m = never e (has-front (matches-are side elements (matchOf e p u) m))
 
     module _ (row : ℕ) (has : HasFront row) where
       abbrev carrier : Element
@@ -137,19 +137,19 @@ module _ {s rows : List ℕ} {n : ℕ} {elements : List Element} (ready : RowsTe
       carrier-named = told .identifier ∙ rw (lt-ltb (firstAt rows identifierColumn row) (pastAt rows identifierColumn row) (has .present)) (ap octets (has .of-bytes))
 
       -- the record's element is the one that was found
-      same-row : {e p : ℕ} → IsMatch side elements (made e p u) → e ≡ row
+      same-row : {e p : ℕ} → IsMatch side elements (matchOf e p u) → e ≡ row
       same-row {e} i =
           one-carrier elements (ready .apart) e row (i .element) carrier front (i .element-there) carrier-there (of-objects i)
           (ap nameSpaceOf (sym (told .kind)) ∙ has .of-space) (named-front i) carrier-named
 
-      same-element : {e p : ℕ} → (i : IsMatch side elements (made e p u)) → i .element ≡ carrier
+      same-element : {e p : ℕ} → (i : IsMatch side elements (matchOf e p u)) → i .element ≡ carrier
       same-element i =
           let f : some (i .element) ≡ some carrier = sym (i .element-there) ∙ ap (getElem? elements) (same-row i) ∙ carrier-there in
           cc
 
       other-side : isIn (kindAt rows row) (kindsOf side) ≡ false → OwnerIs side elements u Nobody
       other-side t e p m =
-          let i = matches-are side elements (made e p u) m in
+          let i = matches-are side elements (matchOf e p u) m in
           let k : i .element .kind ≡ kindAt rows row = ap (λ (x : Element). x .kind) (same-element i) ∙ sym (told .kind) in
           true≢false (sym (i .joined .on-side) ∙ ap (λ (x : ℕ). isIn x (kindsOf side)) k ∙ t)
 
@@ -164,7 +164,7 @@ module _ {s rows : List ℕ} {n : ℕ} {elements : List Element} (ready : RowsTe
         unit-told = ready .tells u unit unit-there
 
         -- a portion that has the octets after the space makes the record
-        a-record : (place : ℕ) → getElem? (listedAt s rows row) place ≡ some after → IsMatch side elements (made row place u)
+        a-record : (place : ℕ) → getElem? (listedAt s rows row) place ≡ some after → IsMatch side elements (matchOf row place u)
         a-record place there =
             let first-before : first < past = omega (arith, last .after) in
             record {
@@ -186,10 +186,10 @@ module _ {s rows : List ℕ} {n : ℕ} {elements : List Element} (ready : RowsTe
         by-finding : (owner : Owner) → Finding row 0 (listedAt s rows row) after owner → OwnerIs side elements u owner
         by-finding owner (at f) =
             let z : 0 + f .place ≡ f .place = omega arith in
-            subst (OwnerIs side elements u) (sym (f .is ∙ ap (Of row) z)) (matches-all side elements (made row (f .place) u) (a-record (f .place) (f .there)))
+            subst (OwnerIs side elements u) (sym (f .is ∙ ap (Of row) z)) (matches-all side elements (matchOf row (f .place) u) (a-record (f .place) (f .there)))
         by-finding owner (nowhere none never) =
             subst (OwnerIs side elements u) (sym none) (λ e p m.
-            let i = matches-are side elements (made e p u) m in
+            let i = matches-are side elements (matchOf e p u) m in
             let there : getElem? (listedAt s rows row) p ≡ some after =
             ap (λ (l : List (List ℕ)). getElem? l p) (told .portions ∙ ap (λ (x : Element). x .portions) (sym (same-element i)))
             ∙ i .portion-there ∙ ap some (same-portion i) in

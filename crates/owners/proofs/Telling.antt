@@ -8,7 +8,7 @@ use native.Mathlib.Omega.{arith}
 use lib.ListN.{length}
 use lib.Dec.{ltb}
 use borrow.Table.Steps.{cases}
-use Rattle.octets.specs.Walk.{none}
+use Rattle.octets.specs.Walk.{noItems}
 use Rattle.runs.specs.declared.Run.{Run}
 use Rattle.runs.specs.Runs.{itemsOf, treeIn, Fine, Meeting}
 use Rattle.portions.specs.Portions.{mostPortions, allPortions, values}
@@ -55,10 +55,10 @@ pub left-all : {s rows : List ℕ} {j : ℕ} → Meetable s rows j → Left s ro
 left-all m = record { fine = m .fine; only-portions = m .only-portions; counted = omega arith }
 
 module _ {s rows : List ℕ} {j : ℕ} {left : Run} {k : ℕ} (l : Left s rows j left k) where
-  pub left-none : itemsOf s left ≡ none → k ≡ length (listedAt s rows j)
+  pub left-none : itemsOf s left ≡ noItems → k ≡ length (listedAt s rows j)
   left-none e = let z = ap length (values-end s left e) in omega (arith, l .counted)
 
-  module _ {octet first past : ℕ} {inner rest : Run} (met : Meeting s left octet first past inner rest) where
+  module _ {code first past : ℕ} {inner rest : Run} (met : Meeting s left code first past inner rest) where
     pub one-fewer : length (values (treeIn s left)) ≡ suc (length (values (treeIn s rest)))
     one-fewer = ap length (values-next met (l .only-portions))
 

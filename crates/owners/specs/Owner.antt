@@ -21,13 +21,13 @@ use Rattle.order.specs.Represents.{_∈_}
 use Rattle.owners.specs.declared.Owner.{Owner}
 use Rattle.owners.specs.declared.Owner.the-variants.{Nobody, Of}
 
-abbrev pub made : (element portion unit : ℕ) → Match
-made e p u = record { element = e; portion = p; unit = u }
+abbrev pub matchOf : (element portion unit : ℕ) → Match
+matchOf e p u = record { element = e; portion = p; unit = u }
 
 -- the record of a unit on a side: there is one with this element and this portion, or there is none
 abbrev pub OwnerIs : Side → List Element → (unit : ℕ) → Owner → Type 0
-OwnerIs side elements unit (Of element portion) = made element portion unit ∈ matches side elements
-OwnerIs side elements unit Nobody = (element portion : ℕ) → made element portion unit ∈ matches side elements → ⊥
+OwnerIs side elements unit (Of element portion) = matchOf element portion unit ∈ matches side elements
+OwnerIs side elements unit Nobody = (element portion : ℕ) → matchOf element portion unit ∈ matches side elements → ⊥
 
 -- of whatever elements the rows tell
 abbrev pub OwnerAt : Side → (s rows : List ℕ) → (n unit : ℕ) → Owner → Type 0

@@ -1,15 +1,15 @@
 // Which portion of which element a text unit represents: what its identifier says, looked up by the index that is there. And what else the order
 // rules look at. Nothing is stored: each is asked of the rows when it is wanted.
 use index::IDENTIFIER;
-use index::ROW_WIDTH;
 use index::RowFound;
+use index::SCRATCH_WIDTH;
 use reading::Side;
 use runs::Met;
 ghost use mathlib.Core.Path.{_≡_};
 ghost use Prim.Native.Nat.{_+_, _*_, _<_, _≤_};
 ghost use lib.ListN.{length};
 ghost use lib.Seq.{slice};
-ghost use Rattle.index.specs.Rows.{rowWidth};
+ghost use Rattle.index.specs.Rows.{scratchWidth};
 ghost use Rattle.index.specs.Columns.{identifierColumn, kindAt};
 ghost use Rattle.reading.specs.Ready.{spanAt, there};
 ghost use Rattle.owners.specs.Owner.{OwnerAt, Known, Meetable, ownerAmong, listedAt, ownerBy};
@@ -31,15 +31,15 @@ fn wide(x: u32) -> usize
 
 // The kind of row j.
 pub fn kind_at(rows: &[u32], j: usize) -> usize
-    requires { ⌜ j * rowWidth + rowWidth ≤ length (now rows) ⌝ }
+    requires { ⌜ j * scratchWidth + scratchWidth ≤ length (now rows) ⌝ }
     ensures { λ r. ⌜ r ≡ kindAt (now (rows .entry)) j ⌝ }
 {
-    wide(rows[j * ROW_WIDTH])
+    wide(rows[j * SCRATCH_WIDTH])
 }
 
 // Whether the element of row j has an identifier.
 pub fn is_named(rows: &[u32], j: usize) -> bool
-    requires { ⌜ j * rowWidth + rowWidth ≤ length (now rows) ⌝ }
+    requires { ⌜ j * scratchWidth + scratchWidth ≤ length (now rows) ⌝ }
     ensures { λ r. ⌜ r ≡ there (spanAt (now (rows .entry)) identifierColumn j) ⌝ }
 {
     reading::is_there(reading::bounds_at(rows, j, IDENTIFIER))
@@ -47,7 +47,7 @@ pub fn is_named(rows: &[u32], j: usize) -> bool
 
 // How many portions the element of row j lists.
 pub fn portions_of(s: &[u8], rows: &[u32], j: usize) -> usize
-    requires { ⌜ j * rowWidth + rowWidth ≤ length (now rows) ⌝ }
+    requires { ⌜ j * scratchWidth + scratchWidth ≤ length (now rows) ⌝ }
     requires { ⌜ Meetable (now s) (now rows) j ⌝ }
     ensures { λ r. ⌜ r ≡ length (listedAt (now (s .entry)) (now (rows .entry)) j) ⌝ }
 {
@@ -57,7 +57,7 @@ pub fn portions_of(s: &[u8], rows: &[u32], j: usize) -> usize
         match runs::meet(s, left) {
             Met::End => return count,
             Met::Item {
-                octet: _,
+                code: _,
                 first: _,
                 past: _,
                 inner: _,
@@ -72,7 +72,7 @@ pub fn portions_of(s: &[u8], rows: &[u32], j: usize) -> usize
 
 // The portion of a row that has the octets s[first..past].
 fn portion_with(s: &[u8], rows: &[u32], row: usize, first: usize, past: usize) -> Owner
-    requires { ⌜ row * rowWidth + rowWidth ≤ length (now rows) ⌝ }
+    requires { ⌜ row * scratchWidth + scratchWidth ≤ length (now rows) ⌝ }
     requires { ⌜ Meetable (now s) (now rows) row ⌝ }
     requires { ⌜ (first ≤ past) × (past ≤ length (now s)) ⌝ }
     ensures { λ r. ⌜ r ≡ ownerAmong row 0 (listedAt (now (s .entry)) (now (rows .entry)) row) (slice first past (now (s .entry))) ⌝ }
@@ -83,7 +83,7 @@ fn portion_with(s: &[u8], rows: &[u32], row: usize, first: usize, past: usize) -
         match runs::meet(s, left) {
             Met::End => return Owner::Nobody,
             Met::Item {
-                octet: _,
+                code: _,
                 first: from,
                 past: to,
                 inner: _,
@@ -101,7 +101,7 @@ fn portion_with(s: &[u8], rows: &[u32], row: usize, first: usize, past: usize) -
 
 // The same of a row that has the unit's name before its last space, if it is of the side.
 fn owner_by(s: &[u8], rows: &[u32], side: Side, row: usize, first: usize, past: usize) -> Owner
-    requires { ⌜ row * rowWidth + rowWidth ≤ length (now rows) ⌝ }
+    requires { ⌜ row * scratchWidth + scratchWidth ≤ length (now rows) ⌝ }
     requires { ⌜ Meetable (now s) (now rows) row ⌝ }
     requires { ⌜ (first ≤ past) × (past ≤ length (now s)) ⌝ }
     ensures { λ r. ⌜ r ≡ ownerBy side (now (s .entry)) (now (rows .entry)) row first past ⌝ }

@@ -18,7 +18,7 @@ use Rattle.contents.specs.declared.Span.{Span}
 use Rattle.contents.specs.Search.{Value, absent, octets}
 use Rattle.index.specs.declared.RowFound.{RowFound}
 use Rattle.index.specs.declared.RowFound.the-variants.{At, Nothing}
-use Rattle.index.specs.Rows.{rowWidth, nameSpaceOf}
+use Rattle.index.specs.Rows.{scratchWidth, nameSpaceOf}
 use Rattle.index.specs.Columns.{identifierColumn, kindAt, firstAt, pastAt}
 use Rattle.index.specs.Index.{Has, FindsRow}
 use Rattle.elements.specs.Judge.{Element, shares, mostElements}
@@ -31,7 +31,7 @@ use Rattle.reading.specs.Ready.{spanAt, nameIn, RowsTell}
 use Rattle.reading.proofs.Looking.{name-there}
 use Rattle.reading.proofs.OnePlace.{one-element}
 use Rattle.reading.proofs.Single.{side-space, clash-identifier}
-use Rattle.parents.specs.Parent.{shorterOf, parentKinds, isParentOf, firstRow, parent, noParent, numberOf}
+use Rattle.parents.specs.Parent.{shorterOf, parentKinds, isParentOf, firstRow, parent, noParent, rowOrNone}
 use Rattle.parents.specs.Lookup.{objectSpace, LastSpace, FoundIn, onSide}
 use Rattle.parents.proofs.Shorter.{name-shorter}
 use Rattle.parents.proofs.Firsts.{first-none, first-one}
@@ -143,7 +143,7 @@ module _ {s rows : List ℕ} {n : ℕ} {elements : List Element} (ready : RowsTe
         tells .identifier ∙ rw (lt-ltb (firstAt rows identifierColumn k) (pastAt rows identifierColumn k) (has .present)) (ap octets (has .of-bytes)),
       )
 
-  found-there : (row : ℕ) → HasName row → onSide rows (child .kind) (At row) ≡ numberOf (firstRow (isParentOf child) elements)
+  found-there : (row : ℕ) → HasName row → onSide rows (child .kind) (At row) ≡ rowOrNone (firstRow (isParentOf child) elements)
   unfolding has-named parent-named
   found-there row has =
       let (x, there) = at-below elements row (omega (arith, has .below, ready .counted)) in
@@ -172,13 +172,13 @@ module _ {s rows : List ℕ} {n : ℕ} {elements : List Element} (ready : RowsTe
 
   -- the row that was found, if it is of the side, is the parent's
   pub found-parent : (found : RowFound) → FindsRow s rows identifierColumn n objectSpace bytes found
-      → onSide rows (child .kind) found ≡ numberOf (firstRow (isParentOf child) elements)
+      → onSide rows (child .kind) found ≡ rowOrNone (firstRow (isParentOf child) elements)
   found-parent (At row) finds = found-there row (finds .0)
   found-parent Nothing finds = rw (found-nowhere finds)
 
 -- a row that was found is one of the rows, and no row has the number of none
 pub found-in : (s rows : List ℕ) (n : ℕ) (bytes : List ℕ) (found : RowFound) → FindsRow s rows identifierColumn n objectSpace bytes found
-    → n * rowWidth ≤ length rows → FoundIn rows found
+    → n * scratchWidth ≤ length rows → FoundIn rows found
 found-in s rows n bytes (At row) finds l = omega (arith, finds .0 .below)
 found-in s rows n bytes Nothing finds l = tt
 
@@ -192,7 +192,7 @@ side-small s rows n bytes Nothing finds l kind = omega arith
 -- the parent of row j, by what the code finds
 module _ {s rows : List ℕ} {n : ℕ} {elements : List Element} (ready : RowsTell s rows n elements) (j : ℕ) (below : j < n) where
   -- "for other kinds"
-  pub parent-other : isIn (kindAt rows j) (parentKinds (kindAt rows j)) ≡ false → noParent ≡ numberOf (parent elements j)
+  pub parent-other : isIn (kindAt rows j) (parentKinds (kindAt rows j)) ≡ false → noParent ≡ rowOrNone (parent elements j)
   unfolding parent
   parent-other e =
       let (child, there) = at-below elements j (omega (arith, ready .counted)) in
@@ -207,7 +207,7 @@ module _ {s rows : List ℕ} {n : ℕ} {elements : List Element} (ready : RowsTe
         ap shorterOf (ready .tells j child there .identifier) ∙ ap (λ (p : Span). shorterOf (nameIn s p)) pair ∙ name-shorter last
 
     -- "where there is no identifier, it has one group"
-    pub parent-one-group : at ≡ past → noParent ≡ numberOf (parent elements j)
+    pub parent-one-group : at ≡ past → noParent ≡ rowOrNone (parent elements j)
     unfolding parent
     parent-one-group e =
         let (child, there) = at-below elements j (omega (arith, ready .counted)) in
@@ -217,7 +217,7 @@ module _ {s rows : List ℕ} {n : ℕ} {elements : List Element} (ready : RowsTe
 
     -- "or nobody carries the shorter one"
     pub parent-found : (at ≡ past → ⊥) → (found : RowFound) → FindsRow s rows identifierColumn n objectSpace (slice first at s) found
-        → (kind : ℕ) → kind ≡ kindAt rows j → onSide rows kind found ≡ numberOf (parent elements j)
+        → (kind : ℕ) → kind ≡ kindAt rows j → onSide rows kind found ≡ rowOrNone (parent elements j)
     unfolding parent
     parent-found ne found finds kind kind-is =
         let (child, there) = at-below elements j (omega (arith, ready .counted)) in

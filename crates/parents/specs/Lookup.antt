@@ -9,12 +9,12 @@ use lib.Seq.{slice}
 use Rattle.headers.specs.Head.{isIn}
 use Rattle.index.specs.declared.RowFound.{RowFound}
 use Rattle.index.specs.declared.RowFound.the-variants.{At, Nothing}
-use Rattle.index.specs.Rows.{rowWidth}
+use Rattle.index.specs.Rows.{scratchWidth}
 use Rattle.index.specs.Columns.{kindAt}
 use Rattle.contents.specs.Search.{absent, octets}
 use Rattle.elements.specs.Judge.{Element}
 use Rattle.reading.specs.Ready.{RowsTell}
-use Rattle.parents.specs.Parent.{shorter, parentKinds, parent, noParent, numberOf}
+use Rattle.parents.specs.Parent.{shorter, parentKinds, parent, noParent, rowOrNone}
 
 -- the name space of classes and objects
 abbrev pub objectSpace : ℕ
@@ -28,7 +28,7 @@ pub record LastSpace (s : List ℕ) (first past at : ℕ) : Type 0 where
 
 -- a row that was found is one of the rows
 abbrev pub FoundIn : (rows : List ℕ) → RowFound → Type 0
-FoundIn rows (At row) = row * rowWidth + rowWidth ≤ length rows
+FoundIn rows (At row) = row * scratchWidth + scratchWidth ≤ length rows
 FoundIn rows Nothing = Unit {0}
 
 -- the number of a row that was found, if it is of a kind that may be the parent of this one
@@ -39,4 +39,4 @@ onSide rows kind Nothing = noParent
 -- the number of row j's parent, by the rows of an accepted letter
 pub record ParentAt (s rows : List ℕ) (n j found : ℕ) : Type 0 where
   pub small : found ≤ noParent
-  pub is : (elements : List Element) → RowsTell s rows n elements → found ≡ numberOf (parent elements j)
+  pub is : (elements : List Element) → RowsTell s rows n elements → found ≡ rowOrNone (parent elements j)

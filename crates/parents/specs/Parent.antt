@@ -61,9 +61,9 @@ parent elements row = parentOf elements (getElem? elements row)
 abbrev pub noParent : ℕ
 noParent = 65535
 
-abbrev pub numberOf : Option ℕ → ℕ
-numberOf none = noParent
-numberOf (some row) = row
+abbrev pub rowOrNone : Option ℕ → ℕ
+rowOrNone none = noParent
+rowOrNone (some row) = row
 
 -- whether a parent is this row
 abbrev pub isRow : Option ℕ → (row : ℕ) → Bool

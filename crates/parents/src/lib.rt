@@ -1,7 +1,7 @@
 // Whose child an element is: the row of the class or object whose identifier is its own without the last group.
 use index::IDENTIFIER;
-use index::ROW_WIDTH;
 use index::RowFound;
+use index::SCRATCH_WIDTH;
 use names::Asked;
 ghost use mathlib.Core.Path.{_≡_};
 ghost use mathlib.Core.List.{_∷_, []};
@@ -9,7 +9,7 @@ ghost use Prim.Native.Nat.{_+_, _*_, _<_, _≤_};
 ghost use lib.ListN.{length};
 ghost use lib.Seq.{slice};
 ghost use Rattle.headers.specs.Head.{isIn};
-ghost use Rattle.index.specs.Rows.{rowWidth};
+ghost use Rattle.index.specs.Rows.{scratchWidth};
 ghost use Rattle.index.specs.Columns.{identifierColumn, Bounded};
 ghost use Rattle.index.specs.Index.{FindsRow};
 ghost use Rattle.ordered.specs.Ordered.{Filed};
@@ -104,7 +104,7 @@ fn own_side(rows: &[u32], kind: usize, found: RowFound) -> usize
     match found {
         RowFound::Nothing => NO_PARENT,
         RowFound::At(row) => {
-            if is_parent_kind(kind, wide(rows[row * ROW_WIDTH])) {
+            if is_parent_kind(kind, wide(rows[row * SCRATCH_WIDTH])) {
                 return row;
             }
             NO_PARENT
@@ -118,7 +118,7 @@ pub fn parent_of(s: &[u8], rows: &[u32], head: &[u16], next: &[u16], n: usize, j
     requires { ⌜ (j < n) × (n ≤ mostElements) ⌝ }
     ensures { λ r. ⌜ ParentAt (now (s .entry)) (now (rows .entry)) n j r ⌝ }
 {
-    let at = j * ROW_WIDTH;
+    let at = j * SCRATCH_WIDTH;
     let kind = wide(rows[at]);
     if !is_parent_kind(kind, kind) {
         return NO_PARENT;

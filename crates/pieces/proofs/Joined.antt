@@ -8,7 +8,7 @@ use native.Mathlib.Omega.{arith}
 use lib.ListN.{length, length-append}
 use lib.Seq.{slice, length-slice}
 use Rattle.headers.specs.Head.{constructed}
-use Rattle.octets.specs.Walk.{Items, none, count, End, ends, stops, pastOf}
+use Rattle.octets.specs.Walk.{Items, noItems, count, End, ends, stops, pastOf}
 use Rattle.octets.specs.Rules.{Runs, at-limit, unclosed, closes, refuses, primitive, passes, breaks}
 use Rattle.octets.proofs.Walks.{EndOk, run-ok}
 use Rattle.octets.proofs.Turns.{header-ok}
@@ -20,7 +20,7 @@ use Rattle.runs.specs.Runs.{walkIn, itemsOf, treeIn, Fine, Meeting}
 use Rattle.runs.proofs.Laws.{tree-meets, tree-none}
 use Rattle.pieces.specs.Pieces.{joined}
 
-pub joined-none : (s : List ℕ) (r : Run) → itemsOf s r ≡ none → joined (treeIn s r) ≡ []
+pub joined-none : (s : List ℕ) (r : Run) → itemsOf s r ≡ noItems → joined (treeIn s r) ≡ []
 unfolding joined
 joined-none s r e = ap joined (tree-none s r e)
 
@@ -34,14 +34,14 @@ pub gives-length : {s : List ℕ} {r : Run} {own : List ℕ} {rest : Run} → Gi
     → length (joined (treeIn s r)) ≡ length own + length (joined (treeIn s rest))
 gives-length {s} {r} {own} {rest} g = ap length (g .joins) ∙ length-append own (joined (treeIn s rest))
 
-module _ {s : List ℕ} {r : Run} {octet first past : ℕ} {inner rest : Run} (m : Meeting s r octet first past inner rest) where
+module _ {s : List ℕ} {r : Run} {code first past : ℕ} {inner rest : Run} (m : Meeting s r code first past inner rest) where
   -- a primitive item gives its value
-  pub piece-gives : constructed octet ≡ false → Gives s r (slice first past s) rest
+  pub piece-gives : constructed code ≡ false → Gives s r (slice first past s) rest
   unfolding joined
   piece-gives c = record { joins = ap joined (tree-meets m) ∙ rw c; fine = m .rest-fine; room = m .rest-room }
 
   -- a constructed one gives what is inside it
-  pub pieces-give : constructed octet ≡ true → Gives s r (joined (treeIn s inner)) rest
+  pub pieces-give : constructed code ≡ true → Gives s r (joined (treeIn s inner)) rest
   unfolding joined
   pieces-give c = record { joins = ap joined (tree-meets m) ∙ rw c; fine = m .rest-fine; room = m .rest-room }
 

@@ -5,7 +5,7 @@ use mathlib.Core.Bool.{Bool}
 use mathlib.Core.List.{List}
 use Prim.Native.Nat.{ℕ, _<_, _≤_}
 use native.Mathlib.Omega.{arith}
-use Rattle.octets.specs.Walk.{Items, none, item, End}
+use Rattle.octets.specs.Walk.{Items, noItems, item, End}
 use Rattle.octets.specs.Rules.{Runs, at-limit, unclosed, closes, refuses, primitive, passes, breaks}
 use Rattle.octets.proofs.Turns.{header-ok}
 use Rattle.octets.proofs.RulesHold.{derives}
@@ -14,8 +14,8 @@ use Rattle.runs.specs.Runs.{Meeting}
 
 -- where there are items there is a level for them
 abbrev Leveled : (room : ℕ) → Items → Type 0
-Leveled room none = Unit {0}
-Leveled room (item at octet start past inside after) = 0 < room
+Leveled room noItems = Unit {0}
+Leveled room (item at code start past inside after) = 0 < room
 
 leveled : {s : List ℕ} {room at limit : ℕ} {marked : Bool} {i : Items} {e : End} → Runs s room at limit marked i e → Leveled room i
 leveled (at-limit p) = tt
@@ -26,7 +26,7 @@ leveled {s} (primitive {room} {at} {limit} {marked} {h} l p q r) = header-ok s a
 leveled {s} (passes {room} {at} {limit} {marked} {h} l p q v r) = header-ok s at limit room marked h p .deep
 leveled {s} (breaks {room} {at} {limit} {marked} {h} l p q v) = header-ok s at limit room marked h p .deep
 
-pub level-less : {s : List ℕ} {r : Run} {octet first past : ℕ} {inner rest : Run} → Meeting s r octet first past inner rest
+pub level-less : {s : List ℕ} {r : Run} {code first past : ℕ} {inner rest : Run} → Meeting s r code first past inner rest
     → inner .room < r .room
 level-less {s} {r} m =
     let order : r .at ≤ r .limit = omega (arith, m .less) in

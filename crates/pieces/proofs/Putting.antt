@@ -6,7 +6,7 @@ use Prim.Native.Nat.{ℕ, _+_, _-_, _≤_}
 use native.Mathlib.Omega.{arith}
 use lib.ListN.{length, take, drop, length-append, length-drop, drop-of-length-le, take-append-drop}
 use lib.Seq.{take-length, take-all, take-at, drop-at, drop-drop, length-take-le, slice}
-use Rattle.octets.specs.Walk.{none}
+use Rattle.octets.specs.Walk.{noItems}
 use Rattle.tree.proofs.Here.{slice-is}
 use Rattle.runs.specs.declared.Run.{Run}
 use Rattle.runs.specs.Runs.{itemsOf, treeIn, Fine}
@@ -60,7 +60,7 @@ none-put f = record { fine = f; room = refl; kept = refl; within = omega arith; 
 
 module _ {s : List ℕ} {from : Run} {out₀ : List ℕ} {to : Run} {n : ℕ} {out : List ℕ} (p : PutSoFar s from out₀ to n out) where
   -- at the end of the run all are put
-  pub all-put : itemsOf s to ≡ none → (n ≡ length (joined (treeIn s from))) × (out ≡ joined (treeIn s from) ++ drop n out₀)
+  pub all-put : itemsOf s to ≡ noItems → (n ≡ length (joined (treeIn s from))) × (out ≡ joined (treeIn s from) ++ drop n out₀)
   all-put e =
       let d : joined (treeIn s from) ≡ take n out = p .done ∙ rw (joined-none s to e) (append-nil (take n out)) in
       (sym (ap length d ∙ length-take-le n out (p .within)), sym (rw (d, ← (p .stays)) (take-append-drop n out)))

@@ -23,18 +23,18 @@ pub fn are_pieces(s: &[u8], r: Run, piece: usize, pieces: usize) -> bool
         match runs::meet(s, cur) {
             Met::End => return true,
             Met::Item {
-                octet,
+                code,
                 first: _,
                 past: _,
                 inner,
                 rest,
             } => {
                 cur = rest;
-                if octet == pieces {
+                if code == pieces {
                     if !are_pieces(s, inner, piece, pieces) {
                         return false;
                     }
-                } else if octet != piece {
+                } else if code != piece {
                     return false;
                 }
             }
@@ -53,14 +53,14 @@ pub fn joined_length(s: &[u8], r: Run) -> usize
         match runs::meet(s, cur) {
             Met::End => return n,
             Met::Item {
-                octet,
+                code,
                 first,
                 past,
                 inner,
                 rest,
             } => {
                 cur = rest;
-                if octet / 32 % 2 == 1 {
+                if code / 32 % 2 == 1 {
                     n = n + joined_length(s, inner);
                 } else {
                     n = n + (past - first);
@@ -82,14 +82,14 @@ pub fn put_joined(s: &[u8], r: Run, out: &mut [u8]) -> usize
         match runs::meet(s, cur) {
             Met::End => return done,
             Met::Item {
-                octet,
+                code,
                 first,
                 past,
                 inner,
                 rest,
             } => {
                 cur = rest;
-                if octet / 32 % 2 == 1 {
+                if code / 32 % 2 == 1 {
                     done = done + put_joined(s, inner, &mut out[done..]);
                 } else {
                     done = done + bytes::copy(&s[first..past], &mut out[done..]);

@@ -6,7 +6,7 @@ use Prim.Native.Nat.{ℕ, suc, _+_, _*_, _≤_, _<_}
 use native.Mathlib.Omega.{arith}
 use native.Mathlib.Numerals.{add-one}
 use lib.ListN.{length}
-use Rattle.octets.specs.Walk.{Items, none}
+use Rattle.octets.specs.Walk.{Items, noItems}
 use Rattle.runs.specs.declared.Run.{Run}
 use Rattle.runs.specs.Runs.{itemsOf, treeIn, wholeStream, tops, Fine, Meeting}
 use Rattle.answers.specs.Table.{tableWidth}
@@ -34,7 +34,7 @@ going-all s table flat ready =
     }
 
 module _ {s table flat₀ flat : List ℕ} {left : Run} {element count : ℕ} (ready : Ready s table flat₀) (g : Going s table flat₀ flat left element count) where
-  module _ {octet first past : ℕ} {inner rest : Run} (m : Meeting s left octet first past inner rest) where
+  module _ {code first past : ℕ} {inner rest : Run} (m : Meeting s left code first past inner rest) where
     one-less : tops (itemsOf s left) ≡ suc (tops (itemsOf s rest))
     one-less = ap tops (m .tree)
 
@@ -68,7 +68,7 @@ module _ {s table flat₀ flat : List ℕ} {left : Run} {element count : ℕ} (r
         }
 
   -- at the end all is put
-  pub going-none : itemsOf s left ≡ none → (records flat count ≡ pagesAt s table 0 (itemsOf s (wholeStream s))) × (count ≤ 4096) × (2 * count ≤ length flat)
+  pub going-none : itemsOf s left ≡ noItems → (records flat count ≡ pagesAt s table 0 (itemsOf s (wholeStream s))) × (count ≤ 4096) × (2 * count ≤ length flat)
   unfolding pagesAt
   going-none e =
       let no-more : pagesAt s table element (itemsOf s left) ≡ [] = ap (pagesAt s table element) e in (

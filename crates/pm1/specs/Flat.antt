@@ -6,7 +6,7 @@ use mathlib.Core.List.{List, [], _∷_, _++_}
 use Prim.Native.Nat.{ℕ, zero, suc, _+_, _*_, _≤_}
 use lib.Dec.{eqb}
 use lib.ListN.{length, getD}
-use Rattle.octets.specs.Walk.{Items, none, item}
+use Rattle.octets.specs.Walk.{Items, noItems, item}
 use Rattle.tree.specs.Tree.{Tree, plain}
 use Rattle.runs.specs.Runs.{itemsOf, wholeStream, tops, Fine}
 use Rattle.elements.specs.declared.Edition.{Edition}
@@ -31,8 +31,8 @@ pageAt table j run = only (isPage (kindAt table j) (objectAt table j)) (record {
 
 -- the pages of items of which the first is row j
 unfoldable pub pagesAt : (s table : List ℕ) → (j : ℕ) → Items → List Page
-pagesAt s table j none = []
-pagesAt s table j (item at octet first past inside after) = pageAt table j (plain s inside) ++ pagesAt s table (suc j) after
+pagesAt s table j noItems = []
+pagesAt s table j (item at code first past inside after) = pageAt table j (plain s inside) ++ pagesAt s table (suc j) after
 
 -- the pages of a whole stream
 abbrev pub pagesBy : (s table : List ℕ) → List Page

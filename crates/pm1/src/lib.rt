@@ -98,7 +98,7 @@ fn put_pages(stream: &[u8], table: &[u32], flat: &mut [u32]) -> usize
         match runs::meet(stream, left) {
             Met::End => return count,
             Met::Item {
-                octet: _,
+                code: _,
                 first: _,
                 past: _,
                 inner,

@@ -7,7 +7,7 @@ use Prim.Native.Nat.{ℕ, _+_, _*_, _-_, _<_, _≤_}
 use native.Mathlib.Omega.{arith}
 use lib.ListN.{length, take}
 use lib.Seq.{slice, length-take-le}
-use Rattle.octets.specs.Walk.{none}
+use Rattle.octets.specs.Walk.{noItems}
 use Rattle.names.specs.Names.{isPortion}
 use Rattle.runs.specs.declared.Run.{Run}
 use Rattle.runs.specs.Runs.{itemsOf, treeIn, Fine, Meeting}
@@ -39,7 +39,7 @@ either-spells false true after = refl
 either-spells false false after = refl
 
 module _ {s : List ℕ} {r left : Run} {count : ℕ} {misspelt : Bool} {numbers : List ℕ} (so-far : Reads s r left count misspelt numbers) where
-  pub all-read : itemsOf s left ≡ none → ListsPortions s r (record { count = count; others = false; misspelt = misspelt }) numbers
+  pub all-read : itemsOf s left ≡ noItems → ListsPortions s r (record { count = count; others = false; misspelt = misspelt }) numbers
   all-read end =
       let no : values (treeIn s left) ≡ [] = values-end s left end in
       record {
@@ -50,8 +50,8 @@ module _ {s : List ℕ} {r left : Run} {count : ℕ} {misspelt : Bool} {numbers 
         stored = λ _ few. sym (so-far .stored few ∙ rw no (append-nil (bounded s (take (2 * count) numbers))));
       }
 
-  module _ {octet first past : ℕ} {inner rest : Run} (met : Meeting s left octet first past inner rest) where
-    pub other-read : (octet ≡ 0x12 → ⊥) → ListsPortions s r (record { count = 0; others = true; misspelt = false }) numbers
+  module _ {code first past : ℕ} {inner rest : Run} (met : Meeting s left code first past inner rest) where
+    pub other-read : (code ≡ 0x12 → ⊥) → ListsPortions s r (record { count = 0; others = true; misspelt = false }) numbers
     other-read n =
         record {
           others = sym (ap not (so-far .portions ∙ others-met met n));
@@ -61,7 +61,7 @@ module _ {s : List ℕ} {r left : Run} {count : ℕ} {misspelt : Bool} {numbers 
           stored = λ t. absurd (true≢false t);
         }
 
-    module _ (e : octet ≡ 0x12) (numbers' : List ℕ) (enough : 2 * mostPortions ≤ length numbers)
+    module _ (e : code ≡ 0x12) (numbers' : List ℕ) (enough : 2 * mostPortions ≤ length numbers)
         (kept : count < mostPortions → take (2 * (count + 1)) numbers' ≡ take (2 * count) numbers ++ first ∷ past ∷ []) where
       value : values (treeIn s left) ≡ slice first past s ∷ values (treeIn s rest)
       value = values-met met e

@@ -77,13 +77,13 @@ pub fn read_portions(s: &[u8], r: Run, bounds: &mut [u32]) -> PortionList
                 misspelt,
             },
             Met::Item {
-                octet,
+                code,
                 first,
                 past,
                 inner: _,
                 rest,
             } => {
-                if octet != PORTION {
+                if code != PORTION {
                     return PortionList {
                         count: 0,
                         others: true,

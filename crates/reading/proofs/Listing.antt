@@ -13,7 +13,7 @@ use lib.Seq.{slice}
 use borrow.Author.Tests.{ltb-true, ltb-false, lt-ltb}
 use borrow.Table.Steps.{cases}
 use Rattle.headers.specs.Head.{isIn}
-use Rattle.octets.specs.Walk.{none, Walked}
+use Rattle.octets.specs.Walk.{noItems, Walked}
 use Rattle.octets.specs.Rules.{at-limit}
 use Rattle.octets.proofs.RulesHold.{derived}
 use Rattle.names.specs.Names.{spaceByte}
@@ -27,7 +27,7 @@ use Rattle.index.specs.declared.RowFound.the-variants.{At, Nothing}
 use Rattle.index.specs.Columns.{identifierColumn, kindAt, firstAt, pastAt, Bounded}
 use Rattle.index.specs.Index.{FindsRow}
 use Rattle.elements.specs.Judge.{Element}
-use Rattle.elements.specs.Rows.{bytesIn}
+use Rattle.elements.specs.ElementRows.{bytesIn}
 use Rattle.elements.specs.Says.{Placed}
 use Rattle.reading.specs.declared.Match.{Match}
 use Rattle.reading.specs.declared.Side.{Side}
@@ -107,14 +107,14 @@ module _ {side : Side} {s rows head next : List ℕ} {n element : ℕ} (known : 
 
   module _ {flat₀ : List ℕ} {count : ℕ} {flat : List ℕ} {left : Run} {place total : ℕ} (listing : Listing side s rows n element flat₀ count flat left place total) where
     -- at the end all are put
-    pub listing-none : itemsOf s left ≡ none → PutsElement side s rows n element flat₀ count flat total
+    pub listing-none : itemsOf s left ≡ noItems → PutsElement side s rows n element flat₀ count flat total
     unfolding forEach
     listing-none e elements ready =
         listing .goes-on elements ready flat total
         (subst (λ (vs : List (List ℕ)). PutsRecords flat total (forEach place vs (portionMatches side elements element (elementAt elements element))) flat total)
         (sym (values-end s left e)) (puts-none flat total))
 
-    module _ {octet from to : ℕ} {inner rest : Run} (met : Meeting s left octet from to inner rest) (found : RowFound)
+    module _ {code from to : ℕ} {inner rest : Run} (met : Meeting s left code from to inner rest) (found : RowFound)
         (finds : FindsRow s rows (columnOf side) n unitSpace
         (bytesIn s (spanAt rows identifierColumn element) ++ spaceByte ∷ slice from to s) found) where
       -- a portion that is met yields what was found, and then come the others
@@ -198,7 +198,7 @@ module _ (side : Side) (s rows : List ℕ) (n e : ℕ) (below : e < n) (elements
   no-portion t =
       let fine = told .portions-fine in
       let at : firstAt rows portionsColumn e ≡ pastAt rows portionsColumn e = omega (arith, ltb-false (firstAt rows portionsColumn e) (pastAt rows portionsColumn e) t, fine .order) in
-      let empty : itemsOf s (portionsAt rows e) ≡ none = ap (λ (w : Walked). w .items) (sym (derived (at-limit at))) in
+      let empty : itemsOf s (portionsAt rows e) ≡ noItems = ap (λ (w : Walked). w .items) (sym (derived (at-limit at))) in
       let none-left : x .portions ≡ [] = sym (told .portions) ∙ values-end s (portionsAt rows e) empty in
       rw none-left
 

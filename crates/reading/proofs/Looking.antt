@@ -19,7 +19,7 @@ use Rattle.index.specs.Columns.{kindAt, firstAt, pastAt}
 use Rattle.index.specs.Rows.{nameSpaceOf}
 use Rattle.index.specs.Index.{Has, FindsRow}
 use Rattle.elements.specs.Judge.{Element}
-use Rattle.elements.specs.Rows.{bytesIn}
+use Rattle.elements.specs.ElementRows.{bytesIn}
 use Rattle.judging.proofs.Lists.{below-length}
 use Rattle.reading.specs.declared.Match.{Match}
 use Rattle.reading.specs.declared.Side.{Side}

@@ -12,14 +12,14 @@ use Rattle.runs.specs.Runs.{treeIn, Fine}
 use Rattle.contents.specs.declared.Span.{Span}
 use Rattle.contents.specs.Search.{Value, absent, octets}
 use Rattle.portions.specs.Portions.{allPortions, values}
-use Rattle.index.specs.Rows.{rowWidth}
+use Rattle.index.specs.Rows.{scratchWidth}
 use Rattle.index.specs.Columns.{identifierColumn, logicalColumn}
 use Rattle.elements.specs.declared.Edition.{Edition}
 use Rattle.elements.specs.declared.Row.{Row}
 use Rattle.elements.specs.Judge.{Element, accepted, judge}
-use Rattle.elements.specs.Rows.{cells}
+use Rattle.elements.specs.ElementRows.{cells}
 use Rattle.elements.specs.Says.{Names, portionsRun}
-use Rattle.letters.specs.Letter.{rowsOfStream}
+use Rattle.letters.specs.Letter.{rowsIn}
 use Rattle.letters.specs.Scratch.{Filled}
 use Rattle.judging.proofs.Rows.{RowOf, kind-at, first-at, past-at}
 use Rattle.letters.proofs.Table.{filled-apart, filled-row}
@@ -38,13 +38,13 @@ name-of s pair (octets bytes) (covers, longer) = rw (lt-ltb (pair .first) (pair 
 
 module _ {edition : Edition} {s rows head next head2 next2 : List ℕ} {n : ℕ} (filled : Filled edition s rows head next head2 next2 n) where
   module _ (j : ℕ) (element : Element) (there : getElem? (filled .elements) j ≡ some element) where
-    abbrev own : RowOf s (rowsOfStream edition s) j element
+    abbrev own : RowOf s (rowsIn edition s) j element
     own = filled-row filled j element there
 
     abbrev row : Row
     row = own .row
 
-    pair-at : (column : ℕ) → column + 1 < rowWidth → spanAt rows column j ≡ record { first = getD (cells row) column 0; past = getD (cells row) (column + 1) 0 }
+    pair-at : (column : ℕ) → column + 1 < scratchWidth → spanAt rows column j ≡ record { first = getD (cells row) column 0; past = getD (cells row) (column + 1) 0 }
     pair-at column l = rw (first-at (filled .holds) j row (own .stands) column (omega arith), past-at (filled .holds) j row (own .stands) column l)
 
     run-at : portionsAt rows j ≡ portionsRun (row .portions)

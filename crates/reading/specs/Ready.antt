@@ -20,7 +20,7 @@ use Rattle.ordered.specs.Ordered.{Filed}
 use Rattle.tree.specs.Tree.{treeOf}
 use Rattle.elements.specs.declared.Edition.{Edition}
 use Rattle.elements.specs.Judge.{single, Element, accepted, judge}
-use Rattle.elements.specs.Rows.{bytesIn}
+use Rattle.elements.specs.ElementRows.{bytesIn}
 use Rattle.elements.specs.Says.{portionsRun}
 use Rattle.letters.specs.Scratch.{Filled}
 use Rattle.letters.specs.Apart.{Apart}

@@ -3,8 +3,8 @@ use contents::Span;
 use index::IDENTIFIER;
 use index::LOGICAL;
 use index::PORTIONS;
-use index::ROW_WIDTH;
 use index::RowFound;
+use index::SCRATCH_WIDTH;
 use names::Asked;
 use runs::Met;
 use runs::Run;
@@ -16,12 +16,12 @@ ghost use lib.ListN.{length, drop};
 ghost use Rattle.headers.specs.Head.{isIn};
 ghost use Rattle.names.specs.Names.{spaceByte};
 ghost use Rattle.names.specs.Hash.{hash, hashFrom, hashes};
-ghost use Rattle.index.specs.Rows.{rowWidth};
+ghost use Rattle.index.specs.Rows.{scratchWidth};
 ghost use Rattle.index.specs.Columns.{Bounded};
 ghost use Rattle.index.specs.Index.{FindsRow};
 ghost use Rattle.ordered.specs.Ordered.{Filed};
 ghost use Rattle.elements.specs.declared.Edition.{Edition};
-ghost use Rattle.elements.specs.Rows.{bytesIn};
+ghost use Rattle.elements.specs.ElementRows.{bytesIn};
 ghost use Rattle.elements.specs.Says.{Placed};
 ghost use Rattle.letters.specs.Scratch.{Filled};
 ghost use Rattle.reading.specs.Match.{kindsOf};
@@ -108,10 +108,10 @@ pub fn is_read(side: Side, kind: usize) -> bool
 
 // The bounds of row j at a column.
 pub fn bounds_at(rows: &[u32], j: usize, column: usize) -> Span
-    requires { ⌜ (column + 1 < rowWidth) × (j * rowWidth + rowWidth ≤ length (now rows)) ⌝ }
+    requires { ⌜ (column + 1 < scratchWidth) × (j * scratchWidth + scratchWidth ≤ length (now rows)) ⌝ }
     ensures { λ r. ⌜ r ≡ spanAt (now (rows .entry)) column j ⌝ }
 {
-    let at = j * ROW_WIDTH + column;
+    let at = j * SCRATCH_WIDTH + column;
     let first = wide(rows[at]);
     let past = wide(rows[at + 1]);
     Span { first, past }
@@ -126,7 +126,7 @@ pub fn is_there(bounds: Span) -> bool
 
 // The run of the portions of row j.
 pub fn portions_at(rows: &[u32], j: usize) -> Run
-    requires { ⌜ j * rowWidth + rowWidth ≤ length (now rows) ⌝ }
+    requires { ⌜ j * scratchWidth + scratchWidth ≤ length (now rows) ⌝ }
     ensures { λ r. ⌜ r ≡ portionsAt (now (rows .entry)) j ⌝ }
 {
     let bounds = bounds_at(rows, j, PORTIONS);
@@ -140,10 +140,10 @@ pub fn portions_at(rows: &[u32], j: usize) -> Run
 
 // Whether element j is read on the side and has an identifier and portions.
 fn is_listed(rows: &[u32], side: Side, j: usize) -> bool
-    requires { ⌜ j * rowWidth + rowWidth ≤ length (now rows) ⌝ }
+    requires { ⌜ j * scratchWidth + scratchWidth ≤ length (now rows) ⌝ }
     ensures { λ r. ⌜ r ≡ isListed side (now (rows .entry)) j ⌝ }
 {
-    let kind = wide(rows[j * ROW_WIDTH]);
+    let kind = wide(rows[j * SCRATCH_WIDTH]);
     if !is_read(side, kind) {
         return false;
     }
@@ -242,7 +242,7 @@ fn list_portions(
         match runs::meet(s, left) {
             Met::End => return total,
             Met::Item {
-                octet: _,
+                code: _,
                 first,
                 past,
                 inner: _,

@@ -11,8 +11,8 @@ use borrow.Author.Tests.{le-leb, lt-ltb, le-ltb, eq-eqb, ne-eqb}
 use Rattle.headers.specs.declared.Header.{Header}
 use Rattle.headers.specs.declared.Head.{Head}
 use Rattle.headers.specs.declared.Head.the-variants.{Item, ClosingMark, Refusal}
-use Rattle.headers.specs.Head.{number, constructed, misfits, bigEndian, octetAt, definiteAt, indefiniteAt, longAt, byFirst, lengthAt, closingAt, itemAt, headAt}
-use Rattle.octets.specs.Walk.{Items, none, item, End, ends, Walked, pastOf, run}
+use Rattle.headers.specs.Head.{numberBits, constructed, misfits, bigEndian, octetAt, definiteAt, indefiniteAt, longAt, byFirst, lengthAt, closingAt, itemAt, headAt}
+use Rattle.octets.specs.Walk.{Items, noItems, item, End, ends, Walked, pastOf, run}
 use Rattle.octets.specs.Rules.{Runs, at-limit, unclosed, closes, refuses, primitive, passes, breaks}
 use Rattle.headers.proofs.Lies.{FieldRead, in-one, in-two, in-three, item-holds}
 use Rattle.laws.proofs.Tests.{cond-holds}
@@ -31,22 +31,22 @@ Kept other limit (Item h) = h .marked ≡ false → h .bound ≤ limit → other
 Kept other limit ClosingMark = Unit {0}
 Kept other limit (Refusal number place) = Unit {0}
 
-module _ (octet at limit past : ℕ) (other : Head) where
-  definite-kept : (start len : ℕ) → (start + len ≤ past → other ≡ definiteAt octet at start len past) → Kept other past (definiteAt octet at start len limit)
+module _ (code at limit past : ℕ) (other : Head) where
+  definite-kept : (start len : ℕ) → (start + len ≤ past → other ≡ definiteAt code at start len past) → Kept other past (definiteAt code at start len limit)
   unfolding definiteAt
   definite-kept start len same =
       cond-holds (Kept other past) (leb (start + len) limit)
-      (λ _. cond-holds (Kept other past) (misfits octet len) (λ _. tt) (λ f _ w. same w ∙ rw (le-leb _ _ w, f)))
+      (λ _. cond-holds (Kept other past) (misfits code len) (λ _. tt) (λ f _ w. same w ∙ rw (le-leb _ _ w, f)))
       (λ _. tt)
 
-  first-kept : (s : List ℕ) (from first : ℕ) → (from + 1 ≤ past → other ≡ byFirst s octet at from first past)
-      → Kept other past (byFirst s octet at from first limit)
+  first-kept : (s : List ℕ) (from first : ℕ) → (from + 1 ≤ past → other ≡ byFirst s code at from first past)
+      → Kept other past (byFirst s code at from first limit)
   unfolding byFirst indefiniteAt longAt
   first-kept s from first same =
       cond-holds (Kept other past) (ltb first 0x80)
       (λ a. definite-kept (from + 1) first (λ w. same (omega arith) ∙ rw a))
       (λ a. cond-holds (Kept other past) (eqb first 0x80)
-      (λ _. cond-holds (Kept other past) (constructed octet) (λ _ m. absurd (false≢true (sym m))) (λ _. tt))
+      (λ _. cond-holds (Kept other past) (constructed code) (λ _ m. absurd (false≢true (sym m))) (λ _. tt))
       (λ b. cond-holds (Kept other past) (ltb first 0x85)
       (λ d. cond-holds (Kept other past) (leb (from + 1 + (first - 0x80)) limit)
       (λ _. definite-kept (from + 1 + (first - 0x80)) (bigEndian (take (first - 0x80) (drop (from + 1) s)))
@@ -54,7 +54,7 @@ module _ (octet at limit past : ℕ) (other : Head) where
       (λ _. tt))
       (λ _. tt)))
 
-  length-kept : (s : List ℕ) (from : ℕ) → (from < past → other ≡ lengthAt s octet at from past) → Kept other past (lengthAt s octet at from limit)
+  length-kept : (s : List ℕ) (from : ℕ) → (from < past → other ≡ lengthAt s code at from past) → Kept other past (lengthAt s code at from limit)
   unfolding lengthAt
   length-kept s from same =
       cond-holds (Kept other past) (ltb from limit)
@@ -75,12 +75,12 @@ pub item-again : (s : List ℕ) (octet at limit past levels : ℕ) → 0 < level
     → itemAt s octet at past levels ≡ lengthAt s code at from past
 unfolding itemAt
 item-again s octet at limit past levels some (in-one low tabled) w =
-    rw (ne-eqb levels 0 (λ z. omega arith), ne-eqb (number octet) 31 low, tabled)
+    rw (ne-eqb levels 0 (λ z. omega arith), ne-eqb (numberBits octet) 31 low, tabled)
 item-again s octet at limit past levels some (in-two n k l a b) w =
     let there : at + 1 < past = omega arith in
     rw (
       ne-eqb levels 0 (λ z. omega arith),
-      eq-eqb (number octet) 31 n,
+      eq-eqb (numberBits octet) 31 n,
       lt-ltb (at + 1) past there,
       le-ltb (octetAt s (at + 1)) 31 a,
       lt-ltb (octetAt s (at + 1)) 0x80 b,
@@ -94,7 +94,7 @@ item-again s octet at limit past levels some (in-three n k l a b c) w =
     let above : 0x80 ≤ second = omega arith in
     rw (
       ne-eqb levels 0 (λ z. omega arith),
-      eq-eqb (number octet) 31 n,
+      eq-eqb (numberBits octet) 31 n,
       lt-ltb (at + 1) past there,
       le-ltb second 31 under,
       le-ltb second 0x80 above,
@@ -119,7 +119,7 @@ head-kept s at limit past marked room levels deep =
     (λ w. rw z (item-again s octet at limit past levels (deep some) read w))))
 
 -- a primitive item is definite
-pub definite : (s : List ℕ) (at limit : ℕ) (marked : Bool) (room : ℕ) (h : Header) → headAt s at limit marked room ≡ Item h → constructed (h .octet) ≡ false
+pub definite : (s : List ℕ) (at limit : ℕ) (marked : Bool) (room : ℕ) (h : Header) → headAt s at limit marked room ≡ Item h → constructed (h .code) ≡ false
     → (m : Bool) → h .marked ≡ m → h .marked ≡ false
 definite s at limit marked room h e c true m = absurd (false≢true (sym c ∙ header-ok s at limit room marked h e .mark m))
 definite s at limit marked room h e c false m = m
@@ -149,13 +149,13 @@ again-runs {s} (closes {room} {at} {limit} {marked} l h) levels deep past e a =
     (omega arith, at-limit there)
 again-runs (refuses l h) levels deep past e a = let z : _≡_ {A = ℕ} 0 1 = cc in absurd (omega arith)
 again-runs {s} (primitive {room} {at} {limit} {marked} {h} {after} l p q r) levels deep past e a =
-    let n = again-runs r levels deep past e (all-after (constructed (h .octet)) (allPrimitive after) a) in
+    let n = again-runs r levels deep past e (all-after (constructed (h .code)) (allPrimitive after) a) in
     let m = definite s at limit marked room h p q (h .marked) refl in
     let o = header-ok s at limit room marked h p in
     let k = subst (Kept (headAt s at past false levels) past) p (head-kept s at limit past marked room levels deep) m (n .0) in
     let before : at < past = omega arith in
     (omega arith, primitive before k q (n .1))
-again-runs (passes {h = h} {after = after} l p q v r) levels deep past e a = absurd (not-all (constructed (h .octet)) (allPrimitive after) q a)
+again-runs (passes {h = h} {after = after} l p q v r) levels deep past e a = absurd (not-all (constructed (h .code)) (allPrimitive after) q a)
 again-runs (breaks l p q v) levels deep past e a = let z : _≡_ {A = ℕ} 0 1 = cc in absurd (omega arith)
 
 -- the run inside an item, read again up to where its value ends
@@ -164,8 +164,8 @@ pub value-again : {s : List ℕ} {room at limit : ℕ} {marked : Bool} {i : Item
 value-again {at = at} {limit = limit} {marked = marked} {next = next} v levels deep all =
     again-runs v levels deep (pastOf marked next) (ap ends (past-next marked at limit next (right v))) all .1
 
-module _ {s : List ℕ} {r : Run} {octet first past : ℕ} {inner rest : Run} (met : Meeting s r octet first past inner rest)
-    (c : constructed octet ≡ true) (all : allPrimitive (itemsOf s inner) ≡ true) (levels : ℕ) (deep : 0 < inner .room → 0 < levels) where
+module _ {s : List ℕ} {r : Run} {code first past : ℕ} {inner rest : Run} (met : Meeting s r code first past inner rest)
+    (c : constructed code ≡ true) (all : allPrimitive (itemsOf s inner) ≡ true) (levels : ℕ) (deep : 0 < inner .room → 0 < levels) where
   derived-again : (inner .at ≤ past) × Runs s levels (inner .at) past false (itemsOf s inner) (ends past)
   derived-again =
       again-runs (derives (inner .room) s (inner .at) (inner .limit) (inner .marked) (met .inner-fine .order)) levels deep past (met .inner-spans c .to) all

@@ -17,7 +17,7 @@ use Rattle.laws.proofs.Tests.{cond-holds}
 
 -- an item with this code, or a refusal
 abbrev Has : (octet : ℕ) → Head → Type 0
-Has octet (Item h) = h .octet ≡ octet
+Has octet (Item h) = h .code ≡ octet
 Has octet ClosingMark = ⊥
 Has octet (Refusal number place) = Unit {0}
 
@@ -27,7 +27,7 @@ CodeOk octet code = (code ≡ 0 → ⊥) × (octet < 256 → code < 16777216)
 
 -- what is read tells of the code, by the octet that stands there, and of whether the innermost open item is indefinite
 abbrev pub Tells : (octet : ℕ) → (marked : Bool) → Head → Type 0
-Tells octet marked (Item h) = CodeOk octet (h .octet)
+Tells octet marked (Item h) = CodeOk octet (h .code)
 Tells octet marked ClosingMark = marked ≡ true
 Tells octet marked (Refusal number place) = Unit {0}
 
@@ -82,7 +82,7 @@ head-tells s at limit marked room =
 
 module _ (s : List ℕ) (at limit : ℕ) (marked : Bool) (room : ℕ) where
   -- an item's code is not 0, and it is small
-  pub item-octet : (h : Header) → headAt s at limit marked room ≡ Item h → CodeOk (octetAt s at) (h .octet)
+  pub item-octet : (h : Header) → headAt s at limit marked room ≡ Item h → CodeOk (octetAt s at) (h .code)
   item-octet h e = subst (Tells (octetAt s at) marked) e (head-tells s at limit marked room)
 
   -- a closing mark ends a marked run

@@ -12,7 +12,7 @@ use borrow.Author.Tests.{leb-true, le-leb}
 use Rattle.octets.specs.declared.Outcome.{Outcome}
 use Rattle.octets.specs.declared.Outcome.the-variants.{Ended, Refused}
 use Rattle.headers.specs.Head.{constructed, typeField}
-use Rattle.octets.specs.Walk.{Items, none, item, count, End, ends, stops, streamLimit, outcomeOf, answer, walkOf, startOf}
+use Rattle.octets.specs.Walk.{Items, noItems, item, count, End, ends, stops, streamLimit, outcomeOf, answer, walkOf, startOf}
 use Rattle.octets.specs.Rules.{Runs, at-limit, unclosed, closes, refuses, primitive, passes, breaks}
 use Rattle.octets.proofs.Walks.{EndOk, run-ok}
 use Rattle.octets.proofs.Turns.{answer-ends}
@@ -75,23 +75,23 @@ pub start-at : {s : List ℕ} {r : Run} → Fine s r → r .marked ≡ false →
 start-at {s} {r} f m = starts-at (derives (r .room) s (r .at) (r .limit) (r .marked) (f .order)) m (f .whole)
 
 -- what is met is the first item of the tree
-pub tree-meets : {s : List ℕ} {r : Run} {octet first past : ℕ} {inner rest : Run} → Meeting s r octet first past inner rest
-    → treeIn s r ≡ formed (constructed octet) (typeField octet) (slice first past s) (treeIn s inner) (treeIn s rest)
+pub tree-meets : {s : List ℕ} {r : Run} {code first past : ℕ} {inner rest : Run} → Meeting s r code first past inner rest
+    → treeIn s r ≡ formed (constructed code) (typeField code) (slice first past s) (treeIn s inner) (treeIn s rest)
 tree-meets {s} m = ap (plain s) (m .tree)
 
 -- where no item is met the tree is empty
-pub tree-none : (s : List ℕ) (r : Run) → itemsOf s r ≡ none → treeIn s r ≡ empty
+pub tree-none : (s : List ℕ) (r : Run) → itemsOf s r ≡ noItems → treeIn s r ≡ empty
 tree-none s r e = ap (plain s) e
 
 -- a run with no item at its top has none
-pub no-tops : (i : Items) → tops i ≡ 0 → i ≡ none
-no-tops none e = refl
-no-tops (item at octet start past inside after) e = absurd (omega arith)
+pub no-tops : (i : Items) → tops i ≡ 0 → i ≡ noItems
+no-tops noItems e = refl
+no-tops (item at code start past inside after) e = absurd (omega arith)
 
 -- a run has at most as many items as there are at any level
 pub count-top : (i : Items) → tops i ≤ count i
-count-top none = omega arith
-count-top (item at octet start past inside after) = let t = count-top after in omega arith
+count-top noItems = omega arith
+count-top (item at code start past inside after) = let t = count-top after in omega arith
 
 end-within : (at limit n : ℕ) (e : End) → EndOk at limit n e → at + (n + n) ≤ limit
 end-within at limit n (ends next) o = omega arith

@@ -34,7 +34,7 @@ follow-some at h inside (ends next) more z = omega arith
 follow-some at h inside (stops number place) more z = omega arith
 
 -- an item's value ends as a run does
-value-right : (room : ℕ) (s : List ℕ) (h : Header) (b m : Bool) → constructed (h .octet) ≡ b → h .marked ≡ m → (h .marked ≡ true → constructed (h .octet) ≡ true)
+value-right : (room : ℕ) (s : List ℕ) (h : Header) (b m : Bool) → constructed (h .code) ≡ b → h .marked ≡ m → (h .marked ≡ true → constructed (h .code) ≡ true)
     → h .start ≤ h .bound → EndsRight m (h .start) (h .bound) (valueOf room s h .how)
 unfolding valueOf
 value-right room s h true m c k mark l = rw (c, k) (ends-right (room - 1) s (h .start) (h .bound) m l)
@@ -42,10 +42,10 @@ value-right room s h false true c k mark l = absurd (false≢true (sym c ∙ mar
 value-right room s h false false c k mark l = rw c refl
 
 -- the value of an item: a definite one that is whole ends at its bound, and an indefinite one is walked as a run
-module _ (room : ℕ) (s : List ℕ) (h : Header) (mark : h .marked ≡ true → constructed (h .octet) ≡ true) where
+module _ (room : ℕ) (s : List ℕ) (h : Header) (mark : h .marked ≡ true → constructed (h .code) ≡ true) where
   pub definite-value : h .marked ≡ false → h .start ≤ h .bound → Whole (valueOf room s h .how) → valueOf room s h .how ≡ ends (h .bound)
   definite-value m l =
-      ends-at-limit (h .start) (h .bound) (valueOf room s h .how) (value-right room s h (constructed (h .octet)) false refl m mark l)
+      ends-at-limit (h .start) (h .bound) (valueOf room s h .how) (value-right room s h (constructed (h .code)) false refl m mark l)
 
   pub marked-run : h .marked ≡ true → valueOf room s h .how ≡ run (room - 1) s (h .start) (h .bound) true .how
   unfolding valueOf
@@ -59,7 +59,7 @@ past-before : (m : Bool) (next : ℕ) → pastOf m next ≤ next
 past-before true next = omega arith
 past-before false next = omega arith
 
-inside-items : (s : List ℕ) (h : Header) (room : ℕ) (b : Bool) → constructed (h .octet) ≡ b → itemsOf s (insideOf h room) ≡ valueOf room s h .items
+inside-items : (s : List ℕ) (h : Header) (room : ℕ) (b : Bool) → constructed (h .code) ≡ b → itemsOf s (insideOf h room) ≡ valueOf room s h .items
 unfolding valueOf
 inside-items s h room true c = rw c
 inside-items s h room false c = rw c (tree-ends (room - 1) s (h .bound) false)
@@ -69,13 +69,13 @@ empty-whole room s limit =
     let e : run room s limit limit false ≡ ended limit = run-step room s limit limit false (omega arith) ∙ rw (le-leb limit limit (omega arith)) in
     rw e tt
 
-inside-fine : (s : List ℕ) (h : Header) (room : ℕ) (b : Bool) → constructed (h .octet) ≡ b → h .start ≤ h .bound → h .bound ≤ length s
+inside-fine : (s : List ℕ) (h : Header) (room : ℕ) (b : Bool) → constructed (h .code) ≡ b → h .start ≤ h .bound → h .bound ≤ length s
     → Whole (valueOf room s h .how) → Fine s (insideOf h room)
 unfolding valueOf
 inside-fine s h room true c p q w = rw c (record { order = p; inside = q; whole = rw c at w })
 inside-fine s h room false c p q w = rw c (record { order = omega arith; inside = q; whole = empty-whole (room - 1) s (h .bound) })
 
-inside-room : (h : Header) (room : ℕ) (b : Bool) → constructed (h .octet) ≡ b → insideOf h room .room ≡ room - 1
+inside-room : (h : Header) (room : ℕ) (b : Bool) → constructed (h .code) ≡ b → insideOf h room .room ≡ room - 1
 inside-room h room true c = rw c
 inside-room h room false c = rw c
 
@@ -120,7 +120,7 @@ module _ (s : List ℕ) (r : Run) (fine : Fine s r) (l : r .at < r .limit) (h : 
       follow-whole (r .at) h (valueOf (r .room) s h .items) (valueOf (r .room) s h .how) (λ next. run (r .room) s next (r .limit) (r .marked)) follow-ended
 
   value-ends-right : (m : Bool) → h .marked ≡ m → EndsRight m (h .start) (h .bound) (valueOf (r .room) s h .how)
-  value-ends-right m k = value-right (r .room) s h (constructed (h .octet)) m refl k (lies .mark) (lies .order)
+  value-ends-right m k = value-right (r .room) s h (constructed (h .code)) m refl k (lies .mark) (lies .order)
 
   -- a definite item ends at its bound
   pub definite-ends : h .marked ≡ false → valueOf (r .room) s h .how ≡ ends (h .bound)
@@ -160,10 +160,10 @@ module _ (s : List ℕ) (r : Run) (fine : Fine s r) (l : r .at < r .limit) (h : 
     pub ends-after : walkIn s r .how ≡ run (r .room) s next (r .limit) (r .marked) .how
     ends-after = ap (λ (w : Walked). w .how) followed ∙ rw v
 
-    items-met : itemsOf s r ≡ item (r .at) (h .octet) (h .start) (pastOf (h .marked) next) (valueOf (r .room) s h .items) (run (r .room) s next (r .limit) (r .marked) .items)
+    items-met : itemsOf s r ≡ item (r .at) (h .code) (h .start) (pastOf (h .marked) next) (valueOf (r .room) s h .items) (run (r .room) s next (r .limit) (r .marked) .items)
     items-met = ap (λ (w : Walked). w .items) followed ∙ rw v
 
-    spans : constructed (h .octet) ≡ true → Spans s (insideOf h (r .room)) (h .start) (pastOf (h .marked) next)
+    spans : constructed (h .code) ≡ true → Spans s (insideOf h (r .room)) (h .start) (pastOf (h .marked) next)
     unfolding valueOf
     spans c =
         let k : run (r .room - 1) s (h .start) (h .bound) (h .marked) .how ≡ ends next = rw c at v in
@@ -171,7 +171,7 @@ module _ (s : List ℕ) (r : Run) (fine : Fine s r) (l : r .at < r .limit) (h : 
 
     -- the item is met: what is read has octets below 256, its value's end as a number and the run inside as a value
     pub meets : octetAt s (r .at) < 256 → (past : ℕ) → past ≡ pastOf (h .marked) next → (inner : Run) → inner ≡ insideOf h (r .room)
-        → Meeting s r (h .octet) (h .start) past inner (record { at = next; limit = r .limit; marked = r .marked; room = r .room })
+        → Meeting s r (h .code) (h .start) past inner (record { at = next; limit = r .limit; marked = r .marked; room = r .room })
     meets small past p inner i =
         let n = next-within in
         let o = item-octet s (r .at) (r .limit) (r .marked) (r .room) h e in
@@ -179,15 +179,15 @@ module _ (s : List ℕ) (r : Run) (fine : Fine s r) (l : r .at < r .limit) (h : 
         let before = past-before (h .marked) next in
         let deep : h .bound ≤ length s = omega (arith, lies .within, fine .inside) in
         record {
-          tree = items-met ∙ rw (p, i, inside-items s h (r .room) (constructed (h .octet)) refl);
-          octet-not-zero = o .0;
-          octet-small = o .1 small;
+          tree = items-met ∙ rw (p, i, inside-items s h (r .room) (constructed (h .code)) refl);
+          code-not-zero = o .0;
+          code-small = o .1 small;
           starts = lies .header;
           value-order = omega arith;
           value-before = omega arith;
           value-inside = omega (arith, fine .inside);
-          inner-fine = rw i (inside-fine s h (r .room) (constructed (h .octet)) refl (lies .order) deep value-whole);
-          inner-room = rw i (inside-room h (r .room) (constructed (h .octet)) refl);
+          inner-fine = rw i (inside-fine s h (r .room) (constructed (h .code)) refl (lies .order) deep value-whole);
+          inner-room = rw i (inside-room h (r .room) (constructed (h .code)) refl);
           inner-spans = λ c. rw (i, p) (spans c);
           rest-fine = rest-fine-after;
           rest-limit = refl;

@@ -9,7 +9,7 @@ use Prim.Native.Nat.{ℕ, _≤_, _-_, suc, _+_, _<_}
 use lib.ListN.{length}
 use Rattle.headers.specs.declared.Header.{Header}
 use Rattle.headers.specs.Head.{constructed}
-use Rattle.octets.specs.Walk.{Walked, run, Items, deepest, none, item, ends}
+use Rattle.octets.specs.Walk.{Walked, run, Items, deepest, noItems, item, ends}
 use Rattle.tree.specs.Tree.{Tree, plain}
 use Rattle.tree.specs.Accepts.{Whole}
 use Rattle.runs.specs.declared.Run.{Run}
@@ -39,18 +39,18 @@ wholeStream s = definiteRun 0 (length s) deepest
 -- the run inside the item with the header h, which is at the first of room levels: a primitive has an empty one, at its end
 abbrev pub insideOf : Header → (room : ℕ) → Run
 insideOf h room =
-    cond (constructed (h .octet)) (record { at = h .start; limit = h .bound; marked = h .marked; room = room - 1 })
+    cond (constructed (h .code)) (record { at = h .start; limit = h .bound; marked = h .marked; room = room - 1 })
     (definiteRun (h .bound) (h .bound) (room - 1))
 
 -- how many items a run has, not looking inside them
 abbrev pub tops : Items → ℕ
-tops none = 0
-tops (item at octet start past inside after) = suc (tops after)
+tops noItems = 0
+tops (item at code start past inside after) = suc (tops after)
 
 -- whether all items of a run are primitive
 abbrev pub allPrimitive : Items → Bool
-allPrimitive none = true
-allPrimitive (item at octet start past inside after) = not (constructed octet) && allPrimitive after
+allPrimitive noItems = true
+allPrimitive (item at code start past inside after) = not (constructed code) && allPrimitive after
 
 -- a run within the stream whose walk ended
 pub record Fine (s : List ℕ) (r : Run) : Type 0 where
@@ -65,17 +65,17 @@ pub record Spans (s : List ℕ) (r : Run) (first past : ℕ) : Type 0 where
 
 -- What is met at the start of a run: an item with the code of its type field and its value from first to past, the run inside it, and the rest of the
 -- run, which is shorter and begins where the item ends. "Closing marks lie in the element and in no value."
-pub record Meeting (s : List ℕ) (r : Run) (octet first past : ℕ) (inner rest : Run) : Type 0 where
-  pub tree : itemsOf s r ≡ item (r .at) octet first past (itemsOf s inner) (itemsOf s rest)
-  pub octet-not-zero : octet ≡ 0 → ⊥
-  pub octet-small : octet < 16777216
+pub record Meeting (s : List ℕ) (r : Run) (code first past : ℕ) (inner rest : Run) : Type 0 where
+  pub tree : itemsOf s r ≡ item (r .at) code first past (itemsOf s inner) (itemsOf s rest)
+  pub code-not-zero : code ≡ 0 → ⊥
+  pub code-small : code < 16777216
   pub starts : r .at + 2 ≤ first
   pub value-order : first ≤ past
   pub value-before : past ≤ rest .at
   pub value-inside : past ≤ length s
   pub inner-fine : Fine s inner
   pub inner-room : inner .room ≡ r .room - 1
-  pub inner-spans : constructed octet ≡ true → Spans s inner first past
+  pub inner-spans : constructed code ≡ true → Spans s inner first past
   pub rest-fine : Fine s rest
   pub rest-limit : rest .limit ≡ r .limit
   pub rest-marked : rest .marked ≡ r .marked
@@ -84,5 +84,5 @@ pub record Meeting (s : List ℕ) (r : Run) (octet first past : ℕ) (inner rest
 
 -- what is met: an item, or the run's end, where it has no item
 abbrev pub Meets : List ℕ → Run → Met → Type 0
-Meets s r (Item octet first past inner rest) = Meeting s r octet first past inner rest
-Meets s r End = itemsOf s r ≡ none
+Meets s r (Item code first past inner rest) = Meeting s r code first past inner rest
+Meets s r End = itemsOf s r ≡ noItems

@@ -25,7 +25,7 @@ pub struct Run {
 // the run's end.
 pub enum Met {
     Item {
-        octet: usize,
+        code: usize,
         first: usize,
         past: usize,
         inner: Run,
@@ -37,11 +37,11 @@ pub enum Met {
 // The run inside an item: a primitive has an empty one, at its end. A primitive is never marked, so the mark is copied and not
 // chosen: to choose costs a stall at every item.
 fn inside_of(h: Header, room: usize) -> Run
-    requires { ⌜ (0 < room) × (h .marked ≡ true → constructed (h .octet) ≡ true) ⌝ }
+    requires { ⌜ (0 < room) × (h .marked ≡ true → constructed (h .code) ≡ true) ⌝ }
     ensures { λ r. ⌜ r ≡ insideOf h room ⌝ }
 {
-    let octet = h.octet;
-    if octet / 32 % 2 == 1 {
+    let code = h.code;
+    if code / 32 % 2 == 1 {
         Run {
             at: h.start,
             limit: h.bound,
@@ -61,7 +61,7 @@ fn inside_of(h: Header, room: usize) -> Run
 // Where an item with the header h ends that is known to be whole: at its bound, or past its closing mark.
 fn end_of_item(s: &[u8], h: Header, room: usize) -> usize
     requires { ⌜ (0 < room) × (h .start ≤ h .bound) × (h .bound ≤ length (now s)) ⌝ }
-    requires { ⌜ (h .marked ≡ true → constructed (h .octet) ≡ true) × Whole (valueOf room (now s) h .how) ⌝ }
+    requires { ⌜ (h .marked ≡ true → constructed (h .code) ≡ true) × Whole (valueOf room (now s) h .how) ⌝ }
     ensures { λ r. ⌜ valueOf room (now (s .entry)) h .how ≡ ends r ⌝ }
 {
     let bound = h.bound;
@@ -117,7 +117,7 @@ pub fn meet(s: &[u8], r: Run) -> Met
                 let below = room - 1;
                 let next = end_of_marked(s, first, bound, below);
                 return Met::Item {
-                    octet: h.octet,
+                    code: h.code,
                     first,
                     past: next - 2,
                     inner: Run {
@@ -135,7 +135,7 @@ pub fn meet(s: &[u8], r: Run) -> Met
                 };
             }
             Met::Item {
-                octet: h.octet,
+                code: h.code,
                 first,
                 past: bound,
                 inner: inside_of(h, room),

@@ -5,7 +5,7 @@ use Prim.Native.Nat.{ℕ, _+_, _-_, _*_, _/_, _<_, _≤_}
 use native.Mathlib.Omega.{arith}
 use lib.ListN.{length, replicate, length-replicate, getD-replicate}
 use Rattle.names.specs.Hash.{hashes}
-use Rattle.index.specs.Rows.{rowWidth}
+use Rattle.index.specs.Rows.{scratchWidth}
 use Rattle.index.specs.Index.{Empty}
 use Rattle.ordered.specs.Ordered.{markOf}
 use Rattle.octets.specs.declared.Outcome.{Outcome}
@@ -27,7 +27,7 @@ no-mark : (n : ℕ) → 0 < n → markOf (replicate n 0) ≡ 0
 no-mark n some = getD-replicate n (length (replicate {A = ℕ} n 0) - 1) 0 0 (omega (arith, zeros n))
 
 -- rows, heads, links and bounds of a letter with no more rows than are lent
-lent : (s : List ℕ) (rows heads links : ℕ) → rowsNeeded s < links → links * rowWidth ≤ rows + rowWidth → 0 < heads → heads ≤ hashes
+lent : (s : List ℕ) (rows heads links : ℕ) → rowsNeeded s < links → links * scratchWidth ≤ rows + scratchWidth → 0 < heads → heads ≤ hashes
     → Lent s (replicate rows 0) (replicate heads 0) (replicate links 0) (replicate heads 0) (replicate links 0) (replicate 128 0)
 lent s rows heads links needed room some few = record {
   some-heads = omega (arith, zeros heads);
@@ -46,7 +46,7 @@ lent s rows heads links needed room some few = record {
 
 -- all that the judge asks, of a stream that the walk passed
 pub walked-lent : (s : List ℕ) (at headers : ℕ) → walkOf s ≡ Ended at headers → (rows heads links : ℕ)
-    → rowsNeeded s < links → links * rowWidth ≤ rows + rowWidth → 0 < heads → heads ≤ hashes
+    → rowsNeeded s < links → links * scratchWidth ≤ rows + scratchWidth → 0 < heads → heads ≤ hashes
     → (Fine s (wholeStream s) × (length s ≤ streamLimit))
     × Lent s (replicate rows 0) (replicate heads 0) (replicate links 0) (replicate heads 0) (replicate links 0) (replicate 128 0)
 walked-lent s at headers w rows heads links needed room some few =

@@ -14,7 +14,7 @@ use Rattle.tree.specs.Tree.{treeOf}
 use Rattle.runs.proofs.Laws.{stream-fine}
 use Rattle.elements.specs.declared.Edition.{Edition}
 use Rattle.elements.specs.Judge.{joinedContent, Element}
-use Rattle.letters.specs.Letter.{Letter, letter, refusal}
+use Rattle.letters.specs.Letter.{Letter, letter, refusal, letterIn}
 use Rattle.letters.proofs.Apart.{accepted-apart}
 use Rattle.reading.specs.declared.Match.{Match}
 use Rattle.reading.specs.declared.Side.{Side}
@@ -25,7 +25,7 @@ use Rattle.texts.proofs.Fits.{texts-fit}
 use Rattle.answers.specs.declared.Listed.{Listed}
 use Rattle.answers.specs.declared.Shown.{Shown}
 use Rattle.answers.specs.Table.{tooFewRows}
-use Rattle.answers.specs.Answers.{letterIn, onto, listed, matchesIn}
+use Rattle.answers.specs.Answers.{onto, listed, matchesIn}
 use Rattle.answers.specs.Texts.{textIn, textsIn, linesIn, linesLent, shownFrom, shown, shownLines, shownOutput, TextOutcome}
 use Rattle.answers.proofs.Letters.{letter-found}
 use Rattle.answers.proofs.Small.{refusal-small}

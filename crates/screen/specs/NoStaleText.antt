@@ -9,13 +9,13 @@ use lib.ListN.{length, take, drop, getElem?}
 use lib.Seq.{slice}
 use Rattle.elements.specs.declared.Edition.{Edition}
 use Rattle.elements.specs.Judge.{joinedContent, Element}
-use Rattle.letters.specs.Letter.{letter}
+use Rattle.letters.specs.Letter.{letter, letterIn}
 use Rattle.reading.specs.declared.Match.{Match}
 use Rattle.reading.specs.declared.Side.{Side}
 use Rattle.reading.specs.Match.{IsMatch}
 use Rattle.texts.specs.Texts.{Line, lineWidth, lineCells}
 use Rattle.answers.specs.declared.Shown.{Shown}
-use Rattle.answers.specs.Answers.{letterIn, matchesIn}
+use Rattle.answers.specs.Answers.{matchesIn}
 use Rattle.answers.specs.Texts.{linesLent, textsIn, shown, TextOutcome}
 
 -- line k shows the match m: its five numbers stand in the lent lines, m is a match of this letter, and the octets from first to past of the output are the

@@ -10,9 +10,9 @@ use borrow.Author.Tests.{le-leb, lt-ltb, le-ltb, eq-eqb, ne-eqb, eqb-true}
 use Rattle.headers.specs.declared.Header.{Header}
 use Rattle.headers.specs.declared.Head.the-variants.{Item, ClosingMark}
 use Rattle.headers.specs.declared.Field.the-variants.{Read}
-use Rattle.headers.specs.Head.{number, constructed, permits, formAllowed, codeOf, typeField, numberOf, misfits, bigEndian, octetAt, definiteAt, indefiniteAt, longAt, byFirst, lengthAt, fieldAt, closingAt, itemAt, headAt}
+use Rattle.headers.specs.Head.{numberBits, constructed, permits, formAllowed, codeOf, typeField, typeNumber, misfits, bigEndian, octetAt, definiteAt, indefiniteAt, longAt, byFirst, lengthAt, fieldAt, closingAt, itemAt, headAt}
 use Rattle.headers.proofs.Fields.{above-thirty}
-use Rattle.octets.specs.Walk.{Items, none, item, End, ends, pastOf}
+use Rattle.octets.specs.Walk.{Items, noItems, item, End, ends, pastOf}
 use Rattle.octets.specs.Rules.{Runs, at-limit, closes, primitive, passes}
 use Rattle.tree.specs.Tree.{Tree, empty, leaf, branch, plain, TypeField, oneOctet, twoOctets, threeOctets, Length, short, long, Codes, nothing, primitive as leaf-coding, definite, indefinite}
 use Rattle.tree.proofs.Here.{Here, first, second, tail, octet-at, taken, sliced, moved, item-length, apart}
@@ -24,11 +24,11 @@ unfolding formAllowed permits
 some-octet octet t z = false≢true (subst (λ (k : ℕ). formAllowed k ≡ true) z t)
 
 -- rule 8 is of primitive items
-fits : (octet n : ℕ) → constructed octet ≡ true → misfits octet n ≡ false
+fits : (code n : ℕ) → constructed code ≡ true → misfits code n ≡ false
 unfolding misfits
-fits octet n c =
-    let e = eqb-true (octet / 32 % 2) 1 c in
-    rw (ne-eqb octet 1 (λ z. omega arith), ne-eqb octet 5 (λ z. omega arith), ne-eqb octet 2 (λ z. omega arith), ne-eqb octet 10 (λ z. omega arith))
+fits code n c =
+    let e = eqb-true (code / 32 % 2) 1 c in
+    rw (ne-eqb code 1 (λ z. omega arith), ne-eqb code 5 (λ z. omega arith), ne-eqb code 2 (λ z. omega arith), ne-eqb code 10 (λ z. omega arith))
 
 -- a type field that stands at a place is read there
 field-is : {type : List ℕ} {form : Bool} (s : List ℕ) (at limit : ℕ) → TypeField type form → Here s at type → at + length type ≤ limit
@@ -36,13 +36,13 @@ field-is : {type : List ℕ} {form : Bool} (s : List ℕ) (at limit : ℕ) → T
 field-is s at limit (oneOctet {octet} low tabled q) here l =
     let e = octet-at s at octet [] here in
     let same : octet + 256 * 0 ≡ octet = omega arith in
-    rw (e, same) (some-octet octet tabled, rw (ne-eqb (number octet) 31 low, tabled))
+    rw (e, same) (some-octet octet tabled, rw (ne-eqb (numberBits octet) 31 low, tabled))
 field-is s at limit (twoOctets {first} {second} k q a b) here l =
     let e = octet-at s at first (second ∷ []) here in
     let e2 = octet-at s (at + 1) second [] (tail s at first (second ∷ []) here) in
     let (some, small, bits) = above-thirty first k in
     let there : at + 1 < limit = omega arith in
-    rw e (λ z. omega arith, rw (eq-eqb (number first) 31 bits, lt-ltb (at + 1) limit there, e2, le-ltb second 31 a, lt-ltb second 0x80 b, k))
+    rw e (λ z. omega arith, rw (eq-eqb (numberBits first) 31 bits, lt-ltb (at + 1) limit there, e2, le-ltb second 31 a, lt-ltb second 0x80 b, k))
 field-is s at limit (threeOctets {first} {second} {third} k q a b c) here l =
     let e = octet-at s at first (second ∷ third ∷ []) here in
     let after = tail s at first (second ∷ third ∷ []) here in
@@ -57,7 +57,7 @@ field-is s at limit (threeOctets {first} {second} {third} k q a b c) here l =
     rw e (
       λ z. omega arith,
       rw (
-        eq-eqb (number first) 31 bits,
+        eq-eqb (numberBits first) 31 bits,
         lt-ltb (at + 1) limit there,
         e2,
         le-ltb second 31 under,
@@ -79,7 +79,7 @@ module _ (s : List ℕ) (at limit room : ℕ) (marked : Bool) {type : List ℕ} 
   from = at + length type
 
   definite-is : (start n : ℕ) → start + n ≤ limit → misfits code n ≡ false
-      → definiteAt code at start n limit ≡ Item (record { octet = code; number = numberOf code; start = start; bound = start + n; marked = false })
+      → definiteAt code at start n limit ≡ Item (record { code = code; number = typeNumber code; start = start; bound = start + n; marked = false })
   unfolding definiteAt
   definite-is start n l m = rw (le-leb (start + n) limit l, m)
 
@@ -97,7 +97,7 @@ module _ (s : List ℕ) (at limit room : ℕ) (marked : Bool) {type : List ℕ} 
   unfolding byFirst
   short-is n l = rw (lt-ltb n 0x80 l)
 
-  marked-is : constructed code ≡ true → byFirst s code at from 0x80 limit ≡ Item (record { octet = code; number = numberOf code; start = from + 1; bound = limit; marked = true })
+  marked-is : constructed code ≡ true → byFirst s code at from 0x80 limit ≡ Item (record { code = code; number = typeNumber code; start = from + 1; bound = limit; marked = true })
   unfolding byFirst indefiniteAt
   marked-is c = rw c
 
@@ -111,7 +111,7 @@ module _ (s : List ℕ) (at limit room : ℕ) (marked : Bool) {type : List ℕ} 
   -- the header of an item with a definite length
   headed : {n : ℕ} {len : List ℕ} → Length n len → Here s at (type ++ len) → (start : ℕ) → start ≡ at + length (type ++ len)
       → start + n ≤ limit → misfits code n ≡ false
-      → headAt s at limit marked (suc room) ≡ Item (record { octet = code; number = numberOf code; start = start; bound = start + n; marked = false })
+      → headAt s at limit marked (suc room) ≡ Item (record { code = code; number = typeNumber code; start = start; bound = start + n; marked = false })
   headed (short {n} l) here start p f m =
       let e : start ≡ from + 1 = omega (arith, length-append type (n ∷ [])) in
       head-is (first s at type (n ∷ []) here) (omega arith)
@@ -131,7 +131,7 @@ module _ (s : List ℕ) (at limit room : ℕ) (marked : Bool) {type : List ℕ} 
 
   -- the header of one with the length octet 80
   headed-open : constructed code ≡ true → Here s at (type ++ (0x80 ∷ [])) → (start : ℕ) → start ≡ at + length (type ++ (0x80 ∷ [])) → start ≤ limit
-      → headAt s at limit marked (suc room) ≡ Item (record { octet = code; number = numberOf code; start = start; bound = limit; marked = true })
+      → headAt s at limit marked (suc room) ≡ Item (record { code = code; number = typeNumber code; start = start; bound = limit; marked = true })
   headed-open c here start p f =
       let e : start ≡ from + 1 = omega (arith, length-append type (0x80 ∷ [])) in
       head-is (first s at type (0x80 ∷ []) here) (omega arith)
@@ -162,13 +162,13 @@ pub record Reaches (s : List ℕ) (room at limit : ℕ) (marked : Bool) (t : Tre
 
 -- a constructed item whose run has the items of `inside`, and then what follows it
 branch-reaches : (s : List ℕ) (room at limit : ℕ) (marked : Bool) (h : Header) → at < limit → headAt s at limit marked (suc room) ≡ Item h
-    → constructed (h .octet) ≡ true → (next : ℕ) (inside after : Tree) (i : Items) (e : End)
-    → Reaches s room (h .start) (h .bound) (h .marked) inside none (ends next) → Reaches s (suc room) next limit marked after i e
-    → Reaches s (suc room) at limit marked (branch (typeField (h .octet)) inside after) i e
+    → constructed (h .code) ≡ true → (next : ℕ) (inside after : Tree) (i : Items) (e : End)
+    → Reaches s room (h .start) (h .bound) (h .marked) inside noItems (ends next) → Reaches s (suc room) next limit marked after i e
+    → Reaches s (suc room) at limit marked (branch (typeField (h .code)) inside after) i e
 branch-reaches s room at limit marked h l p q next inside after i e w o =
     let z : room ≡ suc room - 1 = omega arith in
     record {
-      items = item at (h .octet) (h .start) (pastOf (h .marked) next) (w .items) (o .items);
+      items = item at (h .code) (h .start) (pastOf (h .marked) next) (w .items) (o .items);
       runs = passes l p q (subst (λ (k : ℕ). Runs s k (h .start) (h .bound) (h .marked) (w .items) (ends next)) z (w .runs)) (o .runs);
       same = rw (q, w .same, o .same, graft-empty inside);
     }
@@ -191,8 +191,8 @@ complete (leaf-coding {room} {type} {len} {value} {rest} {after} g m l c) s at l
     let lt : at < limit = omega (arith, length-append type len, field-some g) in
     let q = form-of g in
     record {
-      items = item at (codeOf type) start bound none (o .items);
-      runs = primitive {h = record { octet = codeOf type; number = numberOf (codeOf type); start = start; bound = bound; marked = false }} lt
+      items = item at (codeOf type) start bound noItems (o .items);
+      runs = primitive {h = record { code = codeOf type; number = typeNumber (codeOf type); start = start; bound = bound; marked = false }} lt
           (headed s at limit room marked g l head start refl (omega arith) m) q (o .runs);
       same = rw (q, field-of g) (ap (λ (x : List ℕ). leaf type x (plain s (o .items))) v ∙ ap (leaf type value) (o .same));
     }
@@ -204,10 +204,10 @@ complete (definite {room} {type} {len} {value} {rest} {inside} {after} g l ci c)
     let lt : at < limit = omega (arith, length-append type len, field-some g) in
     let q = form-of g in
     subst (λ (t : List ℕ). Reaches s (suc room) at limit marked (branch t inside after) i e) (field-of g)
-    (branch-reaches s room at limit marked (record { octet = codeOf type; number = numberOf (codeOf type); start = start; bound = bound; marked = false }) lt
+    (branch-reaches s room at limit marked (record { code = codeOf type; number = typeNumber (codeOf type); start = start; bound = bound; marked = false }) lt
     (headed s at limit room marked g l head start refl (omega arith) (fits (codeOf type) (length value) q))
     q bound inside after i e
-    (complete ci s start bound false there (omega arith) none (ends bound) (at-limit refl))
+    (complete ci s start bound false there (omega arith) noItems (ends bound) (at-limit refl))
     (complete c s bound limit marked after-here (omega arith) i e
     (subst (λ (k : ℕ). Runs s (suc room) k limit marked i e) past r)))
 complete (indefinite {room} {type} {value} {rest} {inside} {after} g ci c) s at limit marked here f i e r =
@@ -222,10 +222,10 @@ complete (indefinite {room} {type} {value} {rest} {inside} {after} g ci c) s at 
     let before : to < limit = omega arith in
     let q = form-of g in
     subst (λ (t : List ℕ). Reaches s (suc room) at limit marked (branch t inside after) i e) (field-of g)
-    (branch-reaches s room at limit marked (record { octet = codeOf type; number = numberOf (codeOf type); start = start; bound = limit; marked = true }) lt
+    (branch-reaches s room at limit marked (record { code = codeOf type; number = typeNumber (codeOf type); start = start; bound = limit; marked = true }) lt
     (headed-open s at limit room marked g q head start refl (omega arith))
     q (to + 2) inside after i e
-    (complete ci s start limit true there (omega arith) none (ends (to + 2))
+    (complete ci s start limit true there (omega arith) noItems (ends (to + 2))
     (closes before (mark-is s to limit room (first s to (0 ∷ 0 ∷ []) rest mark) (omega arith))))
     (complete c s (to + 2) limit marked (second s to (0 ∷ 0 ∷ []) rest mark) (omega arith) i e
     (subst (λ (k : ℕ). Runs s (suc room) k limit marked i e) past r)))

@@ -24,9 +24,9 @@ long-of : (first : ℕ) (octets : List ℕ) → first ≡ 0x80 + length octets �
 long-of first octets e a b = subst (λ (x : ℕ). Length (bigEndian octets) (x ∷ octets)) (sym e) (long {octets = octets} a b)
 
 -- what the length octets of a header say of its value
-abbrev pub Sized : (marked : Bool) → (octet start bound limit : ℕ) → (len : List ℕ) → Type 0
-Sized false octet start bound limit len = (n : ℕ) × (bound ≡ start + n) × Length n len × (misfits octet n ≡ false)
-Sized true octet start bound limit len = (len ≡ 0x80 ∷ []) × (constructed octet ≡ true) × (bound ≡ limit)
+abbrev pub Sized : (marked : Bool) → (code start bound limit : ℕ) → (len : List ℕ) → Type 0
+Sized false code start bound limit len = (n : ℕ) × (bound ≡ start + n) × Length n len × (misfits code n ≡ false)
+Sized true code start bound limit len = (len ≡ 0x80 ∷ []) × (constructed code ≡ true) × (bound ≡ limit)
 
 -- a type field with this code stands at `at`, up to past
 pub record FieldHere (s : List ℕ) (at code past : ℕ) : Type 0 where
@@ -67,11 +67,11 @@ field-tells s at limit code _ l f (in-three n k p a b c) =
 -- the octets that a header was read from: its type field and its length octets
 pub record ReadFrom (s : List ℕ) (at limit room : ℕ) (h : Header) : Type 0 where
   pub len : List ℕ
-  pub here : Here s at (typeField (h .octet) ++ len)
-  pub past : h .start ≡ at + length (typeField (h .octet) ++ len)
+  pub here : Here s at (typeField (h .code) ++ len)
+  pub past : h .start ≡ at + length (typeField (h .code) ++ len)
   pub deep : 0 < room
-  pub type : TypeField (typeField (h .octet)) (constructed (h .octet))
-  pub sized : Sized (h .marked) (h .octet) (h .start) (h .bound) limit len
+  pub type : TypeField (typeField (h .code)) (constructed (h .code))
+  pub sized : Sized (h .marked) (h .code) (h .start) (h .bound) limit len
 
 abbrev pub Tells : List ℕ → (at limit room : ℕ) → (marked : Bool) → Head → Type 0
 Tells s at limit room marked (Item h) = ReadFrom s at limit room h

@@ -9,7 +9,7 @@ use lib.Dec.{leb}
 use lib.ListN.{length}
 use borrow.Author.Tests.{le-leb, leb-true}
 use Rattle.octets.specs.declared.Outcome.the-variants.{Ended, Refused}
-use Rattle.octets.specs.Walk.{none, count, streamLimit, deepest, End, ends, stops, Walked, run, outcomeOf, walkOf}
+use Rattle.octets.specs.Walk.{noItems, count, streamLimit, deepest, End, ends, stops, Walked, run, outcomeOf, walkOf}
 use Rattle.octets.specs.Rules.{Runs, at-limit}
 use Rattle.octets.proofs.RulesHold.{derives, derived}
 use Rattle.tree.specs.Tree.{Tree, plain, treeOf, Codes}
@@ -54,7 +54,7 @@ means s t a =
 pub coded-walk : (s : List ℕ) (t : Tree) → Codes deepest t s → (top s .how ≡ ends (length s)) × (treeOf s ≡ t)
 coded-walk s t c =
     let z : 0 + length s ≡ length s = omega arith in
-    let o = complete c s 0 (length s) false ([], sym (append-nil s)) (omega arith) none (ends (length s)) (at-limit z) in
+    let o = complete c s 0 (length s) false ([], sym (append-nil s)) (omega arith) noItems (ends (length s)) (at-limit z) in
     let d = derived (o .runs) in
     (sym (ap (λ (w : Walked). w .how) d), ap (λ (w : Walked). plain s (w .items)) (sym d) ∙ o .same ∙ graft-empty t)
 

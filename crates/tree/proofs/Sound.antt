@@ -48,14 +48,14 @@ indefinite-codes (suc room) type value rest inside after r g i c =
     let e : suc room - 1 ≡ room = omega arith in
     indefinite g (subst (λ (k : ℕ). Codes k inside value) e i) c
 
-module _ (s : List ℕ) (room at limit : ℕ) (marked : Bool) (f : limit ≤ length s) (octet number start bound : ℕ) where
+module _ (s : List ℕ) (room at limit : ℕ) (marked : Bool) (f : limit ≤ length s) (code number start bound : ℕ) where
   abbrev header : Bool → Header
-  header m = record { octet = octet; number = number; start = start; bound = bound; marked = m }
+  header m = record { code = code; number = number; start = start; bound = bound; marked = m }
 
   -- a primitive item, and then what follows it
   leaf-coded : (m : Bool) → bound ≤ limit → ReadFrom s at limit room (header m)
-      → constructed octet ≡ false → (after : Tree) (e : End) → Coded s room bound limit marked after e
-      → Coded s room at limit marked (leaf (typeField octet) (slice start (pastOf m bound) s) after) e
+      → constructed code ≡ false → (after : Tree) (e : End) → Coded s room bound limit marked after e
+      → Coded s room at limit marked (leaf (typeField code) (slice start (pastOf m bound) s) after) e
   leaf-coded m b r q after (stops n place) c = tt
   leaf-coded true b r q after (ends next) c = absurd (false≢true (sym q ∙ r .sized .1))
   leaf-coded false b r q after (ends next) (rest, cr, hr, p) =
@@ -64,8 +64,8 @@ module _ (s : List ℕ) (room at limit : ℕ) (marked : Bool) (f : limit ≤ len
       let (hv, lv) = part s start bound n w (omega arith) in
       let e : n ≡ length value = sym lv in
       let k : bound ≡ start + length value = omega arith in
-      let type = typeField octet in
-      let fits : misfits (codeOf type) (length value) ≡ false = rw (code-field octet) (subst (λ (k : ℕ). misfits octet k ≡ false) e m) in (
+      let type = typeField code in
+      let fits : misfits (codeOf type) (length value) ≡ false = rw (code-field code) (subst (λ (k : ℕ). misfits code k ≡ false) e m) in (
         type ++ (r .len ++ (value ++ rest)),
         leaf-codes room type (r .len) value rest after (r .deep) (subst (TypeField type) q (r .type)) fits (subst (λ (k : ℕ). Length k (r .len)) e l) cr,
         item-here s at type (r .len) value rest start bound (r .past) k (r .here) hv hr,
@@ -74,14 +74,14 @@ module _ (s : List ℕ) (room at limit : ℕ) (marked : Bool) (f : limit ≤ len
 
   -- a constructed item whose run is coded, and then what follows it
   branch-coded : (m : Bool) → ReadFrom s at limit room (header m)
-      → constructed octet ≡ true → (next : ℕ) (inside : Tree) → Coded s (room - 1) start bound m inside (ends next)
-      → (after : Tree) (e : End) → Coded s room next limit marked after e → Coded s room at limit marked (branch (typeField octet) inside after) e
+      → constructed code ≡ true → (next : ℕ) (inside : Tree) → Coded s (room - 1) start bound m inside (ends next)
+      → (after : Tree) (e : End) → Coded s room next limit marked after e → Coded s room at limit marked (branch (typeField code) inside after) e
   branch-coded m r q next inside i after (stops n place) c = tt
   branch-coded false r q next inside (value, cv, hv, (x, y)) after (ends to) (rest, cr, hr, p) =
       let (n, w, l, m) = r .sized in
       let e : n ≡ length value = omega arith in
       let k : next ≡ start + length value = omega arith in
-      let type = typeField octet in (
+      let type = typeField code in (
         type ++ (r .len ++ (value ++ rest)),
         definite-codes room type (r .len) value rest inside after (r .deep) (subst (TypeField type) q (r .type))
             (subst (λ (k : ℕ). Length k (r .len)) e l) cv cr,
@@ -90,7 +90,7 @@ module _ (s : List ℕ) (room at limit : ℕ) (marked : Bool) (f : limit ≤ len
       )
   branch-coded true r q next inside (value, cv, hv, (x, mark)) after (ends to) (rest, cr, hr, p) =
       let w = r .sized .0 in
-      let type = typeField octet in
+      let type = typeField code in
       let open-length : List ℕ = 0x80 ∷ [] in
       let here : Here s at (type ++ open-length) = subst (λ (l : List ℕ). Here s at (type ++ l)) w (r .here) in
       let past : start ≡ at + length (type ++ open-length) = r .past ∙ ap (λ (l : List ℕ). at + length (type ++ l)) w in
@@ -125,10 +125,10 @@ sound {s} (closes {room} {at} {limit} {marked} l h) f =
 sound (refuses l h) f = tt
 sound {s} (primitive {room} {at} {limit} {marked} {h} {after} {e} l p q r) f =
     let o = header-ok s at limit room marked h p in
-    rw q (leaf-coded s room at limit marked f (h .octet) (h .number) (h .start) (h .bound) (h .marked) (o .within) (read-from s at limit room marked l f h p) q
+    rw q (leaf-coded s room at limit marked f (h .code) (h .number) (h .start) (h .bound) (h .marked) (o .within) (read-from s at limit room marked l f h p) q
     (plain s after) e (sound r f))
 sound {s} (passes {room} {at} {limit} {marked} {h} {inside} {after} {next} {e} l p q v r) f =
     let o = header-ok s at limit room marked h p in
-    rw q (branch-coded s room at limit marked f (h .octet) (h .number) (h .start) (h .bound) (h .marked) (read-from s at limit room marked l f h p) q next
+    rw q (branch-coded s room at limit marked f (h .code) (h .number) (h .start) (h .bound) (h .marked) (read-from s at limit room marked l f h p) q next
     (plain s inside) (sound v (omega arith)) (plain s after) e (sound r f))
 sound (breaks l p q v) f = tt

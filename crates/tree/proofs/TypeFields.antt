@@ -7,7 +7,7 @@ use native.Mathlib.Omega.{arith}
 use lib.Dec.{eqb}
 use lib.ListN.{length}
 use borrow.Author.Tests.{eqb-true, eqb-false, eq-eqb, ne-eqb, lt-ltb, le-ltb}
-use Rattle.headers.specs.Head.{number, constructed, codeOf, numberOf}
+use Rattle.headers.specs.Head.{numberBits, constructed, codeOf, typeNumber}
 use Rattle.headers.proofs.Fields.{above-thirty}
 use Rattle.tree.specs.Tree.{TypeField, oneOctet, twoOctets, threeOctets}
 use Rattle.tree.specs.TypeFields.{classOf, sevensFrom, Spells, in-one, in-more, TypeFields}
@@ -36,61 +36,61 @@ parts x =
     halves : (k : ℕ) → k ≡ k / 2 * 2 + k % 2
     halves k = omega arith
 
-same-octet : (x y : ℕ) (form : Bool) → constructed x ≡ form → constructed y ≡ form → x / 64 ≡ y / 64 → number x ≡ number y → x ≡ y
+same-octet : (x y : ℕ) (form : Bool) → constructed x ≡ form → constructed y ≡ form → x / 64 ≡ y / 64 → numberBits x ≡ numberBits y → x ≡ y
 same-octet x y form p q c n =
     let f = same-form x y form p q in
     let e : x / 64 * 64 + x / 32 % 2 * 32 + x % 32 ≡ y / 64 * 64 + y / 32 % 2 * 32 + y % 32 = rw (c, f, n) in
     parts x ∙ e ∙ sym (parts y)
 
 -- the number, of one octet, of two and of three
-one-is : (octet : ℕ) → (number octet ≡ 31 → ⊥) → numberOf (codeOf (octet ∷ [])) ≡ number octet
+one-is : (octet : ℕ) → (numberBits octet ≡ 31 → ⊥) → typeNumber (codeOf (octet ∷ [])) ≡ numberBits octet
 one-is octet low =
     let code = codeOf (octet ∷ []) in
-    let e : number code ≡ number octet = omega arith in
-    let n : number code ≡ 31 → ⊥ = λ k. low (sym e ∙ k) in
-    rw (ne-eqb (number code) 31 n) e
+    let e : numberBits code ≡ numberBits octet = omega arith in
+    let n : numberBits code ≡ 31 → ⊥ = λ k. low (sym e ∙ k) in
+    rw (ne-eqb (numberBits code) 31 n) e
 
-two-is : (first second : ℕ) → first < 256 → number first ≡ 31 → second < 0x80 → numberOf (codeOf (first ∷ second ∷ [])) ≡ second
+two-is : (first second : ℕ) → first < 256 → numberBits first ≡ 31 → second < 0x80 → typeNumber (codeOf (first ∷ second ∷ [])) ≡ second
 two-is first second f n b =
     let code = codeOf (first ∷ second ∷ []) in
-    let bits : number code ≡ 31 = omega arith in
+    let bits : numberBits code ≡ 31 = omega arith in
     let rest : code / 256 ≡ second = omega arith in
-    rw (eq-eqb (number code) 31 bits, rest, lt-ltb second 0x80 b)
+    rw (eq-eqb (numberBits code) 31 bits, rest, lt-ltb second 0x80 b)
 
-three-is : (first second third : ℕ) → first < 256 → number first ≡ 31 → 0x80 < second → second < 0x100
-    → numberOf (codeOf (first ∷ second ∷ third ∷ [])) ≡ second % 128 * 128 + third
+three-is : (first second third : ℕ) → first < 256 → numberBits first ≡ 31 → 0x80 < second → second < 0x100
+    → typeNumber (codeOf (first ∷ second ∷ third ∷ [])) ≡ second % 128 * 128 + third
 three-is first second third f n a b =
     let code = codeOf (first ∷ second ∷ third ∷ []) in
-    let bits : number code ≡ 31 = omega arith in
+    let bits : numberBits code ≡ 31 = omega arith in
     let rest : code / 256 ≡ second + 256 * third = omega arith in
     let more : 0x80 ≤ second + 256 * third = omega arith in
     let low : (second + 256 * third) % 128 ≡ second % 128 = omega arith in
     let high : (second + 256 * third) / 256 ≡ third = omega arith in
-    rw (eq-eqb (number code) 31 bits, rest, le-ltb (second + 256 * third) 0x80 more, low, high)
+    rw (eq-eqb (numberBits code) 31 bits, rest, le-ltb (second + 256 * third) 0x80 more, low, high)
 
 -- how the number of a type field stands to 31 and 128, by its octets
-bits-low : (octet : ℕ) → (number octet ≡ 31 → ⊥) → number octet < 31
-bits-low octet n = let l : number octet ≤ 31 = omega arith in ne-below (number octet) l n
+bits-low : (octet : ℕ) → (numberBits octet ≡ 31 → ⊥) → numberBits octet < 31
+bits-low octet n = let l : numberBits octet ≤ 31 = omega arith in ne-below (numberBits octet) l n
   where
     ne-below : (k : ℕ) → k ≤ 31 → (k ≡ 31 → ⊥) → k < 31
     ne-below k l n = omega arith
 
 same : (type other : List ℕ) (form : Bool) → TypeField type form → TypeField other form → classOf type ≡ classOf other
-    → numberOf (codeOf type) ≡ numberOf (codeOf other) → type ≡ other
+    → typeNumber (codeOf type) ≡ typeNumber (codeOf other) → type ≡ other
 same _ _ form (oneOctet {octet = x} l t p) (oneOctet {octet = y} m u q) c e =
-    let n : number x ≡ number y = sym (one-is x l) ∙ e ∙ one-is y m in
+    let n : numberBits x ≡ numberBits y = sym (one-is x l) ∙ e ∙ one-is y m in
     ap (λ (o : ℕ). o ∷ []) (same-octet x y form p q c n)
 same _ _ form (oneOctet {octet = x} l t p) (twoOctets {first} {second} k q a b) c e =
     let (_, f, n) = above-thirty first k in
-    let v : number x ≡ second = sym (one-is x l) ∙ e ∙ two-is first second f n b in
+    let v : numberBits x ≡ second = sym (one-is x l) ∙ e ∙ two-is first second f n b in
     absurd (omega (arith, bits-low x l))
 same _ _ form (oneOctet {octet = x} l t p) (threeOctets {first} {second} {third} k q a b d) c e =
     let (_, f, n) = above-thirty first k in
-    let v : number x ≡ second % 128 * 128 + third = sym (one-is x l) ∙ e ∙ three-is first second third f n a b in
+    let v : numberBits x ≡ second % 128 * 128 + third = sym (one-is x l) ∙ e ∙ three-is first second third f n a b in
     absurd (omega (arith, bits-low x l))
 same _ _ form (twoOctets {first} {second} k q a b) (oneOctet {octet = x} l t p) c e =
     let (_, f, n) = above-thirty first k in
-    let v : number x ≡ second = sym (one-is x l) ∙ sym e ∙ two-is first second f n b in
+    let v : numberBits x ≡ second = sym (one-is x l) ∙ sym e ∙ two-is first second f n b in
     absurd (omega (arith, bits-low x l))
 same _ _ form (twoOctets {first} {second} k q a b) (twoOctets {first = other} {second = next} m r u v) c e =
     let (_, f, n) = above-thirty first k in
@@ -105,7 +105,7 @@ same _ _ form (twoOctets {first} {second} k q a b) (threeOctets {first = other} 
     absurd (omega arith)
 same _ _ form (threeOctets {first} {second} {third} k q a b d) (oneOctet {octet = x} l t p) c e =
     let (_, f, n) = above-thirty first k in
-    let v : number x ≡ second % 128 * 128 + third = sym (one-is x l) ∙ sym e ∙ three-is first second third f n a b in
+    let v : numberBits x ≡ second % 128 * 128 + third = sym (one-is x l) ∙ sym e ∙ three-is first second third f n a b in
     absurd (omega (arith, bits-low x l))
 same _ _ form (threeOctets {first} {second} {third} k q a b d) (twoOctets {first = other} {second = next} m r u v) c e =
     let (_, f, n) = above-thirty first k in
@@ -121,11 +121,11 @@ same _ _ form (threeOctets {first} {second} {third} k q a b d) (threeOctets {fir
     let thirds : third ≡ last = omega arith in
     rw (firsts, seconds, thirds)
 
-spells : (type : List ℕ) (form : Bool) → TypeField type form → Spells type (numberOf (codeOf type))
+spells : (type : List ℕ) (form : Bool) → TypeField type form → Spells type (typeNumber (codeOf type))
 spells _ form (oneOctet {octet} l t p) = subst (Spells (octet ∷ [])) (sym (one-is octet l)) (in-one l)
 spells _ form (twoOctets {first} {second} k q a b) =
     let (_, f, n) = above-thirty first k in
-    let e : sevensFrom 0 (second ∷ []) ≡ numberOf (codeOf (first ∷ second ∷ [])) = (let z : 0 * 128 + second % 128 ≡ second = omega arith in z) ∙ sym (two-is first second f n b) in
+    let e : sevensFrom 0 (second ∷ []) ≡ typeNumber (codeOf (first ∷ second ∷ [])) = (let z : 0 * 128 + second % 128 ≡ second = omega arith in z) ∙ sym (two-is first second f n b) in
     subst (Spells (first ∷ second ∷ [])) e (in-more n)
 spells _ form (threeOctets {first} {second} {third} k q a b d) =
     let (_, f, n) = above-thirty first k in
@@ -149,7 +149,7 @@ some-octet : {other : List ℕ} {n : ℕ} → Spells other n → 1 ≤ length ot
 some-octet (in-one low) = omega arith
 some-octet (in-more n) = omega arith
 
-fewest : (type : List ℕ) (form : Bool) → TypeField type form → (other : List ℕ) → Spells other (numberOf (codeOf type)) → length type ≤ length other
+fewest : (type : List ℕ) (form : Bool) → TypeField type form → (other : List ℕ) → Spells other (typeNumber (codeOf type)) → length type ≤ length other
 fewest _ form (oneOctet {octet} l t p) other w = some-octet w
 fewest _ form (twoOctets {first} {second} k q a b) other w =
     let (_, f, n) = above-thirty first k in

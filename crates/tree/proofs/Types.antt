@@ -8,7 +8,7 @@ use native.Mathlib.Omega.{arith}
 use lib.Dec.{eqb}
 use lib.ListN.{length}
 use borrow.Author.Tests.{eq-eqb, ne-eqb, lt-ltb, le-ltb}
-use Rattle.headers.specs.Head.{number, constructed, codeOf, typeField, numberOf}
+use Rattle.headers.specs.Head.{numberBits, constructed, codeOf, typeField, typeNumber}
 use Rattle.headers.proofs.Fields.{above-thirty, field-one, field-two, field-three}
 use Rattle.tree.specs.Tree.{TypeField, oneOctet, twoOctets, threeOctets}
 
@@ -43,21 +43,21 @@ no-octet (twoOctets k q a b) l octet h e = omega arith
 no-octet (threeOctets k q a b c) l octet h e = omega arith
 
 -- "the number, up to 16,383"
-pub number-most : {type : List ℕ} {form : Bool} → TypeField type form → numberOf (codeOf type) ≤ 16383
+pub number-most : {type : List ℕ} {form : Bool} → TypeField type form → typeNumber (codeOf type) ≤ 16383
 number-most (oneOctet {octet} low tabled q) =
     let code = codeOf (octet ∷ []) in
-    let n : number code ≡ 31 → ⊥ = λ e. low (omega arith) in
-    rw (ne-eqb (number code) 31 n) (omega arith)
+    let n : numberBits code ≡ 31 → ⊥ = λ e. low (omega arith) in
+    rw (ne-eqb (numberBits code) 31 n) (omega arith)
 number-most (twoOctets {first} {second} k q a b) =
     let code = codeOf (first ∷ second ∷ []) in
     let (_, f, n) = above-thirty first k in
-    let bits : number code ≡ 31 = omega arith in
+    let bits : numberBits code ≡ 31 = omega arith in
     let rest : code / 256 ≡ second = omega arith in
-    rw (eq-eqb (number code) 31 bits, rest, lt-ltb second 0x80 b) (omega arith)
+    rw (eq-eqb (numberBits code) 31 bits, rest, lt-ltb second 0x80 b) (omega arith)
 number-most (threeOctets {first} {second} {third} k q a b c) =
     let code = codeOf (first ∷ second ∷ third ∷ []) in
     let (_, f, n) = above-thirty first k in
-    let bits : number code ≡ 31 = omega arith in
+    let bits : numberBits code ≡ 31 = omega arith in
     let rest : code / 256 ≡ second + 256 * third = omega arith in
     let long : 0x80 ≤ second + 256 * third = omega arith in
-    rw (eq-eqb (number code) 31 bits, rest, le-ltb (second + 256 * third) 0x80 long) (omega arith)
+    rw (eq-eqb (numberBits code) 31 bits, rest, le-ltb (second + 256 * third) 0x80 long) (omega arith)

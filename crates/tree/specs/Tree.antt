@@ -9,8 +9,8 @@ use mathlib.Core.List.{List, [], _∷_, _++_}
 use lib.ListN.{length}
 use lib.Seq.{slice}
 use mathlib.Core.Path.{_≡_}
-use Rattle.headers.specs.Head.{constructed, typeField, number, formAllowed, isIn, aboveThirty, bigEndian, misfits, codeOf}
-use Rattle.octets.specs.Walk.{Items, none, item, run, deepest}
+use Rattle.headers.specs.Head.{constructed, typeField, numberBits, formAllowed, isIn, aboveThirty, bigEndian, misfits, codeOf}
+use Rattle.octets.specs.Walk.{Items, noItems, item, run, deepest}
 
 -- A run of items: nothing; a primitive item with its value octets, and the items after it; or a constructed item with the run inside
 -- it, and the items after it. The type field has the octets of class, form and number.
@@ -26,9 +26,9 @@ formed false type value inside after = leaf type value after
 
 -- what items with places stand for
 abbrev pub plain : List ℕ → Items → Tree
-plain s none = empty
-plain s (item at octet start past inside after) =
-    formed (constructed octet) (typeField octet) (slice start past s) (plain s inside) (plain s after)
+plain s noItems = empty
+plain s (item at code start past inside after) =
+    formed (constructed code) (typeField code) (slice start past s) (plain s inside) (plain s after)
 
 -- the tree of a stream
 abbrev pub treeOf : List ℕ → Tree
@@ -37,7 +37,7 @@ treeOf s = plain s (run deepest s 0 (length s) false .items)
 -- A type field and its form, which is true if it is constructed.
 pub data TypeField : List ℕ → (form : Bool) → Type 0 where
   -- one octet: its number bits are not 11111, and its form is in the table
-  oneOctet : {octet : ℕ} {form : Bool} → (number octet ≡ 31 → ⊥) → formAllowed octet ≡ true → constructed octet ≡ form
+  oneOctet : {octet : ℕ} {form : Bool} → (numberBits octet ≡ 31 → ⊥) → formAllowed octet ≡ true → constructed octet ≡ form
       → TypeField (octet ∷ []) form
   -- numbers 31 to 127, of no universal class: number bits 11111, and one octet more
   twoOctets : {first second : ℕ} {form : Bool} → isIn first aboveThirty ≡ true → constructed first ≡ form → 31 ≤ second → second < 0x80

@@ -6,7 +6,7 @@ use mathlib.Core.Path.{_≡_}
 use mathlib.Core.Bool.{Bool}
 use mathlib.Core.List.{List, [], _∷_}
 use lib.ListN.{length}
-use Rattle.headers.specs.Head.{number, codeOf, numberOf}
+use Rattle.headers.specs.Head.{numberBits, codeOf, typeNumber}
 use Rattle.tree.specs.Tree.{TypeField}
 
 -- "class in bits 8 and 7" of the first octet
@@ -21,13 +21,13 @@ sevensFrom n (x ∷ xs) = sevensFrom (n * 128 + x % 128) xs
 
 -- octets that spell a number as X.209 does, with the fewest or not: one octet, or number bits 11111 and one octet or more after it
 pub data Spells : List ℕ → (number : ℕ) → Type 0 where
-  in-one : {octet : ℕ} → (number octet ≡ 31 → ⊥) → Spells (octet ∷ []) (number octet)
-  in-more : {first second : ℕ} {octets : List ℕ} → number first ≡ 31 → Spells (first ∷ second ∷ octets) (sevensFrom 0 (second ∷ octets))
+  in-one : {octet : ℕ} → (numberBits octet ≡ 31 → ⊥) → Spells (octet ∷ []) (numberBits octet)
+  in-more : {first second : ℕ} {octets : List ℕ} → numberBits first ≡ 31 → Spells (first ∷ second ∷ octets) (sevensFrom 0 (second ∷ octets))
 
 pub record TypeFields : Type 0 where
   -- "class, form and number"
   pub same : (type other : List ℕ) (form : Bool) → TypeField type form → TypeField other form → classOf type ≡ classOf other
-      → numberOf (codeOf type) ≡ numberOf (codeOf other) → type ≡ other
+      → typeNumber (codeOf type) ≡ typeNumber (codeOf other) → type ≡ other
   -- it spells its number, and "X.209 wants the fewest octets"
-  pub spells : (type : List ℕ) (form : Bool) → TypeField type form → Spells type (numberOf (codeOf type))
-  pub fewest : (type : List ℕ) (form : Bool) → TypeField type form → (other : List ℕ) → Spells other (numberOf (codeOf type)) → length type ≤ length other
+  pub spells : (type : List ℕ) (form : Bool) → TypeField type form → Spells type (typeNumber (codeOf type))
+  pub fewest : (type : List ℕ) (form : Bool) → TypeField type form → (other : List ℕ) → Spells other (typeNumber (codeOf type)) → length type ≤ length other

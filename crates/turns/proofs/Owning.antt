@@ -20,7 +20,7 @@ use Rattle.order.specs.Represents.{_∈_}
 use Rattle.order.specs.ClassA.{representsSome}
 use Rattle.owners.specs.declared.Owner.{Owner}
 use Rattle.owners.specs.declared.Owner.the-variants.{Nobody, Of}
-use Rattle.owners.specs.Owner.{made, OwnerIs}
+use Rattle.owners.specs.Owner.{matchOf, OwnerIs}
 use Rattle.owners.proofs.Telling.{kind-told}
 use Rattle.turns.specs.Turns.{RowBelow, ownOf, OwnIs}
 use Rattle.turns.proofs.Records.{row-below, other-row, some-of-record, some-told-record, one-record}
@@ -41,17 +41,17 @@ module _ {s rows : List ℕ} {n : ℕ} {es : List Element} (ready : RowsTell s r
   representsKind kind = representsSome (kind ∷ []) (take u es) (elementAt es u)
 
   -- no element before it that it is associated with
-  none-before : ((row p : ℕ) → made row p u ∈ matches side es → row < u → ⊥) → (kind : ℕ) → isIn kind (kindsOf side) ≡ true → representsKind kind ≡ eqb 0 kind
+  none-before : ((row p : ℕ) → matchOf row p u ∈ matches side es → row < u → ⊥) → (kind : ℕ) → isIn kind (kindsOf side) ≡ true → representsKind kind ≡ eqb 0 kind
   none-before none kind k =
       cases (representsKind kind)
       (λ t. let (row, p, l, m, e) = some-told-record es u inside side kind k t in absurd (none row p m l))
       (λ t. t ∙ sym (no-kind-is side kind k))
 
-  module _ (row p : ℕ) (m : made row p u ∈ matches side es) where
+  module _ (row p : ℕ) (m : matchOf row p u ∈ matches side es) where
     row-told : kindAt rows row ≡ elementAt es row .kind
     row-told = kind-told ready row (omega (arith, row-below es side row p u m, ready .counted))
 
-    same-row : (r q : ℕ) → made r q u ∈ matches side es → r ≡ row
+    same-row : (r q : ℕ) → matchOf r q u ∈ matches side es → r ≡ row
     same-row r q i = one-record es (ready .apart) side r q row p u i m
 
     kinds-before : row < u → (kind : ℕ) → isIn kind (kindsOf side) ≡ true → representsKind kind ≡ eqb (kindAt rows row) kind

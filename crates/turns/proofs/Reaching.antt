@@ -7,7 +7,7 @@ use native.Mathlib.Numerals.{add-one}
 use lib.Dec.{eqb}
 use lib.ListN.{length}
 use borrow.Table.Steps.{cases}
-use Rattle.index.specs.Rows.{rowWidth}
+use Rattle.index.specs.Rows.{scratchWidth}
 use Rattle.index.specs.Columns.{kindAt}
 use Rattle.elements.specs.Judge.{Element}
 use Rattle.reading.specs.Ready.{RowsTell, elementAt}
@@ -20,7 +20,7 @@ use Rattle.turns.proofs.Slots.{before-more}
 pub few-rows : {s rows : List ℕ} {n : ℕ} → Told s rows n → n ≤ 4096
 few-rows told = omega (arith, told .ready .apart .few, told .ready .counted)
 
-pub row-inside : {s rows : List ℕ} {n : ℕ} → Told s rows n → (j : ℕ) → j < n → j * rowWidth + rowWidth ≤ length rows
+pub row-inside : {s rows : List ℕ} {n : ℕ} → Told s rows n → (j : ℕ) → j < n → j * scratchWidth + scratchWidth ≤ length rows
 row-inside told j l = omega (arith, told .in-table)
 
 -- what was counted up to a row

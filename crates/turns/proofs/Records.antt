@@ -27,7 +27,7 @@ use Rattle.order.specs.Represents.{_∈_, sideOf, isAssociated}
 use Rattle.order.specs.ClassA.{representsSome}
 use Rattle.order.proofs.FrontA.{of-kind, kind-of}
 use Rattle.order.proofs.AsMatches.{Recorded, early-match, some-match}
-use Rattle.owners.specs.Owner.{made}
+use Rattle.owners.specs.Owner.{matchOf}
 
 -- a kind of a side tells the side
 pub side-told : (side : Side) (e : Element) → isIn (e .kind) (kindsOf side) ≡ true → sideOf e ≡ side
@@ -55,9 +55,9 @@ module _ (es : List Element) where
   there-below (y ∷ xs) (suc i) d p = let b = there-below xs i d p in omega arith
 
   -- what a record says of its element and its unit
-  module _ (side : Side) (row p u : ℕ) (m : made row p u ∈ matches side es) where
-    abbrev is : IsMatch side es (made row p u)
-    is = matches-are side es (made row p u) m
+  module _ (side : Side) (row p u : ℕ) (m : matchOf row p u ∈ matches side es) where
+    abbrev is : IsMatch side es (matchOf row p u)
+    is = matches-are side es (matchOf row p u) m
 
     pub row-below : row < length es
     row-below = there-below es row (is .element) (is .element-there)
@@ -103,7 +103,7 @@ module _ (es : List Element) where
     front-length = length-take-le k es (omega arith)
 
     -- a unit before the element represents one of its portions
-    pub early-of : (side : Side) (p u : ℕ) → u < k → made k p u ∈ matches side es → any (map (isAssociated here) front) ≡ true
+    pub early-of : (side : Side) (p u : ℕ) → u < k → matchOf k p u ∈ matches side es → any (map (isAssociated here) front) ≡ true
     early-of side p u l m =
         early-match front here rest .1 (u, omega (arith, front-length), subst (λ (xs : List Element). Recorded xs (length front) u here) whole recorded)
       where
@@ -112,18 +112,18 @@ module _ (es : List Element) where
             record {
               there = ap (getElem? es) front-length ∙ there k below;
               portion = p;
-              record-there = subst (λ (i : ℕ). made i p u ∈ matches (sideOf here) es) (sym front-length)
-                  (subst (λ (given : Side). made k p u ∈ matches given es) (sym (side-told side here (row-kind side k p u m))) m);
+              record-there = subst (λ (i : ℕ). matchOf i p u ∈ matches (sideOf here) es) (sym front-length)
+                  (subst (λ (given : Side). matchOf k p u ∈ matches given es) (sym (side-told side here (row-kind side k p u m))) m);
             }
 
-    pub early-told : any (map (isAssociated here) front) ≡ true → (side : Side) × (p : ℕ) × (u : ℕ) × (u < k) × (made k p u ∈ matches side es)
+    pub early-told : any (map (isAssociated here) front) ≡ true → (side : Side) × (p : ℕ) × (u : ℕ) × (u < k) × (matchOf k p u ∈ matches side es)
     early-told t =
         let (u, l, r) = early-match front here rest .0 t in
         let q = subst (λ (xs : List Element). Recorded xs (length front) u here) (sym whole) r in
-        (sideOf here, q .portion, u, omega (arith, front-length), subst (λ (i : ℕ). made i (q .portion) u ∈ matches (sideOf here) es) front-length (q .record-there))
+        (sideOf here, q .portion, u, omega (arith, front-length), subst (λ (i : ℕ). matchOf i (q .portion) u ∈ matches (sideOf here) es) front-length (q .record-there))
 
     -- the unit is associated with an element of a kind before it
-    pub some-of-record : (side : Side) (row p kind : ℕ) → row < k → made row p k ∈ matches side es → elementAt es row .kind ≡ kind
+    pub some-of-record : (side : Side) (row p kind : ℕ) → row < k → matchOf row p k ∈ matches side es → elementAt es row .kind ≡ kind
         → representsSome (kind ∷ []) front here ≡ true
     some-of-record side row p kind l m e =
         some-match front here rest (kind ∷ []) .1 (
@@ -139,12 +139,12 @@ module _ (es : List Element) where
             record {
               there = there row (row-below side row p k m);
               portion = p;
-              record-there = subst (λ (i : ℕ). made row p i ∈ matches (sideOf (elementAt es row)) es) (sym front-length)
-                  (subst (λ (given : Side). made row p k ∈ matches given es) (sym (side-told side (elementAt es row) (row-kind side row p k m))) m);
+              record-there = subst (λ (i : ℕ). matchOf row p i ∈ matches (sideOf (elementAt es row)) es) (sym front-length)
+                  (subst (λ (given : Side). matchOf row p k ∈ matches given es) (sym (side-told side (elementAt es row) (row-kind side row p k m))) m);
             }
 
     pub some-told-record : (side : Side) (kind : ℕ) → isIn kind (kindsOf side) ≡ true → representsSome (kind ∷ []) front here ≡ true
-        → (row : ℕ) × (p : ℕ) × (row < k) × (made row p k ∈ matches side es) × (elementAt es row .kind ≡ kind)
+        → (row : ℕ) × (p : ℕ) × (row < k) × (matchOf row p k ∈ matches side es) × (elementAt es row .kind ≡ kind)
     some-told-record side kind s t =
         let (i, e, l, a, r) = some-match front here rest (kind ∷ []) .0 t in
         let q = subst (λ (xs : List Element). Recorded xs i (length front) e) (sym whole) r in
@@ -154,11 +154,11 @@ module _ (es : List Element) where
           i,
           q .portion,
           omega (arith, front-length),
-          subst (λ (given : Side). made i (q .portion) k ∈ matches given es) g (subst (λ (n : ℕ). made i (q .portion) n ∈ matches (sideOf e) es) front-length (q .record-there)),
+          subst (λ (given : Side). matchOf i (q .portion) k ∈ matches given es) g (subst (λ (n : ℕ). matchOf i (q .portion) n ∈ matches (sideOf e) es) front-length (q .record-there)),
           ap (λ (y : Element). y .kind) d ∙ f,
         )
 
   -- a unit has one record of a side at most
-  pub one-record : Apart es → (side : Side) (row p row2 p2 u : ℕ) → made row p u ∈ matches side es → made row2 p2 u ∈ matches side es → row ≡ row2
+  pub one-record : Apart es → (side : Side) (row p row2 p2 u : ℕ) → matchOf row p u ∈ matches side es → matchOf row2 p2 u ∈ matches side es → row ≡ row2
   one-record apart side row p row2 p2 u m n =
-      ap (λ (r : Match). r .element) (unit-one-match es apart side (made row p u) (made row2 p2 u) (is side row p u m) (is side row2 p2 u n) refl)
+      ap (λ (r : Match). r .element) (unit-one-match es apart side (matchOf row p u) (matchOf row2 p2 u) (is side row p u m) (is side row2 p2 u n) refl)

@@ -27,7 +27,7 @@ use Rattle.order.proofs.Place.{aside-left}
 use Rattle.order.proofs.SightsA.{slot-none}
 use Rattle.order.proofs.AsMatches.{represents-match}
 use Rattle.order.proofs.CountsA.{slot-is}
-use Rattle.owners.specs.Owner.{made}
+use Rattle.owners.specs.Owner.{matchOf}
 use Rattle.turns.specs.Turns.{before}
 use Rattle.turns.proofs.Records.{rest, whole, row-kind, side-told, record-portion}
 
@@ -94,7 +94,7 @@ module _ (es : List Element) (aside : LimitsAside es) (k : ℕ) (below : k < len
       let q = everything-in (take k es) l (r .0) in
       true≢false (sym (some-of (kind ∷ []) (take k es) (elementAt es k) (l .by) (q .0) (kind-of (l .by) kind (eqb-true (l .by .kind) kind (r .1))) (associated-of (l .by) (elementAt es k) (l .portion) (q .1) a)) ∙ t))
 
-  module _ (side : Side) (row p : ℕ) (earlier : row < k) (m : made row p k ∈ matches side es) (of : elementAt es row .kind ≡ kind) where
+  module _ (side : Side) (row p : ℕ) (earlier : row < k) (m : matchOf row p k ∈ matches side es) (of : elementAt es row .kind ≡ kind) where
     abbrev e : Element
     e = elementAt es row
 
@@ -107,7 +107,7 @@ module _ (es : List Element) (aside : LimitsAside es) (k : ℕ) (below : k < len
     represented : represents e portion (elementAt es k) ≡ true
     represented =
         represents-match es row p k e portion (elementAt es k) (at-getD es row noElement (omega arith)) (at-getD (e .portions) p [] portion-below) (at-getD es k noElement below) .1
-        (subst (λ (given : Side). made row p k ∈ matches given es) (sym (side-told side e (row-kind es side row p k m))) m)
+        (subst (λ (given : Side). matchOf row p k ∈ matches given es) (sym (side-told side e (row-kind es side row p k m))) m)
 
     -- the elements before the unit, parted at the one that it is associated with
     parts : take k es ≡ take row es ++ e ∷ drop (suc row) (take k es)

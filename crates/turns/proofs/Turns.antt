@@ -19,7 +19,7 @@ use Rattle.order.specs.ClassA.{listedOf}
 use Rattle.order.specs.PassA.{slotIn}
 use Rattle.order.proofs.Tests.{both}
 use Rattle.ranks.specs.Step.{one}
-use Rattle.owners.specs.Owner.{made}
+use Rattle.owners.specs.Owner.{matchOf}
 use Rattle.turns.specs.declared.Own.{Own}
 use Rattle.turns.specs.Turns.{OwnIs, kindFor, ownFor, rowFor, turnFor, counts, before}
 use Rattle.turns.proofs.Slots.{no-slot, slot-told, behind, is-next}
@@ -40,7 +40,7 @@ module _ (es : List Element) (aside : LimitsAside es) (n k : ℕ) (below : k < l
     is-kind : own .kind ≡ kind
     is-kind = eqb-true (own .kind) kind t
 
-    pub record-of : (own .row < k) × (made (own .row) (own .portion) k ∈ matches side es) × (elementAt es (own .row) .kind ≡ own .kind)
+    pub record-of : (own .row < k) × (matchOf (own .row) (own .portion) k ∈ matches side es) × (elementAt es (own .row) .kind ≡ own .kind)
     record-of = own-is .placed (ap (λ (i : ℕ). isIn i (kindsOf side)) is-kind ∙ on-side)
 
     slot-of : slot ≡ suc (before kind es (own .row) + own .portion)

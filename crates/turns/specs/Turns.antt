@@ -8,7 +8,7 @@ use mathlib.Core.List.{List, [], _∷_}
 use lib.Dec.{eqb, leb, ltb}
 use lib.ListN.{length, take}
 use Rattle.headers.specs.Head.{isIn}
-use Rattle.index.specs.Rows.{rowWidth}
+use Rattle.index.specs.Rows.{scratchWidth}
 use Rattle.index.specs.Columns.{kindAt}
 use Rattle.elements.specs.Judge.{Element}
 use Rattle.reading.specs.declared.Side.{Side}
@@ -19,7 +19,7 @@ use Rattle.order.specs.ClassA.{representsSome, listedOf}
 use Rattle.order.specs.PassA.{countIf}
 use Rattle.owners.specs.declared.Owner.{Owner}
 use Rattle.owners.specs.declared.Owner.the-variants.{Nobody, Of}
-use Rattle.owners.specs.Owner.{made, listedAt}
+use Rattle.owners.specs.Owner.{matchOf, listedAt}
 use Rattle.turns.specs.declared.Own.{Own}
 
 -- the row of an owner is one of the rows
@@ -39,10 +39,10 @@ pub record OwnIs (side : Side) (elements : List Element) (n u : ℕ) (own : Own)
   pub kinds : (kind : ℕ) → isIn kind (kindsOf side) ≡ true → representsSome (kind ∷ []) (take u elements) (elementAt elements u) ≡ eqb (own .kind) kind
   -- its record, if the element stands before it
   pub placed : isIn (own .kind) (kindsOf side) ≡ true
-      → (own .row < u) × (made (own .row) (own .portion) u ∈ matches side elements) × (elementAt elements (own .row) .kind ≡ own .kind)
+      → (own .row < u) × (matchOf (own .row) (own .portion) u ∈ matches side elements) × (elementAt elements (own .row) .kind ≡ own .kind)
   -- and if not, where it stands
-  pub no-later : (row portion : ℕ) → made row portion u ∈ matches side elements → (row < u) ⊎ (own .later ≤ row)
-  pub later-is : (own .later ≡ n) ⊎ ((portion : ℕ) × (u < own .later) × (made (own .later) portion u ∈ matches side elements))
+  pub no-later : (row portion : ℕ) → matchOf row portion u ∈ matches side elements → (row < u) ⊎ (own .later ≤ row)
+  pub later-is : (own .later ≡ n) ⊎ ((portion : ℕ) × (u < own .later) × (matchOf (own .later) portion u ∈ matches side elements))
 
 -- the same of whatever elements the rows tell
 pub record OwnAt (side : Side) (s rows : List ℕ) (n u : ℕ) (own : Own) : Type 0 where
@@ -76,7 +76,7 @@ countsIn s rows kind j = countIf (eqb (kindAt rows j) kind) (length (listedAt s 
 pub record Told (s rows : List ℕ) (n : ℕ) : Type 0 where
   pub elements : List Element
   pub ready : RowsTell s rows n elements
-  pub in-table : n * rowWidth ≤ length rows
+  pub in-table : n * scratchWidth ≤ length rows
 
 -- how many portions elements of a kind list before element j
 abbrev pub before : (kind : ℕ) → List Element → (j : ℕ) → ℕ

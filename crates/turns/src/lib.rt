@@ -5,7 +5,7 @@ use reading::Side;
 ghost use mathlib.Core.Path.{_≡_};
 ghost use Prim.Native.Nat.{_*_, _<_, _≤_};
 ghost use lib.ListN.{length};
-ghost use Rattle.index.specs.Rows.{rowWidth};
+ghost use Rattle.index.specs.Rows.{scratchWidth};
 ghost use Rattle.owners.specs.Owner.{Known};
 ghost use Rattle.turns.specs.Turns.{RowBelow, ownOf, OwnAt, kindFor, ownFor, rowFor, turnFor, counts, countsIn, Told, Reaches};
 
@@ -24,7 +24,7 @@ pub struct Own {
 
 // What an owner tells of row u.
 fn own_of(rows: &[u32], n: usize, u: usize, owner: Owner) -> Own
-    requires { ⌜ RowBelow n owner × (n * rowWidth ≤ length (now rows)) ⌝ }
+    requires { ⌜ RowBelow n owner × (n * scratchWidth ≤ length (now rows)) ⌝ }
     ensures { λ r. ⌜ r ≡ ownOf (now (rows .entry)) n u owner ⌝ }
 {
     match owner {

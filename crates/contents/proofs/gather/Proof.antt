@@ -21,10 +21,10 @@ abbrev μ-loop : tie.MeasureT-loop
 
 -- the item that is met
 meeting : (c : tie.After-part-of Inv-loop μ-loop) →
-    Begins (c .before .before .before .before .before .before .before .before .args .s .now) (c .before .before .before .before .before .loop .cur) (c .part-of .result) (c .before .before .octet .given .0 .1 .1 .1 .1 .0)
+    Begins (c .before .before .before .before .before .before .before .before .args .s .now) (c .before .before .before .before .before .loop .cur) (c .part-of .result) (c .before .before .code .given .0 .1 .1 .1 .1 .0)
 meeting c =
     rw (c .part-of .ensures)
-    (met (c .before .before .before .before .before .before .before .before .args .s .now) (c .before .before .before .before .before .loop .cur) (c .before .before .before .before .meet .ensures) (c .before .before .octet .given .1))
+    (met (c .before .before .before .before .before .before .before .before .args .s .now) (c .before .before .before .before .before .loop .cur) (c .before .before .before .before .meet .ensures) (c .before .before .code .given .1))
 
 -- an item has two octets at least, so no count can pass the stream's length
 fits : (c : tie.After-part-of Inv-loop μ-loop) (n : ℕ) →
@@ -58,8 +58,8 @@ returns c =
     (gathering-end (a .s .now) (a .sought) (a .r) (l .cur) _ _ _ _ (l .inv)
     (met (a .s .now) (l .cur) (c .before .before .before .meet .ensures) (c .before .enum-told .given .1)))
 
-enum-known-octet : tie.Need-enum-known-octet Inv-loop μ-loop
-enum-known-octet c = search needs
+enum-known-code : tie.Need-enum-known-code Inv-loop μ-loop
+enum-known-code c = search needs
 
 part-of-requires : tie.Need-part-of-requires Inv-loop μ-loop
 part-of-requires c κs = tt
@@ -83,7 +83,7 @@ counted-with-requires c κs =
 counted-with-requires-2 : tie.Need-counted-with-requires-2 Inv-loop μ-loop
 counted-with-requires-2 c κs =
     let l = c .before .before .before .before .before .before .before .before .before .loop in
-    let b = at-most-one (eqb (c .before .before .before .before .part-of .result .octet) (c .before .before .before .before .before .before .before .before .before .before .before .before .args .sought .never)) in
+    let b = at-most-one (eqb (c .before .before .before .before .part-of .result .code) (c .before .before .before .before .before .before .before .before .before .before .before .before .args .sought .never)) in
     omega (arith, c .counted-with .ensures, b, fits (c .before .before .before .before) (l .barred) (l .inv .bound))
 
 loop-less : tie.Need-loop-less Inv-loop μ-loop
@@ -109,7 +109,7 @@ gather-spec =
     enum-told
     gathered-from-requires
     returns
-    enum-known-octet
+    enum-known-code
     part-of-requires
     seen-with-requires
     seen-with-requires-2

@@ -19,12 +19,12 @@ abbrev μ-loop : tie.MeasureT-loop
 
 -- the item that is met
 abbrev part : tie.After-known-told Inv-loop μ-loop → Part
-part c = let g = c .before .octet .given .0 in record { octet = g .0; first = g .1 .0; past = g .1 .1 .0; inner = g .1 .1 .1 .0 }
+part c = let g = c .before .code .given .0 in record { code = g .0; first = g .1 .0; past = g .1 .1 .0; inner = g .1 .1 .1 .0 }
 
 meeting : (c : tie.After-known-told Inv-loop μ-loop) →
-    Begins (c .before .before .before .before .before .before .args .s .now) (c .before .before .before .before .loop .cur) (part c) (c .before .octet .given .0 .1 .1 .1 .1 .0)
+    Begins (c .before .before .before .before .before .before .args .s .now) (c .before .before .before .before .loop .cur) (part c) (c .before .code .given .0 .1 .1 .1 .1 .0)
 meeting c =
-    met (c .before .before .before .before .before .before .args .s .now) (c .before .before .before .before .loop .cur) (c .before .before .before .meet .ensures) (c .before .octet .given .1)
+    met (c .before .before .before .before .before .before .args .s .now) (c .before .before .before .before .loop .cur) (c .before .before .before .meet .ensures) (c .before .code .given .1)
 
 loop-holds : tie.Need-loop-holds Inv-loop μ-loop
 loop-holds c = let a = c .before .args in (c .before .pre, same-search (a .s .now) (a .sought) (a .r))
@@ -42,8 +42,8 @@ returns c =
     let none-left = met (a .s .now) (l .cur) (c .before .before .meet .ensures) (c .enum-told .given .1) in
     lacks-before (l .inv .1) (lacks-at-end (a .s .now) (a .sought) (l .cur) none-left)
 
-enum-known-octet : tie.Need-enum-known-octet Inv-loop μ-loop
-enum-known-octet c = search needs
+enum-known-code : tie.Need-enum-known-code Inv-loop μ-loop
+enum-known-code c = search needs
 
 returns-2 : tie.Need-returns-2 Inv-loop μ-loop
 returns-2 c =
@@ -80,7 +80,7 @@ find-spec =
     meet-requires
     enum-told
     returns
-    enum-known-octet
+    enum-known-code
     returns-2
     loop-less
     loop-again)

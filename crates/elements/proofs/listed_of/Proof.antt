@@ -4,7 +4,7 @@ use mathlib.Core.Bool.{false}
 use mathlib.Core.List.{List}
 use Prim.Native.Nat.{ℕ}
 use borrow.Author.Needs.{needs}
-use Rattle.octets.specs.Walk.{none}
+use Rattle.octets.specs.Walk.{noItems}
 use Rattle.tree.specs.Tree.{empty}
 use Rattle.runs.specs.declared.Run.{Run}
 use Rattle.runs.specs.Runs.{itemsOf, treeIn}
@@ -15,7 +15,7 @@ use Rattle.portions.specs.Lists.{ListsPortions}
 use Rattle.elements.proofs.listed_of.Statement.{statement}
 use Rattle.elements.proofs.listed_of.Tie as tie
 
-none-listed : (s : List ℕ) (r : Run) (numbers : List ℕ) → itemsOf s r ≡ none
+none-listed : (s : List ℕ) (r : Run) (numbers : List ℕ) → itemsOf s r ≡ noItems
     → ListsPortions s r (record { count = 0; others = false; misspelt = false }) numbers
 unfolding allPortions values bounded Inside
 none-listed s r numbers e =

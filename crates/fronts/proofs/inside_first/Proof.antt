@@ -20,8 +20,8 @@ meet-requires c κs =
 enum-told : tie.Need-enum-told
 enum-told c = search needs
 
-enum-known-octet : tie.Need-enum-known-octet
-enum-known-octet c = search needs
+enum-known-code : tie.Need-enum-known-code
+enum-known-code c = search needs
 
 returns : tie.Need-returns
 returns c =
@@ -36,7 +36,7 @@ returns-2 c =
     let a = c .before .before .before .before .before .args in
     let p = c .before .before .before .before .before .pre in
     let s = now (a .s) in
-    first-met s (a .next) (p .0) (p .1) (met s (definiteRun 0 (a .next) deepest) (c .before .before .before .meet .ensures) (c .before .octet .given .1))
+    first-met s (a .next) (p .0) (p .1) (met s (definiteRun 0 (a .next) deepest) (c .before .before .before .meet .ensures) (c .before .code .given .1))
 
 pub inside-first-spec : {M : Type 1} → statement M
-inside-first-spec = tie.close (tie.spec meet-requires enum-told enum-known-octet returns returns-2)
+inside-first-spec = tie.close (tie.spec meet-requires enum-told enum-known-code returns returns-2)

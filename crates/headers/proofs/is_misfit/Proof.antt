@@ -25,7 +25,7 @@ returns-2 c = simp (c .match .keys2)
 
 returns-3 : tie.Need-returns-3
 unfolding misfits
-returns-3 c = two-or-ten (c .before .args .octet) (c .before .args .len) (c .match .keys3)
+returns-3 c = two-or-ten (c .before .args .code) (c .before .args .len) (c .match .keys3)
 
 returns-4 : tie.Need-returns-4
 unfolding misfits

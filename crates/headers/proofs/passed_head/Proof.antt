@@ -6,7 +6,7 @@ use native.Mathlib.Omega.{arith}
 use denote.Ref.{now}
 use borrow.Author.Needs.{needs}
 use borrow.Author.Tests.{ne-eqb}
-use Rattle.headers.specs.Head.{number, octetAt, byFirst, headAt, Passed}
+use Rattle.headers.specs.Head.{numberBits, octetAt, byFirst, headAt, Passed}
 use Rattle.headers.proofs.Passed.{passed-mark, passed-decided, passed-short, passed-open}
 use Rattle.headers.proofs.passed_head.Statement.{statement}
 use Rattle.headers.proofs.passed_head.Tie as tie
@@ -66,7 +66,7 @@ returns-2 c =
     let p = c .before .before .before .before .before in
     let a = p .before .before .before .before .args in
     let (e, l, q) = decided p in
-    let one = ne-eqb (number (octetAt (s p) (a .at))) 31 (p .if2 .taken) in
+    let one = ne-eqb (numberBits (octetAt (s p) (a .at))) 31 (p .if2 .taken) in
     let f = passed-short (s p) (octetAt (s p) (a .at)) (a .at) (a .at + 1) (a .limit) _ (c .before .before .before .if3 .taken) q .0 in
     rw (c .before .before .wide .ensures, c .before .wide2 .ensures, c .wide3 .ensures) (sym (e ∙ f ∙ rw one))
 
@@ -81,7 +81,7 @@ returns-3 c =
     let p = c .before .before .before .before .before in
     let a = p .before .before .before .before .args in
     let (e, l, q) = decided p in
-    let one = ne-eqb (number (octetAt (s p) (a .at))) 31 (p .if2 .taken) in
+    let one = ne-eqb (numberBits (octetAt (s p) (a .at))) 31 (p .if2 .taken) in
     let f = passed-open (s p) (octetAt (s p) (a .at)) (a .at) (a .at + 1) (a .limit) _ (c .before .before .if4 .taken) q in
     rw (c .before .wide4 .ensures, c .wide5 .ensures) (sym (e ∙ f ∙ rw one))
 

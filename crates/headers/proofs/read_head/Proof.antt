@@ -26,12 +26,12 @@ returns-2 c = simp (ne-eqb _ _ (c .before .if1 .left), eq-eqb _ _ (c .if2 .taken
 field-at-requires : tie.Need-field-at-requires
 field-at-requires c κs = search needs
 
-enum-known-octet : tie.Need-enum-known-octet
-enum-known-octet c = search needs
+enum-known-code : tie.Need-enum-known-code
+enum-known-code c = search needs
 
 length-at-requires : tie.Need-length-at-requires
 length-at-requires c κs =
-    let told = sym (c .before .before .before .field-at .ensures) ∙ c .before .octet .given .1 in
+    let told = sym (c .before .before .before .field-at .ensures) ∙ c .before .code .given .1 in
     let a = c .before .before .before .before .before .before .before .before .args in
     let ends = subst (FieldEnds (a .at)) told (field-ends (now (a .s)) (octetAt (now (a .s)) (a .at)) (a .at) (a .limit)) in
     omega arith
@@ -42,7 +42,7 @@ enum-known-number c = search needs
 returns-3 : tie.Need-returns-3
 unfolding headAt itemAt
 returns-3 c =
-    let told = sym (c .before .before .before .before .field-at .ensures) ∙ c .before .before .octet .given .1 in
+    let told = sym (c .before .before .before .before .field-at .ensures) ∙ c .before .before .code .given .1 in
     simp (ne-eqb _ _ (c .before .before .before .before .before .before .if1 .left), ne-eqb _ _ (c .before .before .before .before .before .if2 .left), told, c .length-at .ensures)
 
 returns-4 : tie.Need-returns-4
@@ -60,7 +60,7 @@ read-head-spec =
     returns
     returns-2
     field-at-requires
-    enum-known-octet
+    enum-known-code
     length-at-requires
     enum-known-number
     returns-3

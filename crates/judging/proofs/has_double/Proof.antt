@@ -5,7 +5,7 @@ use Prim.Native.Nat.{ℕ}
 use Rattle.index.specs.Columns.{identifierColumn, logicalColumn}
 use Rattle.index.specs.Rows.{nameSpaceOf}
 use Rattle.portions.specs.Portions.{repeats}
-use Rattle.elements.specs.Rows.{bytesIn}
+use Rattle.elements.specs.ElementRows.{bytesIn}
 use Rattle.judging.specs.declared.Hashes.{Hashes}
 use Rattle.judging.specs.Judges.{Taken}
 use Rattle.judging.proofs.Clash.{identifier-twice, logical-twice, portions-twice}

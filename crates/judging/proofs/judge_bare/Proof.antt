@@ -9,8 +9,8 @@ use Rattle.judging.proofs.judge_bare.Statement.{statement}
 use Rattle.judging.proofs.judge_bare.Tie as tie
 
 -- rules 9 to 11, by the number of those that are done
-early-is : (c : tie.After-early) (k : ℕ) → k ≡ c .before .args .n → c .early .result ≡ earlyRefusal k (c .before .args .item .octet) (c .before .args .item .octet)
-early-is c k e = c .early .ensures ∙ ap (λ (i : ℕ). earlyRefusal i (c .before .args .item .octet) (c .before .args .item .octet)) (sym e)
+early-is : (c : tie.After-early) (k : ℕ) → k ≡ c .before .args .n → c .early .result ≡ earlyRefusal k (c .before .args .item .code) (c .before .args .item .code)
+early-is c k e = c .early .ensures ∙ ap (λ (i : ℕ). earlyRefusal i (c .before .args .item .code) (c .before .args .item .code)) (sym e)
 
 early-requires : tie.Need-early-requires
 early-requires c κs = search needs

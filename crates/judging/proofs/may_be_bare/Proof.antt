@@ -8,20 +8,20 @@ use Rattle.portions.specs.Portions.{allPortions, values, wellSpelt}
 use Rattle.elements.specs.declared.Edition.{Edition}
 use Rattle.elements.specs.declared.Edition.the-variants.{Of1988, Of1993}
 use Rattle.elements.specs.Shape.{shapeOf}
-use Rattle.elements.specs.Judge.{bodyOf, contentOf, elementOf, ordered, asTabled, namesFit, shapeRefusal}
+use Rattle.elements.specs.Judge.{bodyOf, contentOf, elementOf, itemsInOrder, asTabled, namesFit, shapeRefusal}
 use Rattle.judging.specs.Judges.{MayBeBare}
 use Rattle.judging.proofs.may_be_bare.Statement.{statement}
 use Rattle.judging.proofs.may_be_bare.Tie as tie
 
 -- what is so of three octets is so of one that is among them
-among : (edition : Edition) {a b c octet : ℕ} → (octet ≡ a) ⊎ ((octet ≡ b) ⊎ (octet ≡ c)) → MayBeBare edition a → MayBeBare edition b
-    → MayBeBare edition c → MayBeBare edition octet
+among : (edition : Edition) {a b c code : ℕ} → (code ≡ a) ⊎ ((code ≡ b) ⊎ (code ≡ c)) → MayBeBare edition a → MayBeBare edition b
+    → MayBeBare edition c → MayBeBare edition code
 among edition (inl e) one two three = subst (MayBeBare edition) (sym e) one
 among edition (inr (inl e)) one two three = subst (MayBeBare edition) (sym e) two
 among edition (inr (inr e)) one two three = subst (MayBeBare edition) (sym e) three
 
-in-each : {octet : ℕ} (edition : Edition) → (octet ≡ 0xA0) ⊎ ((octet ≡ 0xA2) ⊎ (octet ≡ 0xA6)) → MayBeBare edition octet
-unfolding shapeOf shapeRefusal asTabled ordered elementOf contentOf bodyOf namesFit amount firstValue firstRun inOrder allPortions values wellSpelt
+in-each : {code : ℕ} (edition : Edition) → (code ≡ 0xA0) ⊎ ((code ≡ 0xA2) ⊎ (code ≡ 0xA6)) → MayBeBare edition code
+unfolding shapeOf shapeRefusal asTabled itemsInOrder elementOf contentOf bodyOf namesFit amount firstValue firstRun inOrder allPortions values wellSpelt
 in-each Of1988 key =
     among Of1988 key (record { known = refl; fits = refl }) (record { known = refl; fits = refl }) (record { known = refl; fits = refl })
 in-each Of1993 key =

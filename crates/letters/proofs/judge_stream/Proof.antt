@@ -24,14 +24,14 @@ abbrev μ-loop : tie.MeasureT-loop
 
 -- an element is met
 meeting : (c : tie.After-known-told Inv-loop μ-loop) →
-    let g = c .before .octet .given .0 in
+    let g = c .before .code .given .0 in
     Meeting (c .before .before .before .before .before .before .before .before .before .before .before .before .before .args .s .now) (c .before .before .before .before .loop .cur) (g .0) (g .1 .0) (g .1 .1 .0) (g .1 .1 .1 .0) (g .1 .1 .1 .1 .0)
-meeting c = met (c .before .before .before .before .before .before .before .before .before .before .before .before .before .args .s .now) (c .before .before .before .before .loop .cur) (c .before .before .before .meet .ensures) (c .before .octet .given .1)
+meeting c = met (c .before .before .before .before .before .before .before .before .before .before .before .before .before .args .s .now) (c .before .before .before .before .loop .cur) (c .before .before .before .meet .ensures) (c .before .code .given .1)
 
 abbrev item : tie.After-known-told Inv-loop μ-loop → PlacedItem
 item c =
-    let g = c .before .octet .given .0 in
-    record { octet = g .0; first = c .before .before .before .before .loop .cur .at; past = g .1 .1 .1 .1 .0 .at; inner = g .1 .1 .1 .0 }
+    let g = c .before .code .given .0 in
+    record { code = g .0; first = c .before .before .before .before .loop .cur .at; past = g .1 .1 .1 .1 .0 .at; inner = g .1 .1 .1 .0 }
 
 -- and judged
 judged : (c : tie.After-judge-element Inv-loop μ-loop) (y : Judgement) → c .judge-element .result ≡ y
@@ -97,8 +97,8 @@ returns c =
     let end = met s (l .cur) (c .before .before .before .meet .ensures) (c .before .enum-told .given .1) in
     rw (c .at-end .ensures) (end-gives (l .inv .0) end)
 
-enum-known-octet : tie.Need-enum-known-octet Inv-loop μ-loop
-enum-known-octet c = search needs
+enum-known-code : tie.Need-enum-known-code Inv-loop μ-loop
+enum-known-code c = search needs
 
 judge-element-requires : tie.Need-judge-element-requires Inv-loop μ-loop
 judge-element-requires c κs =
@@ -200,7 +200,7 @@ judge-stream-spec =
     same-length-5
     same-length-6
     returns
-    enum-known-octet
+    enum-known-code
     judge-element-requires
     enum-known-number
     same-length-7

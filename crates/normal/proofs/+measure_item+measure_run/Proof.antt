@@ -122,7 +122,7 @@ module _ (t : ℕ) where
       let l = c .before .before .before .before .before .loop in
       let h = c .before .before .h .given .0 .0 in
       let m = c .measure-item .result in
-      (l .at + 2 ≤ m .next) × (m .next ≤ a .limit) × (l .size + (headerSize (h .octet) (m .size) + m .size) ≤ 3 * length (now (a .s)))
+      (l .at + 2 ≤ m .next) × (m .next ≤ a .limit) × (l .size + (headerSize (h .code) (m .size) + m .size) ≤ 3 * length (now (a .s)))
   next c =
       let a = c .before .before .before .before .before .before .before .args in
       let l = c .before .before .before .before .before .loop in

@@ -135,7 +135,7 @@ module _ (t : ℕ) where
       let l = c .before .before .before .before .before .loop in
       let h = c .before .before .h .given .0 .0 in
       let m = c .measure-item .result in
-      (l .at + 2 ≤ m .next) × (m .next ≤ a .limit) × (l .pos + (headerSize (h .octet) (m .size) + m .size) ≤ length (l .out)) × (m .size ≤ 3 * length (now (a .s)))
+      (l .at + 2 ≤ m .next) × (m .next ≤ a .limit) × (l .pos + (headerSize (h .code) (m .size) + m .size) ≤ length (l .out)) × (m .size ≤ 3 * length (now (a .s)))
   next c =
       let a = c .before .before .before .before .before .before .before .before .args in
       let l = c .before .before .before .before .before .loop in
@@ -179,7 +179,7 @@ module _ (t : ℕ) where
       let h = c .before .before .before .before .before .before .before .h .given .0 .0 in
       let p = c .before .before .before .put-header in
       let r = c .before .before .before .before .before .before .before .before .before .before .before .before .before .pre in
-      let size = length-append (typeField (h .octet)) (lengthOctets (m .result .size)) in
+      let size = length-append (typeField (h .code)) (lengthOctets (m .result .size)) in
       (omega (arith, r .0), (u .inside, m .ensures, omega (arith, n .2, p .ensures .to, p .kept .0, m .ensures .measures .size, size, length-length (m .result .size))))
 
   loop-less : run-lts.Need-loop-less (run-calls t) (run-at t) put-run.Post Inv μ

@@ -10,7 +10,7 @@ field-size-requires : tie.Need-field-size-requires
 field-size-requires c κs = search needs
 
 add-result : tie.Need-add-result
-add-result c = omega (arith, c .field-size .ensures, field-size (c .before .args .octet) .1)
+add-result c = omega (arith, c .field-size .ensures, field-size (c .before .args .code) .1)
 
 cast-further-octets : tie.Need-cast-further-octets
 cast-further-octets c = search needs
@@ -19,7 +19,7 @@ further-octets-requires : tie.Need-further-octets-requires
 further-octets-requires c κs = search needs
 
 add-result-2 : tie.Need-add-result-2
-add-result-2 c = omega (arith, c .before .field-size .ensures, field-size (c .before .before .args .octet) .1, c .further-octets .ensures, further-le (c .before .before .args .size))
+add-result-2 c = omega (arith, c .before .field-size .ensures, field-size (c .before .before .args .code) .1, c .further-octets .ensures, further-le (c .before .before .args .size))
 
 returns : tie.Need-returns
 returns c = rw (c .before .field-size .ensures, c .further-octets .ensures)

@@ -14,7 +14,7 @@ cast-out : tie.Need-cast-out
 cast-out c = search needs
 
 slice-write-out : tie.Need-slice-write-out
-slice-write-out c = omega (arith, field-size (c .args .octet) .0, c .pre .1)
+slice-write-out c = omega (arith, field-size (c .args .code) .0, c .pre .1)
 
 add-result : tie.Need-add-result
 add-result c = search needs
@@ -25,7 +25,7 @@ same-length c = search needs
 returns : tie.Need-returns
 returns c =
     let a = c .before .args in
-    let e = one-octet (a .octet) (c .before .pre .0) (c .if1 .taken) in
+    let e = one-octet (a .code) (c .before .pre .0) (c .if1 .taken) in
     rw e (record { to = omega arith; written = refl })
 
 cast-out-2 : tie.Need-cast-out-2
@@ -37,7 +37,7 @@ add-out c = search needs
 slice-write-out-2 : tie.Need-slice-write-out-2
 slice-write-out-2 c =
     let a = c .before .args in
-    let e = two-at-least (a .octet) (c .if1 .left) in
+    let e = two-at-least (a .code) (c .if1 .left) in
     simp length-set (omega (arith, e, c .before .pre .1))
 
 add-result-2 : tie.Need-add-result-2
@@ -49,7 +49,7 @@ same-length-2 c = search needs
 returns-2 : tie.Need-returns-2
 returns-2 c =
     let a = c .before .before .args in
-    let e = two-octets (a .octet) (c .before .before .pre .0) (c .before .if1 .left) (c .if2 .taken) in
+    let e = two-octets (a .code) (c .before .before .pre .0) (c .before .if1 .left) (c .if2 .taken) in
     rw (e, add-one (a .at)) (record { to = omega arith; written = refl })
 
 cast-out-3 : tie.Need-cast-out-3
@@ -61,7 +61,7 @@ add-out-2 c = search needs
 slice-write-out-3 : tie.Need-slice-write-out-3
 slice-write-out-3 c =
     let a = c .before .before .args in
-    let e = ap length (three-octets (a .octet) (c .before .before .pre .0) (c .before .if1 .left) (c .if2 .left)) in
+    let e = ap length (three-octets (a .code) (c .before .before .pre .0) (c .before .if1 .left) (c .if2 .left)) in
     simp length-set (omega (arith, e, c .before .before .pre .1))
 
 add-result-3 : tie.Need-add-result-3
@@ -73,7 +73,7 @@ same-length-3 c = search needs
 returns-3 : tie.Need-returns-3
 returns-3 c =
     let a = c .before .before .args in
-    let e = three-octets (a .octet) (c .before .before .pre .0) (c .before .if1 .left) (c .if2 .left) in
+    let e = three-octets (a .code) (c .before .before .pre .0) (c .before .if1 .left) (c .if2 .left) in
     let two : a .at + 2 ≡ suc (suc (a .at)) = omega arith in
     rw (e, add-one (a .at), two) (record { to = omega arith; written = refl })
 

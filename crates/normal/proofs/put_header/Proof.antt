@@ -31,7 +31,7 @@ returns c =
     let a = c .before .before .before .before .before .before .before .before .before .args in
     let f = c .before .before .before .before .before .before .put-field .ensures in
     let p = c .before .before .put-length .ensures in
-    let type = typeField (a .octet) in
+    let type = typeField (a .code) in
     let len = lengthOctets (a .size) in
     record {
       to = omega (arith, p .to, f .to, length-append type len);

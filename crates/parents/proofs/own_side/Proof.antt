@@ -6,7 +6,7 @@ use lib.ListN.{length}
 use borrow.Author.Needs.{needs}
 use Rattle.headers.specs.Head.{isIn}
 use Rattle.index.specs.declared.RowFound.{RowFound}
-use Rattle.index.specs.Rows.{rowWidth}
+use Rattle.index.specs.Rows.{scratchWidth}
 use Rattle.parents.specs.Parent.{parentKinds}
 use Rattle.parents.specs.Lookup.{FoundIn, onSide}
 use Rattle.parents.proofs.own_side.Statement.{statement}
@@ -19,7 +19,7 @@ enum-known-found : tie.Need-enum-known-found
 enum-known-found c = search needs
 
 -- the row that was found is one of the rows
-in-rows : (c : tie.After-known-told) → c .before .found .given .0 .0 * rowWidth + rowWidth ≤ length (c .before .before .before .before .args .rows .now)
+in-rows : (c : tie.After-known-told) → c .before .found .given .0 .0 * scratchWidth + scratchWidth ≤ length (c .before .before .before .before .args .rows .now)
 in-rows c = subst (FoundIn (c .before .before .before .before .args .rows .now)) (c .before .found .given .1) (c .before .before .before .before .pre)
 
 mul-wide : tie.Need-mul-wide

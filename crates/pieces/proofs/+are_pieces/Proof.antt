@@ -43,12 +43,12 @@ abbrev μ-loop : lts.MeasureT-loop
 module _ (t : ℕ) where
   -- the item that is met
   meeting : (c : lts.After-known-told (calls t) (pre-at t) are-pieces.Post Inv-loop μ-loop) →
-      let g = c .before .octet .given .0 in
+      let g = c .before .code .given .0 in
       Meeting (now (c .before .before .before .before .before .before .args .s)) (c .before .before .before .before .loop .cur)
       (g .0) (g .1 .0) (g .1 .1 .0) (g .1 .1 .1 .0) (g .1 .1 .1 .1 .0)
   meeting c =
       met (now (c .before .before .before .before .before .before .args .s)) (c .before .before .before .before .loop .cur)
-      (c .before .before .before .meet .ensures) (c .before .octet .given .1)
+      (c .before .before .before .meet .ensures) (c .before .code .given .1)
 
   loop-holds : lts.Need-loop-holds (calls t) (pre-at t) are-pieces.Post Inv-loop μ-loop
   loop-holds c = (c .before .pre .1 .0, refl, refl)
@@ -66,8 +66,8 @@ module _ (t : ℕ) where
       only-none (a .piece) (a .pieces) (now (a .s)) (l .cur)
       (met (now (a .s)) (l .cur) (c .before .before .meet .ensures) (c .enum-told .given .1)) ∙ sym (l .inv .2)
 
-  enum-known-octet : lts.Need-enum-known-octet (calls t) (pre-at t) are-pieces.Post Inv-loop μ-loop
-  enum-known-octet c = search needs
+  enum-known-code : lts.Need-enum-known-code (calls t) (pre-at t) are-pieces.Post Inv-loop μ-loop
+  enum-known-code c = search needs
 
   are-pieces-requires : lts.Need-are-pieces-requires (calls t) (pre-at t) are-pieces.Post Inv-loop μ-loop
   are-pieces-requires c κs =
@@ -119,5 +119,5 @@ module _ (t : ℕ) where
 pub +are-pieces-spec : {M : Type 1} → statement M
 +are-pieces-spec =
     close μ λ t. lts.spec (calls t) (pre-at t) are-pieces.Post Inv-loop μ-loop
-    (loop-holds t) (meet-requires t) (enum-told t) (returns t) (enum-known-octet t) (are-pieces-requires t) (returns-2 t) (loop-less t)
+    (loop-holds t) (meet-requires t) (enum-told t) (returns t) (enum-known-code t) (are-pieces-requires t) (returns-2 t) (loop-less t)
     (loop-again t) (returns-3 t) (loop-less-2 t) (loop-again-2 t)

@@ -43,12 +43,12 @@ abbrev μ-loop : lts.MeasureT-loop
 module _ (t : ℕ) where
   -- the item that is met
   meeting : (c : lts.After-known-told (calls t) (pre-at t) joined-length.Post Inv-loop μ-loop) →
-      let g = c .before .octet .given .0 in
+      let g = c .before .code .given .0 in
       Meeting (now (c .before .before .before .before .before .before .args .s)) (c .before .before .before .before .loop .cur)
       (g .0) (g .1 .0) (g .1 .1 .0) (g .1 .1 .1 .0) (g .1 .1 .1 .1 .0)
   meeting c =
       met (now (c .before .before .before .before .before .before .args .s)) (c .before .before .before .before .loop .cur)
-      (c .before .before .before .meet .ensures) (c .before .octet .given .1)
+      (c .before .before .before .meet .ensures) (c .before .code .given .1)
 
   loop-holds : lts.Need-loop-holds (calls t) (pre-at t) joined-length.Post Inv-loop μ-loop
   loop-holds c = (c .before .pre .1, refl, omega arith)
@@ -66,8 +66,8 @@ module _ (t : ℕ) where
       let none-left = joined-none s (l .cur) (met s (l .cur) (c .before .before .meet .ensures) (c .enum-told .given .1)) in
       omega (arith, l .inv .2, ap length none-left)
 
-  enum-known-octet : lts.Need-enum-known-octet (calls t) (pre-at t) joined-length.Post Inv-loop μ-loop
-  enum-known-octet c = search needs
+  enum-known-code : lts.Need-enum-known-code (calls t) (pre-at t) joined-length.Post Inv-loop μ-loop
+  enum-known-code c = search needs
 
   joined-length-requires : lts.Need-joined-length-requires (calls t) (pre-at t) joined-length.Post Inv-loop μ-loop
   joined-length-requires c κs = let m = meeting (c .before) in (omega (arith, level-less m), m .inner-fine)
@@ -110,5 +110,5 @@ module _ (t : ℕ) where
 pub +joined-length-spec : {M : Type 1} → statement M
 +joined-length-spec =
     close μ λ t. lts.spec (calls t) (pre-at t) joined-length.Post Inv-loop μ-loop
-    (loop-holds t) (meet-requires t) (enum-told t) (returns t) (enum-known-octet t) (joined-length-requires t) (add-n t) (loop-less t)
+    (loop-holds t) (meet-requires t) (enum-told t) (returns t) (enum-known-code t) (joined-length-requires t) (add-n t) (loop-less t)
     (loop-again t) (sub-n t) (add-n-2 t) (loop-less-2 t) (loop-again-2 t)

@@ -45,23 +45,23 @@ abbrev μ-loop : lts.MeasureT-loop
 module _ (t : ℕ) where
   -- the item that is met
   meeting : (c : lts.After-known-told (calls t) (pre-at t) put-joined.Post Inv-loop μ-loop) →
-      let g = c .before .octet .given .0 in
+      let g = c .before .code .given .0 in
       Meeting (now (c .before .before .before .before .before .before .before .args .s)) (c .before .before .before .before .loop .cur)
       (g .0) (g .1 .0) (g .1 .1 .0) (g .1 .1 .1 .0) (g .1 .1 .1 .1 .0)
   meeting c =
       met (now (c .before .before .before .before .before .before .before .args .s)) (c .before .before .before .before .loop .cur)
-      (c .before .before .before .meet .ensures) (c .before .octet .given .1)
+      (c .before .before .before .meet .ensures) (c .before .code .given .1)
 
   -- what a constructed item gives, and what a piece gives
   inner-gives : (c : lts.Then1 (calls t) (pre-at t) put-joined.Post Inv-loop μ-loop) →
       let s = now (c .before .before .before .before .before .before .before .before .args .s) in
-      let g = c .before .before .octet .given .0 in
+      let g = c .before .before .code .given .0 in
       Gives s (c .before .before .before .before .before .loop .cur) (joined (treeIn s (g .1 .1 .1 .0))) (g .1 .1 .1 .1 .0)
   inner-gives c = pieces-give (meeting (c .before)) (eq-eqb _ _ (c .if1 .taken))
 
   value-gives : (c : lts.Else1 (calls t) (pre-at t) put-joined.Post Inv-loop μ-loop) →
       let s = now (c .before .before .before .before .before .before .before .before .args .s) in
-      let g = c .before .before .octet .given .0 in
+      let g = c .before .before .code .given .0 in
       Gives s (c .before .before .before .before .before .loop .cur) (slice (g .1 .0) (g .1 .1 .0) s) (g .1 .1 .1 .1 .0)
   value-gives c = piece-gives (meeting (c .before)) (ne-eqb _ _ (c .if1 .left))
 
@@ -69,14 +69,14 @@ module _ (t : ℕ) where
   inner-fits : (c : lts.Then1 (calls t) (pre-at t) put-joined.Post Inv-loop μ-loop) →
       let s = now (c .before .before .before .before .before .before .before .before .args .s) in
       let l = c .before .before .before .before .before .loop in
-      l .done + length (joined (treeIn s (c .before .before .octet .given .0 .1 .1 .1 .0))) ≤ length (l .out)
+      l .done + length (joined (treeIn s (c .before .before .code .given .0 .1 .1 .1 .0))) ≤ length (l .out)
   inner-fits c =
       fits (c .before .before .before .before .before .loop .inv) (inner-gives c) (c .before .before .before .before .before .before .before .before .pre .1 .1)
 
   value-fits : (c : lts.Else1 (calls t) (pre-at t) put-joined.Post Inv-loop μ-loop) →
       let s = now (c .before .before .before .before .before .before .before .before .args .s) in
       let l = c .before .before .before .before .before .loop in
-      let g = c .before .before .octet .given .0 in
+      let g = c .before .before .code .given .0 in
       l .done + length (slice (g .1 .0) (g .1 .1 .0) s) ≤ length (l .out)
   value-fits c =
       fits (c .before .before .before .before .before .loop .inv) (value-gives c) (c .before .before .before .before .before .before .before .before .pre .1 .1)
@@ -84,11 +84,11 @@ module _ (t : ℕ) where
   -- what is copied of a piece is its value
   value : (c : lts.Else1 (calls t) (pre-at t) put-joined.Post Inv-loop μ-loop) →
       let s = now (c .before .before .before .before .before .before .before .before .args .s) in
-      let g = c .before .before .octet .given .0 in
+      let g = c .before .before .code .given .0 in
       take (g .1 .1 .0 - g .1 .0) (drop (g .1 .0) s) ≡ slice (g .1 .0) (g .1 .1 .0) s
   value c =
       let s = now (c .before .before .before .before .before .before .before .before .args .s) in
-      let g = c .before .before .octet .given .0 in
+      let g = c .before .before .code .given .0 in
       part-slice (g .1 .0) (g .1 .1 .0) s (meeting (c .before) .value-order)
 
   loop-holds : lts.Need-loop-holds (calls t) (pre-at t) put-joined.Post Inv-loop μ-loop
@@ -109,8 +109,8 @@ module _ (t : ℕ) where
       let l = c .before .before .before .loop in
       all-put (l .inv) (met s (l .cur) (c .before .before .meet .ensures) (c .enum-told .given .1))
 
-  enum-known-octet : lts.Need-enum-known-octet (calls t) (pre-at t) put-joined.Post Inv-loop μ-loop
-  enum-known-octet c = search needs
+  enum-known-code : lts.Need-enum-known-code (calls t) (pre-at t) put-joined.Post Inv-loop μ-loop
+  enum-known-code c = search needs
 
   sub-put-joined : lts.Need-sub-put-joined (calls t) (pre-at t) put-joined.Post Inv-loop μ-loop
   sub-put-joined c = c .before .before .before .before .before .loop .inv .within
@@ -181,7 +181,7 @@ module _ (t : ℕ) where
 pub +put-joined-spec : {M : Type 1} → statement M
 +put-joined-spec =
     close μ λ t. lts.spec (calls t) (pre-at t) put-joined.Post Inv-loop μ-loop
-    (loop-holds t) (meet-requires t) (enum-told t) (same-length t) (returns t) (enum-known-octet t) (sub-put-joined t)
+    (loop-holds t) (meet-requires t) (enum-told t) (same-length t) (returns t) (enum-known-code t) (sub-put-joined t)
     (part-put-joined-start t) (part-put-joined-end t) (put-joined-requires t) (add-done t) (loop-less t) (loop-again t) (sub-copy t)
     (part-copy-start t) (part-copy-end t) (sub-copy-2 t) (part-copy-start-2 t) (part-copy-end-2 t) (copy-requires t) (add-done-2 t)
     (loop-less-2 t) (loop-again-2 t)

@@ -18,13 +18,13 @@ abbrev μ-loop : tie.MeasureT-loop
 μ-loop s bounds₀ left₀ count₀ misspelt₀ bounds left count misspelt = left .limit - left .at
 
 -- the item that was met
-met : (c : tie.After-octet Inv-loop μ-loop) →
+met : (c : tie.After-code Inv-loop μ-loop) →
     let s = c .before .before .before .before .before .before .args .s .now in
-    let v = c .octet .given .0 in
+    let v = c .code .given .0 in
     Meeting s (c .before .before .before .loop .left) (v .0) (v .1 .0) (v .1 .1 .0) (v .1 .1 .1 .0) (v .1 .1 .1 .1 .0)
 met c =
     let s = c .before .before .before .before .before .before .args .s .now in
-    subst (Meets s (c .before .before .before .loop .left)) (c .octet .given .1) (c .before .before .meet .ensures)
+    subst (Meets s (c .before .before .before .loop .left)) (c .code .given .1) (c .before .before .meet .ensures)
 
 loop-holds : tie.Need-loop-holds Inv-loop μ-loop
 loop-holds c = let a = c .before .before .args in (refl, starts (a .s .now) (a .r) (a .bounds .now) (c .before .before .pre .0))
@@ -45,8 +45,8 @@ returns c =
     all-read (l .inv .1)
     (subst (Meets (a .s .now) (l .left)) (c .enum-told .given .1) (c .before .before .meet .ensures))
 
-enum-known-octet : tie.Need-enum-known-octet Inv-loop μ-loop
-enum-known-octet c = search needs
+enum-known-code : tie.Need-enum-known-code Inv-loop μ-loop
+enum-known-code c = search needs
 
 same-length-2 : tie.Need-same-length-2 Inv-loop μ-loop
 same-length-2 c = c .before .before .before .before .before .loop .inv .0
@@ -99,7 +99,7 @@ read-portions-spec =
     enum-told
     same-length
     returns
-    enum-known-octet
+    enum-known-code
     same-length-2
     returns-2
     is-misspelt-requires

@@ -11,7 +11,7 @@ use Rattle.runs.specs.Runs.{Meets, Meeting}
 use Rattle.names.specs.Names.{spaceByte}
 use Rattle.index.specs.Columns.{identifierColumn}
 use Rattle.index.specs.Index.{FindsRow}
-use Rattle.elements.specs.Rows.{bytesIn}
+use Rattle.elements.specs.ElementRows.{bytesIn}
 use Rattle.elements.specs.Says.{Placed}
 use Rattle.reading.specs.Ready.{columnOf, unitSpace, spanAt}
 use Rattle.reading.proofs.list_portions.Statement.{statement}

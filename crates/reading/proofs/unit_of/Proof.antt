@@ -1,6 +1,6 @@
 -- `reading::unit_of` meets its contract: the hash goes on over the portion, and the name is looked up in its parts. Assumes nothing.
 use mathlib.Core.Path.{refl}
-use Rattle.elements.specs.Rows.{bytesIn}
+use Rattle.elements.specs.ElementRows.{bytesIn}
 use Rattle.names.proofs.Hashing.{hash-joined}
 use borrow.Author.Needs.{needs}
 use Rattle.reading.proofs.unit_of.Statement.{statement}

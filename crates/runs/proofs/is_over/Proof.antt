@@ -7,7 +7,7 @@ use native.Mathlib.Omega.{arith}
 use borrow.Author.Needs.{needs}
 use borrow.Author.Tests.{ne-eqb}
 use lib.Dec.{eqb}
-use Rattle.octets.specs.Walk.{Items, none}
+use Rattle.octets.specs.Walk.{Items, noItems}
 use Rattle.octets.proofs.Turns.{tree-ends, tree-closes, tree-refuses}
 use Rattle.runs.specs.declared.Run.{Run}
 use Rattle.runs.specs.Runs.{itemsOf, tops}
@@ -15,7 +15,7 @@ use Rattle.runs.proofs.Meetings.{passed, some-item}
 use Rattle.runs.proofs.is_over.Statement.{statement}
 use Rattle.runs.proofs.is_over.Tie as tie
 
-no-item : (s : List ℕ) (r : Run) → itemsOf s r ≡ none → true ≡ eqb (tops (itemsOf s r)) 0
+no-item : (s : List ℕ) (r : Run) → itemsOf s r ≡ noItems → true ≡ eqb (tops (itemsOf s r)) 0
 no-item s r e = sym (ap (λ (i : Items). eqb (tops i) 0) e)
 
 before-limit : (c : tie.Else1) → let r = c .before .before .args .r in r .at < r .limit

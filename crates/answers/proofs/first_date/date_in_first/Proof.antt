@@ -14,11 +14,11 @@ use Rattle.answers.proofs.first_date.date_in_first.Tie as tie
 
 -- rules 10 and 11
 early-is : (c : tie.After-early) →
-    let a = c .before .before .before .args in c .early .result ≡ earlyRefusal 0 (a .octet) (shapeBy (a .edition) (a .octet) .octet)
+    let a = c .before .before .before .args in c .early .result ≡ earlyRefusal 0 (a .code) (shapeBy (a .edition) (a .code) .octet)
 early-is c =
     let a = c .before .before .before .args in
-    c .early .ensures ∙ ap (λ (x : Slots). earlyRefusal 0 (a .octet) (x .octet)) (c .before .shape-of .ensures)
-    ∙ ap (earlyRefusal 0 (a .octet)) (octet-same (shapeBy (a .edition) (a .octet)))
+    c .early .ensures ∙ ap (λ (x : Slots). earlyRefusal 0 (a .code) (x .octet)) (c .before .shape-of .ensures)
+    ∙ ap (earlyRefusal 0 (a .code)) (octet-same (shapeBy (a .edition) (a .code)))
 
 shape-of-requires : tie.Need-shape-of-requires
 shape-of-requires c κs = search needs
@@ -29,7 +29,7 @@ early-requires c κs = search needs
 cast-refused-date : tie.Need-cast-refused-date
 cast-refused-date c =
     let a = c .before .before .before .before .args in
-    omega (arith, early-is (c .before), early-small 0 (a .octet) (shapeBy (a .edition) (a .octet) .octet))
+    omega (arith, early-is (c .before), early-small 0 (a .code) (shapeBy (a .edition) (a .code) .octet))
 
 refused-date-requires : tie.Need-refused-date-requires
 refused-date-requires c κs = search needs

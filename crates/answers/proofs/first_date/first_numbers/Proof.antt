@@ -6,7 +6,7 @@ use native.Mathlib.Omega.{arith}
 use denote.Ref.{now}
 use lib.ListN.{length}
 use Rattle.octets.specs.Walk.{stops}
-use Rattle.fronts.specs.First.{walkFirst, Begins}
+use Rattle.fronts.specs.First.{walkFirst, BeginsWith}
 use Rattle.fronts.proofs.Firsts.{first-stops}
 use Rattle.answers.specs.Dating.{FirstTells}
 use Rattle.answers.proofs.FirstDating.{first-over, first-empty, first-faulty}
@@ -41,7 +41,7 @@ faulty : (c : tie.After-known-told) →
     let g = c .before .number .given .0 in
     walkFirst (now (c .before .before .before .before .before .before .before .args .stream)) .how ≡ stops (g .0) (g .1 .0)
 faulty c =
-    subst (Begins (now (c .before .before .before .before .before .before .before .args .stream))) (c .before .number .given .1)
+    subst (BeginsWith (now (c .before .before .before .before .before .before .before .args .stream))) (c .before .number .given .1)
     (c .before .before .before .first-item .ensures)
 
 small : (c : tie.After-known-told) →
@@ -62,12 +62,12 @@ cast-refused-date-2 c = let k = small c in omega (arith, k .2, c .before .before
 refused-date-requires-3 : tie.Need-refused-date-requires-3
 refused-date-requires-3 c κs = search needs
 
-enum-known-octet : tie.Need-enum-known-octet
-enum-known-octet c = search needs
+enum-known-code : tie.Need-enum-known-code
+enum-known-code c = search needs
 
 date-in-first-requires : tie.Need-date-in-first-requires
 date-in-first-requires c κs = (
-  subst (Begins (now (c .before .before .before .before .before .before .before .args .stream))) (c .before .octet .given .1)
+  subst (BeginsWith (now (c .before .before .before .before .before .before .before .args .stream))) (c .before .code .given .1)
       (c .before .before .before .first-item .ensures),
   c .before .before .before .before .before .if1 .left,
 )
@@ -95,7 +95,7 @@ first-numbers-spec =
     cast-refused-date
     cast-refused-date-2
     refused-date-requires-3
-    enum-known-octet
+    enum-known-code
     date-in-first-requires
     returns-3
     returns-4)

@@ -5,10 +5,10 @@ use Prim.Native.Nat.{ℕ, _+_, _*_}
 use native.Mathlib.Omega.{arith}
 use lib.ListN.{set}
 use lib.Seq.{paste}
-use Rattle.index.specs.Rows.{rowWidth}
-use Rattle.elements.specs.Rows.{cells}
+use Rattle.index.specs.Rows.{scratchWidth}
+use Rattle.elements.specs.ElementRows.{cells}
 use Rattle.pieces.proofs.Putting.{part-slice}
-use Rattle.parents.specs.Parent.{parent, numberOf}
+use Rattle.parents.specs.Parent.{parent, rowOrNone}
 use Rattle.answers.specs.Table.{tableWidth}
 use Rattle.answers.proofs.Tabling.{scratch-slice, put-behind}
 use borrow.Author.Needs.{needs}
@@ -63,12 +63,12 @@ returns c elements rows row t there =
     let a = start .args in
     let j = a .j in
     let own = scratch-slice t j row (start .pre .1 .0) there in
-    let part = part-slice (j * rowWidth) (j * rowWidth + rowWidth) (a .rows .now) (omega arith) in
-    let put = c .before .before .copy-numbers .ensures ∙ ap (λ (l : List ℕ). paste (a .table .now) (j * tableWidth) l rowWidth) (part ∙ own) in
+    let part = part-slice (j * scratchWidth) (j * scratchWidth + scratchWidth) (a .rows .now) (omega arith) in
+    let put = c .before .before .copy-numbers .ensures ∙ ap (λ (l : List ℕ). paste (a .table .now) (j * tableWidth) l scratchWidth) (part ∙ own) in
     let above = c .before .before .before .before .before .parent-of .ensures .is elements (t .ready) in
-    ap (λ (l : List ℕ). set l (j * tableWidth + rowWidth) (c .before .before .before .before .before .parent-of .result)) put
-    ∙ ap (λ (p : ℕ). set (paste (a .table .now) (j * tableWidth) (cells row) rowWidth) (j * tableWidth + rowWidth) p) above
-    ∙ put-behind (a .table .now) (j * tableWidth) (cells row) (numberOf (parent elements j)) refl (omega (arith, start .pre .1 .0, start .pre .1 .2))
+    ap (λ (l : List ℕ). set l (j * tableWidth + scratchWidth) (c .before .before .before .before .before .parent-of .result)) put
+    ∙ ap (λ (p : ℕ). set (paste (a .table .now) (j * tableWidth) (cells row) scratchWidth) (j * tableWidth + scratchWidth) p) above
+    ∙ put-behind (a .table .now) (j * tableWidth) (cells row) (rowOrNone (parent elements j)) refl (omega (arith, start .pre .1 .0, start .pre .1 .2))
 
 pub put-row-spec : {M : Type 1} → statement M
 put-row-spec =

@@ -61,7 +61,7 @@ returns-8 : tie.Need-returns-8
 returns-8 c = found shapes1988 (c .style-slots2 .ensures) (c .before .match .keys8)
 
 returns-9 : tie.Need-returns-9
-returns-9 c = c .profile-slots2 .ensures ∙ sym (ap slotsOf (passed (Unit {0}) (c .before .before .args .octet) shapes1988 [] (c .before .match .rest)))
+returns-9 c = c .profile-slots2 .ensures ∙ sym (ap slotsOf (passed (Unit {0}) (c .before .before .args .code) shapes1988 [] (c .before .match .rest)))
 
 pub shape-1988-spec : {M : Type 1} → statement M
 shape-1988-spec =

@@ -42,7 +42,7 @@ returns-5 : tie.Need-returns-5
 returns-5 c = found shapes1993 (c .enciphered-slots3 .ensures) (c .before .match .keys5)
 
 returns-6 : tie.Need-returns-6
-returns-6 c = c .shape-1988 .ensures ∙ sym (ap slotsOf (passed (Unit {0}) (c .before .before .args .octet) added1993 shapes1988 (c .before .match .rest)))
+returns-6 c = c .shape-1988 .ensures ∙ sym (ap slotsOf (passed (Unit {0}) (c .before .before .args .code) added1993 shapes1988 (c .before .match .rest)))
 
 pub shape-1993-spec : {M : Type 1} → statement M
 shape-1993-spec =

@@ -24,14 +24,14 @@ shape-1993-requires c κs = search needs
 returns : tie.Need-returns
 unfolding shapeOf
 returns c =
-    let octet = c .before .before .before .args .octet in
-    c .shape-1988 .ensures ∙ sym (ap (λ (edition : Edition). slotsOf (shapeOf edition (typeField octet))) (c .before .enum-told .given .1))
+    let code = c .before .before .before .args .code in
+    c .shape-1988 .ensures ∙ sym (ap (λ (edition : Edition). slotsOf (shapeOf edition (typeField code))) (c .before .enum-told .given .1))
 
 returns-2 : tie.Need-returns-2
 unfolding shapeOf
 returns-2 c =
-    let octet = c .before .before .before .args .octet in
-    c .shape-1993 .ensures ∙ sym (ap (λ (edition : Edition). slotsOf (shapeOf edition (typeField octet))) (c .before .enum-told2 .given .1))
+    let code = c .before .before .before .args .code in
+    c .shape-1993 .ensures ∙ sym (ap (λ (edition : Edition). slotsOf (shapeOf edition (typeField code))) (c .before .enum-told2 .given .1))
 
 pub shape-of-spec : {M : Type 1} → statement M
 shape-of-spec = tie.close (tie.spec enum-told shape-1988-requires enum-told-2 shape-1993-requires returns returns-2)

@@ -48,7 +48,7 @@ returns c =
     let b = i .args .b in
     let g = c .before .before .before .before .before .before .before .head .given in
     let w = c .open-item .ensures in
-    let q : constructed (g .0 .0 .octet) ≡ true = eq-eqb (g .0 .0 .octet / 32 % 2) 1 (omega arith) in
+    let q : constructed (g .0 .0 .code) ≡ true = eq-eqb (g .0 .0 .code / 32 % 2) 1 (omega arith) in
     (w .state ∙ rw (g .1, q, add-one (b .headers)), w .depth, w .kept, omega (arith, w .headers))
 
 add-b-2 : tie.Need-add-b-2
@@ -105,7 +105,7 @@ returns-3 c =
     let b = i .args .b in
     let g = c .before .before .before .before .before .before .head .given in
     let w = c .arrived .ensures in
-    let q : constructed (g .0 .0 .octet) ≡ false = ne-eqb (g .0 .0 .octet / 32 % 2) 1 (λ e. omega arith) in
+    let q : constructed (g .0 .0 .code) ≡ false = ne-eqb (g .0 .0 .code / 32 % 2) 1 (λ e. omega arith) in
     (w .state ∙ rw (g .1, q, add-one (b .headers)), w .depth, w .kept, omega (arith, w .headers))
 
 returns-4 : tie.Need-returns-4

@@ -35,7 +35,7 @@ returns c =
     let p = c .before .before .before .before .before .before .before .before .pre in
     let g = c .before .before .before .before .before .head .given in
     let w = looked (a .seat) (a .s) (a .ends .now) (a .block .now) (p .0) (a .head) (Item (g .0 .0)) (p .1) (g .1) in
-    let q : constructed (g .0 .0 .octet) ≡ false = ne-eqb (g .0 .0 .octet / 32 % 2) 1 (λ e. omega (arith, e, c .before .before .if1 .taken)) in
+    let q : constructed (g .0 .0 .code) ≡ false = ne-eqb (g .0 .0 .code / 32 % 2) 1 (λ e. omega (arith, e, c .before .before .if1 .taken)) in
     subst (λ (r : Skim). Skims (a .seat) (a .s) (a .ends .now) (a .block .now) r (a .ends .now)) (sym (c .going .ensures)) (skims-past (a .seat) (a .s) (a .ends .now) (a .block .now) (p .0) (g .0 .0) (w .0) (w .1) q)
 
 add-going-2 : tie.Need-add-going-2
@@ -50,7 +50,7 @@ returns-2 c =
     let p = c .before .before .before .before .before .before .before .before .before .before .before .before .pre in
     let g = c .before .before .before .before .before .before .before .before .before .head .given in
     let w = looked (a .seat) (a .s) (a .ends .now) (a .block .now) (p .0) (a .head) (Item (g .0 .0)) (p .1) (g .1) in
-    let q : constructed (g .0 .0 .octet) ≡ true = eq-eqb (g .0 .0 .octet / 32 % 2) 1 (omega (arith, c .before .before .before .before .before .before .if1 .left)) in
+    let q : constructed (g .0 .0 .code) ≡ true = eq-eqb (g .0 .0 .code / 32 % 2) 1 (omega (arith, c .before .before .before .before .before .before .if1 .left)) in
     let n : g .0 .0 .start ≡ g .0 .0 .bound = omega (arith, c .before .before .before .before .if2 .taken) in
     let m = not-true (g .0 .0 .marked) (c .before .before .if3 .taken) in
     subst (λ (r : Skim). Skims (a .seat) (a .s) (a .ends .now) (a .block .now) r (a .ends .now)) (sym (c .going2 .ensures)) (skims-empty (a .seat) (a .s) (a .ends .now) (a .block .now) (p .0) (g .0 .0) (w .0) (w .1) q n m)
@@ -149,7 +149,7 @@ returns-3 c =
     let p = c .before .before .before .before .before .before .before .before .before .before .before .before .before .before .pre in
     let g = c .before .before .before .before .before .before .before .before .before .before .before .head .given in
     let w = looked (a .seat) (a .s) (a .ends .now) (a .block .now) (p .0) (a .head) (Item (g .0 .0)) (p .1) (g .1) in
-    let q : constructed (g .0 .0 .octet) ≡ true = eq-eqb (g .0 .0 .octet / 32 % 2) 1 (omega (arith, c .before .before .before .before .before .before .before .before .if1 .left)) in
+    let q : constructed (g .0 .0 .code) ≡ true = eq-eqb (g .0 .0 .code / 32 % 2) 1 (omega (arith, c .before .before .before .before .before .before .before .before .if1 .left)) in
     let e = c .before .before .end-of in
     subst (λ (r : Skim). Skims (a .seat) (a .s) (a .ends .now) (a .block .now) r (set (a .ends .now) (a .s .level) (e .result))) (sym (c .going3 .ensures))
     (skims-open (a .seat) (a .s) (a .ends .now) (a .block .now) (p .0) (g .0 .0) (e .result) (w .0) (w .1) q (e .ensures))

@@ -23,7 +23,7 @@ holder-in-requires : tie.Need-holder-in-requires
 holder-in-requires c κs =
     let item = c .before .before .element-at in
     let edition = c .before .before .before .before .before .args .edition in
-    (item .ensures .fine, subst WellMade (sym (c .shape-of .ensures)) (made (shapeOf edition (typeField (item .result .octet)))))
+    (item .ensures .fine, subst WellMade (sym (c .shape-of .ensures)) (made (shapeOf edition (typeField (item .result .code)))))
 
 held-by-requires : tie.Need-held-by-requires
 held-by-requires c κs = search needs
@@ -36,7 +36,7 @@ returns c =
     let s = start .args .s .now in
     let inner = item .result .inner in
     let edition = start .args .edition in
-    let type = typeField (item .result .octet) in
+    let type = typeField (item .result .code) in
     let by-slots = subst (λ (shape : Slots). HoldingSlots s shape inner (c .before .holder-in .result)) (at-shape .shape-of .ensures) (c .before .holder-in .ensures) in
     let holding = holding-shape (item .ensures .fine) (shapeOf edition type) by-slots in
     subst (HoldsElement edition s (start .args .j)) (sym (c .held-by .ensures)) (holds-element (item .ensures) holding)

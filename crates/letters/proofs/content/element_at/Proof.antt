@@ -19,16 +19,16 @@ from-row c =
 
 -- an item is met there
 meeting : (c : tie.After-known-told) → let start = c .before .before .before .before .before .before .before .before .before in
-    let g = c .before .octet .given .0 in
+    let g = c .before .code .given .0 in
     Meeting (start .args .s .now) (restFrom (start .args .edition) (start .pre .0) (start .args .j) (start .pre .1 .row) (start .pre .1 .stands))
     (g .0) (g .1 .0) (g .1 .1 .0) (g .1 .1 .1 .0) (g .1 .1 .1 .1 .0)
 meeting c =
     let start = c .before .before .before .before .before .before .before .before .before in
     let s = start .args .s .now in
     let at-meet = c .before .before .before in
-    let g = c .before .octet .given .0 in
+    let g = c .before .code .given .0 in
     subst (λ (r : Run). Meeting s r (g .0) (g .1 .0) (g .1 .1 .0) (g .1 .1 .1 .0) (g .1 .1 .1 .1 .0)) (from-row (at-meet .before))
-    (met s _ (at-meet .meet .ensures) (c .before .octet .given .1))
+    (met s _ (at-meet .meet .ensures) (c .before .code .given .1))
 
 mul-wide : tie.Need-mul-wide
 mul-wide c = search needs
@@ -56,8 +56,8 @@ meet-requires c κs =
 enum-told : tie.Need-enum-told
 enum-told c = search needs
 
-enum-known-octet : tie.Need-enum-known-octet
-enum-known-octet c = search needs
+enum-known-code : tie.Need-enum-known-code
+enum-known-code c = search needs
 
 returns : tie.Need-returns
 returns c =
@@ -87,6 +87,6 @@ element-at-spec =
     whole-stream-requires
     meet-requires
     enum-told
-    enum-known-octet
+    enum-known-code
     returns
     returns-2)

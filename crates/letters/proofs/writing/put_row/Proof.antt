@@ -4,8 +4,8 @@ use mathlib.Core.List.{List}
 use Prim.Native.Nat.{ℕ}
 use native.Mathlib.Omega.{arith}
 use lib.Seq.{paste, sets-eq}
-use Rattle.index.specs.Rows.{rowWidth}
-use Rattle.elements.specs.Rows.{cells}
+use Rattle.index.specs.Rows.{scratchWidth}
+use Rattle.elements.specs.ElementRows.{cells}
 use borrow.Author.Needs.{needs}
 use Rattle.letters.proofs.writing.put_row.Statement.{statement}
 use Rattle.letters.proofs.writing.put_row.Tie as tie
@@ -26,7 +26,7 @@ returns : tie.Need-returns
 returns c =
     let a = c .before .before .before .before .before .before .before .args in
     c .before .before .copy-numbers .ensures
-    ∙ ap (λ (numbers : List ℕ). paste (a .rows .now) (a .at) numbers rowWidth) (c .before .before .before .before .before .cells-of .ensures)
+    ∙ ap (λ (numbers : List ℕ). paste (a .rows .now) (a .at) numbers scratchWidth) (c .before .before .before .before .before .cells-of .ensures)
     ∙ sym (sets-eq (cells (a .row)) (a .rows .now) (a .at) (omega arith))
 
 pub put-row-spec : {M : Type 1} → statement M

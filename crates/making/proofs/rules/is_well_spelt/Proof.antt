@@ -5,7 +5,7 @@ use lib.Dec.{leb}
 use lib.ListN.{length}
 use denote.Ref.{now}
 use Rattle.names.specs.Names.{longestIdentifier, isIdentifier, isPortion}
-use Rattle.making.specs.Entries.{saidBy, unitName, wellSpelt}
+use Rattle.making.specs.Entries.{saidBy, unitName, allSpelt}
 use Rattle.making.proofs.Ruling.{third-tells, second-tells, first-tells, unit-length}
 use borrow.Author.Needs.{needs}
 use Rattle.making.proofs.rules.is_well_spelt.Statement.{statement}
@@ -30,7 +30,7 @@ add-size-2 : tie.Need-add-size-2
 add-size-2 c = search needs
 
 returns : tie.Need-returns
-unfolding wellSpelt
+unfolding allSpelt
 returns c =
     let buffer = now (c .before .before .before .before .before .before .before .before .before .args .buffer) in
     let entry = c .before .before .before .before .before .before .before .before .before .args .entry in
@@ -42,7 +42,7 @@ returns c =
     ∙ third-tells a b d (sym (c .before .before .before .before .before .is-identifier .ensures) ∙ c .before .before .before .before .if1 .taken) (sym (c .before .before .before .is-portion .ensures) ∙ c .before .before .if2 .taken)
 
 returns-2 : tie.Need-returns-2
-unfolding wellSpelt
+unfolding allSpelt
 returns-2 c =
     let buffer = now (c .before .before .before .before .before .before .before .args .buffer) in
     let entry = c .before .before .before .before .before .before .before .args .entry in
@@ -53,7 +53,7 @@ returns-2 c =
     second-tells a b d (sym (c .before .before .before .is-identifier .ensures) ∙ c .before .before .if1 .taken) (sym (c .before .is-portion .ensures) ∙ c .if2 .left)
 
 returns-3 : tie.Need-returns-3
-unfolding wellSpelt
+unfolding allSpelt
 returns-3 c =
     let buffer = now (c .before .before .before .before .before .args .buffer) in
     let entry = c .before .before .before .before .before .args .entry in

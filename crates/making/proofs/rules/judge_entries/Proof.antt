@@ -6,9 +6,9 @@ use native.Mathlib.Omega.{arith}
 use lib.ListN.{length}
 use denote.Ref.{now}
 use Rattle.names.specs.Hash.{hash}
-use Rattle.elements.specs.Rows.{bytesIn}
+use Rattle.elements.specs.ElementRows.{bytesIn}
 use Rattle.making.specs.declared.Entry.{Entry}
-use Rattle.making.specs.Entries.{entryRefusal, judge}
+use Rattle.making.specs.Entries.{entryRefusal, judgeEntries}
 use Rattle.making.specs.Answers.{reasonOf}
 use Rattle.making.specs.Flat.{entryWidth, entryAt, entriesIn}
 use Rattle.making.specs.Lent.{EntryLies}
@@ -154,7 +154,7 @@ returns-2 c =
     let numbers = now (a .args .numbers) in
     let l = c .before .loop in
     let all : l .k ≡ length numbers / entryWidth = omega arith in
-    none-left (l .inv .1) ∙ ap (λ (n : ℕ). reasonOf (judge buffer (entriesIn numbers n))) all
+    none-left (l .inv .1) ∙ ap (λ (n : ℕ). reasonOf (judgeEntries buffer (entriesIn numbers n))) all
 
 pub judge-entries-spec : {M : Type 1} → statement M
 judge-entries-spec =

@@ -9,7 +9,7 @@ use Rattle.names.specs.Names.{spaceByte}
 use Rattle.normal.specs.Normal.{furtherOctets}
 use Rattle.normal.specs.Passes.{PutsOctets}
 use Rattle.normal.proofs.Lengths.{length-length, further-le}
-use Rattle.elements.specs.Rows.{bytesIn}
+use Rattle.elements.specs.ElementRows.{bytesIn}
 use Rattle.making.specs.Entries.{saidBy}
 use Rattle.making.specs.Octets.{nameSize, unitSizeBy}
 use Rattle.making.specs.Lent.{namesOf, textOf}

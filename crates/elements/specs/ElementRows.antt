@@ -1,14 +1,14 @@
--- The table. Document 01, "Table, list, part, normal form": "A table row is twelve numbers: kind .., object type .., then first and past for
--- the element, its identifier, the unit's logical identifier, the portions' value, the content. All pairs but the element's bound a value.
--- .. Absent is 0 and 0." Definitions only: assumes nothing.
+-- What a row holds of its element. Document 01, "Table, list, part, normal form": "A table row is twelve numbers: kind .., object type .., then first
+-- and past for the element, its identifier, the unit's logical identifier, the portions' value, the content. All pairs but the element's bound a
+-- value. .. Absent is 0 and 0." The lent table's row has the parent's besides (answers/specs/Table). Definitions only: assumes nothing.
 use Prim.Native.Nat.{ℕ, zero, suc}
 use mathlib.Core.Bool.{cond}
 use mathlib.Core.List.{List, [], _∷_, _++_}
-use mathlib.Core.Option.{Option, none as nowhere, some}
+use mathlib.Core.Option.{Option, none, some}
 use lib.ListN.{length}
 use lib.Seq.{slice}
 use Rattle.headers.specs.Head.{typeField}
-use Rattle.octets.specs.Walk.{Items, none, item, startOf}
+use Rattle.octets.specs.Walk.{Items, noItems, item, startOf}
 use Rattle.tree.specs.Tree.{Tree, plain}
 use Rattle.contents.specs.declared.Span.{Span}
 use Rattle.contents.specs.Search.{itemsIn, boundsOf}
@@ -27,15 +27,15 @@ bytesIn s v = slice (v .first) (v .past) s
 
 -- the items that name an element: `bodyOf` of another file, with places
 unfoldable pub bodyIn : Contents → Items → Items
-bodyIn profile items = none
+bodyIn profile items = noItems
 bodyIn (described needed types) items = itemsIn 0x31 items
 bodyIn (unit needed tiled) items = itemsIn 0x31 items
 bodyIn style items = items
-bodyIn (protected enciphered) items = none
+bodyIn (protected enciphered) items = noItems
 
 -- the octet of the item that holds the content: "The content fields of the row give the value of the 24" (W-201), or of the 30
 abbrev pub holderIn : List ContentItem → Tree → Option ℕ
-holderIn [] run = nowhere
+holderIn [] run = none
 holderIn (holder ∷ others) run = cond (noneOf (octetOf holder) run) (holderIn others run) (some (octetOf holder))
 
 unfoldable pub contentOctet : Contents → Tree → Option ℕ
@@ -43,7 +43,7 @@ contentOctet contents run = holderIn (holdersOf contents) run
 
 -- the bounds of the first item with an octet, if one is looked for. "Absent is 0 and 0."
 abbrev pub boundsAt : Option ℕ → Items → Span
-boundsAt nowhere items = record { first = 0; past = 0 }
+boundsAt none items = record { first = 0; past = 0 }
 boundsAt (some octet) items = boundsOf octet items
 
 -- the row of an element of a shape that stands from first to past and has these items
@@ -64,11 +64,11 @@ rowOf shape s first past items =
 
 -- "Elements meet end to end from 0 to the stream's length."
 unfoldable pub rowsOf : Edition → List ℕ → Items → List Row
-rowsOf edition s none = []
-rowsOf edition s (item at octet first past inside after) =
-    rowOf (shapeOf edition (typeField octet)) s at (startOf (length s) after) inside ∷ rowsOf edition s after
+rowsOf edition s noItems = []
+rowsOf edition s (item at code first past inside after) =
+    rowOf (shapeOf edition (typeField code)) s at (startOf (length s) after) inside ∷ rowsOf edition s after
 
--- the twelve numbers of a row
+-- the twelve numbers of a row of the scratch
 abbrev pub cells : Row → List ℕ
 cells row =
     row .kind ∷ row .object
@@ -85,6 +85,6 @@ numbers (row ∷ rows) = cells row ++ numbers rows
 
 -- where the element with a number from 0 stands
 unfoldable pub placeOf : ℕ → Items → ℕ
-placeOf k none = 0
-placeOf zero (item at octet first past inside after) = at
-placeOf (suc k) (item at octet first past inside after) = placeOf k after
+placeOf k noItems = 0
+placeOf zero (item at code first past inside after) = at
+placeOf (suc k) (item at code first past inside after) = placeOf k after
