@@ -20,7 +20,7 @@ use Rattle.contents.specs.Search.{is, firstRun, itemsIn}
 use Rattle.contents.proofs.Firsts.{is-field}
 use Rattle.dates.specs.declared.DateFound.{DateFound}
 use Rattle.dates.specs.Dates.{Date, dateIn}
-use Rattle.dates.specs.Places.{placesFrom, Answers}
+use Rattle.dates.specs.Finding.{placesFrom, Answers}
 use Rattle.dates.proofs.Real.{asDate, found-small}
 use Rattle.elements.specs.declared.Edition.{Edition}
 use Rattle.elements.specs.Shape.{shapeOf}
@@ -144,6 +144,7 @@ module _ (s : List ℕ) (inner : Run) {items : Items} {at code first past : ℕ}
 
     span-is : (b : Bool) → eqb (d .number) 0 ≡ b → cond b (soleSpan (datePlaces items)) (record { first = 0; past = 0 })
         ≡ record { first = d .first; past = d .past }
+    unfolding placesFrom
     span-is true z = ap soleSpan (ap (placesFrom 2) profile-items ∙ a .place (eqb-true (d .number) 0 z))
     span-is false z = let n = a .no-part (eqb-false (d .number) 0 z) in rw (n .0, n .1)
 

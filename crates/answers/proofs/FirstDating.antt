@@ -14,10 +14,11 @@ use Rattle.tree.specs.Tree.{Tree, formed}
 use Rattle.runs.specs.declared.Run.{Run}
 use Rattle.contents.specs.Search.{is}
 use Rattle.contents.proofs.Firsts.{is-field}
-use Rattle.fronts.specs.First.{walkFirst, FirstItem}
+use Rattle.fronts.specs.First.{walkFirst}
+use Rattle.fronts.specs.FirstItem.{FirstItem}
 use Rattle.fronts.proofs.Firsts.{first-none}
 use Rattle.dates.specs.declared.DateFound.{DateFound}
-use Rattle.dates.specs.Places.{Answers}
+use Rattle.dates.specs.Finding.{Answers}
 use Rattle.elements.specs.declared.Edition.{Edition}
 use Rattle.elements.specs.Shape.{shapeOf}
 use Rattle.elements.specs.Judge.{profileOctet, mostElements, firstOf, placeRules}

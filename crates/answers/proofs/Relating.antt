@@ -14,7 +14,8 @@ use Rattle.parents.specs.Parent.{children}
 use Rattle.answers.specs.declared.Related.{Related}
 use Rattle.answers.specs.Table.{rowsLent}
 use Rattle.answers.specs.Answers.{onto, tableOf}
-use Rattle.answers.specs.Related.{unrelated, related, relatedTable, Relates}
+use Rattle.answers.specs.Related.{unrelated, related, relatedTable}
+use Rattle.answers.specs.Filling.{Relates}
 use Rattle.answers.proofs.Small.{refusal-small}
 
 module _ (edition : Edition) (s table : List ℕ) (row room : ℕ) (list : List ℕ) where

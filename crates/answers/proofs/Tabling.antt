@@ -25,7 +25,8 @@ use Rattle.judging.proofs.Rows.{saying-length}
 use Rattle.reading.specs.Match.{forEach, only}
 use Rattle.reading.proofs.Scratch.{filled-ready}
 use Rattle.parents.specs.Parent.{parent, noParent, rowOrNone, isRow, children}
-use Rattle.answers.specs.Table.{tableWidth, rowNumbers, tableNumbers, Tabled, PutsRow, Fills, parentAt, rowsWith}
+use Rattle.answers.specs.Table.{tableWidth, rowNumbers, tableNumbers, parentAt}
+use Rattle.answers.specs.Filling.{Tabled, PutsRow, Fills, rowsWith}
 use Rattle.answers.specs.Answers.{elementsIn, onto, tableOf}
 
 -- the numbers of row j, among those of all rows

@@ -26,7 +26,8 @@ use Rattle.answers.specs.declared.Question.{Question}
 use Rattle.answers.specs.declared.Question.the-variants.{Rules, Check, Content, Joined, List as Reading, Children, Order, Text}
 use Rattle.answers.specs.Answers.{ruledBy, ruled, CheckOutcome, JoinedOutcome}
 use Rattle.answers.specs.Asking.{ListsFlat, Fetches}
-use Rattle.answers.specs.Related.{Relates, ChildrenOutcome, relatedList, related}
+use Rattle.answers.specs.Related.{ChildrenOutcome, relatedList, related}
+use Rattle.answers.specs.Filling.{Relates}
 use Rattle.answers.specs.Questions.{reasonTold, checkTold, locatedTold, copiedTold, listedTold, relatedTold, orderedTold, checkOf, locatedOf, copiedOf, listedOf, relatedOf, orderedOf, refusedTold, Leaves}
 use Rattle.answers.specs.Questions.{shownTold, shownOf}
 use Rattle.answers.specs.Showing.{TextsFlat}

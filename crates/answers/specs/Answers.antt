@@ -17,7 +17,7 @@ use Rattle.contents.specs.declared.Span.{Span}
 use Rattle.elements.specs.declared.Row.{Row}
 use Rattle.elements.specs.declared.Edition.{Edition}
 use Rattle.elements.specs.Judge.{Content, single, inPieces, bytesOf, joinedContent, Element}
-use Rattle.elements.specs.ElementRows.{noSpan}
+use Rattle.contents.specs.Search.{noSpan}
 use Rattle.letters.specs.Letter.{Letter, letter, refusal, letterIn, rowsIn}
 use Rattle.reading.specs.declared.Match.{Match}
 use Rattle.reading.specs.declared.Side.{Side}

@@ -11,14 +11,13 @@ use lib.Seq.{slice}
 use Rattle.octets.specs.Walk.{Items}
 use Rattle.tree.specs.Tree.{Tree, treeOf}
 use Rattle.contents.specs.declared.Span.{Span}
-use Rattle.contents.specs.Search.{firstRun, itemsIn}
+use Rattle.contents.specs.Search.{firstRun, itemsIn, noSpan}
 use Rattle.calendar.specs.declared.Day.{Day}
 use Rattle.calendar.specs.Calendar.{noDay}
 use Rattle.dates.specs.Dates.{Date, dateIn}
-use Rattle.dates.specs.Places.{Place, bounds, noBounds, placesFrom}
+use Rattle.dates.specs.Places.{Place, bounds, noBounds, zerosAt, inEachAt}
 use Rattle.elements.specs.declared.Edition.{Edition}
 use Rattle.elements.specs.Judge.{profileOctet}
-use Rattle.elements.specs.ElementRows.{noSpan}
 use Rattle.letters.specs.Letter.{itemsOfStream}
 use Rattle.answers.specs.declared.Reason.{Reason}
 use Rattle.answers.specs.declared.Dated.{Dated}
@@ -50,7 +49,7 @@ dateOf edition s = dateAfter (ruled edition s) (dateIn (profileIn (treeOf s)))
 
 -- Where it stands: the value of the one item on the path. With a refusal the bounds are 0 and 0.
 abbrev pub datePlaces : Items → List Place
-datePlaces elements = placesFrom 2 (itemsIn profileOctet elements)
+datePlaces elements = inEachAt 0xA3 (inEachAt 0xA0 zerosAt) (itemsIn profileOctet elements)
 
 abbrev pub soleSpan : List Place → Span
 soleSpan [] = noSpan

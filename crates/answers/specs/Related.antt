@@ -50,9 +50,3 @@ pub record ChildrenOutcome (edition : Edition) (s table : List ℕ) (row : ℕ) 
   pub answered : answer ≡ related edition s table row (length list)
   pub tabled : tableAfter ≡ relatedTable edition s table row (length list)
   pub filled : listAfter ≡ relatedList edition s table row list
-
--- the same for a list of which no more than so many numbers may be used
-pub record Relates (edition : Edition) (s table : List ℕ) (row room : ℕ) (list : List ℕ) (answer : Related) (tableAfter listAfter : List ℕ) : Type 0 where
-  pub answered : answer ≡ related edition s table row room
-  pub tabled : tableAfter ≡ relatedTable edition s table row room
-  pub filled : listAfter ≡ childrenOnto edition s row (answer .number) list

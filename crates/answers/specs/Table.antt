@@ -2,20 +2,15 @@
 -- element, its identifier, the unit's logical identifier, the portions' value, the content"; "an incomplete last row isn't used". W-204: "The table row
 -- grows to thirteen numbers, the last being the parent's row". The scratch's row (`scratchWidth`, `cells`) has what is read of an element; what is told of
 -- it besides is added to the table's row alone, here. Definitions only: assumes nothing.
-use mathlib.Core.Path.{_≡_}
-use Prim.Native.Nat.{ℕ, zero, suc, _+_, _*_, _/_}
+use Prim.Native.Nat.{ℕ, _+_, _*_, _/_}
 use mathlib.Core.Bool.{Bool}
 use mathlib.Core.List.{List, [], _∷_, _++_}
-use mathlib.Core.Option.{some}
-use lib.Dec.{eqb, ltb}
-use lib.ListN.{length, getD, take, drop, getElem?}
-use lib.Seq.{sets}
-use Rattle.index.specs.Rows.{scratchWidth}
+use lib.Dec.{ltb}
+use lib.ListN.{length, getD}
 use Rattle.elements.specs.declared.Row.{Row}
 use Rattle.elements.specs.Judge.{Element}
-use Rattle.elements.specs.ElementRows.{cells, numbers}
-use Rattle.reading.specs.Match.{forEach, only}
-use Rattle.reading.specs.Ready.{RowsTell}
+use Rattle.elements.specs.ElementRows.{cells}
+use Rattle.reading.specs.Match.{forEach}
 use Rattle.parents.specs.Parent.{parent, rowOrNone}
 
 -- "thirteen numbers"
@@ -38,24 +33,6 @@ rowsLent table = length table / tableWidth
 abbrev pub tooFewRows : (table : List ℕ) → List Element → Bool
 tooFewRows table elements = ltb (rowsLent table) (length elements)
 
--- the scratch has these rows first, of an accepted letter with these elements
-pub record Tabled (s scratch : List ℕ) (count : ℕ) (elements : List Element) (rows : List Row) : Type 0 where
-  pub ready : RowsTell s scratch count elements
-  pub counted : length rows ≡ count
-  pub written : take (count * scratchWidth) scratch ≡ numbers rows
-
--- row j is put in its place
-abbrev pub PutsRow : (s scratch : List ℕ) (count j : ℕ) (table tableAfter : List ℕ) → Type 0
-PutsRow s scratch count j table tableAfter =
-    (elements : List Element) (rows : List Row) (row : Row) → Tabled s scratch count elements rows → getElem? rows j ≡ some row
-    → tableAfter ≡ sets table (j * tableWidth) (rowNumbers elements j row)
-
--- all rows are, in front of what the table held
-abbrev pub Fills : (s scratch : List ℕ) (count : ℕ) (table tableAfter : List ℕ) → Type 0
-Fills s scratch count table tableAfter =
-    (elements : List Element) (rows : List Row) → Tabled s scratch count elements rows
-    → tableAfter ≡ tableNumbers elements rows ++ drop (count * tableWidth) table
-
 -- where a row has its parent's row
 abbrev pub parentColumn : ℕ
 parentColumn = 12
@@ -63,8 +40,3 @@ parentColumn = 12
 -- the number that row j has there
 abbrev pub parentAt : (table : List ℕ) → (j : ℕ) → ℕ
 parentAt table j = getD table (j * tableWidth + parentColumn) 0
-
--- of so many rows from j on, those that have this one as their parent
-unfoldable pub rowsWith : (table : List ℕ) → (row j left : ℕ) → List ℕ
-rowsWith table row j zero = []
-rowsWith table row j (suc k) = only (eqb (parentAt table j) row) j ++ rowsWith table row (suc j) k

@@ -15,8 +15,9 @@ ghost use Rattle.tree.specs.Tree.{treeOf};
 ghost use Rattle.tree.specs.Accepts.{Accepts};
 ghost use Rattle.elements.specs.Judge.{mostElements};
 ghost use Rattle.letters.specs.Scratch.{Filled};
-ghost use Rattle.answers.specs.Table.{tableWidth, rowsWith};
-ghost use Rattle.answers.specs.Related.{unrelated, Relates};
+ghost use Rattle.answers.specs.Table.{tableWidth};
+ghost use Rattle.answers.specs.Filling.{rowsWith, Relates};
+ghost use Rattle.answers.specs.Related.{unrelated};
 
 fn wide(x: u32) -> usize
     ensures { λ r. ⌜ r ≡ x ⌝ }

@@ -11,7 +11,7 @@ ghost use mathlib.Core.Path.{_≡_};
 ghost use Prim.Native.Nat.{_≤_};
 ghost use lib.ListN.{length};
 ghost use Rattle.octets.specs.Walk.{streamLimit};
-ghost use Rattle.fronts.specs.First.{FirstItem};
+ghost use Rattle.fronts.specs.FirstItem.{FirstItem};
 ghost use Rattle.answers.specs.FirstDates.{FirstDateOutcome};
 ghost use Rattle.answers.specs.Dating.{FirstTells};
 

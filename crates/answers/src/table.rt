@@ -6,7 +6,8 @@ ghost use lib.ListN.{length};
 ghost use Rattle.elements.specs.Judge.{mostElements};
 ghost use Rattle.reading.specs.declared.Side.{Side};
 ghost use Rattle.reading.specs.Ready.{Searchable};
-ghost use Rattle.answers.specs.Table.{tableWidth, PutsRow, Fills};
+ghost use Rattle.answers.specs.Table.{tableWidth};
+ghost use Rattle.answers.specs.Filling.{PutsRow, Fills};
 
 pub const TABLE_WIDTH: usize = 13;
 

@@ -16,7 +16,7 @@ use Rattle.laws.proofs.Tests.{cond-holds}
 use Rattle.octets.specs.declared.Outcome.{Outcome}
 use Rattle.octets.specs.declared.Outcome.the-variants.{Refused}
 use Rattle.octets.specs.Walk.{run, answer, walkOf}
-use Rattle.octets.specs.Further.{told}
+use Rattle.octets.specs.Told.{told}
 use Rattle.octets.proofs.Turns.{plus-zero}
 use Rattle.blocks.specs.Engine.{Standing, reading, found, State, onward, step, feed, fresh, stateAfter}
 use Rattle.blocks.specs.Blocks.{start, takeBlock, toldOf, close, takeBlocks, kept, atClose}

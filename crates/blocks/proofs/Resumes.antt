@@ -13,7 +13,7 @@ use Rattle.headers.specs.Head.{constructed, headAt}
 use Rattle.octets.specs.declared.Outcome.{Outcome}
 use Rattle.octets.specs.declared.Outcome.the-variants.{Ended, Refused}
 use Rattle.octets.specs.Walk.{run, answer}
-use Rattle.octets.specs.Further.{valueOf}
+use Rattle.octets.specs.Values.{valueOf}
 use Rattle.octets.specs.Further.{plus}
 use Rattle.octets.proofs.Turns.{plus-plus, closes, refuses, passes, breaks, unclosed, closed}
 use Rattle.blocks.specs.Engine.{Open, limitOf, markedOf, roomOf}

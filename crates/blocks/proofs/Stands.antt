@@ -18,7 +18,7 @@ use Rattle.headers.proofs.Lies.{HeadOk, head-ok}
 use Rattle.laws.proofs.Tests.{cond-holds}
 use Rattle.octets.specs.declared.Outcome.{Outcome}
 use Rattle.octets.specs.declared.Outcome.the-variants.{Ended, Refused}
-use Rattle.octets.specs.Further.{told}
+use Rattle.octets.specs.Told.{told}
 use Rattle.octets.proofs.Turns.{header-ok, mark-ok}
 use Rattle.blocks.specs.Engine.{Open, Standing, reading, found, limitOf, markedOf, roomOf, wanted, whole, moved, settle, arrive, enter, decide, inHeader, onward}
 use Rattle.blocks.specs.Blocks.{toldOf}

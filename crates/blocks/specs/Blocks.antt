@@ -5,7 +5,7 @@ use mathlib.Core.List.{List, [], _∷_, _++_}
 use lib.ListN.{length}
 use lib.Dec.{eqb, leb}
 use Rattle.octets.specs.Walk.{streamLimit, walkOf}
-use Rattle.octets.specs.Further.{Told, told}
+use Rattle.octets.specs.Told.{Told, told}
 use Rattle.blocks.specs.Engine.{Standing, reading, found, State, feed, fresh}
 
 -- a number and a state: what the start gives, and what taking a block gives

@@ -3,7 +3,7 @@
 -- Definitions only: assumes nothing.
 use Prim.Native.Nat.{ℕ}
 use mathlib.Core.List.{List, [], _∷_}
-use Rattle.octets.specs.Further.{Told}
+use Rattle.octets.specs.Told.{Told}
 use Rattle.octets.specs.Examples.{gives, many}
 
 pub record Example : Type 0 where

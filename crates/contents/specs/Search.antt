@@ -38,10 +38,14 @@ firstRun octet empty = empty
 firstRun octet (leaf type value after) = firstRun octet after
 firstRun octet (branch type inside after) = cond (is octet type) inside (firstRun octet after)
 
+-- the pair of what is absent
+abbrev pub noSpan : Span
+noSpan = record { first = 0; past = 0 }
+
 -- "first and past .. All pairs but the element's bound a value": the bounds of the value of the first item with the octet.
 -- "Absent is 0 and 0."
 unfoldable pub boundsOf : (octet : ℕ) → Items → Span
-boundsOf octet noItems = record { first = 0; past = 0 }
+boundsOf octet noItems = noSpan
 boundsOf octet (item at type first past inside after) = cond (eqb type octet) (record { first = first; past = past }) (boundsOf octet after)
 
 -- the items inside the first item with the octet

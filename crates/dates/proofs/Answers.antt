@@ -13,7 +13,7 @@ use Rattle.dates.specs.declared.Found.{Found}
 use Rattle.calendar.specs.Calendar.{dayAt, namesDay, noDay}
 use Rattle.calendar.proofs.Named.{named-year}
 use Rattle.dates.specs.Dates.{Date, noDateBy, dateFrom, theDate, dateIn}
-use Rattle.dates.specs.Places.{placesFrom, readAt, Tells, Answers}
+use Rattle.dates.specs.Finding.{placesFrom, readAt, Tells, Answers}
 use Rattle.dates.proofs.Trees.{dates-places, not-one, is-one, one-date}
 
 -- a refusal as the code answers it

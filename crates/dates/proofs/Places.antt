@@ -12,7 +12,8 @@ use Rattle.octets.specs.Walk.{Items, noItems}
 use Rattle.runs.specs.declared.Run.{Run}
 use Rattle.runs.specs.Runs.{itemsOf, Meeting}
 use Rattle.dates.specs.declared.Found.{Found}
-use Rattle.dates.specs.Places.{Place, bounds, noBounds, zeroAt, zerosAt, inEachAt, pathOctet, placesFrom, counted, found, Tells, no-place, sole, unfit}
+use Rattle.dates.specs.Places.{Place, bounds, noBounds, zeroAt, zerosAt, inEachAt}
+use Rattle.dates.specs.Finding.{pathOctet, placesFrom, counted, found, Tells, no-place, sole, unfit}
 
 pub counted-append : (xs ys : List Place) → counted (xs ++ ys) ≡ counted xs + counted ys
 unfolding counted

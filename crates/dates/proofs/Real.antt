@@ -21,7 +21,8 @@ use Rattle.calendar.specs.Named.{Names}
 use Rattle.calendar.proofs.Named.{names, named, days-small}
 use Rattle.dates.specs.declared.DateFound.{DateFound}
 use Rattle.dates.specs.Dates.{Date, DateItem, inPrimitive, inConstructed, noDateBy, dateFrom, theDate, datesIn, dateIn}
-use Rattle.dates.specs.Places.{bounds, placesFrom, Answers}
+use Rattle.dates.specs.Places.{bounds}
+use Rattle.dates.specs.Finding.{placesFrom, Answers}
 
 -- the value of a date that is not refused is the sole item's on the path, and names the day
 pub record Given (t : Tree) (a : Date) : Type 0 where

@@ -16,7 +16,8 @@ use Rattle.tree.specs.Tree.{Tree, plain, formed}
 use Rattle.dates.specs.declared.Found.{Found}
 use Rattle.dates.specs.Dates.{DateItem, inPrimitive, zeros, inEach, datesIn, noDateBy, dateFrom, theDate}
 use Rattle.dates.specs.Dates as dates
-use Rattle.dates.specs.Places.{Place, bounds, noBounds, zeroAt, zerosAt, inEachAt, placesFrom, readAt, counted, Tells, no-place, sole, unfit}
+use Rattle.dates.specs.Places.{Place, bounds, noBounds, zeroAt, zerosAt, inEachAt}
+use Rattle.dates.specs.Finding.{placesFrom, readAt, counted, Tells, no-place, sole, unfit}
 
 -- an octet that is a given one has the form of that one
 form-of : (octet known : ℕ) (b : Bool) → eqb octet known ≡ true → constructed octet ≡ b → constructed known ≡ b

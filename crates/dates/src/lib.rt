@@ -5,7 +5,7 @@ ghost use mathlib.Core.Path.{_≡_};
 ghost use mathlib.Core.Bool.{cond};
 ghost use lib.Dec.{eqb};
 ghost use Rattle.runs.specs.Runs.{itemsOf, Fine};
-ghost use Rattle.dates.specs.Places.{pathOctet, placesFrom, found, Tells, Answers};
+ghost use Rattle.dates.specs.Finding.{pathOctet, placesFrom, found, Tells, Answers};
 
 const MANAGEMENT: usize = 0xA3;
 

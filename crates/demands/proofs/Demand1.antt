@@ -13,7 +13,7 @@ use Rattle.octets.specs.declared.Outcome.{Outcome}
 use Rattle.octets.specs.declared.Outcome.the-variants.{Ended, Refused}
 use Rattle.headers.specs.Head.{isIn}
 use Rattle.octets.specs.Walk.{count, streamLimit, deepest, End, ends, stops, run, outcomeOf, walkOf}
-use Rattle.octets.specs.Further.{told}
+use Rattle.octets.specs.Told.{told}
 use Rattle.laws.proofs.Tests.{cond-holds}
 use Rattle.octets.proofs.Half.{half}
 use Rattle.tree.specs.Tree.{treeOf}

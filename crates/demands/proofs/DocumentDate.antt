@@ -23,7 +23,8 @@ use Rattle.contents.specs.declared.Span.{Span}
 use Rattle.contents.specs.Search.{firstRun, itemsIn}
 use Rattle.contents.proofs.Firsts.{run-here, run-after}
 use Rattle.dates.specs.Dates.{Date, DateItem, inPrimitive, inConstructed, noDateBy, dateFrom as datedValue, theDate, datesIn, dateIn}
-use Rattle.dates.specs.Places.{Place, bounds, noBounds, readAt}
+use Rattle.dates.specs.Places.{Place, bounds, noBounds}
+use Rattle.dates.specs.Finding.{readAt}
 use Rattle.dates.proofs.Trees.{dates-places}
 use Rattle.dates.proofs.Real.{date-is-real, real-is-date, else-empty}
 use Rattle.elements.specs.declared.Edition.{Edition}
@@ -37,8 +38,7 @@ use Rattle.answers.specs.Dating.{refusedDated}
 use Rattle.answers.proofs.Small.{refusal-small}
 use Rattle.answers.proofs.Working.{ruled-letter, ruled-refused, is-refused}
 use Rattle.answers.proofs.Dating.{refused-told}
-use Rattle.demands.specs.Demands.{Answered}
-use Rattle.demands.specs.SameLetter.{IsAccepted}
+use Rattle.demands.specs.Demands.{Answered, IsAccepted}
 use Rattle.demands.specs.DocumentDate.{dateItems, IsDate, DateOfLetter, DocumentDate}
 use Rattle.demands.proofs.Demand2.{normal-accepted, normal-tree}
 

@@ -17,7 +17,8 @@ use Rattle.parents.proofs.Climbing.{climb-ends, no-own-ancestor}
 use Rattle.parents.proofs.Children.{children-are, children-all, children-sorted}
 use Rattle.answers.specs.declared.Related.{Related}
 use Rattle.answers.specs.Answers.{elementsIn}
-use Rattle.answers.specs.Related.{Relates, related, relatedList}
+use Rattle.answers.specs.Related.{related, relatedList}
+use Rattle.answers.specs.Filling.{Relates}
 use Rattle.answers.proofs.Letters.{letter-found}
 use Rattle.answers.proofs.Tabling.{table-tells}
 use Rattle.answers.proofs.Relating.{relates-refused, relates-16, relates-20, relates-25, relates-letter}

@@ -35,7 +35,7 @@ use Rattle.answers.proofs.Letters.{letter-found}
 use Rattle.answers.proofs.Working.{ruled-letter}
 use Rattle.answers.proofs.Dating.{FirstPasses, first-let, letter-first, passed-profile, met-some}
 use Rattle.answers.proofs.FirstDating.{rule-formed}
-use Rattle.demands.specs.SameLetter.{IsAccepted}
+use Rattle.demands.specs.Demands.{IsAccepted}
 use Rattle.demands.specs.FirstDate.{WholeIn, firstNumbersGiven, FirstDate}
 use Rattle.demands.proofs.DocumentDate.{Given, by-rules, a-date, no-one, no-day, after-given, after-empty, numbers-empty, run-items}
 

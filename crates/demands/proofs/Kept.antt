@@ -9,8 +9,7 @@ use lib.ListN.{getElem?}
 use Rattle.tree.specs.Tree.{Tree, treeOf}
 use Rattle.normal.specs.Normal.{normalForm}
 use Rattle.contents.specs.declared.Span.{Span}
-use Rattle.contents.specs.Search.{Value, absent, octets}
-use Rattle.elements.specs.ElementRows.{noSpan}
+use Rattle.contents.specs.Search.{Value, absent, octets, noSpan}
 use Rattle.elements.specs.declared.Row.{Row}
 use Rattle.elements.specs.declared.Edition.{Edition}
 use Rattle.elements.specs.Judge.{Content, single, inPieces, Element}

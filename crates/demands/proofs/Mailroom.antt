@@ -26,8 +26,7 @@ use Rattle.answers.specs.Answers.{writtenBy, written, writtenOutput}
 use Rattle.answers.specs.Short.{shortLetter, shortBy, writtenShort, writtenShortOutput}
 use Rattle.answers.proofs.Small.{refusal-small}
 use Rattle.demands.specs.Refusals.{TopItem, Refuses, too-many, unknown, no-profile, later-profile, misshapen, mistyped, misspelt, repeated, RefusedBy, no-element, at-element, RefusedWith, too-long, at-fault, by-element}
-use Rattle.demands.specs.Demands.{Answered}
-use Rattle.demands.specs.SameLetter.{IsAccepted}
+use Rattle.demands.specs.Demands.{Answered, IsAccepted}
 use Rattle.demands.specs.Mailroom.{Mailroom}
 use Rattle.demands.proofs.Demand1.{told-small, told-own, told-zero, small-in}
 use Rattle.demands.proofs.Refusals.{refused-is}

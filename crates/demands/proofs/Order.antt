@@ -24,7 +24,7 @@ use Rattle.order.specs.Streams.{Stream, asked, profile, streams}
 use Rattle.order.proofs.Letters.{answered, computed-is, is-computed}
 use Rattle.order.proofs.Streams.{by-class-a, by-class-b}
 use Rattle.answers.proofs.Small.{refusal-small, place-inside}
-use Rattle.demands.specs.SameLetter.{IsAccepted}
+use Rattle.demands.specs.Demands.{IsAccepted}
 use Rattle.demands.specs.Order.{BesideRules, Answers, AnyOrder}
 
 module _ (edition : Edition) (class : Class) (s : List ℕ) where

@@ -30,7 +30,8 @@ use Rattle.answers.specs.Answers.{writtenBy, written}
 use Rattle.answers.proofs.Letters.{letter-found}
 use Rattle.answers.proofs.Judging.{accepts-walked}
 use Rattle.answers.proofs.Small.{refusal-small}
-use Rattle.demands.specs.SameLetter.{IsAccepted, formWritten, SameLetter, oneOrder, otherOrder, OrderCounts}
+use Rattle.demands.specs.SameLetter.{formWritten, SameLetter, oneOrder, otherOrder, OrderCounts}
+use Rattle.demands.specs.Demands.{IsAccepted}
 use Rattle.demands.proofs.Demand2.{writes, normal-accepted}
 
 -- a letter is accepted with its tree

@@ -22,10 +22,10 @@ use Rattle.tree.proofs.Here.{sliced}
 use Rattle.tree.proofs.Sound.{Past, sound}
 use Rattle.runs.proofs.Heads.{item-octet}
 use Rattle.contents.specs.declared.Span.{Span}
-use Rattle.contents.specs.Search.{is, amount, firstValue, firstRun, boundsOf, itemsIn as insideOf}
+use Rattle.contents.specs.Search.{is, amount, firstValue, firstRun, boundsOf, itemsIn as insideOf, noSpan}
 use Rattle.contents.proofs.Firsts.{is-field, amount-formed}
 use Rattle.portions.specs.Portions.{allPortions, values, all}
-use Rattle.elements.specs.ElementRows.{noSpan, bytesIn, bodyIn, holderIn, contentOctet, boundsAt, rowOf, rowsOf}
+use Rattle.elements.specs.ElementRows.{bytesIn, bodyIn, holderIn, contentOctet, boundsAt, rowOf, rowsOf}
 use Rattle.elements.specs.declared.Row.{Row}
 use Rattle.elements.specs.declared.Edition.{Edition}
 use Rattle.elements.specs.Shape.{ContentItem, whole, pieced, Contents, profile, described, unit, style, protected, Shape, shapeOf}

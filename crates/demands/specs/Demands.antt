@@ -12,8 +12,8 @@ use Rattle.octets.specs.Walk.{count, streamLimit, deepest}
 use Rattle.tree.specs.Tree.{Tree, empty, leaf, branch, treeOf, Codes}
 use Rattle.normal.specs.Normal.{normalForm}
 use Rattle.contents.specs.declared.Span.{Span}
-use Rattle.contents.specs.Search.{Value, absent, octets}
-use Rattle.elements.specs.ElementRows.{noSpan, bytesIn}
+use Rattle.contents.specs.Search.{Value, absent, octets, noSpan}
+use Rattle.elements.specs.ElementRows.{bytesIn}
 use Rattle.elements.specs.declared.Row.{Row}
 use Rattle.elements.specs.declared.Edition.{Edition}
 use Rattle.elements.specs.Judge.{bodyOf, portionsOctet, amountAt, bytesOf, Content, single, inPieces, joinedContent, Element, accepted, judge}
@@ -79,6 +79,12 @@ pub record IsLetterOf (edition : Edition) (s : List ℕ) (headers : ℕ) (elemen
   pub within : length s ≤ streamLimit
   pub shaped : judge edition tree ≡ accepted elements
   pub counted : headers ≡ itemCount tree
+
+-- a stream that is accepted by rules 1 to 15
+pub record IsAccepted (edition : Edition) (s : List ℕ) : Type 0 where
+  pub headers : ℕ
+  pub elements : List Element
+  pub judged : letterIn edition s ≡ letter headers elements
 
 -- the levels that are left for pieces: an element stands at level 1, the 24 or 30 at level 2, and "level 16 is the deepest"
 abbrev pub pieceLevels : ℕ

@@ -18,8 +18,7 @@ use Rattle.elements.specs.declared.Edition.{Edition}
 use Rattle.letters.specs.Letter.{refusal, itemsOfStream, letterIn}
 use Rattle.answers.specs.Dates.{profileIn, dateOf, datePlaces, dated}
 use Rattle.answers.specs.Dating.{refusedDated}
-use Rattle.demands.specs.Demands.{Answered}
-use Rattle.demands.specs.SameLetter.{IsAccepted}
+use Rattle.demands.specs.Demands.{Answered, IsAccepted}
 
 -- the items [0] on the path in the profile of a stream, 80 or A0, each A3 and each A0 in it counted
 abbrev pub dateItems : (s : List ℕ) → List DateItem

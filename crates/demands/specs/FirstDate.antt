@@ -12,7 +12,7 @@ use Rattle.elements.specs.declared.Edition.{Edition}
 use Rattle.answers.specs.Dates.{dated}
 use Rattle.answers.specs.Dating.{refusedDated}
 use Rattle.answers.specs.FirstDates.{firstDateOf, withUnread, firstDated}
-use Rattle.demands.specs.SameLetter.{IsAccepted}
+use Rattle.demands.specs.Demands.{IsAccepted}
 
 -- the first element is whole in these octets: walked alone, it meets no fault
 pub record WholeIn (front : List ℕ) : Type 0 where

@@ -10,7 +10,8 @@ use Rattle.octets.specs.Walk.{streamLimit}
 use Rattle.tree.specs.Tree.{Codes}
 use Rattle.normal.specs.Normal.{normalForm}
 use Rattle.contents.specs.declared.Span.{Span}
-use Rattle.elements.specs.ElementRows.{noSpan, bytesIn}
+use Rattle.elements.specs.ElementRows.{bytesIn}
+use Rattle.contents.specs.Search.{noSpan}
 use Rattle.elements.specs.declared.Row.{Row}
 use Rattle.elements.specs.declared.Edition.{Edition}
 use Rattle.elements.specs.Judge.{Content, single, inPieces, Element}

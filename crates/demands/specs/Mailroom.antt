@@ -10,8 +10,7 @@ use Rattle.normal.specs.Short.{shortLimit}
 use Rattle.elements.specs.declared.Edition.{Edition}
 use Rattle.answers.specs.Answers.{written, writtenOutput}
 use Rattle.answers.specs.Short.{writtenShort, writtenShortOutput}
-use Rattle.demands.specs.Demands.{Answered}
-use Rattle.demands.specs.SameLetter.{IsAccepted}
+use Rattle.demands.specs.Demands.{Answered, IsAccepted}
 
 pub record Mailroom (edition : Edition) : Type 0 where
   -- what it may give: 1 to 15 and 18, and no 17; "1 in the new question means over 65,535"

@@ -12,7 +12,7 @@ use Rattle.order.specs.declared.Class.{Class}
 use Rattle.order.specs.declared.Class.the-variants.{A, B}
 use Rattle.order.specs.declared.Ordered.{Ordered}
 use Rattle.order.specs.Question.{verdict, outOfOrder, OrderIs, Answered}
-use Rattle.demands.specs.SameLetter.{IsAccepted}
+use Rattle.demands.specs.Demands.{IsAccepted}
 
 pub record BesideRules (edition : Edition) (class : Class) (s : List ℕ) : Type 0 where
   -- every stream has an answer, and one alone

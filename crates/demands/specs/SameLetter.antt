@@ -11,15 +11,7 @@ use Rattle.normal.specs.Normal.{Octets, normalForm}
 use Rattle.normal.specs.Forms.{Definite}
 use Rattle.elements.specs.declared.Edition.{Edition}
 use Rattle.elements.specs.declared.Edition.the-variants.{Of1988}
-use Rattle.elements.specs.Judge.{Element}
-use Rattle.letters.specs.Letter.{letter, letterIn}
 use Rattle.answers.specs.Answers.{written, writtenOutput}
-
--- a stream that is accepted by rules 1 to 15
-pub record IsAccepted (edition : Edition) (s : List ℕ) : Type 0 where
-  pub headers : ℕ
-  pub elements : List Element
-  pub judged : letterIn edition s ≡ letter headers elements
 
 -- what the writer has written of a stream, to an output that is lent
 abbrev pub formWritten : Edition → (s out : List ℕ) → List ℕ

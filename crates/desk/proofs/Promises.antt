@@ -19,7 +19,7 @@ use Rattle.reading.proofs.Lists.{sorted-once}
 use Rattle.reading.proofs.Each.{only-in, only-out, only-sorted, From, each-out, each-in, each-sorted, each-few}
 use Rattle.answers.proofs.Letters.{letter-found}
 use Rattle.demands.specs.Refusals.{TopItem, topItems, saysIn}
-use Rattle.demands.specs.SameLetter.{IsAccepted}
+use Rattle.demands.specs.Demands.{IsAccepted}
 use Rattle.demands.proofs.Refusals.{accepted-elements}
 use Rattle.demands.proofs.Demand2.{normal-tree}
 use Rattle.dimensions.specs.Dimensions.{verdictOf}

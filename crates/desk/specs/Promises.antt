@@ -14,7 +14,7 @@ use Rattle.elements.specs.declared.Edition.the-variants.{Of1988, Of1993}
 use Rattle.elements.specs.Judge.{Element}
 use Rattle.reading.specs.Lists.{Sorted, Once}
 use Rattle.demands.specs.Refusals.{TopItem, topItems, saysIn}
-use Rattle.demands.specs.SameLetter.{IsAccepted}
+use Rattle.demands.specs.Demands.{IsAccepted}
 use Rattle.demands.specs.Editions.{isProtected, agree}
 use Rattle.measures.specs.Verdicts.{within, essentialPairs, nonEssentialPairs}
 use Rattle.dimensions.specs.Dimensions.{verdictOf}

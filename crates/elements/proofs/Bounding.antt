@@ -17,12 +17,11 @@ use Rattle.runs.specs.declared.Run.{Run}
 use Rattle.runs.specs.Runs.{itemsOf, treeIn, definiteRun, Fine}
 use Rattle.contents.specs.declared.Part.{Part}
 use Rattle.contents.specs.declared.Span.{Span}
-use Rattle.contents.specs.Search.{absent, amount, firstValue, firstRun, boundsOf, itemsIn}
+use Rattle.contents.specs.Search.{absent, amount, firstValue, firstRun, boundsOf, itemsIn, noSpan}
 use Rattle.contents.specs.First.{spanOf, IsFirst, Lacks}
 use Rattle.contents.specs.Gather.{Counted}
 use Rattle.contents.proofs.Firsts.{amount-formed, value-after, run-after}
 use Rattle.elements.specs.Says.{Placed, Bounds}
-use Rattle.elements.specs.ElementRows.{noSpan}
 use Rattle.elements.specs.Frames.{Bounding, Inner}
 
 pub no-span-placed : (s : List ℕ) → Placed s noSpan

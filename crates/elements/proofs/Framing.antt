@@ -12,13 +12,12 @@ use Rattle.runs.specs.declared.Run.{Run}
 use Rattle.runs.specs.Runs.{treeIn, definiteRun, Fine}
 use Rattle.contents.specs.declared.Opening.{Opening}
 use Rattle.contents.specs.declared.Span.{Span}
-use Rattle.contents.specs.Search.{inOrder}
+use Rattle.contents.specs.Search.{inOrder, noSpan}
 use Rattle.contents.specs.Opening.{Opens}
 use Rattle.contents.proofs.Orders.{in-order-few}
 use Rattle.elements.specs.declared.Holder.{Holder}
 use Rattle.elements.specs.declared.Slots.{Slots}
 use Rattle.elements.specs.Slots.{slotBody, slotOrdered, slotItems}
-use Rattle.elements.specs.ElementRows.{noSpan}
 use Rattle.elements.specs.Frames.{Bounding, Inner, NamedIn, HoldingSlots, noHolder, Frames}
 use Rattle.elements.specs.WellMade.{WellMade}
 use Rattle.elements.proofs.Bounding.{empty-fine, empty-items, lacked-bounding}

@@ -9,7 +9,8 @@ use Rattle.tree.specs.Tree.{Tree}
 use Rattle.contents.specs.Search.{is}
 use Rattle.elements.specs.declared.Edition.{Edition}
 use Rattle.elements.specs.Shape.{shapeOf}
-use Rattle.elements.specs.Judge.{valueAt, typeOctet, typesOf, Element, elementOf, asTabled, typeFits, namesFit, mostElements, profileOctet, twice, firstOf, _when_, contentsRules, shapeRefusal, refusalOf}
+use Rattle.elements.specs.Judge.{valueAt, typeOctet, typesOf, Element, elementOf, asTabled, typeFits, namesFit, mostElements, profileOctet, twice, firstOf, _when_, contentsRules, refusalOf}
+use Rattle.elements.specs.ShapeRefusal.{shapeRefusal}
 use Rattle.elements.specs.Sees.{numberOf}
 
 -- the last test counts where none before it refuses

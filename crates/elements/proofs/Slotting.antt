@@ -13,7 +13,7 @@ use Rattle.tree.specs.Tree.{Tree, empty, leaf, branch, plain}
 use Rattle.runs.specs.declared.Run.{Run}
 use Rattle.runs.specs.Runs.{itemsOf, treeIn, Fine}
 use Rattle.contents.specs.declared.Span.{Span}
-use Rattle.contents.specs.Search.{is, absent, amount, firstValue, firstRun, boundsOf, itemsIn, isEmpty, slot, inOrder}
+use Rattle.contents.specs.Search.{is, absent, amount, firstValue, firstRun, boundsOf, itemsIn, isEmpty, slot, inOrder, noSpan}
 use Rattle.pieces.specs.Pieces.{onlyPieces}
 use Rattle.portions.specs.Portions.{allPortions, values}
 use Rattle.elements.specs.declared.Holder.{Holder}
@@ -21,8 +21,9 @@ use Rattle.elements.specs.declared.Row.{Row}
 use Rattle.elements.specs.declared.Seen.{Seen}
 use Rattle.contents.specs.declared.Slot.{Slot}
 use Rattle.elements.specs.Shape.{Contents, profile, described, unit, style, protected, Shape}
-use Rattle.elements.specs.Judge.{required, optional, asked, noneOf, typeOctet, typesOf, valueAt, Content, single, inPieces, contentOf, Element, bodyOf, elementOf, itemsInOrder, asTabled, typeFits, namesFit, shapeRefusal}
-use Rattle.elements.specs.ElementRows.{bodyIn, contentOctet, boundsAt, rowOf, noSpan}
+use Rattle.elements.specs.Judge.{required, optional, asked, noneOf, typeOctet, typesOf, valueAt, Content, single, inPieces, contentOf, Element, bodyOf, elementOf, itemsInOrder, asTabled, typeFits, namesFit}
+use Rattle.elements.specs.ShapeRefusal.{shapeRefusal}
+use Rattle.elements.specs.ElementRows.{bodyIn, contentOctet, boundsAt, rowOf}
 use Rattle.elements.specs.Frames.{Holding, HoldingShape, HoldingSlots}
 use Rattle.elements.specs.Sees.{Sees, SeesShape, SeesSlots}
 use Rattle.elements.specs.Slots.{noItem, slotsBy, slotsOf, slotBody, slotItems, slotContent, slotOctet, slotElement, slotOrdered, slotTabled, slotRefusal, slotRow}

@@ -11,15 +11,11 @@ use Rattle.headers.specs.Head.{typeField}
 use Rattle.octets.specs.Walk.{Items, noItems, item, startOf}
 use Rattle.tree.specs.Tree.{Tree, plain}
 use Rattle.contents.specs.declared.Span.{Span}
-use Rattle.contents.specs.Search.{itemsIn, boundsOf}
+use Rattle.contents.specs.Search.{itemsIn, boundsOf, noSpan}
 use Rattle.elements.specs.declared.Row.{Row}
 use Rattle.elements.specs.declared.Edition.{Edition}
 use Rattle.elements.specs.Shape.{ContentItem, Contents, profile, described, unit, style, protected, Shape, shapeOf}
 use Rattle.elements.specs.Judge.{noneOf, octetOf, holdersOf, elementOf, identifierOctet, logicalOctet, portionsOctet}
-
--- the pair of what is absent
-abbrev pub noSpan : Span
-noSpan = record { first = 0; past = 0 }
 
 -- the octets that a pair bounds
 abbrev pub bytesIn : List ℕ → Span → List ℕ
@@ -43,7 +39,7 @@ contentOctet contents run = holderIn (holdersOf contents) run
 
 -- the bounds of the first item with an octet, if one is looked for. "Absent is 0 and 0."
 abbrev pub boundsAt : Option ℕ → Items → Span
-boundsAt none items = record { first = 0; past = 0 }
+boundsAt none items = noSpan
 boundsAt (some octet) items = boundsOf octet items
 
 -- the row of an element of a shape that stands from first to past and has these items

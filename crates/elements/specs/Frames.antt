@@ -11,14 +11,14 @@ use Rattle.runs.specs.Runs.{itemsOf, treeIn, definiteRun, Fine}
 use Rattle.contents.specs.declared.Part.{Part}
 use Rattle.contents.specs.declared.Span.{Span}
 use Rattle.contents.specs.First.{IsFirst, Lacks}
-use Rattle.contents.specs.Search.{Value, firstValue, firstRun, boundsOf, itemsIn}
+use Rattle.contents.specs.Search.{Value, firstValue, firstRun, boundsOf, itemsIn, noSpan}
 use Rattle.elements.specs.declared.Frame.{Frame}
 use Rattle.elements.specs.declared.Holder.{Holder}
 use Rattle.elements.specs.declared.Slots.{Slots}
 use Rattle.elements.specs.declared.Typed.{Typed}
 use Rattle.elements.specs.Judge.{Content, single, inPieces, contentOf, typeOf, typeFits}
 use Rattle.elements.specs.Slots.{slotBody, slotContent, slotOrdered, slotItems, slotOctet}
-use Rattle.elements.specs.ElementRows.{contentOctet, boundsAt, noSpan}
+use Rattle.elements.specs.ElementRows.{contentOctet, boundsAt}
 use Rattle.elements.specs.Shape.{Shape}
 use Rattle.elements.specs.Says.{Placed, Bounds}
 

@@ -123,9 +123,6 @@ typeOf absent = noType
 typeOf (octets []) = noType
 typeOf (octets (x ∷ xs)) = x
 
-abbrev pub atMostOne : (octet : ℕ) → Tree → Bool
-atMostOne octet run = leb (amount octet run) 1
-
 abbrev pub noneOf : (octet : ℕ) → Tree → Bool
 noneOf octet run = eqb (amount octet run) 0
 
@@ -300,9 +297,6 @@ abbrev pub shapeRules : Shape → Tree → List Rule
 shapeRules shape run =
     let contents = shape .contents in
     contentsRules (asTabled contents run) (typeFits (typesOf contents) (valueAt (typeOctet contents) run)) (namesFit (elementOf shape run))
-
-unfoldable pub shapeRefusal : Shape → Tree → ℕ
-shapeRefusal shape run = firstOf (shapeRules shape run)
 
 -- rules 9 to 15 for an element with a type field and a run of items, after those that are done
 unfoldable pub refusalOf : Edition → (done : List Element) → (type : List ℕ) → Tree → ℕ

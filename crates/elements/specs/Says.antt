@@ -9,11 +9,10 @@ use lib.Seq.{slice}
 use Rattle.runs.specs.declared.Run.{Run}
 use Rattle.runs.specs.Runs.{treeIn, Fine, definiteRun}
 use Rattle.contents.specs.declared.Span.{Span}
-use Rattle.contents.specs.Search.{Value, absent, octets}
+use Rattle.contents.specs.Search.{Value, absent, octets, noSpan}
 use Rattle.portions.specs.Portions.{allPortions, values}
 use Rattle.elements.specs.declared.Row.{Row}
 use Rattle.elements.specs.Judge.{Content, single, inPieces, Element, namesFit}
-use Rattle.elements.specs.ElementRows.{noSpan}
 
 -- a pair that lies in the stream
 pub record Placed (s : List ℕ) (v : Span) : Type 0 where

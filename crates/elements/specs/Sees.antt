@@ -11,7 +11,7 @@ use Rattle.runs.specs.Runs.{itemsOf, treeIn, Fine}
 use Rattle.contents.specs.declared.Gathered.{Gathered}
 use Rattle.contents.specs.declared.Sought.{Sought}
 use Rattle.contents.specs.declared.Span.{Span}
-use Rattle.contents.specs.Search.{Value}
+use Rattle.contents.specs.Search.{Value, noSpan}
 use Rattle.portions.specs.declared.PortionList.{PortionList}
 use Rattle.portions.specs.Bounds.{bounded, Inside}
 use Rattle.portions.specs.Portions.{mostPortions, all}
@@ -19,8 +19,9 @@ use Rattle.elements.specs.declared.Frame.{Frame}
 use Rattle.elements.specs.declared.Row.{Row}
 use Rattle.elements.specs.declared.Seen.{Seen}
 use Rattle.elements.specs.declared.Slots.{Slots}
-use Rattle.elements.specs.Judge.{Element, elementOf, spelt, firstOf, contentsRules, shapeRefusal}
-use Rattle.elements.specs.ElementRows.{rowOf, noSpan}
+use Rattle.elements.specs.Judge.{Element, elementOf, spelt, firstOf, contentsRules}
+use Rattle.elements.specs.ShapeRefusal.{shapeRefusal}
+use Rattle.elements.specs.ElementRows.{rowOf}
 use Rattle.elements.specs.Shape.{Shape}
 use Rattle.elements.specs.Slots.{slotElement, slotRefusal, slotRow}
 use Rattle.elements.specs.Says.{Placed, Says, RowPlaced}

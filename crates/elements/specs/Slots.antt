@@ -4,17 +4,17 @@
 use Prim.Native.Nat.{ℕ, _%_}
 use mathlib.Core.Bool.{Bool, true, false, cond, not, _&&_, _||_}
 use mathlib.Core.List.{List, [], _∷_}
-use lib.Dec.{eqb}
+use lib.Dec.{eqb, leb}
 use Rattle.octets.specs.Walk.{Items, noItems}
 use Rattle.tree.specs.Tree.{Tree, empty, plain}
 use Rattle.contents.specs.declared.Slot.{Slot}
-use Rattle.contents.specs.Search.{firstValue, firstRun, boundsOf, itemsIn, inOrder}
+use Rattle.contents.specs.Search.{firstValue, firstRun, boundsOf, itemsIn, inOrder, amount}
 use Rattle.pieces.specs.Pieces.{bitPieces}
 use Rattle.portions.specs.Portions.{all, allPortions, values}
 use Rattle.elements.specs.declared.Row.{Row}
 use Rattle.elements.specs.declared.Slots.{Slots}
 use Rattle.elements.specs.Shape.{Contents, profile, described, unit, style, protected, Shape}
-use Rattle.elements.specs.Judge.{required, optional, asked, typeOf, atMostOne, noneOf, Content, single, inPieces, piecesAlone}
+use Rattle.elements.specs.Judge.{required, optional, asked, typeOf, noneOf, Content, single, inPieces, piecesAlone}
 use Rattle.elements.specs.Judge.{Element, typeFits, namesFit, firstOf, contentsRules}
 
 -- no item, and one that is needed and that no element has
@@ -193,6 +193,10 @@ unfoldable pub slotOrdered : Slots → Tree → Bool
 slotOrdered shape run =
     shape .free
     || (inOrder (shape .one) (shape .two) run || (inOrder (shape .one) (shape .instead) run || inOrder (shape .one) (shape .tiles) run))
+
+-- at most one item of a run has the octet
+abbrev pub atMostOne : (octet : ℕ) → Tree → Bool
+atMostOne octet run = leb (amount octet run) 1
 
 -- 12
 unfoldable pub slotTabled : Slots → Tree → Bool

@@ -8,7 +8,7 @@ use Prim.Native.Nat.{ℕ}
 use Rattle.blocks.specs.Engine.{State, stateAfter}
 use Rattle.blocks.specs.Blocks.{start, takeBlock, takeBlocks, kept, close, atClose}
 use Rattle.blocks.proofs.Cutting.{any-blocks, any-close}
-use Rattle.octets.specs.Further.{Told}
+use Rattle.octets.specs.Told.{Told}
 use Rattle.engine.specs.declared.Blocks.{Blocks}
 use Rattle.engine.specs.declared.Taken.{Taken}
 use Rattle.engine.specs.Stored.{stateOf, sound, takenOf, closedOf, Starts, Takes, Calls, none, call}

@@ -7,7 +7,7 @@ use mathlib.Core.List.{List, [], _∷_}
 use lib.ListN.{getD, take}
 use lib.Dec.{eqb, leb}
 use Rattle.octets.specs.Walk.{streamLimit, deepest}
-use Rattle.octets.specs.Further.{Told}
+use Rattle.octets.specs.Told.{Told}
 use Rattle.blocks.specs.Engine.{Open, Standing, reading, found, State}
 use Rattle.blocks.specs.Blocks.{AfterBlock, start, takeBlock, close}
 use Rattle.engine.specs.declared.Blocks.{Blocks}

@@ -13,7 +13,8 @@ use Rattle.octets.proofs.Numbers.{Stops, run-stops}
 use Rattle.runs.specs.declared.Run.{Run}
 use Rattle.runs.specs.Runs.{itemsOf, definiteRun, wholeStream, Fine, Meeting}
 use Rattle.fronts.specs.declared.First.the-variants.{Refused}
-use Rattle.fronts.specs.First.{walkFirst, FirstItem, BeginsWith}
+use Rattle.fronts.specs.First.{walkFirst}
+use Rattle.fronts.specs.FirstItem.{FirstItem, BeginsWith}
 use Rattle.fronts.proofs.Alone.{alone-items, one-only, one-within, whole-alone, alone-stops}
 
 -- the item that is met in the run of the first item alone

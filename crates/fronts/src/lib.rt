@@ -7,7 +7,8 @@ ghost use mathlib.Core.Path.{_≡_};
 ghost use Prim.Native.Nat.{_<_};
 ghost use lib.ListN.{length};
 ghost use Rattle.octets.specs.Walk.{ends};
-ghost use Rattle.fronts.specs.First.{walkFirst, BeginsWith};
+ghost use Rattle.fronts.specs.First.{walkFirst};
+ghost use Rattle.fronts.specs.FirstItem.{BeginsWith};
 
 // What a stream begins with: an item that is whole, with the run inside it, or a refusal by 2 to 8.
 pub enum First {

@@ -8,7 +8,8 @@ use lib.Dec.{leb, ltb, eqb}
 use borrow.Author.Tests.{leb-true, ltb-true, eq-eqb, ne-eqb, lt-ltb, le-ltb}
 use Rattle.headers.specs.declared.Head.{Head}
 use Rattle.headers.specs.declared.Head.the-variants.{Item, ClosingMark}
-use Rattle.headers.specs.Head.{numberBits, constructed, typeNumber, misfits, octetAt, definiteAt, indefiniteAt, byFirst, lengthAt, closingAt, headAt, Passed}
+use Rattle.headers.specs.Head.{numberBits, constructed, typeNumber, misfits, octetAt, definiteAt, indefiniteAt, byFirst, lengthAt, closingAt, headAt}
+use Rattle.headers.specs.Passed.{Passed}
 use Rattle.headers.proofs.Lies.{FieldRead, in-one, in-two, in-three, item-holds}
 use Rattle.laws.proofs.Tests.{cond-holds}
 

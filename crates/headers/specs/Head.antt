@@ -180,9 +180,3 @@ closingAt s at limit marked =
 unfoldable pub headAt : List ℕ → (at limit : ℕ) → (marked : Bool) → (room : ℕ) → Head
 headAt s at limit marked room =
     cond (eqb (octetAt s at) 0) (closingAt s at limit marked) (itemAt s (octetAt s at) at limit room)
-
--- what stands there is not refused
-abbrev pub Passed : Head → Type 0
-Passed (Item h) = Unit {0}
-Passed ClosingMark = Unit {0}
-Passed (Refusal n place) = ⊥

@@ -4,7 +4,8 @@ ghost use mathlib.Core.Bool.{true, false};
 ghost use Prim.Native.Nat.{_+_, _<_, _≤_, min};
 ghost use lib.ListN.{length, take, drop};
 ghost use Rattle.headers.specs.Head.{numberBits, formAllowed, typeField, misfits, bigEndian, definiteAt, indefiniteAt, longAt, lengthAt, closingAt};
-ghost use Rattle.headers.specs.Head.{headAt, Passed};
+ghost use Rattle.headers.specs.Head.{headAt};
+ghost use Rattle.headers.specs.Passed.{Passed};
 
 mod types; // types.rt: the type field
 

@@ -15,7 +15,8 @@ use Rattle.index.specs.Rows.{nameSpaceOf}
 use Rattle.contents.specs.Search.{amount, firstValue, firstRun, itemsIn, boundsOf, inOrder}
 use Rattle.portions.specs.Portions.{allPortions, values, wellSpelt, among, repeats}
 use Rattle.elements.specs.Shape.{shapeOf}
-use Rattle.elements.specs.Judge.{bodyOf, contentOf, elementOf, itemsInOrder, asTabled, namesFit, clash, twice, shapeRefusal, refusalOf, judgeOne, judgeFrom, judge}
+use Rattle.elements.specs.Judge.{bodyOf, contentOf, elementOf, itemsInOrder, asTabled, namesFit, clash, twice, refusalOf, judgeOne, judgeFrom, judge}
+use Rattle.elements.specs.ShapeRefusal.{shapeRefusal}
 use Rattle.elements.specs.ElementRows.{bodyIn, contentOctet, rowOf, rowsOf, placeOf}
 use Rattle.letters.specs.Letter.{letterIn}
 use Rattle.reading.specs.Match.{joins, forEach, portionMatches, elementMatches, matches}

@@ -16,7 +16,8 @@ use Rattle.runs.specs.Runs.{tops}
 use Rattle.contents.specs.Search.{is}
 use Rattle.contents.proofs.Firsts.{is-field}
 use Rattle.elements.specs.declared.Edition.{Edition}
-use Rattle.elements.specs.Judge.{Element, mostElements, profileOctet, twice, shapeRefusal, refusalOf, refused, judgeOne, judgeFrom, judge}
+use Rattle.elements.specs.Judge.{Element, mostElements, profileOctet, twice, refusalOf, refused, judgeOne, judgeFrom, judge}
+use Rattle.elements.specs.ShapeRefusal.{shapeRefusal}
 use Rattle.elements.proofs.Refusals.{refusal-9, refusal-10, refusal-11, refusal-by-shape}
 use Rattle.judging.specs.Judges.{earlyRefusal, shapeBy, elementBy}
 

@@ -12,7 +12,8 @@ use Rattle.index.specs.Index.{Has}
 use Rattle.elements.specs.declared.Edition.{Edition}
 use Rattle.elements.specs.declared.Row.{Row}
 use Rattle.elements.specs.Shape.{Shape, shapeOf}
-use Rattle.elements.specs.Judge.{Element, elementOf, twice, firstOf, placeRules, shapeRefusal, refusalOf}
+use Rattle.elements.specs.Judge.{Element, elementOf, twice, firstOf, placeRules, refusalOf}
+use Rattle.elements.specs.ShapeRefusal.{shapeRefusal}
 use Rattle.elements.specs.ElementRows.{rowOf, bytesIn}
 use Rattle.elements.specs.Says.{Says, RowPlaced}
 use Rattle.judging.specs.declared.Hashes.{Hashes}

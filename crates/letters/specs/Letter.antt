@@ -14,7 +14,8 @@ use Rattle.contents.specs.declared.Span.{Span}
 use Rattle.elements.specs.declared.Row.{Row}
 use Rattle.elements.specs.declared.Edition.{Edition}
 use Rattle.elements.specs.Judge.{accepted, judge, Element, Judged, refused}
-use Rattle.elements.specs.ElementRows.{placeOf, rowsOf, noSpan}
+use Rattle.elements.specs.ElementRows.{placeOf, rowsOf}
+use Rattle.contents.specs.Search.{noSpan}
 
 -- the items of a stream, with their places
 abbrev pub itemsOfStream : List ℕ → Items

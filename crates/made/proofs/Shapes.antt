@@ -7,7 +7,8 @@ use Rattle.portions.specs.Portions.{allPortions, values, wellSpelt}
 use Rattle.elements.specs.Shape.{shapeOf}
 use Rattle.elements.specs.declared.Edition.{Edition}
 use Rattle.elements.specs.declared.Edition.the-variants.{Of1988, Of1993}
-use Rattle.elements.specs.Judge.{bodyOf, contentOf, elementOf, itemsInOrder, asTabled, namesFit, shapeRefusal}
+use Rattle.elements.specs.Judge.{bodyOf, contentOf, elementOf, itemsInOrder, asTabled, namesFit}
+use Rattle.elements.specs.ShapeRefusal.{shapeRefusal}
 use Rattle.made.specs.Editions.{TakesAll}
 
 pub takes-1988 : TakesAll Of1988

@@ -9,7 +9,8 @@ use Rattle.tree.specs.Tree.{Tree, empty}
 use Rattle.contents.specs.Search.{is}
 use Rattle.elements.specs.declared.Edition.{Edition}
 use Rattle.elements.specs.Shape.{shapeOf}
-use Rattle.elements.specs.Judge.{Element, elementOf, shapeRefusal}
+use Rattle.elements.specs.Judge.{Element, elementOf}
+use Rattle.elements.specs.ShapeRefusal.{shapeRefusal}
 use Rattle.making.specs.Entries.{Said, unitName, Spelt}
 use Rattle.making.specs.Stream.{profileType, blockType, blockRun, unitType, unitRun}
 use Rattle.made.specs.Reads.{profileElement, blockElement, unitElement}

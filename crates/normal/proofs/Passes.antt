@@ -12,9 +12,10 @@ use borrow.Author.Tests.{le-leb, leb-true, leb-false}
 use Rattle.headers.specs.declared.Header.{Header}
 use Rattle.headers.specs.declared.Head.{Head}
 use Rattle.headers.specs.declared.Head.the-variants.{Item, ClosingMark, Refusal}
-use Rattle.headers.specs.Head.{constructed, typeField, headAt, Passed}
+use Rattle.headers.specs.Head.{constructed, typeField, headAt}
+use Rattle.headers.specs.Passed.{Passed}
 use Rattle.octets.specs.Walk.{Items, item, count, End, ends, stops, Walked, ended, stopped, pastOf, follow, run}
-use Rattle.octets.specs.Further.{valueOf}
+use Rattle.octets.specs.Values.{valueOf}
 use Rattle.headers.proofs.Lies.{Lies}
 use Rattle.octets.proofs.Walks.{EndOk, value-ok, run-ok, run-step}
 use Rattle.octets.proofs.RulesHold.{derives}

@@ -10,8 +10,7 @@ use borrow.Author.Tests.{le-leb, lt-leb}
 use Rattle.octets.specs.Walk.{streamLimit}
 use Rattle.normal.specs.declared.Answer.the-variants.{Written, Refused as Not}
 use Rattle.normal.specs.Passes.{PutsOctets}
-use Rattle.normal.specs.Writes.{answerOf, GivesAnswer}
-use Rattle.normal.specs.Short.{answerShort}
+use Rattle.normal.specs.Writes.{answerOf, GivesAnswer, answerShort}
 use Rattle.normal.proofs.Putting.{put-front}
 
 module _ (form out : List ℕ) where

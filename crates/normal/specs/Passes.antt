@@ -12,7 +12,7 @@ use Rattle.headers.specs.declared.Head.{Head}
 use Rattle.headers.specs.declared.Head.the-variants.{Item, ClosingMark, Refusal}
 use Rattle.headers.specs.Head.{constructed, typeField, headAt}
 use Rattle.octets.specs.Walk.{streamLimit, End, ends, stops, pastOf, run}
-use Rattle.octets.specs.Further.{valueOf}
+use Rattle.octets.specs.Values.{valueOf}
 use Rattle.tree.specs.Tree.{plain}
 use Rattle.tree.specs.Accepts.{Whole}
 use Rattle.normal.specs.declared.Measured.{Measured}

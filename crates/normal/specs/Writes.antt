@@ -35,3 +35,11 @@ answerAfter (Refused number place k) form out = Not number place
 
 unfoldable pub answerFor : (s out : List ℕ) → Answer
 answerFor s out = answerAfter (walkOf s) (normalForm s) out
+
+-- the mailroom's: 18 "output shorter than the normal form", and nothing else
+unfoldable pub answerShort : (form out : List ℕ) → Answer
+answerShort form out = cond (leb (length form) (length out)) (Written (length form)) (Not 18 0)
+
+-- the contract of the mailroom's writer: its answer, and the output at exit
+abbrev pub ShortWrites : (s before : List ℕ) → Answer → (after : List ℕ) → Type 0
+ShortWrites s before answer after = GivesAnswer (answerShort (normalForm s) before) (normalForm s) before answer after

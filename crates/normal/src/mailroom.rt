@@ -10,7 +10,8 @@ ghost use Prim.Native.Nat.{_≤_};
 ghost use lib.ListN.{length};
 ghost use Rattle.octets.specs.Walk.{deepest, run};
 ghost use Rattle.tree.specs.Accepts.{Whole};
-ghost use Rattle.normal.specs.Short.{shortLimit, ShortWrites};
+ghost use Rattle.normal.specs.Short.{shortLimit};
+ghost use Rattle.normal.specs.Writes.{ShortWrites};
 
 // Writes the normal form of a short stream whose walk ended: refusal 18 alone.
 pub fn write_short(s: &[u8], out: &mut [u8]) -> Answer

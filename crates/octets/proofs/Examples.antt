@@ -3,7 +3,7 @@ use mathlib.Core.Path.{_≡_, refl}
 use mathlib.Core.List.{map}
 use Rattle.headers.specs.Head.{permits, formAllowed, bigEndianFrom, misfits, definiteAt, indefiniteAt, longAt, byFirst, lengthAt, itemAt, closingAt, headAt}
 use Rattle.octets.specs.Walk.{runFor, run, walkOf}
-use Rattle.octets.specs.Further.{told}
+use Rattle.octets.specs.Told.{told}
 use Rattle.octets.specs.Examples.{Example, examples, typeExamples}
 
 pub all-hold : map (λ (e : Example). told (walkOf (e .stream))) examples ≡ map (λ (e : Example). e .told) examples

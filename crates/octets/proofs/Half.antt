@@ -7,7 +7,7 @@ use lib.Dec.{leb}
 use lib.ListN.{length}
 use Rattle.octets.specs.declared.Outcome.{Outcome}
 use Rattle.octets.specs.Walk.{count, End, ends, stops, run, outcomeOf, walkOf}
-use Rattle.octets.specs.Further.{told}
+use Rattle.octets.specs.Told.{told}
 use Rattle.laws.proofs.Tests.{cond-holds}
 use Rattle.octets.proofs.Walks.{EndOk, run-ok}
 

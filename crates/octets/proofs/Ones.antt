@@ -11,7 +11,8 @@ use Rattle.headers.specs.declared.Head.the-variants.{Item, ClosingMark, Refusal
 use Rattle.octets.specs.declared.Outcome.the-variants.{Ended, Refused}
 use Rattle.headers.specs.Head.{headAt}
 use Rattle.octets.specs.Walk.{ended, onHead, run, answer}
-use Rattle.octets.specs.Further.{valueOf, oneOf}
+use Rattle.octets.specs.Further.{oneOf}
+use Rattle.octets.specs.Values.{valueOf}
 use Rattle.octets.proofs.Turns.{follow-passes, follow-breaks}
 
 module _ (room : ℕ) (s : List ℕ) (at limit : ℕ) where

@@ -12,7 +12,8 @@ use Rattle.octets.specs.declared.Outcome.{Outcome}
 use Rattle.octets.specs.declared.Outcome.the-variants.{Ended, Refused}
 use Rattle.headers.specs.Head.{constructed, headAt}
 use Rattle.octets.specs.Walk.{Items, noItems, item, count, End, ends, stops, Walked, ended, stopped, pastOf, follow, onHead, run, outcomeOf, answer}
-use Rattle.octets.specs.Further.{valueOf, plus}
+use Rattle.octets.specs.Further.{plus}
+use Rattle.octets.specs.Values.{valueOf}
 use Rattle.headers.proofs.Lies.{HeadOk, head-ok}
 use Rattle.octets.proofs.Walks.{EndOk, value-ok, run-ok, run-step}
 

@@ -2,7 +2,7 @@
 -- Definitions only: assumes nothing.
 use Prim.Native.Nat.{ℕ, zero, suc}
 use mathlib.Core.List.{List, [], _∷_, _++_}
-use Rattle.octets.specs.Further.{Told}
+use Rattle.octets.specs.Told.{Told}
 
 pub record Example : Type 0 where
   pub stream : List ℕ

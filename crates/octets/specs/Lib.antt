@@ -1,4 +1,6 @@
 pub mod Walk
 pub mod Rules
 pub mod Further
+pub mod Told
+pub mod Values
 pub mod Examples

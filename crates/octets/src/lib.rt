@@ -5,7 +5,8 @@ ghost use mathlib.Core.Path.{_≡_};
 ghost use Prim.Native.Nat.{_<_, _≤_};
 ghost use lib.ListN.{length};
 ghost use Rattle.octets.specs.Walk.{run, answer, walkOf};
-ghost use Rattle.octets.specs.Further.{valueOf, oneOf};
+ghost use Rattle.octets.specs.Further.{oneOf};
+ghost use Rattle.octets.specs.Values.{valueOf};
 
 // How a walk ended, past a run or with a refusal, and how many items passed.
 pub enum Outcome {

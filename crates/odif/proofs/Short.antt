@@ -14,8 +14,8 @@ use Rattle.tree.specs.Accepts.{Whole}
 use Rattle.tree.proofs.Meaning.{means, whole-of}
 use Rattle.normal.specs.declared.Answer.{Answer}
 use Rattle.normal.specs.Normal.{normalForm}
-use Rattle.normal.specs.Writes.{outputOf}
-use Rattle.normal.specs.Short.{shortLimit, answerShort}
+use Rattle.normal.specs.Writes.{outputOf, answerShort}
+use Rattle.normal.specs.Short.{shortLimit}
 use Rattle.normal.proofs.Normals.{small}
 use Rattle.elements.specs.declared.Edition.{Edition}
 use Rattle.elements.specs.Judge.{Element}

@@ -11,9 +11,10 @@ use lib.Dec.{leb}
 use Rattle.headers.specs.declared.Header.{Header}
 use Rattle.headers.specs.declared.Head.{Head}
 use Rattle.headers.specs.declared.Head.the-variants.{Item, ClosingMark, Refusal}
-use Rattle.headers.specs.Head.{constructed, octetAt, headAt, Passed}
+use Rattle.headers.specs.Head.{constructed, octetAt, headAt}
+use Rattle.headers.specs.Passed.{Passed}
 use Rattle.octets.specs.Walk.{Items, item, count, End, ends, stops, Walked, ended, pastOf, follow, run, outcomeOf}
-use Rattle.octets.specs.Further.{valueOf}
+use Rattle.octets.specs.Values.{valueOf}
 use Rattle.headers.proofs.Lies.{Lies}
 use Rattle.octets.proofs.Walks.{run-step}
 use Rattle.octets.proofs.Turns.{header-ok, passed-ok, at-head, tree-ends}

@@ -9,7 +9,7 @@ ghost use lib.Dec.{eqb};
 ghost use lib.ListN.{length};
 ghost use Rattle.headers.specs.Head.{constructed};
 ghost use Rattle.octets.specs.Walk.{ends, run};
-ghost use Rattle.octets.specs.Further.{valueOf};
+ghost use Rattle.octets.specs.Values.{valueOf};
 ghost use Rattle.tree.specs.Accepts.{Whole};
 ghost use Rattle.runs.specs.Runs.{itemsOf, insideOf, wholeStream, tops, Fine, Meets};
 

@@ -6,7 +6,8 @@ use native.Mathlib.Omega.{arith}
 use denote.Ref.{now}
 use borrow.Author.Needs.{needs}
 use borrow.Author.Tests.{ne-eqb}
-use Rattle.headers.specs.Head.{numberBits, octetAt, byFirst, headAt, Passed}
+use Rattle.headers.specs.Head.{numberBits, octetAt, byFirst, headAt}
+use Rattle.headers.specs.Passed.{Passed}
 use Rattle.headers.proofs.Passed.{passed-mark, passed-decided, passed-short, passed-open}
 use Rattle.headers.proofs.passed_head.Statement.{statement}
 use Rattle.headers.proofs.passed_head.Tie as tie

@@ -8,7 +8,8 @@ use lib.ListN.{length}
 use Rattle.runs.specs.Runs.{treeIn}
 use Rattle.elements.specs.declared.Row.{Row}
 use Rattle.elements.specs.declared.Slots.{Slots}
-use Rattle.elements.specs.Judge.{Element, twice, shapeRefusal}
+use Rattle.elements.specs.Judge.{Element, twice}
+use Rattle.elements.specs.ShapeRefusal.{shapeRefusal}
 use Rattle.elements.specs.WellMade.{WellMade}
 use Rattle.elements.specs.Sees.{SeesShape, SeesSlots}
 use Rattle.elements.proofs.Made.{made}

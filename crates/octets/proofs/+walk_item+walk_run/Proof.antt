@@ -16,7 +16,8 @@ use Rattle.octets.specs.declared.Outcome.{Outcome}
 use Rattle.octets.specs.declared.Outcome.the-variants.{Ended, Refused}
 use Rattle.headers.specs.Head.{headAt}
 use Rattle.octets.specs.Walk.{run, answer}
-use Rattle.octets.specs.Further.{valueOf, plus}
+use Rattle.octets.specs.Further.{plus}
+use Rattle.octets.specs.Values.{valueOf}
 use Rattle.octets.proofs.Turns.{plus-plus, plus-zero, closes, refuses, passes, breaks, unclosed, closed, header-ok, mark-ok, passed-ok, broken-ok}
 use borrow.Fn.Kinds.{In}
 use borrow.Fn.PlainCycle.{Measures, is, falls, and}

@@ -9,7 +9,8 @@ use borrow.Author.Needs.{needs}
 use denote.Ref.{now}
 use Rattle.headers.specs.declared.Head.{Head}
 use Rattle.headers.specs.declared.Head.the-variants.{Item, ClosingMark, Refusal}
-use Rattle.headers.specs.Head.{headAt, Passed}
+use Rattle.headers.specs.Head.{headAt}
+use Rattle.headers.specs.Passed.{Passed}
 use Rattle.octets.specs.Walk.{Walked, run}
 use Rattle.octets.proofs.Turns.{at-head, mark-ok}
 use Rattle.tree.specs.Accepts.{Whole}

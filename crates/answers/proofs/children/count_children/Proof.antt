@@ -4,7 +4,7 @@ use Prim.Native.Nat.{ℕ, suc, _+_, _-_, _≤_}
 use native.Mathlib.Omega.{arith}
 use lib.ListN.{length}
 use borrow.Author.Needs.{needs}
-use Rattle.answers.specs.Table.{rowsWith}
+use Rattle.answers.specs.Filling.{rowsWith}
 use Rattle.answers.proofs.Tabling.{rows-hit, rows-miss, rows-done}
 use Rattle.answers.proofs.children.count_children.Statement.{statement}
 use Rattle.answers.proofs.children.count_children.Tie as tie

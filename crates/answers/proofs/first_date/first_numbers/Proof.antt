@@ -6,7 +6,8 @@ use native.Mathlib.Omega.{arith}
 use denote.Ref.{now}
 use lib.ListN.{length}
 use Rattle.octets.specs.Walk.{stops}
-use Rattle.fronts.specs.First.{walkFirst, BeginsWith}
+use Rattle.fronts.specs.First.{walkFirst}
+use Rattle.fronts.specs.FirstItem.{BeginsWith}
 use Rattle.fronts.proofs.Firsts.{first-stops}
 use Rattle.answers.specs.Dating.{FirstTells}
 use Rattle.answers.proofs.FirstDating.{first-over, first-empty, first-faulty}
