@@ -7,14 +7,13 @@ use native.Mathlib.Omega.{arith}
 use lib.ListN.{length}
 use lib.Seq.{slice}
 use borrow.Author.Tests.{le-leb, lt-leb}
-use Rattle.octets.specs.declared.Outcome.the-variants.{Ended, Refused}
-use Rattle.octets.specs.Walk.{streamLimit, deepest, walkOf}
+use Rattle.octets.specs.Walk.{streamLimit, deepest}
 use Rattle.normal.specs.declared.Measured.{Measured}
 use Rattle.normal.specs.declared.Answer.{Answer}
 use Rattle.normal.specs.declared.Answer.the-variants.{Written, Refused as Not}
 use Rattle.normal.specs.Normal.{normalForm}
 use Rattle.normal.specs.Passes.{RunEnds, normalFrom, RunMeasures, PutsOctets}
-use Rattle.normal.specs.Writes.{answerOf, outputOf, answerFor, GivesAnswer}
+use Rattle.normal.specs.Writes.{answerOf, outputOf, GivesAnswer}
 use Rattle.normal.proofs.Passes.{form-end}
 use Rattle.normal.proofs.Putting.{put-front}
 
@@ -52,17 +51,6 @@ module _ (form out : List ℕ) where
     gives-form f n e octets same past after p =
         rw (le-leb (length form) streamLimit l, le-leb (length form) (length out) f)
         (record { answered = ap Written e; output = put-front out form after past f (rw same p) })
-
--- after the walk: its refusals, or what the writer gives
-module _ (s out : List ℕ) where
-  pub gives-walked : (at k : ℕ) → walkOf s ≡ Ended at k → (answer : Answer) (after : List ℕ)
-      → GivesAnswer (answerOf (normalForm s) out) (normalForm s) out answer after → GivesAnswer (answerFor s out) (normalForm s) out answer after
-  unfolding answerFor
-  gives-walked at k e answer after g = rw e g
-
-  pub gives-refused : (number place k : ℕ) → walkOf s ≡ Refused number place k → GivesAnswer (answerFor s out) (normalForm s) out (Not number place) out
-  unfolding answerFor
-  gives-refused number place k e = rw e (record { answered = refl; output = refl })
 
 -- A contract that says `GivesAnswer` leaves nothing open: two outcomes that it allows are equal.
 pub determined : {expected : Answer} {form before : List ℕ} {a b : Answer} {x y : List ℕ}

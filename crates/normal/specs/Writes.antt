@@ -6,9 +6,7 @@ use mathlib.Core.Bool.{cond}
 use mathlib.Core.List.{List, _++_}
 use lib.Dec.{leb}
 use lib.ListN.{length, drop}
-use Rattle.octets.specs.declared.Outcome.{Outcome}
-use Rattle.octets.specs.declared.Outcome.the-variants.{Ended, Refused}
-use Rattle.octets.specs.Walk.{streamLimit, walkOf}
+use Rattle.octets.specs.Walk.{streamLimit}
 use Rattle.normal.specs.declared.Answer.{Answer}
 use Rattle.normal.specs.declared.Answer.the-variants.{Written, Refused as Not}
 use Rattle.normal.specs.Normal.{normalForm}
@@ -27,14 +25,6 @@ outputOf (Not number place) form out = out
 pub record GivesAnswer (expected : Answer) (form before : List ℕ) (answer : Answer) (after : List ℕ) : Type 0 where
   pub answered : answer ≡ expected
   pub output : after ≡ outputOf expected form before
-
--- the question of this layer, which asks rules 1 to 8 first
-abbrev pub answerAfter : Outcome → (form out : List ℕ) → Answer
-answerAfter (Ended at k) form out = answerOf form out
-answerAfter (Refused number place k) form out = Not number place
-
-unfoldable pub answerFor : (s out : List ℕ) → Answer
-answerFor s out = answerAfter (walkOf s) (normalForm s) out
 
 -- the mailroom's: 18 "output shorter than the normal form", and nothing else
 unfoldable pub answerShort : (form out : List ℕ) → Answer

@@ -2,7 +2,6 @@
 use headers::Head;
 use headers::Header;
 use octets::DEEPEST;
-use octets::Outcome;
 use octets::STREAM_LIMIT;
 ghost use mathlib.Core.Path.{_≡_};
 ghost use mathlib.Core.Bool.{true, false};
@@ -15,7 +14,7 @@ ghost use Rattle.octets.specs.Walk.{streamLimit, deepest, run};
 ghost use Rattle.tree.specs.Accepts.{Whole};
 ghost use Rattle.normal.specs.Normal.{furtherOctets, numberOctets, lengthOctets, Octets, normalForm};
 ghost use Rattle.normal.specs.Passes.{RunEnds, ValueEnds, normalFrom, normalIn, aheadAt, headerSize, RunMeasures, ValueMeasures, PutsOctets};
-ghost use Rattle.normal.specs.Writes.{answerOf, answerFor, GivesAnswer};
+ghost use Rattle.normal.specs.Writes.{answerOf, GivesAnswer};
 
 mod mailroom; // mailroom.rt: the writer of the mailroom box
 
@@ -294,18 +293,4 @@ pub fn write(s: &[u8], out: &mut [u8]) -> Answer
         put_run(s, 0, s.len(), false, DEEPEST, out, 0);
     }
     Answer::Written { length }
-}
-
-// Writes the normal form of any stream: refusals 1 to 8 of the walk, then 17 and 18.
-pub fn normal(s: &[u8], out: &mut [u8]) -> Answer
-    ensures { λ r. ⌜ GivesAnswer (answerFor (now (s .entry)) (now (out .entry))) (normalForm (now (s .entry))) (now (out .entry)) r (now (out .exit)) ⌝ }
-{
-    match octets::walk(s) {
-        Outcome::Ended { at: _, count: _ } => write(s, out),
-        Outcome::Refused {
-            number,
-            place,
-            count: _,
-        } => Answer::Refused { number, place },
-    }
 }
