@@ -1,13 +1,16 @@
 //! Writing a file so that its old content is there until the new one is whole.
 
+use std::ffi::{OsStr, OsString};
 use std::fs::{self, File, Permissions};
 use std::io::{self, BufWriter, Write};
+use std::os::unix::ffi::OsStrExt;
 use std::os::unix::fs::PermissionsExt;
 use std::path::{Path, PathBuf};
 use std::sync::OnceLock;
+use std::time::Duration;
 
 use nix::sys::stat::{Mode, umask};
-use tempfile::NamedTempFile;
+use tempfile::{Builder, NamedTempFile};
 
 use crate::show;
 use crate::status::Failure;
@@ -48,7 +51,9 @@ impl Beside {
     }
 
     fn apart(path: PathBuf, permissions: Permissions) -> Result<Beside, Failure> {
-        match NamedTempFile::new_in(folder(&path)) {
+        let file = Builder::new().prefix(&begin_of_names(&path)).suffix(END_OF_NAMES).tempfile_in(folder(&path));
+        // A lock tells those who look for leftovers that this one is being written; where there are none, its age does.
+        match file.inspect(|file| drop(file.as_file().try_lock())) {
             Ok(file) => Ok(Beside { path, out: Out::Beside(BufWriter::new(file)), permissions }),
             Err(error) => Err(failure(&path, &error)),
         }
@@ -56,17 +61,12 @@ impl Beside {
 
     /// Puts the finished file in its place, and on the disk.
     pub fn finish(self) -> Result<(), Failure> {
-        self.end(true)
-    }
-
-    fn end(self, sync: bool) -> Result<(), Failure> {
         let Beside { path, out, permissions } = self;
         let done = match out {
             Out::Through(mut out) => out.flush(),
-            Out::Beside(out) => out
-                .into_inner()
-                .map_err(|error| error.into_error())
-                .and_then(|file| put(file, &path, permissions, sync)),
+            Out::Beside(out) => {
+                out.into_inner().map_err(|error| error.into_error()).and_then(|file| put(file, &path, permissions))
+            }
         };
         done.map_err(|error| failure(&path, &error))
     }
@@ -93,6 +93,38 @@ impl Write for Beside {
     }
 }
 
+/// What is written beside a file `x` is named `.x.`, six letters, and this.
+const END_OF_NAMES: &str = ".odif-part";
+
+/// A name that would be too long with this is left out.
+fn begin_of_names(path: &Path) -> OsString {
+    let name = path.file_name().filter(|name| name.len() < 200).unwrap_or_default();
+    [OsStr::new("."), name, OsStr::new(".")].into_iter().collect()
+}
+
+/// Removes what runs that were killed while they wrote this file have left beside it: files of these names that no one has
+/// locked, and that were not touched for a minute.
+pub fn remove_leftovers(path: &Path) {
+    let begin = begin_of_names(path);
+    let found = fs::read_dir(folder(path)).into_iter().flatten().flatten();
+    let is_named_so = |name: &OsStr| {
+        let middle = name.as_bytes().strip_prefix(begin.as_bytes());
+        middle.and_then(|rest| rest.strip_suffix(END_OF_NAMES.as_bytes())).is_some_and(|letters| letters.len() == 6)
+    };
+    for leftover in found.filter(|found| is_named_so(&found.file_name())).map(|found| found.path()) {
+        if is_dead(&leftover) {
+            let _ = fs::remove_file(leftover);
+        }
+    }
+}
+
+fn is_dead(file: &Path) -> bool {
+    let about = fs::symlink_metadata(file).ok().filter(fs::Metadata::is_file);
+    let age = about.and_then(|about| about.modified().ok()?.elapsed().ok());
+    let is_free = || File::open(file).is_ok_and(|file| file.try_lock().is_ok());
+    age.is_some_and(|age| age > Duration::from_secs(60)) && is_free()
+}
+
 /// Writes a whole file.
 pub fn write(path: &Path, octets: &[u8]) -> Result<(), Failure> {
     let mut file = Beside::create(path)?;
@@ -100,25 +132,16 @@ pub fn write(path: &Path, octets: &[u8]) -> Result<(), Failure> {
     file.finish()
 }
 
-/// Writes a whole file, which the caller puts on the disk with many others.
-pub fn write_unsynced(path: &Path, octets: &[u8]) -> Result<(), Failure> {
-    let mut file = Beside::create(path)?;
-    file.add(octets)?;
-    file.end(false)
-}
-
 /// What can't be written, with its name.
 pub fn failure(path: &Path, error: &io::Error) -> Failure {
     Failure::File(format!("{}: {error}", show::name(path.as_os_str())))
 }
 
-fn put(file: NamedTempFile, path: &Path, permissions: Permissions, sync: bool) -> io::Result<()> {
+fn put(file: NamedTempFile, path: &Path, permissions: Permissions) -> io::Result<()> {
     file.as_file().set_permissions(permissions)?;
-    if sync {
-        file.as_file().sync_all()?;
-    }
+    file.as_file().sync_all()?;
     file.persist(path).map_err(|error| error.error)?;
-    if sync { File::open(folder(path))?.sync_all() } else { Ok(()) }
+    File::open(folder(path))?.sync_all()
 }
 
 /// Those that a new file gets.

@@ -1,5 +1,5 @@
-//! What `odif --version` tells: which proved archives are in this command, what proved them, and whether the shared library that is
-//! installed beside it is made of the one of them.
+//! Which command and which library this is: what `odif --version` tells, and what an export writes beside each text. `--version`
+//! also says whether the shared library that is installed beside the command is made of the archive that is in it.
 
 use std::path::{Path, PathBuf};
 use std::{env, fs};
@@ -22,6 +22,17 @@ const DIGITS: usize = 64;
 
 /// The SHA-256 of the proved archive `libodif.a` that is in this command: the library's identity.
 pub const LIBRARY: &str = env!("ODIF_LIBRARY");
+
+/// The version of the command and its commit: line ends after blocks and character sets are its own work.
+pub const COMMAND: &str = concat!(env!("CARGO_PKG_VERSION"), " ", env!("ODIF_COMMIT"));
+
+/// What the build writes where it could not find out.
+const NOT_KNOWN: &str = "not known";
+
+/// Can this library be told from another?
+pub fn is_known() -> bool {
+    LIBRARY != NOT_KNOWN
+}
 
 /// The text of `--version`. The installed library is read only where that is asked.
 pub fn version() -> &'static str {

@@ -105,7 +105,8 @@ pub fn read_file(path: &Path, hex: bool) -> io::Result<Stream> {
     take(file, about.is_file().then_some(about.len()), hex)
 }
 
-fn take(source: impl Read, size: Option<u64>, hex: bool) -> io::Result<Stream> {
+/// Reads a source that has so many octets, if that is known.
+pub fn take(source: impl Read, size: Option<u64>, hex: bool) -> io::Result<Stream> {
     if hex {
         let octets = take_hex(BufReader::new(source))?;
         return Ok(Stream { size: whole(&octets), octets });

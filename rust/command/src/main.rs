@@ -11,6 +11,7 @@ mod export;
 mod faults;
 mod files;
 mod foreign;
+mod hash;
 mod identity;
 mod input;
 mod items;

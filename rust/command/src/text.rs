@@ -84,10 +84,11 @@ impl How {
         Ok(Text { octets, side, units: units(whole.elements()), shown: whole.lines().len(), whole })
     }
 
-    /// The same in words, to tell one way from another.
+    /// The same in words, to tell one way from another: every field that changes a text.
     pub fn words(&self, edition: Edition) -> String {
-        let side = self.sides.word();
-        let utf8 = self.utf8.map_or(String::new(), |set| format!(" utf8={set:?}").to_lowercase());
+        let How { sides, utf8 } = self;
+        let side = sides.word();
+        let utf8 = utf8.map_or(String::new(), |set| format!(" utf8={set:?}").to_lowercase());
         let edition = if edition == Edition::Of1988 { String::new() } else { format!(" edition={edition}") };
         format!("{side}{utf8}{edition}")
     }

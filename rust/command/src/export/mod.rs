@@ -1,55 +1,102 @@
 //! `odif export`
+//!
+//! **The invariant.** Whatever was killed, when, and with which words: after a run that ended well every text in the folder
+//! has exactly one line in the manifest, made from that source's octets with those words by that library, with that hash;
+//! and whatever has no such line has no text.
+//!
+//! How it is kept ([docs/EXPORT.md](../../../../docs/EXPORT.md) says it for users):
+//! - A file's line is in the journal before its text is touched, and the text is renamed into place whole (`work`). So
+//!   at every moment each text that an export wrote is that of some line, in the manifest or in the journal.
+//! - What an earlier run did is taken as done only if all that the line tells is so still (`Line::is_of`, `tells_of`). The
+//!   octets of the text are hashed again each time: no state of a file tells that the disk gives back other octets. The
+//!   source is not read again while its state is the same (`source`).
+//! - A letter that is gone keeps its line and text, marked so, until `--prune` (`gone`). A text that no line tells of, and
+//!   that no run wrote, is told and ends the run with 2 (`strangers`).
+//! - The manifest takes its place last, when all texts are on the disk. Until then the one of before is there.
+//! - The folder is one run's at a time (`folder`), and what is not in its place yet lies in one folder of its own.
 
-mod manifest;
+mod clashes;
+mod counts;
+mod earlier;
+mod folder;
+mod gone;
+mod journal;
+mod line;
+mod source;
+mod strangers;
+mod text;
+mod verify;
+mod work;
 
+use std::collections::HashSet;
 use std::fs;
 use std::io::{self, Write};
 use std::path::{Path, PathBuf};
 
 use clap::Args;
-use sha2::{Digest, Sha256};
 
-use self::manifest::{COLUMNS, Journal, Line};
+use self::clashes::Clashes;
+use self::counts::Counts;
+use self::earlier::Earlier;
+use self::folder::{Folder, MANIFEST};
+use self::gone::Gone;
+use self::journal::Journal;
+use self::line::{COLUMNS, Line};
+use self::strangers::Strangers;
+use self::work::{Done, Work, below};
 use crate::args::By;
 use crate::beside;
-use crate::faults::Fault;
 use crate::files::{Entry, Places, at_least_one};
 use crate::pool::Pool;
 use crate::progress::Progress;
-use crate::status::{Failure, Outcome, Status};
+use crate::show;
+use crate::status::{Failure, Outcome};
 use crate::survey::csv::Csv;
-use crate::text::{How, Text};
-use crate::{date, input, show};
+use crate::text::How;
 
 const EXAMPLES: &str = "\
 Examples:
   odif export archive texts
   odif export archive texts --utf8 --jobs 8
-  cut -d , -f 1,2,10 texts/manifest.csv
+  odif export archive texts --prune
+  odif export --verify texts
 
-Exit status: 0 all were written; 1 some were refused, or with --strict have text that was left out;
-2 some could not be read or written; 130 it was interrupted, and the next run goes on from there.";
+Exit status: 0 every letter has its text; 1 some were refused or are gone, with --strict also if text
+was left out, with --verify if something differs; 2 some could not be read or written, or a text is no
+letter's; 130 it was interrupted, and the next run goes on from there.";
 
 /// Writes the text of a whole archive
 ///
 /// Writes the text of each letter in a folder and its subfolders to a file of the same name with `.txt` behind it, in a
-/// tree of folders like that of the archive, and `manifest.csv` with a line for each file: what became of it, the side,
-/// how many text units there are and were left out, and the hash of the text. A run after another writes only what is
-/// new or changed, and goes on where an interrupted one ended.
+/// tree of folders like that of the archive, and `manifest.csv` with a line for each file: what became of it, how it was
+/// read, by which library, and the hashes of the letter and of its text. A run after another writes only what is new or
+/// changed, and goes on where an interrupted one ended. However runs end, and whatever their words: after one that ended
+/// with 0 or 1 each text has exactly one line, which tells how it was made and its hash. A file that is refused or can't be
+/// read has no text. That of a letter which is gone from the archive stays, and its line says `gone`.
 #[derive(Args)]
 #[command(after_help = EXAMPLES)]
 pub struct Words {
     /// The folder with the letters
-    archive: PathBuf,
-    /// The folder to write to; it is made if it is not there
-    out: PathBuf,
+    #[arg(required_unless_present = "verify")]
+    archive: Option<PathBuf>,
+    /// The folder to write to, for the export alone; it is made if it is not there
+    #[arg(required_unless_present = "verify", conflicts_with = "verify")]
+    out: Option<PathBuf>,
     #[command(flatten)]
     how: How,
-    /// Text units that are left out are a refusal
-    #[arg(long)]
+    /// End with 1 if text units of some letter are left out, since no object of the side names them. Its text is written
+    /// without them, and `left_out` in the manifest counts them
+    #[arg(long, conflicts_with = "verify")]
     strict: bool,
+    /// Remove the texts and lines of letters that are gone from the archive
+    #[arg(long, conflicts_with = "verify")]
+    prune: bool,
+    /// Write nothing: hash the texts of an export again, and the letters where they are there, and tell what differs. The
+    /// letters are looked for where the last run found them, or in ARCHIVE
+    #[arg(long, value_name = "OUT", conflicts_with_all = ["side", "logical", "utf8", "edition"])]
+    verify: Option<PathBuf>,
     /// The files are hexadecimal digits in pairs
-    #[arg(long)]
+    #[arg(long, conflicts_with = "verify")]
     hex: bool,
     #[command(flatten)]
     by: By,
@@ -58,145 +105,117 @@ pub struct Words {
     jobs: Option<usize>,
 }
 
-/// How many files there were of each kind.
-#[derive(Default)]
-struct Counts {
-    written: usize,
-    refused: usize,
-    unreadable: usize,
-    left_out: usize,
-    there: usize,
+impl Words {
+    /// Every word that changes a text. Who adds a word decides here whether it does.
+    fn how(&self) -> String {
+        let Words { how, hex, by, archive: _, out: _, strict: _, prune: _, verify: _, jobs: _ } = self;
+        how.words(by.edition()) + if *hex { " hex" } else { "" }
+    }
 }
 
 pub fn run(words: &Words) -> Outcome {
-    let pool = Pool::new(words.jobs)?;
-    fs::create_dir_all(&words.out).map_err(|error| beside::failure(&words.out, &error))?;
-    if lies_in(&words.out, &words.archive) {
-        return Err(Failure::Usage("the folder to write to lies in the archive".into()));
+    match (&words.verify, &words.archive, &words.out) {
+        (Some(out), archive, _) => verify::run(out, archive.as_deref(), words.jobs),
+        (None, Some(archive), Some(out)) => export(words, archive, out),
+        _ => Err(Failure::Usage("it needs the archive and the folder to write to".into())),
     }
-    let entries = Places::of(words.archive.as_os_str(), words.hex, words.by, words.jobs).list(&[])?;
-    let (manifest, part) = (words.out.join("manifest.csv"), words.out.join("manifest.part"));
-    let earlier = manifest::earlier([&manifest, &part]);
-    let mut journal = Journal::create(&part, &earlier)?;
-    let mut lines = Csv::create(&manifest, &COLUMNS)?;
-    let mut counts = Counts::default();
-    let how = words.how.words(words.by.edition());
+}
+
+fn export(words: &Words, archive: &Path, out: &Path) -> Outcome {
+    let pool = Pool::new(words.jobs)?;
+    let entries = find(words, archive, out)?;
+    let folder = &Folder::take(out, archive)?;
+    let earlier = &Earlier::read(folder)?;
+    let journal = Journal::begin(folder, earlier)?;
+    let gone = Gone { archive, entries: &entries, folder, earlier }.lines(words.prune)?;
+    let clashes = Clashes::among(&entries, archive, folder);
+    clashes.clear(&entries, archive, folder)?;
+    let mut told = Told::begin(folder)?;
     let progress = Progress::over(entries.len());
-    let work = |entry: &Entry| {
-        let file = below(&words.archive, &entry.path);
-        let fresh = Line::new(file, fs::metadata(&entry.path).ok().as_ref(), &how);
-        match earlier.get(&(fresh.file.clone(), fresh.file_octets.clone())) {
-            Some(line) if line.is_that_of(&fresh, &text_file(&words.out, file)) => Ok((line.clone(), true)),
-            _ => export(words, entry, file, fresh).map(|line| (line, false)),
-        }
-    };
-    let take_up = |_: &Entry, done: Result<(Line, bool), Failure>| {
-        let (line, there) = done?;
-        counts.add(&line, there);
+    let work = Work { words, archive, folder, earlier, journal: &journal, clashes, how: words.how() };
+    let take_up = |entry: &Entry, done: Result<Done, Failure>| {
         progress.add(1);
-        lines.add(&line)?;
-        if there { Ok(()) } else { journal.add(&line) }
+        told.add(below(archive, &entry.path), &done?)
     };
     let cut = |done| {
         format!("after {} of {} files; run it again to go on", show::grouped(done), show::grouped(entries.len()))
     };
-    let done = pool.in_order(&entries, work, take_up, cut);
+    pool.in_order(&entries, |entry| work.on(entry), take_up, cut)?;
     drop(progress);
-    journal.sync()?;
-    done?;
-    lines.finish()?;
+    gone.iter().try_for_each(|(file, line)| told.add_gone(file, line.as_ref()))?;
+    let counts = told.finish()?;
     journal.remove()?;
-    io::stdout().write_all(counts.text(entries.len()).as_bytes())?;
+    counts.tell();
+    io::stdout().write_all(counts.text().as_bytes())?;
     Ok(counts.status(words.strict))
 }
 
-impl Counts {
-    fn add(&mut self, line: &Line, there: bool) {
-        match line.outcome.as_str() {
-            "accepted" => self.written += 1,
-            "refused" => self.refused += 1,
-            _ => self.unreadable += 1,
+/// What is told of a run: the lines of the manifest to be, and the counts.
+struct Told<'a> {
+    folder: &'a Folder,
+    path: PathBuf,
+    lines: Csv,
+    texts: HashSet<PathBuf>,
+    counts: Counts,
+}
+
+impl<'a> Told<'a> {
+    fn begin(folder: &'a Folder) -> Result<Told<'a>, Failure> {
+        let path = folder.fresh();
+        let lines = Csv::create(&path, &COLUMNS)?;
+        Ok(Told { folder, path, lines, texts: HashSet::new(), counts: Counts::default() })
+    }
+
+    fn add(&mut self, file: &Path, done: &Done) -> Result<(), Failure> {
+        self.counts.add(file, &done.line, done.before);
+        self.add_line(file, &done.line)
+    }
+
+    fn add_gone(&mut self, file: &Path, line: Option<&Line>) -> Result<(), Failure> {
+        self.counts.add_gone(file, line);
+        line.map_or(Ok(()), |line| self.add_line(file, line))
+    }
+
+    fn add_line(&mut self, file: &Path, line: &Line) -> Result<(), Failure> {
+        if line.has_text() {
+            self.texts.insert(self.folder.text(file));
         }
-        self.left_out += usize::from(line.left_out.is_some_and(|units| units > 0));
-        self.there += usize::from(there);
+        self.lines.add(line)
     }
 
-    fn text(&self, files: usize) -> String {
-        format!(
-            "{}\n{} with their text, {} of them with text units left out\n{} refused\n{} unreadable\n{} were done before\n",
-            show::counted(files, "file"),
-            show::grouped(self.written),
-            show::grouped(self.left_out),
-            show::grouped(self.refused),
-            show::grouped(self.unreadable),
-            show::grouped(self.there),
-        )
-    }
-
-    fn status(&self, strict: bool) -> Status {
-        if self.unreadable > 0 {
-            Status::Failed
-        } else if self.refused > 0 || strict && self.left_out > 0 {
-            Status::Refused
-        } else {
-            Status::Accepted
+    /// Puts the texts on the disk, and then the manifest in its place.
+    fn finish(mut self) -> Result<Counts, Failure> {
+        self.counts.add_strangers(&Strangers::find(&self.folder.out, self.texts));
+        self.folder.sync_texts()?;
+        self.lines.finish()?;
+        if let Ok(about) = fs::metadata(self.folder.out.join(MANIFEST)) {
+            let _ = fs::set_permissions(&self.path, about.permissions());
         }
+        self.folder.put_own(&self.path, MANIFEST)?;
+        Ok(self.counts)
     }
 }
 
-/// Writes the text of one file, and gives its line. What can't be read is told there; what can't be written ends it.
-fn export(words: &Words, entry: &Entry, file: &Path, line: Line) -> Result<Line, Failure> {
-    let target = text_file(&words.out, file);
-    let unreadable = |reason: String| Line { outcome: "unreadable".into(), reason, ..line.clone() };
-    if let Some(trouble) = &entry.trouble {
-        return Ok(unreadable(trouble.clone()));
+/// The files of the archive. Where it is not there, or would be mixed up with what is written, the run ends, and nothing is
+/// touched.
+fn find(words: &Words, archive: &Path, out: &Path) -> Result<Vec<Entry>, Failure> {
+    fs::read_dir(archive).map_err(|error| beside::failure(archive, &error))?;
+    if lies_in(out, archive) {
+        return Err(Failure::Usage("the folder to write to lies in the archive".into()));
     }
-    let stream = match input::read_file(&entry.path, words.hex) {
-        Ok(stream) => stream,
-        Err(error) => return Ok(unreadable(error.to_string())),
-    };
-    let Text { octets, side, units, shown, .. } = match words.how.text(words.by.edition(), &stream.octets) {
-        Ok(text) => text,
-        Err(refusal) => {
-            // The text of what stood there before is not that of this file.
-            let _ = fs::remove_file(&target);
-            let Fault { number, place, detail: reason, .. } = Fault::of(words.by.edition(), &stream.octets, &refusal);
-            let (number, place) = (Some(number), Some(place));
-            return Ok(Line { outcome: "refused".into(), number, place, reason, ..line });
-        }
-    };
-    if let Some(folder) = target.parent().filter(|folder| !folder.is_dir()) {
-        fs::create_dir_all(folder).map_err(|error| beside::failure(folder, &error))?;
+    if lies_in(archive, out) {
+        return Err(Failure::Usage("the archive lies in the folder to write to".into()));
     }
-    beside::write_unsynced(&target, &octets)?;
-    Ok(Line {
-        outcome: "accepted".into(),
-        number: Some(0),
-        place: Some(0),
-        side: side.to_string(),
-        units: Some(units),
-        left_out: Some(units - shown),
-        text_octets: Some(octets.len() as u64),
-        text_sha256: show::hex(&Sha256::digest(&octets)).to_lowercase(),
-        date: date::column(words.by.edition(), &stream.octets),
-        ..line
-    })
+    let entries = Places::of(archive.as_os_str(), words.hex, words.by, words.jobs).list(&[])?;
+    if entries.is_empty() && words.prune {
+        return Err(Failure::File("the archive has no files, and --prune would remove every text".into()));
+    }
+    Ok(entries)
 }
 
-/// The file's name below the archive's folder.
-fn below<'a>(archive: &Path, file: &'a Path) -> &'a Path {
-    match file.strip_prefix(archive) {
-        Ok(below) if !below.as_os_str().is_empty() => below,
-        _ => file.file_name().map_or(file, Path::new),
-    }
-}
-
-fn text_file(out: &Path, file: &Path) -> PathBuf {
-    let mut name = out.join(file).into_os_string();
-    name.push(".txt");
-    name.into()
-}
-
+/// Does the one lie in the other? What is not there yet lies where it would be made.
 fn lies_in(inner: &Path, outer: &Path) -> bool {
-    matches!((inner.canonicalize(), outer.canonicalize()), (Ok(inner), Ok(outer)) if inner.starts_with(&outer))
+    let inner = std::path::absolute(inner).unwrap_or_else(|_| inner.into());
+    let there = inner.ancestors().find_map(|above| above.canonicalize().ok());
+    matches!((there, outer.canonicalize()), (Some(inner), Ok(outer)) if inner.starts_with(&outer))
 }

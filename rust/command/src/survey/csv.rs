@@ -5,7 +5,7 @@ use std::path::Path;
 
 use serde::Serialize;
 
-use crate::beside::Beside;
+use crate::beside::{self, Beside};
 use crate::show;
 use crate::status::Failure;
 
@@ -53,7 +53,10 @@ impl Csv {
         let (name, out) = match is_standard_output(file) {
             true if io::stdout().is_terminal() => ("standard output".into(), Out::Terminal(io::stdout())),
             true => ("standard output".into(), Out::Stdout(io::stdout())),
-            false => (show::name(file.as_os_str()), Out::File(Beside::create(file)?)),
+            false => {
+                beside::remove_leftovers(file);
+                (show::name(file.as_os_str()), Out::File(Beside::create(file)?))
+            }
         };
         let mut lines = csv::WriterBuilder::new().has_headers(false).from_writer(out);
         match lines.write_record(columns) {

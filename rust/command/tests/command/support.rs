@@ -164,3 +164,37 @@ pub fn letter(text: &[u8]) -> Vec<u8> {
     stream.extend_from_slice(text);
     stream
 }
+
+/// An item: its identifier octet, its length in the fewest octets, and its value.
+pub fn item(octet: u8, value: &[u8]) -> Vec<u8> {
+    let length = value.len().to_be_bytes();
+    let length = &length[length.iter().take_while(|&&octet| octet == 0).count()..];
+    let mut stream = vec![octet];
+    match value.len() {
+        short @ 0..128 => stream.push(short as u8),
+        _ => {
+            stream.push(0x80 | length.len() as u8);
+            stream.extend(length);
+        }
+    }
+    [stream, value.to_vec()].concat()
+}
+
+/// A letter with a block and a logical object, each with a unit of its own.
+pub fn two_sided(layout: &[u8], logical: &[u8]) -> Vec<u8> {
+    let portion = item(0xA1, &item(0x12, b"0"));
+    let object = |identifier: &[u8]| item(0x31, &[item(0x41, identifier), portion.clone()].concat());
+    let unit = |place: Vec<u8>, text: &[u8]| item(0xA3, &[item(0x31, &place), item(0x04, text)].concat());
+    let block = item(0xA2, &[vec![0x02, 0x01, 0x04], object(b"1 0 2")].concat());
+    let paragraph = item(0xA6, &[vec![0x02, 0x01, 0x02], object(b"3 0")].concat());
+    let units = [unit(item(0x40, b"1 0 2 0"), layout), unit(item(0x84, b"3 0 0"), logical)].concat();
+    [item(0xA0, b""), block, paragraph, units].concat()
+}
+
+/// A letter whose unit is tiled, as the edition of 1993 alone has it.
+pub fn letter_of_1993(text: &[u8]) -> Vec<u8> {
+    let portion = item(0xA1, &item(0x12, b"0"));
+    let block = item(0xA2, &item(0x31, &[item(0x41, b"1"), portion].concat()));
+    let unit = [item(0x31, &item(0x40, b"1 0")), item(0x30, &item(0x04, text))].concat();
+    [item(0xA0, b""), block, item(0xA3, &unit)].concat()
+}
