@@ -13,11 +13,14 @@ fn main() {
         println!("cargo::rerun-if-changed={}", here.join(log).display());
     }
     let commit = output("git", &["-C", &here.display().to_string(), "rev-parse", "HEAD"]);
+    let date = output("git", &["-C", &here.display().to_string(), "show", "-s", "--format=%cs", "HEAD"]);
     let toolchain = output("rt", &["version"]);
     let (library, desk) = (hash(&folder.join("libodif.a")), hash(&folder.join("libpm1.a")));
     for (name, value) in [("COMMIT", commit), ("TOOLCHAIN", toolchain), ("LIBRARY", library), ("DESK", desk)] {
         println!("cargo::rustc-env=ODIF_{name}={}", value.as_deref().unwrap_or("not known"));
     }
+    // The manual page's: of the commit, so that it is the same wherever it is built.
+    println!("cargo::rustc-env=ODIF_DATE={}", date.unwrap_or_default());
 }
 
 /// The SHA-256 of a file, which cargo shall look at each time.

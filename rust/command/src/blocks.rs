@@ -6,7 +6,7 @@ use std::num::NonZeroUsize;
 use odif::{Blocks, Refusal, Walked};
 use serde::Serialize;
 
-use crate::args::Files;
+use crate::asked::Files;
 use crate::explain;
 use crate::input::{self, Source};
 use crate::show;

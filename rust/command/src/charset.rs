@@ -8,7 +8,7 @@ use unicode_normalization::char::compose;
 /// A set of characters.
 #[derive(Clone, Copy, Debug, PartialEq, Eq, ValueEnum)]
 pub enum Charset {
-    /// What the letter's presentation attributes declare, or else ISO 6937
+    /// What the letter's presentation attributes declare, or else ISO 6937, which a note then tells
     Auto,
     /// The primary and supplementary sets of T.61 (24 is the currency sign)
     T61,
@@ -58,16 +58,35 @@ fn designated(octets: &[u8]) -> Option<(Charset, usize)> {
     known.map(|(sequence, set)| (*set, sequence.len()))
 }
 
-/// The one set that presentation attributes declare among these values.
-pub fn declared<'a>(values: impl Iterator<Item = &'a [u8]>) -> Option<Charset> {
+/// The set that is taken where none is declared.
+pub const ASSUMED: Charset = Charset::Iso6937;
+
+/// What a letter declares.
+#[derive(Clone, Copy, Debug, PartialEq, Eq)]
+pub enum Declared {
+    None,
+    One(Charset),
+    Several,
+}
+
+/// What presentation attributes declare among these values.
+pub fn declared<'a>(values: impl Iterator<Item = &'a [u8]>) -> Declared {
     let mut sets = values.flat_map(|value| (0..value.len()).filter_map(|at| Some(designated(&value[at..])?.0)));
-    let first = sets.next()?;
-    sets.all(|set| set == first).then_some(first)
+    match sets.next() {
+        None => Declared::None,
+        Some(first) if sets.all(|set| set == first) => Declared::One(first),
+        Some(_) => Declared::Several,
+    }
+}
+
+/// The sets besides one.
+pub fn others(set: Charset) -> impl Iterator<Item = Charset> {
+    [Charset::T61, Charset::Iso6937, Charset::Latin1].into_iter().filter(move |other| *other != set)
 }
 
 /// Turns octets into text. An escape sequence in them that designates another of the sets is heeded.
 pub fn to_utf8(octets: &[u8], set: Charset) -> String {
-    let mut set = if set == Charset::Auto { Charset::Iso6937 } else { set };
+    let mut set = if set == Charset::Auto { ASSUMED } else { set };
     let mut text = String::with_capacity(octets.len() + octets.len() / 8);
     let mut at = 0;
     while let Some(&octet) = octets.get(at) {
@@ -162,9 +181,9 @@ mod tests {
     #[test]
     fn declared_sets() {
         assert_eq!(to_utf8(b"\xC8u\x1B-A\xFC", Charset::Auto), "üü");
-        assert_eq!(declared([&b"xx\x1B-A"[..], b"\x1B.A"].into_iter()), Some(Charset::Latin1));
-        assert_eq!(declared([&b"\x1B-A"[..], b"\x1B)v"].into_iter()), None, "two of them");
-        assert_eq!(declared([&b"abc"[..]].into_iter()), None);
+        assert_eq!(declared([&b"xx\x1B-A"[..], b"\x1B.A"].into_iter()), Declared::One(Charset::Latin1));
+        assert_eq!(declared([&b"\x1B-A"[..], b"\x1B)v"].into_iter()), Declared::Several);
+        assert_eq!(declared([&b"abc"[..]].into_iter()), Declared::None);
     }
 
     /// Where glibc's tables have another character: the dash, the ohm sign for the letter, and the eth, of which the small

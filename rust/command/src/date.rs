@@ -8,11 +8,15 @@ use clap::Args;
 use odif::{Date, Edition, Letter, Refusal};
 use serde::Serialize;
 
-use crate::args::Asked;
-use crate::explain;
+use crate::asked::Asked;
 use crate::input::{self, Source};
 use crate::names::Name;
 use crate::status::{Outcome, Status};
+use crate::undated::{Found, Undated};
+use crate::{explain, show};
+
+/// What is said behind an answer that `--first` gives.
+const UNREAD: &str = " (by the first element alone; the rest is unread)";
 
 const EXAMPLES: &str = "\
 Examples:
@@ -24,8 +28,9 @@ Exit status: 0 all have a date; 1 one has none or was refused; 2 one could not b
 
 /// Shows the date of documents
 ///
-/// Shows the date that stands in the profile of each letter: document-date-and-time, if there is exactly one. A letter that
-/// is not accepted has none to show, but with --first the profile alone is judged.
+/// Shows the date that stands in the profile of each letter: document-date-and-time, if there is exactly one. Where there is
+/// none, it says what stands in its place, and where. A letter that is not accepted has none to show, but with --first the
+/// profile alone is judged, and the answer says so.
 #[derive(Args)]
 #[command(after_help = EXAMPLES)]
 pub struct Words {
@@ -36,15 +41,8 @@ pub struct Words {
     first: bool,
 }
 
-#[derive(Serialize)]
-struct Answer<'a> {
-    #[serde(flatten)]
-    name: Name,
-    outcome: &'static str,
-    number: u32,
-    place: usize,
-    #[serde(skip_serializing_if = "Option::is_none")]
-    sentence: Option<&'static str>,
+#[derive(Default, Serialize)]
+struct Answer {
     date: Option<String>,
     /// Where the octets of the date stand, and what they are.
     #[serde(skip_serializing_if = "Option::is_none")]
@@ -52,8 +50,27 @@ struct Answer<'a> {
     #[serde(skip_serializing_if = "Option::is_none")]
     past: Option<usize>,
     #[serde(skip_serializing_if = "Option::is_none")]
-    value: Option<std::borrow::Cow<'a, str>>,
+    value: Option<String>,
+    #[serde(skip_serializing_if = "Option::is_none")]
+    value_hex: Option<String>,
+    /// What stands where the date should be, of a letter that has none.
+    #[serde(skip_serializing_if = "Option::is_none")]
+    dates: Option<Vec<Found>>,
     unread: bool,
+}
+
+/// The beginning of the answer on a letter without a date.
+#[derive(Serialize)]
+struct NoDate {
+    #[serde(flatten)]
+    name: Name,
+    outcome: &'static str,
+    number: u32,
+    place: usize,
+    sentence: &'static str,
+    detail: String,
+    #[serde(flatten)]
+    answer: Answer,
 }
 
 pub fn run(words: &Words) -> Outcome {
@@ -88,47 +105,59 @@ fn tell(words: &Words, source: &Source<'_>) -> Outcome {
     } else {
         Letter::read_in(source.edition, &source.stream).and_then(|letter| letter.date())
     };
-    let report = match &date {
-        found if words.asked.json => explain::json(&answer(source, found, words.first)),
-        Ok(date) => format!("{}: {date}", source.shown),
-        Err(refusal) if refusal.number() > 15 => {
-            format!("{}: no date, number {}: {}", source.shown, refusal.number(), refusal.rule)
-        }
-        Err(refusal) => format!("{}: refused, {refusal}", source.shown),
-    };
+    let report = if words.asked.json { json(source, &date, words.first) } else { text(source, &date, words.first) };
     let mut out = io::stdout().lock();
-    writeln!(out, "{report}")?;
+    out.write_all(report.as_bytes())?;
     out.flush()?;
     Ok(if date.is_ok() { Status::Accepted } else { Status::Refused })
 }
 
-fn answer<'a>(source: &'a Source<'_>, date: &Result<Date, Refusal>, unread: bool) -> Answer<'a> {
-    let name = Name::of(source.file);
+/// The answer for people.
+fn text(source: &Source<'_>, date: &Result<Date, Refusal>, unread: bool) -> String {
+    let rest = if unread { UNREAD } else { "" };
     match date {
-        Ok(date) => Answer {
-            name,
-            outcome: "dated",
-            number: 0,
-            place: 0,
-            sentence: None,
-            date: Some(date.to_string()),
-            first: Some(date.place.start),
-            past: Some(date.place.end),
-            value: Some(String::from_utf8_lossy(&source.stream[date.place.clone()])),
-            unread,
-        },
-        Err(refusal) => Answer {
-            name,
-            outcome: if refusal.number() > 15 { "undated" } else { "refused" },
-            number: refusal.number(),
-            place: refusal.place,
-            sentence: Some(refusal.rule.sentence()),
-            date: None,
-            first: None,
-            past: None,
-            value: None,
-            unread,
-        },
+        Ok(date) => format!("{}: {date}{rest}\n", source.shown),
+        Err(refusal) if refusal.number() > 15 => {
+            let Undated { detail, dates } = Undated::of(source.edition, &source.stream, refusal);
+            let number = refusal.number();
+            let around = dates.first().map_or(String::new(), |date| show::around(&source.stream, date.first));
+            format!("{}: no date, number {number}: {detail}{rest}\n{around}", source.shown)
+        }
+        Err(refusal) => {
+            let rest = if unread { format!(" {rest}\n") } else { String::new() };
+            explain::refusal(source, refusal) + &rest
+        }
+    }
+}
+
+/// The answer as a line of JSON.
+fn json(source: &Source<'_>, date: &Result<Date, Refusal>, unread: bool) -> String {
+    let answer = Answer { unread, ..Answer::default() };
+    match date {
+        Ok(found) => {
+            let octets = &source.stream[found.place.clone()];
+            explain::answer_as(
+                "dated",
+                source,
+                date,
+                Answer {
+                    date: Some(found.to_string()),
+                    first: Some(found.place.start),
+                    past: Some(found.place.end),
+                    value: show::ascii(octets),
+                    value_hex: Some(show::hex(octets)),
+                    ..answer
+                },
+            )
+        }
+        Err(refusal) if refusal.number() > 15 => {
+            let Undated { detail, dates } = Undated::of(source.edition, &source.stream, refusal);
+            let (number, place, sentence) = (refusal.number(), refusal.place, refusal.rule.sentence());
+            let answer = Answer { dates: Some(dates), ..answer };
+            let name = Name::of(source.file);
+            explain::json(&NoDate { name, outcome: "undated", number, place, sentence, detail, answer }) + "\n"
+        }
+        Err(_) => explain::answer(source, date, answer),
     }
 }
 

@@ -27,7 +27,7 @@ pub fn refusal(source: &Source<'_>, refusal: &Refusal) -> String {
     if let Some(foreign) = fault.foreign {
         text += &format!("  this is {foreign}, and no letter\n");
     }
-    if let Some(hint) = fault.hint {
+    if let Some(hint) = &fault.hint {
         text += &format!("  {hint}\n");
     }
     if fault.sentence != fault.detail {
@@ -64,7 +64,7 @@ struct Cause {
     #[serde(skip_serializing_if = "Option::is_none")]
     foreign: Option<&'static str>,
     #[serde(skip_serializing_if = "Option::is_none")]
-    hint: Option<&'static str>,
+    hint: Option<String>,
     #[serde(skip_serializing_if = "Option::is_none")]
     around: Option<Octets>,
 }
@@ -78,6 +78,16 @@ struct Octets {
 
 /// The answer on a stream as a line of JSON: the verdict, and then what the subcommand has to say.
 pub fn answer<T>(source: &Source<'_>, verdict: &Result<T, Refusal>, more: impl Serialize) -> String {
+    answer_as("accepted", source, verdict, more)
+}
+
+/// The same with another word for what is not refused.
+pub fn answer_as<T>(
+    word: &'static str,
+    source: &Source<'_>,
+    verdict: &Result<T, Refusal>,
+    more: impl Serialize,
+) -> String {
     #[derive(Serialize)]
     struct Answer<M> {
         #[serde(flatten)]
@@ -85,14 +95,14 @@ pub fn answer<T>(source: &Source<'_>, verdict: &Result<T, Refusal>, more: impl S
         #[serde(flatten)]
         more: M,
     }
-    json(&Answer { verdict: Verdict::of(source, verdict), more }) + "\n"
+    json(&Answer { verdict: Verdict::of(word, source, verdict), more }) + "\n"
 }
 
 impl Verdict {
-    fn of<T>(source: &Source<'_>, verdict: &Result<T, Refusal>) -> Verdict {
+    fn of<T>(word: &'static str, source: &Source<'_>, verdict: &Result<T, Refusal>) -> Verdict {
         let name = Name::of(source.file);
         match verdict {
-            Ok(_) => Verdict { name, outcome: "accepted", number: 0, place: 0, cause: None },
+            Ok(_) => Verdict { name, outcome: word, number: 0, place: 0, cause: None },
             Err(refusal) => {
                 let (number, place) = (refusal.number(), refusal.place);
                 Verdict { name, outcome: "refused", number, place, cause: Some(cause(source, refusal)) }

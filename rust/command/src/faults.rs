@@ -6,6 +6,7 @@
 use odif::{Edition, Kind, Refusal};
 use reader::{Item, Length, Reading, Why};
 
+use crate::asked::of_reader;
 use crate::{foreign, items, show};
 
 /// A refusal with all that is known of it.
@@ -26,7 +27,7 @@ pub struct Fault {
     /// What the stream seems to be instead of a letter.
     pub foreign: Option<&'static str>,
     /// What the edition of 1993 has to say to it.
-    pub hint: Option<&'static str>,
+    pub hint: Option<String>,
 }
 
 impl Fault {
@@ -63,29 +64,20 @@ impl Fault {
     }
 }
 
-/// The reader's word for an edition.
-fn of_reader(edition: Edition) -> reader::Edition {
-    match edition {
-        Edition::Of1988 => reader::Edition::Of1988,
-        Edition::Of1993 => reader::Edition::Of1993,
-    }
-}
-
-/// Is what the edition of 1988 refuses something that that of 1993 has?
-fn hint(edition: Edition, stream: &[u8], found: reader::Refusal) -> Option<&'static str> {
-    if edition != Edition::Of1988 {
+/// What the edition of 1993 says to a stream that that of 1988 refuses for something that only 1993 has. The library is
+/// asked.
+fn hint(edition: Edition, stream: &[u8], found: reader::Refusal) -> Option<String> {
+    if edition != Edition::Of1988 || found.why != Why::ElementOf1993 && found.number() != 12 {
         return None;
     }
-    let goes_further = || {
-        let refusal = Reading::by(reader::Edition::Of1993, stream).refusal();
-        refusal.is_none_or(|refusal| refusal.place > found.place)
-    };
-    match found.why {
-        Why::ElementOf1993 => Some("this is a letter of 1993, for `--edition 1993`"),
-        _ if found.number() == 12 && goes_further() => {
-            Some("the edition of 1993 has such text units, and `--edition 1993` reads them")
+    let what = if found.number() == 12 { "1993 has such text units" } else { "this is an element of 1993" };
+    match odif::check_in(Edition::Of1993, stream).verdict {
+        Ok(_) => Some(format!("{what}, and `--edition 1993` accepts the letter")),
+        Err(refusal) if refusal.place > found.place as usize || found.why == Why::ElementOf1993 => {
+            let (number, place) = (refusal.number(), refusal.place);
+            Some(format!("{what}, but `--edition 1993` refuses the letter too, number {number} at octet {place}"))
         }
-        _ => None,
+        Err(_) => None,
     }
 }
 

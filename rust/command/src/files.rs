@@ -9,7 +9,7 @@ use std::path::{Path, PathBuf};
 use clap::Args;
 use walkdir::WalkDir;
 
-use crate::args::By;
+use crate::asked::By;
 use crate::pool;
 use crate::progress::Progress;
 use crate::show;

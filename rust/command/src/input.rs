@@ -2,14 +2,15 @@
 
 use std::ffi::OsStr;
 use std::fs::File;
-use std::io::{self, BufRead, BufReader, Read, Write};
+use std::io::{self, BufRead, BufReader, BufWriter, Read, Write};
 use std::path::Path;
 
-use odif::Edition;
+use odif::{Edition, Letter, Refusal};
+use serde::Serialize;
 
-use crate::args::Files;
+use crate::asked::{Asked, Files};
 use crate::names::Name;
-use crate::status::{Outcome, Status, tell};
+use crate::status::{Failure, Outcome, Status, tell};
 use crate::{explain, show};
 
 /// A stream longer than this is refused whatever it holds, so no more than one octet past it is read.
@@ -37,6 +38,7 @@ pub struct Source<'a> {
 /// Reads the files one after another and hands on each. One that can't be read is told, as JSON on standard output if
 /// the answers are that too, and the next one follows. The worst status counts.
 pub fn each(files: &Files, json: bool, mut answer: impl FnMut(&Source<'_>) -> Outcome) -> Outcome {
+    standard_input_once(files)?;
     let mut worst = Status::Accepted;
     for file in &files.files {
         let shown = show::name(file);
@@ -65,6 +67,7 @@ pub fn each_front(
     front: impl Fn(&OsStr) -> io::Result<Option<Vec<u8>>>,
     mut answer: impl FnMut(&Source<'_>) -> Outcome,
 ) -> Outcome {
+    standard_input_once(files)?;
     let mut worst = Status::Accepted;
     for file in &files.files {
         let status = match if file == "-" { Ok(None) } else { front(file) } {
@@ -82,8 +85,73 @@ pub fn each_front(
     Ok(worst)
 }
 
+/// What stands on standard input is gone once it is read.
+fn standard_input_once(files: &Files) -> Result<(), Failure> {
+    match files.files.iter().filter(|file| *file == "-").count() {
+        0 | 1 => Ok(()),
+        _ => Err(Failure::Usage("`-` stands there twice, and standard input can be read once".into())),
+    }
+}
+
+/// What a subcommand has to say of an accepted letter. That of a refused one is empty.
+pub trait Answer: Serialize + Default {
+    /// Writes it for people.
+    fn write(&self, out: &mut dyn Write) -> io::Result<()>;
+
+    /// Tells the rest on standard error, once it is written for people.
+    fn note(&self, _source: &Source<'_>, _letter: &Letter<'_>) {}
+
+    /// How it lets the run end.
+    fn status(&self) -> Status {
+        Status::Accepted
+    }
+}
+
+/// Answers for each file.
+pub fn answer_each<A: Answer>(asked: &Asked, ask: impl Fn(&Letter<'_>) -> Result<A, Failure>) -> Outcome {
+    each(&asked.files, asked.json, |source| {
+        let read = Letter::read_in(source.edition, &source.stream);
+        let answer = read.as_ref().map_or_else(|_| Ok(A::default()), &ask)?;
+        write_answer(asked, source, &read, &answer, |out| {
+            if read.is_err() {
+                return Ok(());
+            }
+            heading(out, &asked.files, source)?;
+            answer.write(out)
+        })?;
+        if let Ok(letter) = &read
+            && !asked.json
+        {
+            answer.note(source, letter);
+        }
+        Ok(Status::of(&read).max(answer.status()))
+    })
+}
+
+/// Writes an answer behind its verdict as JSON, or shows it to people, and what refuses the stream on standard error.
+pub fn write_answer<T>(
+    asked: &Asked,
+    source: &Source<'_>,
+    verdict: &Result<T, Refusal>,
+    answer: &impl Serialize,
+    show: impl FnOnce(&mut dyn Write) -> io::Result<()>,
+) -> io::Result<()> {
+    let mut out = BufWriter::new(io::stdout().lock());
+    match asked.json {
+        true => out.write_all(explain::answer(source, verdict, answer).as_bytes())?,
+        false => show(&mut out)?,
+    }
+    out.flush()?;
+    if let Err(refusal) = verdict
+        && !asked.json
+    {
+        tell(&explain::refusal(source, refusal));
+    }
+    Ok(())
+}
+
 /// A line with the file's name, where there are several.
-pub fn heading(out: &mut impl Write, files: &Files, source: &Source<'_>) -> io::Result<()> {
+pub fn heading(out: &mut (impl Write + ?Sized), files: &Files, source: &Source<'_>) -> io::Result<()> {
     if files.files.len() > 1 { writeln!(out, "==> {} <==", source.shown) } else { Ok(()) }
 }
 

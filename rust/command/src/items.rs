@@ -38,7 +38,7 @@ impl Named<'_> {
             Value::NamedBy(names) => number(octets).map(|number| meaning(number, names[edition as usize])),
             Value::Object => object(octets).map(Known::Object),
             Value::Bits(names) => bits(octets).map(|bits| named_bits(bits, names)),
-            Value::Text => show::is_plain_text(octets).then(|| Known::Text(show::escaped(octets))),
+            Value::Text => show::ascii(octets).map(Known::Text),
         }
     }
 }
@@ -49,7 +49,7 @@ pub enum Known {
     Named(i64, &'static str),
     /// An object identifier.
     Object(String),
-    /// Printable ASCII, with line ends and the like escaped.
+    /// ASCII.
     Text(String),
     /// Bits as digits, and the names of those that are set, as far as they have some.
     Bits(String, String),

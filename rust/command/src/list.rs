@@ -1,16 +1,16 @@
 //! `odif list`
 
-use std::io::{self, BufWriter, Write};
+use std::io::{self, Write};
 
 use clap::Args;
 use odif::{Letter, Side};
-use serde::{Serialize, Serializer};
+use serde::Serialize;
 
-use crate::args::{Asked, Sides};
-use crate::input;
-use crate::status::{Outcome, Status, tell};
-use crate::text::note_units_left_out;
-use crate::{explain, protected, show};
+use crate::asked::{Asked, Sides};
+use crate::input::{self, Answer, Source};
+use crate::status::Outcome;
+use crate::units::{Unit, Units};
+use crate::{protected, show};
 
 /// The octets of a content that a line shows.
 const SHOWN: usize = 40;
@@ -26,8 +26,9 @@ Exit status: 0 listed; 1 a letter was refused; 2 a file could not be read.";
 ///
 /// Lists the matches of a side in reading order: the element, the place of the portion in it, the text unit (all
 /// counted from 0), the unit's identifier, the length of its content and how it begins. Text units that no object of
-/// the side names are not listed; a note on standard error tells how many. JSON has the whole contents and their places;
-/// of a content in pieces or tiles that is the place of the value that holds them.
+/// the side names are not listed; a note on standard error tells how many and where the first of them stand. JSON has the
+/// whole contents and their places, and all text units that are not listed as `not_shown`; of a content in pieces or tiles
+/// the place is that of the value that holds them.
 #[derive(Args)]
 #[command(after_help = EXAMPLES)]
 pub struct Words {
@@ -38,12 +39,15 @@ pub struct Words {
 }
 
 /// What JSON has besides the verdict.
-#[derive(Serialize)]
+#[derive(Default, Serialize)]
 struct Listed {
-    #[serde(serialize_with = "in_words")]
-    side: Side,
+    side: Option<String>,
     elements: usize,
     matches: Vec<Line>,
+    /// The text units that are not listed.
+    not_shown: Vec<Unit>,
+    #[serde(skip)]
+    units: Option<Units>,
 }
 
 #[derive(Serialize)]
@@ -56,45 +60,41 @@ struct Line {
     in_pieces: bool,
     first: usize,
     past: usize,
-    /// The content, escaped as `odif text --escape` does, and line ends too.
-    content: String,
+    content: Option<String>,
+    content_hex: String,
     /// Its beginning, for people.
     #[serde(skip)]
     beginning: String,
 }
 
 pub fn run(words: &Words) -> Outcome {
-    input::each(&words.asked.files, words.asked.json, |source| {
-        let read = Letter::read_in(source.edition, &source.stream);
-        let mut out = BufWriter::new(io::stdout().lock());
-        match &read {
-            _ if words.asked.json => {
-                let listed = read.as_ref().ok().map(|letter| listed(letter, &words.sides));
-                out.write_all(explain::answer(source, &read, listed).as_bytes())?;
-                out.flush()?;
-            }
-            Ok(letter) => {
-                let Listed { side, matches: lines, .. } = listed(letter, &words.sides);
-                input::heading(&mut out, &words.asked.files, source)?;
-                write_lines(&mut out, &lines)?;
-                out.flush()?;
-                note_units_left_out(source, letter.elements(), side, lines.len());
-                protected::note(source, letter.elements());
-            }
-            Err(refusal) => tell(&explain::refusal(source, refusal)),
-        }
-        Ok(Status::of(&read))
-    })
+    input::answer_each(&words.asked, |letter| Ok(listed(letter, &words.sides)))
 }
 
-fn in_words<S: Serializer>(side: &Side, out: S) -> Result<S::Ok, S::Error> {
-    out.collect_str(side)
+impl Answer for Listed {
+    fn write(&self, out: &mut dyn Write) -> io::Result<()> {
+        write_lines(out, &self.matches)
+    }
+
+    fn note(&self, source: &Source<'_>, letter: &Letter<'_>) {
+        if let Some(units) = &self.units {
+            units.note(source);
+        }
+        protected::note(source, letter.elements());
+    }
 }
 
 fn listed(letter: &Letter<'_>, sides: &Sides) -> Listed {
     let (side, text) = sides.text(letter.edition(), letter.stream()).expect("the text of an accepted letter");
     let matches = text.lines().iter().map(|found| line(letter, side, found, text.content(found))).collect();
-    Listed { side, elements: letter.elements().len(), matches }
+    let units = Units::of(side, &text);
+    Listed {
+        side: Some(side.to_string()),
+        elements: letter.elements().len(),
+        matches,
+        not_shown: units.not_shown().to_vec(),
+        units: Some(units),
+    }
 }
 
 fn line(letter: &Letter<'_>, side: Side, found: &odif::Line, content: &[u8]) -> Line {
@@ -113,12 +113,13 @@ fn line(letter: &Letter<'_>, side: Side, found: &odif::Line, content: &[u8]) -> 
         in_pieces: content.len() < place.len(),
         first: place.start,
         past: place.end,
-        content: show::escaped(content),
+        content: show::ascii(content),
+        content_hex: show::hex(content),
         beginning: show::beginning(content, SHOWN),
     }
 }
 
-fn write_lines(out: &mut impl Write, lines: &[Line]) -> io::Result<()> {
+fn write_lines(out: &mut dyn Write, lines: &[Line]) -> io::Result<()> {
     let width = lines.iter().map(|line| line.identifier.len()).max().unwrap_or(0).max("identifier".len());
     writeln!(out, "element portion  unit  octets  {:width$}  content", "identifier")?;
     for line in lines {

@@ -1,11 +1,13 @@
 //! The command `odif`: see `odif --help`.
 
 mod args;
+mod asked;
 mod beside;
 mod blocks;
 mod charset;
 mod check;
 mod date;
+mod dimensions;
 mod explain;
 mod export;
 mod faults;
@@ -33,6 +35,8 @@ mod status;
 mod survey;
 mod text;
 mod tree;
+mod undated;
+mod units;
 
 use std::process::ExitCode;
 

@@ -27,9 +27,8 @@ Exit status: 0 written; 1 the letter was refused; 2 a file could not be read or 
 /// rules, its layout side reads the texts in their order, and it is its own normal form. At most 2,047 texts fit.
 ///
 /// Each FILE is a text, octet for octet; its block is numbered from 0 under --under, with the portion 0. Or with --lines
-/// each line of a file is a text in JSON, with its own names: {"identifier":"1 0 2","portion":"0","text":"Hi\\r\\n"}. There
-/// a text is ASCII, and \xHH stands for any octet, \r, \n and \t for those, and \\ for \; as JSON has a use for \ itself,
-/// each \ is written twice, as in "caf\\xC2e". What `odif text --escape` writes is written so.
+/// each line of a file is a text in JSON, with its own names: {"identifier":"1 0 2","portion":"0","text":"Hi\r\n"}. There
+/// a text is ASCII, or stands in hexadecimal as `text_hex`, as octets do in all JSON of this command.
 ///
 /// Without -o it is written to standard output, unless that is a terminal; with `-o -` even then.
 #[derive(Args)]
@@ -55,7 +54,23 @@ pub struct Words {
 struct Line {
     identifier: String,
     portion: String,
-    text: String,
+    text: Option<String>,
+    text_hex: Option<String>,
+}
+
+impl Line {
+    /// The octets of the text.
+    fn octets(&self) -> Result<Vec<u8>, String> {
+        match (&self.text, &self.text_hex) {
+            (Some(text), None) if text.is_ascii() => Ok(text.clone().into_bytes()),
+            (Some(_), None) => Err("its text is not ASCII: write its octets as text_hex".into()),
+            (None, Some(digits)) => {
+                show::from_hex(digits).ok_or_else(|| "its text_hex is no pairs of hexadecimal digits".into())
+            }
+            (None, None) => Err("it has neither text nor text_hex".into()),
+            (Some(_), Some(_)) => Err("it has both text and text_hex".into()),
+        }
+    }
 }
 
 pub fn run(words: &Words) -> Outcome {
@@ -114,7 +129,7 @@ fn add_lines(builder: &mut Builder, file: &OsString) -> Result<Vec<String>, Fail
         }
         let wrong = |why: String| Failure::File(format!("{name}: line {number}: {why}"));
         let line: Line = serde_json::from_slice(line).map_err(|error| wrong(error.to_string()))?;
-        let text = unescaped(&line.text).map_err(wrong)?;
+        let text = line.octets().map_err(wrong)?;
         builder.entry(&line.identifier, &line.portion, text);
         places.push(format!("{name}: line {number}"));
     }
@@ -130,43 +145,20 @@ fn read(file: &OsString) -> Result<Vec<u8>, Failure> {
     read.map(|_| octets).map_err(|error| Failure::File(format!("standard input: {error}")))
 }
 
-/// The octets of a text with escapes.
-fn unescaped(text: &str) -> Result<Vec<u8>, String> {
-    let mut octets = Vec::new();
-    let mut rest = text.chars();
-    while let Some(character) = rest.next() {
-        if character != '\\' {
-            let octet = u8::try_from(character).ok().filter(u8::is_ascii);
-            octets.push(octet.ok_or_else(|| format!("'{character}' is not ASCII: write the octet as \\\\xHH"))?);
-            continue;
-        }
-        octets.push(match rest.next() {
-            Some('\\') => b'\\',
-            Some('n') => b'\n',
-            Some('r') => b'\r',
-            Some('t') => b'\t',
-            Some('x') => {
-                let digits: String = rest.by_ref().take(2).collect();
-                let whole = digits.len() == 2 && digits.chars().all(|digit| digit.is_ascii_hexdigit());
-                let octet = u8::from_str_radix(&digits, 16).ok().filter(|_| whole);
-                octet.ok_or_else(|| format!("\\x{digits} is not \\x and two hexadecimal digits"))?
-            }
-            Some(other) => return Err(format!("there is no escape \\{other}")),
-            None => return Err("a \\ stands at the end".into()),
-        });
-    }
-    Ok(octets)
-}
-
 #[cfg(test)]
 mod tests {
     use super::*;
 
     #[test]
-    fn escapes() {
-        assert_eq!(unescaped(r"a\\b\x00\xfF\n\r\t").unwrap(), b"a\\b\x00\xFF\n\r\t");
-        for bad in [r"\", r"\x", r"\x1", r"\x1g", r"\x+1", r"\y", "é", "\u{80}"] {
-            assert!(unescaped(bad).is_err(), "{bad}");
+    fn texts_of_lines() {
+        let octets = |rest: &str| {
+            let line = format!("{{\"identifier\":\"1\",\"portion\":\"0\"{rest}}}");
+            serde_json::from_str::<Line>(&line).unwrap().octets()
+        };
+        assert_eq!(octets(r#","text":"a\\b\u0000\r\n""#).unwrap(), b"a\\b\0\r\n");
+        assert_eq!(octets(r#","text_hex":"00fFc8""#).unwrap(), b"\x00\xFF\xC8");
+        for bad in ["", r#","text":"é""#, r#","text_hex":"0""#, r#","text_hex":"+1""#, r#","text":"","text_hex":"""#] {
+            assert!(octets(bad).is_err(), "{bad}");
         }
     }
 }

@@ -2,10 +2,25 @@
 
 use std::io::{self, Write};
 
-use clap::{Arg, Args, Command};
+use clap::builder::PossibleValue;
+use clap::{Arg, ArgAction, Args, Command};
 use clap_complete::Shell;
+use odif::Rule;
 
 use crate::status::{Outcome, Status};
+
+const DESCRIPTION: &str = "\
+Every verdict, reading list, content and normal form is the answer of a proved library. What `odif tree` lists, the words
+that say what exactly is wrong at a place, the dimensions behind a verdict of `odif pages` and what stands in the place of
+a missing date come from an independent reader that is tested and not proved.";
+
+/// The form of octets in JSON, which `odif help json` prints.
+pub const JSON: &str = "\
+With --json each file is one object on a line. Octets of a letter have one form in all of them: a field NAME and a field
+NAME_hex. NAME_hex always has all octets, in hexadecimal. NAME has them as a string if each is 00 to 7E, with the escapes of
+JSON and no others, and is null if not. What is no string of octets but made for people, as `detail`, may have \\xHH, \\n and
+the like in it. A file's name is `file`; where that is no UTF-8, `file_octets` has it in hexadecimal, and `file` is for people.
+Places and numbers of elements are counted from 0.";
 
 /// Writes the completions for a shell
 #[derive(Args)]
@@ -17,18 +32,25 @@ pub struct Words {
 /// Writes the completions of the command.
 pub fn completions(words: &Words, mut command: Command) -> Outcome {
     let mut text = Vec::new();
+    command = command.mut_subcommand("text", plain_utf8).mut_subcommand("export", plain_utf8);
     clap_complete::generate(words.shell, &mut command, "odif", &mut text);
     io::stdout().write_all(&text)?;
     Ok(Status::Accepted)
 }
 
+/// The option `--utf8` takes a value only behind an equals sign. The completions know no such thing, and would offer the
+/// value as a word of its own, which is taken for a file; so they have the option without a value.
+fn plain_utf8(command: Command) -> Command {
+    command.mut_arg("utf8", |_| Arg::new("utf8").long("utf8").action(ArgAction::SetTrue).help("The text in UTF-8"))
+}
+
 /// Writes the manual page of the command.
 pub fn run(mut command: Command) -> Outcome {
     command.build();
-    let mut page = String::from(".TH ODIF 1\n.SH NAME\nodif \\- ");
+    let (version, date) = (env!("CARGO_PKG_VERSION"), roff(env!("ODIF_DATE")));
+    let mut page = format!(".TH ODIF 1 \"{date}\" \"odif {version}\" \"User Commands\"\n.SH NAME\nodif \\- ");
     page += &format!("{}\n.SH SYNOPSIS\n.B odif\nCOMMAND [OPTIONS] ..\n", about(&command));
-    page +=
-        ".SH DESCRIPTION\nEvery verdict, reading list, content and normal form is the answer of a proved library.\n";
+    page += &format!(".SH DESCRIPTION\n{}\n", roff(DESCRIPTION));
     for sub in command.get_subcommands().filter(|sub| sub.get_name() != "help") {
         page += &format!(".SH odif {}\n{}\n", sub.get_name(), long_about(sub));
         for arg in sub.get_arguments().filter(|arg| arg.get_id() != "help") {
@@ -37,8 +59,22 @@ pub fn run(mut command: Command) -> Outcome {
         page += &verbatim(sub);
     }
     page += &format!(".SH EXAMPLES AND EXIT STATUS\n{}", verbatim(&command));
+    page += &format!(".SH JSON\n{}\n", roff(JSON));
+    page += &format!(".SH REFUSAL NUMBERS\n{}", numbers());
     io::stdout().write_all(page.as_bytes())?;
     Ok(Status::Accepted)
+}
+
+/// Each refusal number with its sentence.
+fn numbers() -> String {
+    let rules = (1..).map_while(|number| Some((number, Rule::from_number(number)?)));
+    rules.map(|(number, rule)| format!(".TP\n.B {number}\n{}\n", roff(rule.sentence()))).collect()
+}
+
+/// Says what a refusal number means: `odif help 7`.
+pub fn number(digits: &str) -> Option<String> {
+    let number = digits.parse().ok()?;
+    Some(format!("{number}: {}\n", Rule::from_number(number)?.sentence()))
 }
 
 fn about(command: &Command) -> String {
@@ -55,16 +91,28 @@ fn verbatim(command: &Command) -> String {
     if text.is_empty() { text } else { format!(".PP\n.nf\n{}\n.fi\n", roff(&text)) }
 }
 
-/// An option with its value, or the name of a file.
+/// An option with its value, or the name of a file; in brackets where the value may be left out.
 fn words(arg: &Arg) -> String {
     let names = [arg.get_short().map(|short| format!("-{short}")), arg.get_long().map(|long| format!("--{long}"))];
     let value = arg.get_value_names().map(|names| names.join(" ")).filter(|_| arg.get_action().takes_values());
     let names = names.into_iter().flatten().collect::<Vec<_>>().join(", ");
-    format!("{names} {}", value.unwrap_or_default()).trim().into()
+    let value = value.unwrap_or_default();
+    match arg.is_require_equals_set() {
+        true => format!("{names}[={value}]"),
+        false => format!("{names} {value}").trim().into(),
+    }
 }
 
+/// What is said of an option, and its values if it has only some.
 fn help(arg: &Arg) -> String {
-    arg.get_long_help().or_else(|| arg.get_help()).map(ToString::to_string).unwrap_or_default()
+    let help = arg.get_long_help().or_else(|| arg.get_help()).map(ToString::to_string).unwrap_or_default();
+    let values = arg.get_possible_values();
+    let value = |value: &PossibleValue| match value.get_help() {
+        Some(help) => format!("{} ({help})", value.get_name()),
+        None => value.get_name().into(),
+    };
+    let values: Vec<String> = values.iter().filter(|_| arg.get_action().takes_values()).map(value).collect();
+    if values.is_empty() { help } else { format!("{help}. One of: {}", values.join("; ")) }
 }
 
 /// Text that roff takes as it stands: no line begins with a point, and minus signs stay minus signs.

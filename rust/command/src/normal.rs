@@ -2,12 +2,13 @@
 
 use std::collections::BTreeSet;
 use std::ffi::{OsStr, OsString};
+use std::fs;
 use std::io::{self, IsTerminal, Write};
 use std::path::{Path, PathBuf};
 
 use clap::Args;
 
-use crate::args::Files;
+use crate::asked::Files;
 use crate::status::{Failure, Outcome, Status, tell};
 use crate::{beside, explain, input};
 
@@ -32,7 +33,7 @@ pub struct Words {
     /// The file to write, which may be the letter itself; it is left as it was until all is written
     #[arg(short, value_name = "OUT", conflicts_with = "into")]
     out: Option<OsString>,
-    /// The folder to write to, each letter under its own name
+    /// The folder to write to, each letter under its own name; it is made if it is not there
     #[arg(long, value_name = "FOLDER")]
     into: Option<PathBuf>,
 }
@@ -60,7 +61,10 @@ pub fn run(words: &Words) -> Outcome {
             }
         };
         match place(words, source.file) {
-            Some(place) => beside::write(&place, &normal)?,
+            Some(place) => {
+                make_folder(words)?;
+                beside::write(&place, &normal)?
+            }
             None => {
                 let mut stdout = io::stdout().lock();
                 stdout.write_all(&normal)?;
@@ -69,6 +73,15 @@ pub fn run(words: &Words) -> Outcome {
         }
         Ok(Status::Accepted)
     })
+}
+
+/// Makes the folder to write to, if one is named and not there.
+fn make_folder(words: &Words) -> Result<(), Failure> {
+    let folder = words.into.as_deref().unwrap_or(Path::new(""));
+    if folder.as_os_str().is_empty() {
+        return Ok(());
+    }
+    fs::create_dir_all(folder).map_err(|error| beside::failure(folder, &error))
 }
 
 /// Where the normal form of a file goes, if not to standard output.

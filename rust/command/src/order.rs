@@ -6,7 +6,7 @@ use clap::{Args, ValueEnum};
 use odif::{Class, Edition, Letter, Refusal};
 use serde::Serialize;
 
-use crate::args::Asked;
+use crate::asked::Asked;
 use crate::input::{self, Source};
 use crate::status::{Outcome, Status};
 use crate::{explain, show};

@@ -1,15 +1,15 @@
 //! `odif outline`
 
-use std::io::{self, BufWriter, Write};
+use std::io::{self, Write};
 
 use clap::Args;
 use odif::{Element, Kind, Letter, Side, Text};
 use serde::Serialize;
 
-use crate::args::{Asked, Sides};
-use crate::input;
-use crate::status::{Outcome, Status, tell};
-use crate::{explain, show};
+use crate::asked::{Asked, Sides};
+use crate::input::{self, Answer};
+use crate::show;
+use crate::status::Outcome;
 
 /// The octets of a text that a line shows.
 const SHOWN: usize = 40;
@@ -39,9 +39,9 @@ pub struct Words {
 }
 
 /// What JSON has besides the verdict: the same elements in the same order, with depth and parent.
-#[derive(Serialize)]
+#[derive(Default, Serialize)]
 struct Shown {
-    side: String,
+    side: Option<String>,
     outline: Vec<Line>,
 }
 
@@ -54,40 +54,28 @@ struct Line {
     #[serde(rename = "type")]
     object_type: Option<&'static str>,
     identifier: String,
-    /// The contents that the element's portions name, joined and escaped.
-    text: String,
+    /// The contents that the element's portions name, joined.
+    text: Option<String>,
+    text_hex: String,
     /// Its beginning, for people.
     #[serde(skip)]
     beginning: String,
 }
 
 pub fn run(words: &Words) -> Outcome {
-    input::each(&words.asked.files, words.asked.json, |source| {
-        let read = Letter::read_in(source.edition, &source.stream);
-        let mut out = BufWriter::new(io::stdout().lock());
-        match &read {
-            _ if words.asked.json => {
-                let shown = read.as_ref().ok().map(|letter| {
-                    let (side, outline) = outline(letter, &words.sides);
-                    Shown { side: side.to_string(), outline }
-                });
-                out.write_all(explain::answer(source, &read, shown).as_bytes())?;
-                out.flush()?;
-            }
-            Ok(letter) => {
-                input::heading(&mut out, &words.asked.files, source)?;
-                for line in outline(letter, &words.sides).1 {
-                    write_line(&mut out, &line)?;
-                }
-                out.flush()?;
-            }
-            Err(refusal) => tell(&explain::refusal(source, refusal)),
-        }
-        Ok(Status::of(&read))
+    input::answer_each(&words.asked, |letter| {
+        let (side, outline) = outline(letter, &words.sides);
+        Ok(Shown { side: Some(side.to_string()), outline })
     })
 }
 
-fn write_line(out: &mut impl Write, line: &Line) -> io::Result<()> {
+impl Answer for Shown {
+    fn write(&self, out: &mut dyn Write) -> io::Result<()> {
+        self.outline.iter().try_for_each(|line| write_line(out, line))
+    }
+}
+
+fn write_line(out: &mut dyn Write, line: &Line) -> io::Result<()> {
     let Line { depth, element, kind, identifier, beginning, .. } = line;
     let kind = line.object_type.map_or(String::from(*kind), |name| format!("{kind}, {name}"));
     let front = format!("{element:5}  {:1$}{identifier}  {kind}  ", "", 2 * depth);
@@ -130,7 +118,8 @@ fn line(letter: &Letter<'_>, side: Side, depth: usize, number: usize, text: &[u8
         kind: element.kind.name(),
         object_type: element.object_type.and_then(|number| names.get(usize::from(number)).copied()),
         identifier: show::escaped(letter.identifier(number).unwrap_or_default()),
-        text: show::escaped(text),
+        text: show::ascii(text),
+        text_hex: show::hex(text),
         beginning: show::beginning(text, SHOWN),
     }
 }

@@ -23,15 +23,17 @@ const EXAMPLES: &str = "\
 Examples:
   odif same archive
   odif same inbox archive --csv same.csv
-  odif same archive | sed -n 's/^same  //p'
+  odif same archive --list -0 | xargs -0 ls -l
 
-Exit status: 0 no two files are the same letter; 1 some are; 2 some could not be read.";
+Exit status: 0 no two files are the same letter; 1 some are; 2 some could not be read; 130 it was
+interrupted, and the CSV file is as it was before.";
 
 /// Finds the files that are the same letter
 ///
 /// Groups the accepted files in folders and their subfolders by their normal form: whatever their lengths look like, the
 /// files of a group have the same items in the same order. The first file of each group, in the order of names, is
-/// marked `first`, the others `same`. Files that are refused are no letters, and counted only.
+/// marked `first`, the others `same`. Files that are refused are no letters, and counted only. Names are shown without
+/// control characters; with --list, -0 or --csv they are as the system has them.
 #[derive(Args)]
 #[command(after_help = EXAMPLES)]
 pub struct Words {
@@ -40,6 +42,16 @@ pub struct Words {
     /// A line for each file of a group; `-` is standard output
     #[arg(long, value_name = "FILE")]
     csv: Option<PathBuf>,
+    /// Write the names of the files that are marked `same` and nothing else, one a line
+    #[arg(long, conflicts_with = "csv")]
+    list: bool,
+}
+
+impl Words {
+    /// Is standard output for programs, so that the counts go to standard error?
+    fn is_for_programs(&self) -> bool {
+        self.list || self.places.null || self.csv.as_deref().is_some_and(csv::is_standard_output)
+    }
 }
 
 /// A line of the CSV.
@@ -128,7 +140,6 @@ pub fn run(words: &Words) -> Outcome {
     let mut counts = Counts::default();
     let alike = alike(words, &pool, &entries, &mut counts)?;
     let mut csv = words.csv.as_deref().map(|file| Csv::create(file, &COLUMNS)).transpose()?;
-    let to_stdout = words.csv.as_deref().is_some_and(csv::is_standard_output);
     let mut out = BufWriter::new(io::stdout());
     let compare = |group: &Vec<Kept>| groups(&entries, group, &words.places);
     let progress = Progress::over(alike.len());
@@ -140,7 +151,7 @@ pub fn run(words: &Words) -> Outcome {
             counts.again += group.places.len() - 1;
             match &mut csv {
                 Some(csv) => group.lines(&entries, counts.groups).try_for_each(|line| csv.add(&line))?,
-                None => group.write(&entries, &mut out)?,
+                None => group.write(&entries, words, &mut out)?,
             }
         }
         Ok(())
@@ -149,12 +160,13 @@ pub fn run(words: &Words) -> Outcome {
     drop(progress);
     csv.map_or(Ok(()), Csv::finish)?;
     let text = counts.text(entries.len());
-    if to_stdout {
-        tell(&text)
-    } else {
-        out.write_all(text.as_bytes())?
+    if !words.is_for_programs() {
+        out.write_all(text.as_bytes())?;
     }
     out.flush()?;
+    if words.is_for_programs() && !words.list {
+        tell(&text);
+    }
     Ok(counts.status())
 }
 
@@ -225,17 +237,28 @@ impl Group {
 
     fn lines(&self, entries: &[Entry], group: usize) -> impl Iterator<Item = Line> {
         self.ranked().map(move |(rank, place, octets)| {
-            let Name { file, file_octets } = Name::of(entries[place].path.as_os_str());
+            let Name { file, file_octets } = Name::in_cell(entries[place].path.as_os_str());
             let (normal_octets, normal_sha256) = (self.normal_octets, show::hex(&self.hash).to_lowercase());
             Line { group, rank, file, octets, normal_octets, normal_sha256, file_octets }
         })
     }
 
-    fn write(&self, entries: &[Entry], out: &mut impl Write) -> io::Result<()> {
+    /// Writes the names for people, or for programs: the lines with a zero octet at their ends, or the names alone.
+    fn write(&self, entries: &[Entry], words: &Words, out: &mut impl Write) -> io::Result<()> {
+        let null = words.places.null;
         for (rank, place, _) in self.ranked() {
-            writeln!(out, "{rank:5} {}", show::name(entries[place].path.as_os_str()))?;
+            let name = entries[place].path.as_os_str();
+            match (words.list, null) {
+                (true, _) if rank == "first" => {}
+                (true, _) => show::write_name(out, name, null)?,
+                (false, true) => {
+                    write!(out, "{rank:5} ")?;
+                    show::write_name(out, name, null)?;
+                }
+                (false, false) => writeln!(out, "{rank:5} {}", show::name(name))?,
+            }
         }
-        writeln!(out)
+        if words.list || null { Ok(()) } else { writeln!(out) }
     }
 }
 

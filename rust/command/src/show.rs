@@ -2,6 +2,7 @@
 
 use std::ffi::OsStr;
 use std::fmt::Write;
+use std::io::{self, IsTerminal};
 use std::os::unix::ffi::OsStrExt;
 
 /// Octets as text that no terminal takes for anything else: printable ASCII stays, a backslash is doubled, and the rest
@@ -61,9 +62,22 @@ pub fn is_plain_text(octets: &[u8]) -> bool {
     octets.iter().all(|octet| matches!(octet, b' '..=b'~' | b'\n' | b'\r' | b'\t'))
 }
 
+/// Octets as a string of JSON, where they are ASCII without its last character; what they are otherwise, hexadecimal tells.
+pub fn ascii(octets: &[u8]) -> Option<String> {
+    let is_ascii = octets.iter().all(|octet| *octet < 0x7F);
+    is_ascii.then(|| octets.iter().map(|&octet| char::from(octet)).collect())
+}
+
 /// Octets in hexadecimal.
 pub fn hex(octets: &[u8]) -> String {
     octets.iter().map(|octet| format!("{octet:02X}")).collect()
+}
+
+/// The octets of pairs of hexadecimal digits; `None` if they are none.
+pub fn from_hex(digits: &str) -> Option<Vec<u8>> {
+    let digits: Option<Vec<u32>> = digits.chars().map(|digit| digit.to_digit(16)).collect();
+    let pairs = digits.filter(|digits| digits.len().is_multiple_of(2))?;
+    Some(pairs.chunks(2).map(|pair| (pair[0] << 4 | pair[1]) as u8).collect())
 }
 
 /// A file's name for people: letters of any script stay, control characters do not.
@@ -75,6 +89,16 @@ pub fn name(file: &OsStr) -> String {
         Some(text) if !text.chars().any(char::is_control) => text.into(),
         _ => escaped(file.as_bytes()),
     }
+}
+
+/// Writes a name to standard output as the system has it, before a line end or a zero octet; to a terminal without control
+/// characters.
+pub fn write_name(out: &mut impl io::Write, name: &OsStr, null: bool) -> io::Result<()> {
+    if io::stdout().is_terminal() {
+        return writeln!(out, "{}", self::name(name));
+    }
+    out.write_all(name.as_bytes())?;
+    out.write_all(if null { b"\0" } else { b"\n" })
 }
 
 /// A noun with its article: a text unit, an enciphered document profile.
@@ -140,6 +164,12 @@ mod tests {
         assert_eq!(escaped_lines(b"a\r\nb"), "a\\r\nb");
         assert_eq!(beginning(b"abcdef", 3), "abc..");
         assert_eq!(beginning(b"abc", 3), "abc");
+    }
+
+    #[test]
+    fn strings_are_exact_or_none() {
+        assert_eq!(ascii(b"a\\b\n\x00~").as_deref(), Some("a\\b\n\0~"));
+        assert_eq!((ascii(b"a\x7F"), ascii(b"\xC3\xA9")), (None, None));
     }
 
     #[test]

@@ -12,6 +12,8 @@ pub enum Status {
     Refused,
     /// Something could not be read or written, or the command was misused.
     Failed,
+    /// The independent reader answers something else than the library.
+    Differing,
 }
 
 impl Status {

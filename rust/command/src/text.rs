@@ -3,13 +3,14 @@
 use std::io::{self, BufWriter, IsTerminal, Write};
 
 use clap::Args;
-use odif::{Edition, Element, Kind, Refusal, Side};
+use odif::{Edition, Refusal, Side};
 use reader::{Item, Reading};
 
-use crate::args::{Files, Sides};
-use crate::charset::{self, Charset};
+use crate::asked::{Files, Sides};
+use crate::charset::{self, Charset, Declared};
 use crate::input::{self, Source};
 use crate::status::{Outcome, Status, tell};
+use crate::units::Units;
 use crate::{explain, items, protected, show};
 
 const EXAMPLES: &str = "\
@@ -26,8 +27,9 @@ file could not be read or written.";
 ///
 /// Writes the content of the text units in the order of the objects and their portions: exactly the octets of the file,
 /// with a line break after a block that ends without one. Content that was saved in pieces is joined. To a terminal,
-/// control characters are written as with --escape. Protected parts are not opened; a note on standard error names them.
-/// Before each of several files stands a line with its name.
+/// control characters are written as with --escape. Protected parts are not opened. Notes on standard error name them, say
+/// which text units the side does not show and where they stand, and which character set was taken for want of a declared
+/// one. Before each of several files stands a line with its name.
 #[derive(Args)]
 #[command(after_help = EXAMPLES)]
 pub struct Words {
@@ -64,8 +66,17 @@ pub struct Text {
     /// How many text units the letter has, and how many of them the text has.
     pub units: usize,
     pub shown: usize,
+    /// The set of characters that was taken although the letter does not declare it, where another would give other text.
+    assumed: Option<Assumed>,
     /// The same as the library gave it.
     whole: odif::Text,
+}
+
+/// Why a set of characters was taken that no one named.
+#[derive(Clone, Copy)]
+enum Assumed {
+    NoneDeclared,
+    SeveralDeclared,
 }
 
 impl How {
@@ -73,15 +84,12 @@ impl How {
     pub fn text(&self, edition: Edition, stream: &[u8]) -> Result<Text, Refusal> {
         let (side, whole) = self.sides.text(edition, stream)?;
         let octets = in_blocks(&whole);
-        let octets = match self.utf8 {
-            None => octets,
-            Some(Charset::Auto) => {
-                let set = declared(stream).unwrap_or(Charset::Auto);
-                charset::to_utf8(&octets, set).into_bytes()
-            }
-            Some(set) => charset::to_utf8(&octets, set).into_bytes(),
+        let (octets, assumed) = match self.utf8 {
+            None => (octets, None),
+            Some(set) => in_utf8(stream, &octets, set),
         };
-        Ok(Text { octets, side, units: units(whole.elements()), shown: whole.lines().len(), whole })
+        let units = Units::of(side, &whole).count();
+        Ok(Text { octets, side, units, shown: whole.lines().len(), assumed, whole })
     }
 
     /// The same in words, to tell one way from another: every field that changes a text.
@@ -94,8 +102,23 @@ impl How {
     }
 }
 
+/// Octets of a letter as UTF-8, and what was assumed for that.
+fn in_utf8(stream: &[u8], octets: &[u8], set: Charset) -> (Vec<u8>, Option<Assumed>) {
+    let (set, assumed) = match set {
+        Charset::Auto => match declared(stream) {
+            Declared::One(set) => (set, None),
+            Declared::None => (charset::ASSUMED, Some(Assumed::NoneDeclared)),
+            Declared::Several => (charset::ASSUMED, Some(Assumed::SeveralDeclared)),
+        },
+        set => (set, None),
+    };
+    let text = charset::to_utf8(octets, set);
+    let assumed = assumed.filter(|_| charset::others(set).any(|other| charset::to_utf8(octets, other) != text));
+    (text.into_bytes(), assumed)
+}
+
 /// The set of characters that the presentation attributes of a letter declare.
-fn declared(stream: &[u8]) -> Option<Charset> {
+fn declared(stream: &[u8]) -> Declared {
     let reading = Reading::of(stream);
     let items = reading.tree().items();
     let attributes = items::named(items).filter(|named| named.name() == Some("presentation-attributes"));
@@ -105,10 +128,20 @@ fn declared(stream: &[u8]) -> Option<Charset> {
     charset::declared(values.map(|item| &stream[item.value()]))
 }
 
+/// Tells on standard error which set of characters was taken, if none was named and the text depends on it.
+fn note_assumed(source: &Source<'_>, assumed: Option<Assumed>) {
+    let why = match assumed {
+        None => return,
+        Some(Assumed::NoneDeclared) => "the letter declares no character set",
+        Some(Assumed::SeveralDeclared) => "the letter declares several character sets",
+    };
+    tell(&format!("odif: {}: {why}, so ISO 6937 is taken; with --utf8=SET another is\n", source.shown));
+}
+
 pub fn run(words: &Words) -> Outcome {
     let escape = words.escape || !words.raw && words.how.utf8.is_none() && io::stdout().is_terminal();
     input::each(&words.files, false, |source| {
-        let Text { octets, side, shown, whole, .. } = match words.how.text(source.edition, &source.stream) {
+        let Text { octets, side, assumed, whole, .. } = match words.how.text(source.edition, &source.stream) {
             Ok(text) => text,
             Err(refusal) => {
                 tell(&explain::refusal(source, &refusal));
@@ -123,7 +156,8 @@ pub fn run(words: &Words) -> Outcome {
             out.write_all(&if escape { show::escaped_lines(&octets).into_bytes() } else { octets })?;
         }
         out.flush()?;
-        let all = note_units_left_out(source, whole.elements(), side, shown);
+        note_assumed(source, assumed);
+        let all = Units::of(side, &whole).note(source);
         protected::note(source, whole.elements());
         Ok(if all || !words.strict { Status::Accepted } else { Status::Refused })
     })
@@ -139,29 +173,4 @@ fn in_blocks(whole: &odif::Text) -> Vec<u8> {
         }
     }
     text
-}
-
-/// How many text units there are.
-fn units(elements: &[Element]) -> usize {
-    elements.iter().filter(|element| element.kind == Kind::TextUnit).count()
-}
-
-/// Tells on standard error of text units that stand nowhere in the reading order, and of the other side if it has some.
-/// Gives back whether there are none.
-pub fn note_units_left_out(source: &Source<'_>, elements: &[Element], side: Side, shown: usize) -> bool {
-    let units = units(elements);
-    if shown == units {
-        return true;
-    }
-    let left = show::counted(units - shown, "text unit");
-    let other = match side {
-        Side::Layout => Side::Logical,
-        Side::Logical => Side::Layout,
-    };
-    let there = odif::text_in(source.edition, &source.stream, other).map_or(0, |text| text.lines().len());
-    let hint =
-        if there > 0 { format!("; with --side {other} there are {}", show::grouped(there)) } else { String::new() };
-    let (name, units) = (&source.shown, show::grouped(units));
-    tell(&format!("odif: {name}: {left} of {units} not in the reading order of the {side} side{hint}\n"));
-    false
 }

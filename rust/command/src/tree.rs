@@ -3,18 +3,17 @@
 //! The verdict and the header count are the proved library's. The library hands back no items, so the listing is made
 //! by the independent reader, and held to that count.
 
-use std::io::{self, BufWriter, Write};
+use std::io::{self, Write};
 
 use clap::Args;
 use reader::{Item, Length, Reading};
 use serde::Serialize;
 
-use crate::args::Asked;
-use crate::explain;
+use crate::asked::Asked;
 use crate::input::{self, Source};
 use crate::items::{self, Known, Named};
 use crate::show;
-use crate::status::{Failure, Outcome, Status, tell};
+use crate::status::{Failure, Outcome, Status};
 
 /// The octets of a value that a line shows.
 const SHOWN: usize = 32;
@@ -29,9 +28,9 @@ Exit status: 0 accepted; 1 one was refused; 2 one could not be read.";
 /// Lists the items, with their names and values
 ///
 /// Lists the items in stream order: offset, level, class and number or type, length (octets of the value, or
-/// `indefinite`; of a length that takes more octets than it must, how many), closing marks, and the names that the modules of 1988 and 1993 give, with the values. Of a refused stream it lists the
-/// items that passed, and then says what refused it. JSON has the whole values. The listing is made by a reader that is
-/// not proved, and held to the library's count.
+/// `indefinite`; of a length that takes more octets than it must, how many), closing marks, and the names that the modules
+/// of 1988 and 1993 give, with the values. Of a refused stream it lists the items that passed, and then says what refused
+/// it. JSON has the whole values. The listing is made by a reader that is not proved, and held to the library's count.
 #[derive(Args)]
 #[command(after_help = EXAMPLES)]
 pub struct Words {
@@ -70,7 +69,7 @@ struct Line {
     meaning: Option<String>,
     /// Of a primitive item, the value in hexadecimal.
     #[serde(skip_serializing_if = "Option::is_none")]
-    hex: Option<String>,
+    value_hex: Option<String>,
 }
 
 pub fn run(words: &Words) -> Outcome {
@@ -82,27 +81,19 @@ pub fn run(words: &Words) -> Outcome {
             let message = format!("{}: the two readers differ on its items; please report this file", source.shown);
             return Err(Failure::File(message));
         }
-        let items = items::named(reading.tree().items());
         // Of a stream that the octet rules refuse, what lies past the place was not read.
         let read_to = match &checked.verdict {
             Err(refusal) if refusal.number() < 9 => refusal.place,
             _ => stream.len(),
         };
-        let mut out = BufWriter::new(io::stdout().lock());
-        if words.asked.json {
-            let items = items.map(|named| json_line(source, &named, read_to)).collect();
-            out.write_all(explain::answer(source, &checked.verdict, Items { items }).as_bytes())?;
-        } else {
-            input::heading(&mut out, &words.asked.files, source)?;
+        let items: Vec<Named<'_>> = items::named(reading.tree().items()).collect();
+        let lines = || items.iter().map(|named| json_line(source, named, read_to)).collect();
+        let answer = Items { items: if words.asked.json { lines() } else { Vec::new() } };
+        input::write_answer(&words.asked, source, &checked.verdict, &answer, |out| {
+            input::heading(out, &words.asked.files, source)?;
             writeln!(out, "  offset level  item")?;
-            write_items(&mut out, source, items, read_to)?;
-        }
-        out.flush()?;
-        if let Err(refusal) = &checked.verdict
-            && !words.asked.json
-        {
-            tell(&explain::refusal(source, refusal));
-        }
+            write_items(out, source, &items, read_to)
+        })?;
         Ok(Status::of(&checked.verdict))
     })
 }
@@ -114,12 +105,7 @@ fn closing_mark(item: &Item, read_to: usize) -> Option<usize> {
 }
 
 /// Writes a line for each item, and for each closing mark where it stands.
-fn write_items<'t>(
-    out: &mut impl Write,
-    source: &Source<'_>,
-    items: impl Iterator<Item = Named<'t>>,
-    read_to: usize,
-) -> io::Result<()> {
+fn write_items(out: &mut dyn Write, source: &Source<'_>, items: &[Named<'_>], read_to: usize) -> io::Result<()> {
     let mut open: Vec<(usize, u8)> = Vec::new();
     let close = |out: &mut dyn Write, open: &mut Vec<(usize, u8)>, before: usize| {
         while let Some((mark, level)) = open.pop_if(|(mark, _)| *mark < before) {
@@ -129,7 +115,7 @@ fn write_items<'t>(
     };
     for named in items {
         close(out, &mut open, named.item.first())?;
-        writeln!(out, "{}", line(source, &named))?;
+        writeln!(out, "{}", line(source, named))?;
         open.extend(closing_mark(named.item, read_to).map(|mark| (mark, named.item.level())));
     }
     close(out, &mut open, usize::MAX)
@@ -205,6 +191,6 @@ fn json_line(source: &Source<'_>, named: &Named<'_>, read_to: usize) -> Line {
         name: named.name(),
         value,
         meaning,
-        hex: (!item.is_constructed()).then(|| show::hex(octets)),
+        value_hex: (!item.is_constructed()).then(|| show::hex(octets)),
     }
 }

@@ -1,72 +1,18 @@
-//! The order of class A and class B: the library against the reader, and both against a second reading of the clauses, which
-//! asks of every front of the elements whether some run in the order starts with it.
+//! Letters in the order of class A or class B, or nearly so, and the vectors of the order.
 
-mod definition;
 mod letters;
 
-use odif::{Class, Edition, ROW_WIDTH, raw};
+use odif::{Class, Edition, raw};
 use reader::Reading;
+use second::one::One;
 
-use self::definition::Run;
 pub use self::letters::{letter, stream};
 use crate::examples::{lines, octets};
 use crate::hold::Holder;
 use crate::rng::Rng;
-use crate::tally::{Origin, Question, Tally, hex};
+use crate::tally::Origin;
 
 const VECTORS: &str = include_str!("../../../vectors/order.txt");
-
-/// Every front of a letter is looked at if it has no more elements than this; else those next to the place alone.
-const FEW: usize = 64;
-
-/// The reader's word for a class.
-fn to_reader(class: Class) -> reader::Order {
-    match class {
-        Class::A => reader::Order::ClassA,
-        Class::B => reader::Order::ClassB,
-    }
-}
-
-/// Puts the question to the library, to the reader and to the definition, by both classes.
-pub fn hold(edition: Edition, stream: &[u8], reading: &Reading<'_>, origin: &Origin, tally: &mut Tally) {
-    let run = Run::of(stream, reading);
-    for class in Class::ALL {
-        let answer = raw::order_in(edition, class, stream);
-        let question = match class {
-            Class::A => Question::OrderA,
-            Class::B => Question::OrderB,
-        };
-        tally.meet(answer.number);
-        tally.meet_in(edition, question, answer.number);
-        let mut expect = |holds: bool, what: &str, tell: &dyn Fn() -> String| {
-            tally.expect(holds, || {
-                format!("{origin}, by {edition}: order of class {class}: {what}: {}\n  {}", tell(), hex(stream))
-            });
-        };
-        let wanted = reading.order(to_reader(class));
-        let same = [answer.number, answer.place] == [wanted.number, wanted.place];
-        expect(same, "the reader", &|| format!("{answer:?}, not {wanted:?}"));
-        if let Some(run) = &run {
-            let is_so = run.is_answer(class, answer.number, answer.place, FEW);
-            expect(is_so, "the definition", &|| format!("{answer:?}"));
-            let letter = odif::Letter::read_in(edition, stream);
-            let told = letter.map(|letter| letter.order(class).map_err(|refusal| (refusal.number(), refusal.place)));
-            let wanted = if answer.number == 0 { Ok(()) } else { Err((answer.number, answer.place as usize)) };
-            expect(told == Ok(wanted), "the crate's answer", &|| format!("{told:?}, not {answer:?}"));
-        }
-    }
-}
-
-/// What is told of the order apart from octets: by each class the number, and the element at which it is given.
-pub fn told(edition: Edition, stream: &[u8]) -> [(u32, usize); 2] {
-    let mut table = vec![0; (stream.len() / 2).min(odif::MOST_ELEMENTS) * ROW_WIDTH];
-    let elements = raw::check_in(edition, stream, &mut table).elements as usize;
-    Class::ALL.map(|class| {
-        let answer = raw::order_in(edition, class, stream);
-        let mut rows = table.chunks_exact(ROW_WIDTH).take(elements);
-        (answer.number, rows.position(|row| row[2] == answer.place).unwrap_or(elements))
-    })
-}
 
 /// Holds the library to the vectors.
 pub fn hold_vectors(holder: &mut Holder) {
@@ -94,7 +40,8 @@ pub fn hold_seeded(seed: u64, number: u64, holder: &mut Holder) {
     holder.tally.streams += 1;
     for edition in Edition::ALL {
         let reading = Reading::by(crate::editions::to_reader(edition), &stream);
-        hold(edition, &stream, &reading, &origin, &mut holder.tally);
-        crate::pages::hold(edition, &stream, &reading, &origin, &mut holder.tally, &mut rng);
+        second::order::hold(edition, &stream, &reading, &origin, &mut holder.tally);
+        let (reading, origin, tally) = (&reading, &origin, &mut holder.tally);
+        second::pages::hold(&mut One { edition, stream: &stream, reading, origin, tally }, &mut rng);
     }
 }

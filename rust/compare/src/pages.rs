@@ -1,15 +1,13 @@
-//! The pages of a letter with the verdicts of the PM1 desk: the library against the reader, and both against the table of
-//! pairs as T.502 prints it.
+//! Pages with dimensions, and the verdicts of the PM1 desk: the library against the vectors, and the reader against the table
+//! of pairs as T.502 prints it.
 
 use odif::{Edition, ROW_WIDTH, raw};
-use reader::Reading;
 
 use crate::coding::Item;
 use crate::examples::{lines, octets};
 use crate::hold::Holder;
-use crate::lent::{self, Lent};
 use crate::rng::Rng;
-use crate::tally::{Origin, Question, Tally, hex};
+use crate::tally::Origin;
 
 const VECTORS: &str = include_str!("../../../vectors/pm1.txt");
 
@@ -65,91 +63,6 @@ pub fn dimensions(rng: &mut Rng) -> Vec<Item> {
     vec![Item::run(0xA4, items); count]
 }
 
-fn pattern(place: usize) -> raw::pm1::Page {
-    let number = lent::numbers(place);
-    raw::pm1::Page { element: number, verdict: number ^ 1 }
-}
-
-fn of_reader(page: raw::pm1::Page) -> reader::Page {
-    reader::Page { element: page.element, verdict: page.verdict }
-}
-
-/// Puts the question to the library and to the reader: table and list exact, one short, longer and empty.
-pub fn hold(edition: Edition, stream: &[u8], reading: &Reading<'_>, origin: &Origin, tally: &mut Tally, rng: &mut Rng) {
-    let wanted = reading.page_list();
-    let rows = reading.element_count() * ROW_WIDTH;
-    let mut ask = One { edition, stream, reading, origin, tally };
-    if reading.refusal().is_some() {
-        return ask.ask(rng.below(4) * ROW_WIDTH, rng.below(3));
-    }
-    for list in [wanted.len(), wanted.len().saturating_sub(1), wanted.len() + rng.between(1, 4), 0] {
-        ask.ask(rows, list);
-    }
-    ask.ask(rows - 1, wanted.len());
-    ask.ask(rng.below(rows), rng.below(wanted.len() + 1));
-    ask.ask(rows + rng.between(1, 2 * ROW_WIDTH), wanted.len());
-    ask.ask_binding(&wanted);
-}
-
-struct One<'a> {
-    edition: Edition,
-    stream: &'a [u8],
-    reading: &'a Reading<'a>,
-    origin: &'a Origin,
-    tally: &'a mut Tally,
-}
-
-impl One<'_> {
-    fn expect(&mut self, holds: bool, question: &str, tell: impl FnOnce() -> String) {
-        let (origin, edition, stream) = (self.origin, self.edition, self.stream);
-        self.tally.expect(holds, || format!("{origin}, by {edition}: {question}: {}\n  {}", tell(), hex(stream)));
-    }
-
-    fn ask(&mut self, table_length: usize, list_length: usize) {
-        let table_before = Lent::new(table_length, lent::numbers);
-        let list_before = Lent::new(list_length, pattern);
-        let (mut our_table, mut their_table) = (table_before.clone(), table_before.clone());
-        let mut our_list = list_before.clone();
-        let mut their_list = Lent::new(list_length, |place| of_reader(pattern(place)));
-        let answer = raw::pm1::pages_in(self.edition, self.stream, our_table.lend(), our_list.lend());
-        let wanted = self.reading.pages(their_table.lend(), their_list.lend());
-        self.tally.meet(answer.number);
-        self.tally.meet_in(self.edition, Question::Pages, answer.number);
-        let question = format!("pages with a table of {table_length} numbers and a list of {list_length}");
-        let same = [answer.number, answer.place, answer.elements, answer.pages]
-            == [wanted.number, wanted.place, wanted.elements, wanted.pages];
-        self.expect(same, &question, || format!("{answer:?}, not {wanted:?}"));
-        self.expect(our_table == their_table, &question, || "the tables differ".into());
-        let same = our_list.cells().iter().zip(their_list.cells()).all(|(ours, theirs)| of_reader(*ours) == *theirs);
-        self.expect(same, &question, || format!("{:?}, not {:?}", our_list.cells(), their_list.cells()));
-        let used = answer.elements as usize * ROW_WIDTH;
-        self.expect(our_table.is_untouched_past(used, &table_before), &question, || "written past the rows".into());
-        let used = answer.pages as usize;
-        self.expect(our_list.is_untouched_past(used, &list_before), &question, || "written past the pages".into());
-    }
-
-    /// The crate's pages, and those that a check's table tells: rows of kinds 1 and 2 with the object type 2.
-    fn ask_binding(&mut self, wanted: &[reader::Page]) {
-        let Ok(letter) = odif::Letter::read_in(self.edition, self.stream) else {
-            return self.expect(false, "the crate's pages", || "it is refused".into());
-        };
-        let pages = letter.pages();
-        let verdict = |page: &odif::pm1::Page| odif::pm1::Verdict::ALL.iter().position(|known| *known == page.verdict);
-        let same = pages.len() == wanted.len()
-            && pages.iter().zip(wanted).all(|(page, wanted)| {
-                page.element == wanted.element as usize && verdict(page) == Some(wanted.verdict as usize)
-            });
-        self.expect(same, "the crate's pages", || format!("{pages:?}, not {wanted:?}"));
-        let elements = letter.elements().iter().enumerate();
-        let is_page = |element: &odif::Element| {
-            matches!(element.kind, odif::Kind::LayoutClass | odif::Kind::LayoutObject) && element.object_type == Some(2)
-        };
-        let rows: Vec<usize> = elements.filter(|(_, element)| is_page(element)).map(|(row, _)| row).collect();
-        let same = rows.iter().copied().eq(pages.iter().map(|page| page.element));
-        self.expect(same, "the rows of pages", || format!("{pages:?}, not {rows:?}"));
-    }
-}
-
 /// Holds the library to the vectors.
 pub fn hold_vectors(holder: &mut Holder) {
     for fields in lines(VECTORS) {
@@ -169,13 +82,10 @@ pub fn hold_vectors(holder: &mut Holder) {
     }
 }
 
-/// What is told of the pages: rows and verdicts.
-pub fn told(edition: Edition, stream: &[u8]) -> Result<Vec<odif::pm1::Page>, odif::Refusal> {
-    odif::pm1::pages_in(edition, stream)
-}
-
 #[cfg(test)]
 mod tests {
+    use reader::Reading;
+
     use super::*;
     use crate::coding::Form;
 

@@ -44,7 +44,7 @@ use self::journal::Journal;
 use self::line::{COLUMNS, Line};
 use self::strangers::Strangers;
 use self::work::{Done, Work, below};
-use crate::args::By;
+use crate::asked::By;
 use crate::beside;
 use crate::files::{Entry, Places, at_least_one};
 use crate::pool::Pool;

@@ -4,10 +4,8 @@ pub mod csv;
 mod record;
 mod tally;
 
-use std::ffi::OsStr;
 use std::fs::File;
-use std::io::{self, IsTerminal, Write};
-use std::os::unix::ffi::OsStrExt;
+use std::io::{self, Write};
 use std::path::{Path, PathBuf};
 use std::time::Instant;
 
@@ -32,13 +30,18 @@ Examples:
   odif survey --merge host1.csv host2.csv
 
 Exit status: 0 all were accepted; 1 some were refused; 2 some could not be read; 130 it was
-interrupted, and the CSV file is as it was before.";
+interrupted, and the CSV file is as it was before. With --only it is that of all files all the same.";
 
 /// Checks every file in folders and their subfolders
 ///
 /// Tells how many files were accepted and how many each rule refused, by what exactly is wrong, with the first few files
 /// of each. A file that can't be read is counted and never stops the survey, nor does a folder that is not there. Links
 /// to folders are not followed. On a terminal it shows how far it is.
+///
+/// The CSV has the columns file, outcome, number, place, octets, headers, elements, reason, detail, kind, item, foreign,
+/// first_date and file_octets, and before the last those that are asked for. first_date is the date of an accepted letter. A
+/// name that is no UTF-8 stands in hexadecimal as file_octets, and `file` is for people then. Before a name that a
+/// spreadsheet would take for a formula stands `./`, so that it is none, and a name of that file still.
 #[derive(Args)]
 #[command(after_help = EXAMPLES)]
 pub struct Words {
@@ -50,7 +53,8 @@ pub struct Words {
     /// Name so many files of each fault
     #[arg(long, value_name = "N", default_value = "3", value_parser = at_least_one)]
     first: usize,
-    /// Only files with these numbers, as 7,12, are listed, in the CSV and in the report; 0 is an accepted file
+    /// Only files with these numbers, as 7,12, are listed, in the CSV and in the report; 0 is an accepted file. The exit
+    /// status is that of all files all the same
     #[arg(long, value_name = "N", value_delimiter = ',')]
     only: Vec<u32>,
     /// Write the names of the files and nothing else: of those that --only names, or else of those not accepted
@@ -66,8 +70,8 @@ pub struct Words {
     more: More,
 }
 
-/// What is asked of accepted letters besides.
-#[derive(Args)]
+/// What is asked of letters besides.
+#[derive(Args, Clone, Copy)]
 struct More {
     /// Say in the order of which class the letters are, in the report and in a column of the CSV
     #[arg(long)]
@@ -75,11 +79,21 @@ struct More {
     /// Say what the PM1 desk says of their pages, in the same places
     #[arg(long)]
     pages: bool,
+    /// Say how many of their text units the text shows and does not show, in the same places; `odif check` says where
+    #[arg(long)]
+    units: bool,
+    /// Fill the column first_date of refused files too: the date by the first element alone, the rest unread
+    #[arg(long)]
+    first_dates: bool,
 }
 
 pub fn run(words: &Words) -> Outcome {
     let begun = Instant::now();
-    let columns = Columns { order: words.more.order, pages: words.more.pages };
+    if words.list && words.csv.as_deref().is_some_and(csv::is_standard_output) {
+        return Err(Failure::Usage("`--list` and `--csv -` both want standard output".into()));
+    }
+    let More { order, pages, units, first_dates } = words.more;
+    let columns = Columns { order, pages, units, first_dates };
     let mut report = Report { words, tally: Tally::new(words.first), csv: None, columns };
     if words.merge.is_empty() {
         survey(words, &mut report)?;
@@ -114,6 +128,7 @@ impl Report<'_> {
 
     fn add(&mut self, record: Record) -> Result<(), Failure> {
         let record = &record.with(self.columns);
+        self.tally.see(record);
         let only = &self.words.only;
         let is_named = record.number.is_some_and(|number| only.contains(&number));
         if !only.is_empty() && !is_named {
@@ -121,7 +136,8 @@ impl Report<'_> {
         }
         self.tally.add(record);
         if self.words.list && (is_named || record.outcome != Verdict::Accepted) {
-            write_name(&record.name().system().unwrap_or_default(), self.words.places.null)?;
+            let name = record.name().system().unwrap_or_default();
+            show::write_name(&mut io::stdout().lock(), &name, self.words.places.null)?;
         }
         self.csv.as_mut().map_or(Ok(()), |csv| csv.add(record))
     }
@@ -173,14 +189,4 @@ fn merge(words: &Words, report: &mut Report<'_>) -> Result<(), Failure> {
         }
     }
     Ok(())
-}
-
-/// Writes a name as it is, but to a terminal without control characters.
-fn write_name(name: &OsStr, null: bool) -> io::Result<()> {
-    let mut out = io::stdout().lock();
-    if out.is_terminal() {
-        return writeln!(out, "{}", show::name(name));
-    }
-    out.write_all(name.as_bytes())?;
-    out.write_all(if null { b"\0" } else { b"\n" })
 }

@@ -9,7 +9,7 @@ use crate::faults::Fault;
 use crate::files::Entry;
 use crate::input;
 use crate::names::Name;
-use crate::{date, order, pages};
+use crate::{date, order, pages, units};
 
 #[derive(Clone, Copy, Debug, Default, PartialEq, Eq, Serialize, Deserialize)]
 #[serde(rename_all = "lowercase")]
@@ -34,33 +34,44 @@ const COLUMNS: [&str; 14] = [
     "kind",
     "item",
     "foreign",
-    "date",
+    "first_date",
     "file_octets",
 ];
 const ORDER: &str = "order";
 const PAGES: &str = "pages";
+const UNITS: &str = "units";
 
-/// Which of the columns that are asked for are there.
+/// Which of the columns that are asked for are there, and how they are filled.
 #[derive(Clone, Copy, Default)]
 pub struct Columns {
     pub order: bool,
     pub pages: bool,
+    pub units: bool,
+    /// The first date of refused files too.
+    pub first_dates: bool,
 }
 
 impl Columns {
     /// Those of a line of names.
-    pub fn of<'a>(mut names: impl Iterator<Item = &'a str> + Clone) -> Columns {
-        Columns { order: names.clone().any(|name| name == ORDER), pages: names.any(|name| name == PAGES) }
+    pub fn of<'a>(names: impl Iterator<Item = &'a str> + Clone) -> Columns {
+        let is_there = |column: &str| names.clone().any(|name| name == column);
+        Columns { order: is_there(ORDER), pages: is_there(PAGES), units: is_there(UNITS), first_dates: false }
     }
 
     /// Those of either.
     pub fn or(self, other: Columns) -> Columns {
-        Columns { order: self.order || other.order, pages: self.pages || other.pages }
+        Columns {
+            order: self.order || other.order,
+            pages: self.pages || other.pages,
+            units: self.units || other.units,
+            first_dates: self.first_dates || other.first_dates,
+        }
     }
 
     /// The names of all columns.
     pub fn names(self) -> Vec<&'static str> {
-        let asked = [(self.order, ORDER), (self.pages, PAGES)].into_iter().filter(|(is_there, _)| *is_there);
+        let asked = [(self.order, ORDER), (self.pages, PAGES), (self.units, UNITS)];
+        let asked = asked.into_iter().filter(|(is_there, _)| *is_there);
         let (last, always) = COLUMNS.split_last().expect("some columns");
         always.iter().copied().chain(asked.map(|(_, name)| name)).chain([*last]).collect()
     }
@@ -86,15 +97,19 @@ pub struct Record {
     pub item: String,
     /// What the file seems to be instead of a letter.
     pub foreign: String,
-    /// The date of the document by its first element, whether or not the rest is accepted.
-    #[serde(default)]
-    pub date: String,
+    /// The date of the document by its first element. Of a refused file it is there only where that is asked. Surveys of
+    /// before called it `date`.
+    #[serde(default, alias = "date")]
+    pub first_date: String,
     /// In which order a letter is, where that is asked: both, A, B or neither.
     #[serde(default, deserialize_with = "there", skip_serializing_if = "Option::is_none")]
     pub order: Option<String>,
     /// How many pages have which verdict of the PM1 desk, where that is asked.
     #[serde(default, deserialize_with = "there", skip_serializing_if = "Option::is_none")]
     pub pages: Option<String>,
+    /// How many text units the text of a letter shows and does not show, where that is asked.
+    #[serde(default, deserialize_with = "there", skip_serializing_if = "Option::is_none")]
+    pub units: Option<String>,
     /// The file's name in hexadecimal, where it is no UTF-8.
     pub file_octets: String,
 }
@@ -109,6 +124,10 @@ impl Record {
     pub fn with(mut self, columns: Columns) -> Record {
         self.order = columns.order.then(|| self.order.unwrap_or_default());
         self.pages = columns.pages.then(|| self.pages.unwrap_or_default());
+        self.units = columns.units.then(|| self.units.unwrap_or_default());
+        if self.outcome != Verdict::Accepted && !columns.first_dates {
+            self.first_date.clear();
+        }
         self
     }
 
@@ -138,15 +157,16 @@ impl Record {
         Record {
             octets: stream.size,
             headers: Some(checked.headers),
-            date: date::column(edition, &stream.octets),
+            first_date: date::column(edition, &stream.octets),
             order: columns.order.then(|| order::column(edition, &stream.octets)),
             pages: columns.pages.then(|| pages::column(edition, &stream.octets)),
+            units: columns.units.then(|| units::column(edition, &stream.octets)),
             ..verdict
         }
     }
 
     fn new(path: &Path, outcome: Verdict) -> Record {
-        let Name { file, file_octets } = Name::of(path.as_os_str());
+        let Name { file, file_octets } = Name::in_cell(path.as_os_str());
         Record { file, outcome, file_octets, ..Record::default() }
     }
 

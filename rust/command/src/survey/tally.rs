@@ -17,12 +17,17 @@ const FAULTS: usize = 10;
 /// The counts of a survey and the first files of each kind.
 pub struct Tally {
     named: usize,
+    /// How many files were looked at, and how the worst of them ended. The other counts are those of files that are listed.
+    seen: usize,
+    worst: Status,
     accepted: usize,
     refused: BTreeMap<u32, BTreeMap<Cause, Group>>,
     unreadable: Group,
     /// How many letters are in which order, and how many pages have which verdict, where that was asked.
     orders: Option<BTreeMap<String, usize>>,
     pages: Option<BTreeMap<String, usize>>,
+    /// How many text units are shown and not shown, where that was asked.
+    units: Option<BTreeMap<String, usize>>,
 }
 
 /// Adds the counts of a column such as `2 essential, 1 outside`; a word without a number counts once.
@@ -116,11 +121,32 @@ fn a_second(files: usize, elapsed: Duration) -> usize {
 impl Tally {
     /// Nothing yet; so many files of each kind will be named.
     pub fn new(named: usize) -> Self {
-        Tally { named, accepted: 0, refused: BTreeMap::new(), unreadable: Group::default(), orders: None, pages: None }
+        Tally {
+            named,
+            seen: 0,
+            worst: Status::Accepted,
+            accepted: 0,
+            refused: BTreeMap::new(),
+            unreadable: Group::default(),
+            orders: None,
+            pages: None,
+            units: None,
+        }
     }
 
-    /// Counts a file.
+    /// Takes notice of a file, whether or not it is listed.
+    pub fn see(&mut self, record: &Record) {
+        self.seen += 1;
+        self.worst = self.worst.max(match record.outcome {
+            Verdict::Accepted => Status::Accepted,
+            Verdict::Refused => Status::Refused,
+            Verdict::Unreadable => Status::Failed,
+        });
+    }
+
+    /// Counts a file that is listed.
     pub fn add(&mut self, record: &Record) {
+        add_column(&mut self.units, record.units.as_deref());
         add_column(&mut self.orders, record.order.as_deref());
         add_column(&mut self.pages, record.pages.as_deref());
         match record.outcome {
@@ -141,48 +167,23 @@ impl Tally {
         self.unreadable.count
     }
 
-    pub fn files(&self) -> usize {
+    fn listed(&self) -> usize {
         self.accepted + self.refused() + self.unreadable()
     }
 
-    /// How the survey ends: the worst that was met.
+    /// How the survey ends: the worst that was met, listed or not.
     pub fn status(&self) -> Status {
-        if self.unreadable() > 0 {
-            Status::Failed
-        } else if self.refused() > 0 {
-            Status::Refused
-        } else {
-            Status::Accepted
-        }
+        self.worst
     }
 
     /// The report for people.
     pub fn text(&self, elapsed: Duration) -> String {
-        let mut text = format!(
-            "{} in {:.2} s, {} a second\n{} accepted\n{} refused\n",
-            show::counted(self.files(), "file"),
-            elapsed.as_secs_f64(),
-            show::grouped(a_second(self.files(), elapsed)),
-            show::grouped(self.accepted),
-            show::grouped(self.refused()),
-        );
-        for (number, causes) in &self.refused {
-            text += &format!("  number {number}, {}: {}\n", show::counted(count(causes), "file"), sentence(*number));
-            let causes = sorted(causes);
-            for (cause, group) in causes.iter().take(FAULTS) {
-                text += &format!("    {}: {}\n", show::counted(group.count, "file"), cause.words());
-                group.push_text(&mut text, "      ");
-            }
-            let rest = causes.iter().skip(FAULTS);
-            let files = rest.clone().map(|(_, group)| group.count).sum();
-            if files > 0 {
-                text +=
-                    &format!("    {} of {}\n", show::counted(files, "file"), show::counted(rest.len(), "other fault"));
-            }
-        }
+        let mut text = self.counts(elapsed);
+        self.push_refused(&mut text);
         text += &format!("{} unreadable\n", show::grouped(self.unreadable()));
         self.unreadable.push_text(&mut text, "    ");
-        for (what, counts) in [("letters by order", &self.orders), ("pages by PM1", &self.pages)] {
+        let asked = [("letters by order", &self.orders), ("pages by PM1", &self.pages), ("text units", &self.units)];
+        for (what, counts) in asked {
             if let Some(counts) = counts {
                 let counts = counts.iter().map(|(word, count)| format!("{} {word}", show::grouped(*count)));
                 let counts = counts.collect::<Vec<_>>().join(", ");
@@ -190,6 +191,38 @@ impl Tally {
             }
         }
         text
+    }
+
+    fn counts(&self, elapsed: Duration) -> String {
+        let listed = match self.listed() {
+            listed if listed == self.seen => String::new(),
+            listed => format!(", {} listed,", show::grouped(listed)),
+        };
+        format!(
+            "{}{listed} in {:.2} s, {} a second\n{} accepted\n{} refused\n",
+            show::counted(self.seen, "file"),
+            elapsed.as_secs_f64(),
+            show::grouped(a_second(self.seen, elapsed)),
+            show::grouped(self.accepted),
+            show::grouped(self.refused()),
+        )
+    }
+
+    fn push_refused(&self, text: &mut String) {
+        for (number, causes) in &self.refused {
+            *text += &format!("  number {number}, {}: {}\n", show::counted(count(causes), "file"), sentence(*number));
+            let causes = sorted(causes);
+            for (cause, group) in causes.iter().take(FAULTS) {
+                *text += &format!("    {}: {}\n", show::counted(group.count, "file"), cause.words());
+                group.push_text(text, "      ");
+            }
+            let rest = causes.iter().skip(FAULTS);
+            let files = rest.clone().map(|(_, group)| group.count).sum();
+            if files > 0 {
+                let (files, faults) = (show::counted(files, "file"), show::counted(rest.len(), "other fault"));
+                *text += &format!("    {files} of {faults}\n");
+            }
+        }
     }
 
     /// The report as one JSON object.
@@ -211,6 +244,7 @@ impl Tally {
         #[derive(Serialize)]
         struct Report<'a> {
             files: usize,
+            listed: usize,
             seconds: f64,
             files_a_second: usize,
             accepted: usize,
@@ -222,15 +256,18 @@ impl Tally {
             orders: &'a Option<BTreeMap<String, usize>>,
             #[serde(skip_serializing_if = "Option::is_none")]
             pages: &'a Option<BTreeMap<String, usize>>,
+            #[serde(skip_serializing_if = "Option::is_none")]
+            units: &'a Option<BTreeMap<String, usize>>,
         }
         let numbers = self.refused.iter().map(|(&number, causes)| {
             let faults = sorted(causes).into_iter().map(|(cause, group)| Fault { cause, group }).collect();
             Number { number, sentence: sentence(number), count: count(causes), faults }
         });
         let report = Report {
-            files: self.files(),
+            files: self.seen,
+            listed: self.listed(),
             seconds: (elapsed.as_secs_f64() * 1000.0).round() / 1000.0,
-            files_a_second: a_second(self.files(), elapsed),
+            files_a_second: a_second(self.seen, elapsed),
             accepted: self.accepted,
             refused: self.refused(),
             unreadable: self.unreadable(),
@@ -238,6 +275,7 @@ impl Tally {
             unreadable_files: &self.unreadable.first,
             orders: &self.orders,
             pages: &self.pages,
+            units: &self.units,
         };
         explain::json(&report) + "\n"
     }

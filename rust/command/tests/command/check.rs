@@ -80,12 +80,12 @@ fn json_lines() {
     let lines: Vec<&str> = run.text().lines().collect();
     assert_eq!(
         lines[0],
-        r#"{"file":"samples/letters/claim.odif","outcome":"accepted","number":0,"place":0,"octets":1080,"headers":149,"elements":22,"date":null}"#
+        r#"{"file":"samples/letters/claim.odif","outcome":"accepted","number":0,"place":0,"octets":1080,"headers":149,"elements":22,"date":null,"side":"layout","not_shown":[]}"#
     );
     assert!(lines[1].contains(r#""outcome":"refused","number":12,"place":21,"#), "{}", lines[1]);
     assert!(lines[1].contains(r#","element":2,"kind":"text unit","item":"31(40) 24(04 05)","#), "{}", lines[1]);
     assert!(lines[1].contains(r#""around":{"first":5,"hex":"0104310C"#), "{}", lines[1]);
-    assert!(lines[1].ends_with(r#","octets":41,"headers":13,"elements":0,"date":null}"#), "{}", lines[1]);
+    assert!(lines[1].ends_with(r#","octets":41,"headers":13,"elements":0,"date":null,"side":null,"not_shown":[]}"#), "{}", lines[1]);
     assert!(lines[2].starts_with(r#"{"file":"none","outcome":"unreadable","reason":""#), "{}", lines[2]);
     assert_eq!(lines.len(), 3);
 }
@@ -109,4 +109,40 @@ fn names_that_look_like_options_or_hold_control_characters() {
     assert_eq!(run.status, 0);
     assert!(run.text().contains("a\\x1B[31m\\n.odif: accepted"), "{}", run.text());
     assert_eq!(odif(&["check", "--", "--hex"]).status, 2);
+}
+
+/// Which text units are not shown, and where they stand.
+#[test]
+fn units_that_the_text_does_not_show() {
+    let unit = |identifier: u8| [&b"\xA3\x08\x31\x03\x40\x01"[..], &[identifier], b"\x04\x01x"].concat();
+    let stream = [&letter(b"Hi")[..], &(b'1'..=b'5').flat_map(unit).collect::<Vec<u8>>()].concat();
+    let run = odif_with(&["check", "-"], &stream);
+    let wanted = "; 5 text units of 6 not shown by the layout side: elements 3 at octet 38, 4 at octet 48, 5 at octet 58 and 2 \
+        more\n";
+    assert!(run.status == 0 && run.text().ends_with(wanted), "{}", run.text());
+    let run = odif_with(&["check", "--json", "-"], &stream);
+    assert!(run.text().contains(r#""side":"layout","not_shown":[{"unit":3,"place":38,"first":47,"past":48},"#));
+    assert_eq!(run.text().matches("\"unit\":").count(), 5, "{}", run.text());
+}
+
+/// The independent reader is asked about the user's own files, and a refused one is agreed on too.
+#[test]
+fn a_second_opinion() {
+    let run = odif(&["check", "--second", CLAIM, CUT_SHORT]);
+    assert_eq!(run.status, 1, "{}", run.text());
+    assert_eq!(run.text().matches("\n  the independent reader agrees, in ").count(), 2, "{}", run.text());
+    let run = odif(&["check", "--second", "--json", CLAIM]);
+    assert!(run.text().contains(r#","second":{"agrees":true,"comparisons":"#), "{}", run.text());
+    assert!(run.text().ends_with(",\"differing\":0,\"differences\":[]}}\n"), "{}", run.text());
+    assert!(!odif(&["check", "--json", CLAIM]).text().contains("second"));
+    assert_eq!(odif(&["check", "--second", "--blocks", "1", CLAIM]).status, 2);
+}
+
+#[test]
+fn standard_input_is_read_once() {
+    for name in ["check", "text", "date", "pages"] {
+        let run = odif_with(&[name, "-", "-"], &letter(b"Hi"));
+        assert_eq!((run.status, run.text()), (2, ""));
+        assert!(run.stderr.contains("standard input can be read once"), "{}", run.stderr);
+    }
 }

@@ -18,11 +18,12 @@ fn a_protected_part_makes_it_a_letter_of_1993() {
     let run = odif_with(&["check", "-"], PROTECTED);
     assert_eq!(run.status, 1);
     let wanted = "standard input: refused, number 10 at octet 2: element 1 (counted from 0), an enciphered document \
-        profile: this is an element of 1993, and no letter of 1988 has it\n  this is a letter of 1993, for `--edition 1993`\n";
+        profile: this is an element of 1993, and no letter of 1988 has it\n  this is an element of 1993, and `--edition 1993` accepts the letter\n";
     assert!(run.text().starts_with(wanted), "{}", run.text());
     for octet in [0xA9, 0xAA, 0xAB, 0xAC] {
         let run = odif_with(&["check", "--edition", "1988", "--json", "-"], &[0xA0, 0x00, octet, 0x00]);
-        assert!(run.text().contains(r#""hint":"this is a letter of 1993, for"#), "{}", run.text());
+        let hint = "this is an element of 1993, but `--edition 1993` refuses the letter too, number 12 at octet 2";
+        assert!(run.text().contains(&format!("\"hint\":\"{hint}\"")), "{}", run.text());
     }
     for octet in [0xA4, 0xAD, 0x8A] {
         let run = odif_with(&["check", "-"], &[0xA0, 0x00, octet, 0x00]);
@@ -35,8 +36,12 @@ fn units_that_only_1993_has() {
     for unit in [&[0xA3, 0x00][..], &[0xA3, 0x02, 0x30, 0x00]] {
         let stream = [&[0xA0, 0x00], unit].concat();
         let run = odif_with(&["check", "-"], &stream);
-        assert!(run.text().contains("\n  the edition of 1993 has such text units, and"), "{}", run.text());
+        assert!(run.text().contains("\n  1993 has such text units, and `--edition 1993` accepts the letter\n"), "{}", run.text());
         assert_eq!(odif_with(&["check", "--edition", "1993", "-"], &stream).status, 0);
+        let run = odif_with(&["check", "-"], &[&stream[..], &[0xA4, 0x00]].concat());
+        let place = stream.len();
+        let hint = format!("but `--edition 1993` refuses the letter too, number 10 at octet {place}\n");
+        assert!(run.text().contains(&hint), "{}", run.text());
     }
     let run = odif_with(&["check", "-"], &[0xA0, 0x00, 0xA3, 0x02, 0x05, 0x00]);
     assert!(run.text().contains("number 12 at octet 2") && !run.text().contains("1993"), "{}", run.text());
@@ -49,7 +54,7 @@ fn check_names_the_protected_parts() {
     assert_eq!(run.text(), format!("standard input: accepted, {counts}\n"));
     let run = odif_with(&["check", "--edition", "1993", "--json", "-"], OF_1993);
     assert!(
-        run.text().ends_with(",\"headers\":22,\"elements\":6,\"protected_parts\":2,\"date\":null}\n"),
+        run.text().ends_with(",\"headers\":22,\"elements\":6,\"protected_parts\":2,\"date\":null,\"side\":\"layout\",\"not_shown\":[]}\n"),
         "{}",
         run.text()
     );
@@ -104,7 +109,7 @@ fn normal_forms() {
     assert_eq!((run.status, run.stdout.len()), (0, OF_1993.len() - 2));
     let run = odif_with(&["normal", "-"], PROTECTED);
     assert_eq!((run.status, run.stdout.len()), (1, 0));
-    assert!(run.stderr.contains("this is a letter of 1993"), "{}", run.stderr);
+    assert!(run.stderr.contains("this is an element of 1993, and `--edition 1993` accepts"), "{}", run.stderr);
 }
 
 #[test]

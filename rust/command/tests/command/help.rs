@@ -65,13 +65,19 @@ fn completions_and_a_manual_page() {
     }
     assert_eq!(odif(&["completions", "none"]).status, 2);
     let run = odif(&["man"]);
-    assert!(run.text().starts_with(".TH ODIF 1\n.SH NAME\nodif \\- Reads letters"), "{}", run.text());
+    let version = concat!("\" \"odif ", env!("CARGO_PKG_VERSION"), "\" \"User Commands\"\n.SH NAME\nodif \\- Reads letters");
+    assert!(run.text().starts_with(".TH ODIF 1 \"") && run.text().contains(version), "{}", run.text());
     for part in [
         ".SH odif survey\n",
         ".B \\-\\-files\\-from FILE\n",
         ".SH odif export\n",
         ".SH odif order\n",
         ".SH odif pages\n",
+        ".B \\-\\-utf8[=SET]\n",
+        "One of: auto (What the letter",
+        ".SH JSON\n",
+        ".SH REFUSAL NUMBERS\n.TP\n.B 1\n",
+        ".TP\n.B 30\n",
         "Exit status: 0 all were",
     ] {
         assert!(run.text().contains(part), "{part}");
@@ -110,4 +116,30 @@ fn misuse_is_told() {
         assert!(run.stderr.contains(message), "{words:?}: {}", run.stderr);
         assert!(run.stdout.is_empty(), "{words:?}");
     }
+}
+
+/// `--utf8` takes its value behind an equals sign alone, so no completion offers one as the next word.
+#[test]
+fn the_completions_are_as_the_parser_is() {
+    let script = odif(&["completions", "bash"]);
+    let program = format!(
+        "{}\nCOMP_WORDS=(odif text --utf8 ''); COMP_CWORD=3; _odif odif; echo \"${{COMPREPLY[@]}}\"",
+        script.text()
+    );
+    let output = Command::new("bash").args(["-c", &program]).output().unwrap();
+    let offered = String::from_utf8(output.stdout).unwrap();
+    assert!(offered.contains("--utf8") && offered.contains("--strict") && !offered.contains("t61"), "{offered}");
+    for shell in ["zsh", "fish"] {
+        let script = odif(&["completions", shell]);
+        assert!(script.text().contains("utf8") && !script.text().contains("t61"), "{shell}");
+    }
+    assert!(odif(&["text", "--utf8", "t61", CLAIM]).stderr.contains("t61: No such file"));
+}
+
+#[test]
+fn help_on_a_number_and_on_json() {
+    let run = odif(&["help", "7"]);
+    assert_eq!((run.status, run.text().starts_with("7: a header, a value or a closing mark passes")), (0, true));
+    assert!(odif(&["help", "json"]).text().contains("NAME_hex always has all octets"));
+    assert_eq!(odif(&["help", "99"]).status, 2);
 }

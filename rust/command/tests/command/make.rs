@@ -26,31 +26,32 @@ fn texts_of_files_come_back() {
 
 #[test]
 fn texts_of_lines_come_back() {
-    let escape = |text: &[u8]| text.iter().map(|octet| format!(r"\\x{octet:02x}")).collect::<String>();
+    let hex = |text: &[u8]| text.iter().map(|octet| format!("{octet:02x}")).collect::<String>();
     let lines = format!(
         "{}\n\n{}\n{}",
-        r#"{"identifier":"1 0 2","portion":"0","text":"Hi\\n"}"#,
-        format_args!(r#"{{"identifier":"1 0 3","portion":"7","text":"{}"}}"#, escape(&every_octet())),
-        r#"{"portion":"0","text":"caf\\xC2e \\\\ \u0041\n","identifier":"1 0 10"}"#
+        r#"{"identifier":"1 0 2","portion":"0","text":"Hi\n"}"#,
+        format_args!(r#"{{"identifier":"1 0 3","portion":"7","text_hex":"{}"}}"#, hex(&every_octet())),
+        r#"{"portion":"0","text":"cafe \\x41 \u0041\n","identifier":"1 0 10"}"#
     );
     let run = odif_with(&["make", "--lines", "-"], lines.as_bytes());
     assert_eq!((run.status, run.stderr.as_str()), (0, ""));
     let scratch = Scratch::new("make-lines");
     let text = odif(&["text", "--raw", "--strict", &scratch.write("made.odif", &run.stdout)]);
-    assert_eq!(text.stdout, [&b"Hi\n"[..], &every_octet(), b"caf\xC2e \\ A\n"].concat());
+    assert_eq!(text.stdout, [&b"Hi\n"[..], &every_octet(), b"cafe \\x41 A\n"].concat());
     assert!(run.stdout.windows(8).any(|octets| octets == b"1 0 10 0"), "the unit identifier");
 }
 
+/// What `list --json` says of a content is what `--lines` takes.
 #[test]
-fn what_text_escapes_is_taken_back() {
-    let scratch = Scratch::new("make-escaped");
+fn octets_that_are_listed_are_taken_back() {
+    let scratch = Scratch::new("make-listed");
     let text = scratch.write("text", &every_octet());
     let made = scratch.word("made.odif");
     assert_eq!(odif(&["make", &text, "-o", &made]).status, 0);
-    let escaped = odif(&["text", "--escape", &made]);
-    let inner =
-        escaped.text().strip_suffix('\n').unwrap().replace('\\', r"\\").replace('\n', r"\n").replace('"', "\\\"");
-    let line = format!(r#"{{"identifier":"1 0 0","portion":"0","text":"{inner}\\n"}}"#);
+    let listed = odif(&["list", "--json", &made]);
+    let (_, rest) = listed.text().split_once("\"content\":null,\"content_hex\":\"").unwrap();
+    let digits = rest.split('"').next().unwrap();
+    let line = format!(r#"{{"identifier":"1 0 0","portion":"0","text_hex":"{digits}"}}"#);
     let again = odif_with(&["make", "--lines", "-", "-o", "-"], line.as_bytes());
     assert_eq!((again.status, again.stderr.as_str()), (0, ""));
     assert_eq!(again.stdout, fs::read(&made).unwrap());
@@ -89,10 +90,11 @@ fn a_refused_letter_leaves_the_file_alone() {
 fn lines_that_cannot_be_read() {
     for (line, why) in [
         ("{", "line 1: "),
-        (r#"{"identifier":"1","portion":"0"}"#, "missing field `text`"),
+        (r#"{"identifier":"1","portion":"0"}"#, "neither text nor text_hex"),
         (r#"{"identifier":"1","portion":"0","text":"","more":1}"#, "unknown field `more`"),
-        (r#"{"identifier":"1","portion":"0","text":"é"}"#, "is not ASCII"),
-        (r#"{"identifier":"1","portion":"0","text":"\\q"}"#, "there is no escape"),
+        (r#"{"identifier":"1","portion":"0","text":"é"}"#, "line 1: its text is not ASCII"),
+        (r#"{"identifier":"1","portion":"0","text_hex":"4"}"#, "no pairs of hexadecimal digits"),
+        (r#"{"identifier":"1","portion":"0","text":"","text_hex":""}"#, "both text and text_hex"),
     ] {
         let run = odif_with(&["make", "--lines", "-"], line.as_bytes());
         assert_eq!((run.status, run.stdout.len()), (2, 0), "{line}");

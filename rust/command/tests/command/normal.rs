@@ -104,3 +104,12 @@ fn empty_huge_and_unreadable_files() {
     assert_eq!(run.status, 2);
     assert!(run.stderr.contains("no-such-folder/out: No such file"), "{}", run.stderr);
 }
+
+#[test]
+fn the_folder_is_made() {
+    let scratch = Scratch::new("normal-folder");
+    let folder = scratch.word("some/where");
+    let run = odif(&["normal", CLAIM, IN_PIECES, "--into", &folder]);
+    assert_eq!((run.status, run.stderr.as_str()), (0, ""));
+    assert_eq!(fs::read_dir(&folder).unwrap().count(), 2);
+}

@@ -40,7 +40,7 @@ fn json() {
         run.text(),
         "{\"file\":\"-\",\"outcome\":\"accepted\",\"number\":0,\"place\":0,\"side\":\"layout\",\"outline\":[\
          {\"depth\":0,\"element\":1,\"parent\":null,\"kind\":\"layout object\",\"type\":\"block\",\
-         \"identifier\":\"1 0 2\",\"text\":\"Hi\"}]}\n"
+         \"identifier\":\"1 0 2\",\"text\":\"Hi\",\"text_hex\":\"4869\"}]}\n"
     );
     let run = odif_with(&["outline", "--json", "-"], &page());
     assert!(run.text().contains("\"depth\":1,\"element\":1,\"parent\":2,"), "{}", run.text());
@@ -53,5 +53,7 @@ fn a_whole_letter_and_a_refused_one() {
         assert_eq!((run.status, run.stderr.as_str()), (0, ""));
     }
     assert_eq!(odif_with(&["outline", "-"], WRONG_PIECE).status, 1);
+    let run = odif_with(&["outline", "--json", "-"], WRONG_PIECE);
+    assert!(run.text().ends_with(",\"side\":null,\"outline\":[]}\n"), "{}", run.text());
     assert_unreadable_json("outline");
 }

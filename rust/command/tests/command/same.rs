@@ -1,6 +1,8 @@
 //! `odif same`
 
+use std::ffi::OsStr;
 use std::fs;
+use std::os::unix::ffi::OsStrExt;
 use std::os::unix::fs::symlink;
 
 use super::support::{Scratch, letter, odif};
@@ -90,4 +92,24 @@ fn unreadable_files_and_normal_forms_over_the_limit_are_told() {
     assert!(run.stderr.contains("dangling.odif: No such file"), "{}", run.stderr);
     assert!(run.stderr.contains("long.odif: its normal form is over the limit"), "{}", run.stderr);
     assert!(run.text().ends_with("2 refused\n1 with a normal form over the limit\n1 unreadable\n"), "{}", run.text());
+}
+
+/// Names with odd octets can be handed on: each ends with a zero octet, and nothing is escaped.
+#[test]
+fn names_that_can_be_used_again() {
+    let scratch = Scratch::new("same-names");
+    let odd = OsStr::from_bytes(b"z\xFF\n.odif");
+    fs::write(scratch.path("").join(odd), letter(b"x")).unwrap();
+    scratch.write("a.odif", &letter(b"x"));
+    let (folder, path) = (scratch.word(""), scratch.path("").join(odd));
+    let run = odif(&["same", &folder, "--list", "-0"]);
+    assert_eq!((run.status, run.stderr.as_str()), (1, ""));
+    assert_eq!(run.stdout, [path.as_os_str().as_bytes(), b"\0"].concat());
+    let run = odif(&["same", &folder, "-0"]);
+    let first = format!("first {}", scratch.path("a.odif").display());
+    assert_eq!(run.stdout, [first.as_bytes(), b"\0same  ", path.as_os_str().as_bytes(), b"\0"].concat());
+    assert!(run.stderr.starts_with("2 files, 2 of them letters, 1 the same"), "{}", run.stderr);
+    assert_eq!(odif(&["same", &folder, "--list", "--csv", "-"]).status, 2);
+    let help = odif(&["same", "--help"]);
+    assert!(help.text().contains("130 it was\ninterrupted"), "{}", help.text());
 }

@@ -66,7 +66,7 @@ fn one_line_of_csv_a_file_in_order_with_any_number_of_jobs() {
     assert_eq!(lines.len(), 306);
     assert_eq!(
         lines[0],
-        "file,outcome,number,place,octets,headers,elements,reason,detail,kind,item,foreign,date,file_octets"
+        "file,outcome,number,place,octets,headers,elements,reason,detail,kind,item,foreign,first_date,file_octets"
     );
     assert_eq!(lines[1], "a/b/good-2.odif,accepted,0,0,39,11,3,,,,,,,");
     let cut = "a/cut.odif,refused,7,21,30,7,0,the value of an item passes its limit,the item A3 says that its value has \
@@ -91,7 +91,7 @@ fn json() {
     let run = odif(&["survey", "--json", &folder]);
     assert_eq!(run.status, 1);
     let json = run.text().replace(&folder, "");
-    assert!(json.starts_with("{\"files\":5,\"seconds\":"), "{json}");
+    assert!(json.starts_with("{\"files\":5,\"listed\":5,\"seconds\":"), "{json}");
     assert!(json.contains("\"accepted\":2,\"refused\":3,\"unreadable\":0,\"numbers\":[{\"number\":7,"), "{json}");
     assert!(json.contains("\"item\":\"A3\",\"count\":1,\"first\":[{\"file\":\"a/cut.odif\",\"place\":21}]}"), "{json}");
 }
@@ -238,7 +238,53 @@ fn only_some_numbers() {
     assert_eq!(run.text().lines().count(), 3);
     let run = odif(&["survey", "--only", "7", "--csv", "-", &folder]);
     assert_eq!(run.text().lines().count(), 2, "{}", run.text());
-    assert!(run.stderr.starts_with("1 file in "), "{}", run.stderr);
+    assert!(run.stderr.starts_with("5 files, 1 listed, in "), "{}", run.stderr);
+    // The status is that of all files, listed or not.
+    let run = odif(&["survey", "--only", "0", &folder]);
+    assert!(run.status == 1 && run.text().starts_with("5 files, 2 listed, in "), "{}", run.text());
+    let run = odif(&["survey", "--only", "99", "--json", &folder]);
+    assert!(run.status == 1 && run.text().starts_with("{\"files\":5,\"listed\":0,"), "{}", run.text());
+    symlink("nowhere", scratch.path("dangling.odif")).unwrap();
+    assert_eq!(odif(&["survey", "--only", "0", &folder]).status, 2);
+}
+
+/// Names and a CSV would be mixed on one standard output.
+#[test]
+fn one_thing_on_standard_output() {
+    let run = odif(&["survey", "samples/letters", "--csv", "-", "--list"]);
+    assert_eq!((run.status, run.text()), (2, ""));
+    assert!(run.stderr.contains("`--list` and `--csv -` both want standard output"), "{}", run.stderr);
+}
+
+/// Names that a spreadsheet would run have `./` before them in a cell, and are names of the same files.
+#[test]
+fn no_cell_is_a_formula() {
+    let scratch = Scratch::new("survey-formula");
+    for name in ["=cmd|calc.odif", "@x.odif", "plain.odif"] {
+        scratch.write(name, &letter(b"x"));
+    }
+    for (subcommand, column) in [("survey", 0), ("same", 2)] {
+        let mut command = command(&[subcommand, "=cmd|calc.odif", "@x.odif", "plain.odif", "--csv", "-"]);
+        let output = command.current_dir(scratch.path("")).output().unwrap();
+        let text = String::from_utf8(output.stdout).unwrap();
+        let names: Vec<&str> = text.lines().skip(1).map(|line| line.split(',').nth(column).unwrap()).collect();
+        assert_eq!(names, ["./=cmd|calc.odif", "./@x.odif", "plain.odif"], "{text}");
+    }
+}
+
+#[test]
+fn text_units_by_a_flag() {
+    let scratch = Scratch::new("survey-units");
+    scratch.write("in/all.odif", &letter(b"Hi"));
+    scratch.write("in/cut.odif", b"\xA0");
+    scratch.write("in/one.odif", &[&letter(b"Hi")[..], b"\xA3\x08\x31\x03\x40\x019\x04\x01x"].concat());
+    let run = odif(&["survey", &scratch.word("in"), "--units", "--csv", "-"]);
+    let units: Vec<&str> = run.text().lines().map(|line| line.rsplitn(3, ',').nth(1).unwrap()).collect();
+    assert_eq!(units[..3], ["units", "1 shown", ""], "{}", run.text());
+    assert!(run.text().ends_with(",\"1 shown, 1 not shown\",\n"), "{}", run.text());
+    assert!(run.stderr.ends_with("text units: 1 not shown, 2 shown\n"), "{}", run.stderr);
+    let run = odif(&["survey", &scratch.word("in"), "--units", "--json"]);
+    assert!(run.text().contains("\"units\":{\"not shown\":1,\"shown\":2}"), "{}", run.text());
 }
 
 #[test]

@@ -73,7 +73,8 @@ fn units_outside_the_reading_order_are_told() {
     let words = ["text", "--side", "layout", "samples/letters/annex-d-2.odif"];
     let run = odif(&words);
     assert_eq!((run.status, run.text()), (0, ""));
-    assert!(run.stderr.contains("13 text units of 13 not in the reading order of the layout side"));
+    let note = "13 text units of 13 not in the reading order of the layout side: elements ";
+    assert!(run.stderr.contains(note) && run.stderr.contains(" and 10 more; with --side"), "{}", run.stderr);
     assert!(run.stderr.contains("with --side logical there are 13"), "{}", run.stderr);
     assert_eq!(odif(&[&words[..], &["--strict"]].concat()).status, 1);
     assert_eq!(odif(&["text", "--strict", CLAIM]).status, 0);
@@ -117,4 +118,26 @@ fn utf8_by_a_flag_or_by_what_is_declared() {
     let declared = scratch.write("declared", &[&letter(b"M\xFCller")[..], style].concat());
     assert_eq!(odif(&["text", "--utf8", &declared]).text(), "Müller\n");
     assert_eq!(odif(&["text", "--utf8=iso6937", &declared]).text(), "Mþller\n");
+}
+
+/// A set that no one named is told where it matters.
+#[test]
+fn an_assumed_set_is_told() {
+    let scratch = Scratch::new("text-assumed");
+    let plain = scratch.write("plain", &letter(b"Z\xFCrich caf\xE9"));
+    let run = odif(&["text", "--utf8", &plain]);
+    let note = format!(
+        "odif: {plain}: the letter declares no character set, so ISO 6937 is taken; with --utf8=SET another is\n"
+    );
+    assert_eq!((run.status, run.text(), run.stderr), (0, "Zþrich cafØ\n", note));
+    assert_eq!(odif(&["text", "--utf8=latin1", &plain]).stderr, "");
+    let ascii = scratch.write("ascii", &letter(b"Zurich"));
+    assert_eq!(odif(&["text", "--utf8", &ascii]).stderr, "", "all sets have the same letters for these");
+    let style = b"\xA7\x10\x45\x011\xA3\x0B\xA0\x09\x8D\x03\x1B-A\x8D\x02\x1B)";
+    let one = scratch.write("one", &[&letter(b"\xFC")[..], style].concat());
+    assert_eq!(odif(&["text", "--utf8", &one]).stderr, "");
+    let style = b"\xA7\x11\x45\x011\xA3\x0C\xA0\x0A\x8D\x03\x1B-A\x8D\x03\x1B)v";
+    let several = scratch.write("several", &[&letter(b"\xFC")[..], style].concat());
+    let run = odif(&["text", "--utf8", &several]);
+    assert!(run.stderr.contains("the letter declares several character sets, so ISO 6937"), "{}", run.stderr);
 }

@@ -79,7 +79,7 @@ fn json() {
         {\"offset\":0,\"level\":1,\"class\":\"context\",\"number\":0,\"constructed\":true,\"header\":2,\
         \"length\":null,\"closing_mark\":4,\"element\":0,\"name\":\"document profile\"},\
         {\"offset\":2,\"level\":2,\"class\":\"universal\",\"number\":5,\"type\":\"NULL\",\"constructed\":false,\"header\":2,\
-        \"length\":0,\"hex\":\"\"}]}\n";
+        \"length\":0,\"value_hex\":\"\"}]}\n";
     assert_eq!(run.text(), items);
 }
 
@@ -101,13 +101,22 @@ fn values_by_their_names_and_types() {
     }
     let run = odif_with(&["tree", "--json", "--hex", "-"], format!("{profile} {object}").as_bytes());
     for value in [
-        "\"name\":\"document-architecture-class\",\"value\":2,\"meaning\":\"formatted-processable\",\"hex\":\"02\"}",
-        "\"name\":\"content-architecture-class\",\"value\":\"2.8.2.6.0\",\"hex\":\"58020600\"}",
-        "\"name\":\"document-date-and-time\",\"value\":\"19910314\",\"hex\":\"3139393130333134\"}",
-        "\"name\":\"measure\",\"value\":-200,\"hex\":\"FF38\"}",
+        "\"name\":\"document-architecture-class\",\"value\":2,\"meaning\":\"formatted-processable\",\"value_hex\":\"02\"}",
+        "\"name\":\"content-architecture-class\",\"value\":\"2.8.2.6.0\",\"value_hex\":\"58020600\"}",
+        "\"name\":\"document-date-and-time\",\"value\":\"19910314\",\"value_hex\":\"3139393130333134\"}",
+        "\"name\":\"measure\",\"value\":-200,\"value_hex\":\"FF38\"}",
     ] {
         assert!(run.text().contains(value), "{value}: {}", run.text());
     }
+}
+
+/// A text value in JSON is the string itself, escaped by JSON alone, or none.
+#[test]
+fn text_values_are_exact() {
+    let run = odif_with(&["tree", "--json", "--hex", "-"], b"A007 0405 615C0A0D09");
+    assert!(run.text().contains(r#""value":"a\\\n\r\t","value_hex":"615C0A0D09"}"#), "{}", run.text());
+    let run = odif_with(&["tree", "--json", "--hex", "-"], b"A003 0401 FF");
+    assert!(run.text().contains(r#""length":1,"value_hex":"FF"}"#), "{}", run.text());
 }
 
 #[test]

@@ -226,7 +226,7 @@ mod tests {
             let elements = letter(edition, class, &mut rng);
             let stream = written(&elements, &mut rng);
             let reading = reader::Reading::by(to_reader(edition), &stream);
-            let answer = reading.order(super::super::to_reader(class));
+            let answer = reading.order(second::order::to_reader(class));
             assert_eq!((answer.number, answer.place), (0, 0), "letter {number}, class {class:?}: {elements:?}");
         }
     }
@@ -234,7 +234,7 @@ mod tests {
     /// The reader and the definition say the same of letters in order and of changed ones, and all cases are met.
     #[test]
     fn the_reader_and_the_definition_agree() {
-        use super::super::definition::Run;
+        use second::order::definition::Run;
         let mut met = [[0; 3]; 2];
         for number in 0..40_000 {
             let (stream, _) = stream(5, number);
@@ -242,8 +242,8 @@ mod tests {
                 let reading = reader::Reading::by(to_reader(edition), &stream);
                 let Some(run) = Run::of(&stream, &reading) else { continue };
                 for class in Class::ALL {
-                    let answer = reading.order(super::super::to_reader(class));
-                    let is_so = run.is_answer(class, answer.number, answer.place, super::super::FEW);
+                    let answer = reading.order(second::order::to_reader(class));
+                    let is_so = run.is_answer(class, answer.number, answer.place, second::order::FEW);
                     assert!(is_so, "letter {number} by {edition}, class {class:?}: {answer:?}\n{run:?}");
                     let case = match answer.number {
                         0 => 0,

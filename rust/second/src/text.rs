@@ -3,23 +3,25 @@
 
 use odif::raw::LINE_WIDTH;
 use odif::{Edition, MOST_ELEMENTS, ROW_WIDTH, raw};
-use reader::{Reading, Side};
+use reader::Side;
 
 use crate::lent::{self, Lent};
+use crate::one::One;
 use crate::rng::Rng;
-use crate::tally::{Origin, Question, Tally, hex};
+use crate::tally::{Question, hex};
 
 /// Puts the question for both sides to the library and to the reader.
-pub fn hold(edition: Edition, stream: &[u8], reading: &Reading<'_>, origin: &Origin, tally: &mut Tally, rng: &mut Rng) {
+pub(crate) fn hold(one: &mut One<'_>, rng: &mut Rng) {
+    let reading = one.reading;
     for side in [Side::Layout, Side::Logical] {
-        let mut one = One { edition, side, stream, reading, origin, tally };
-        let (lines, text) = reading.whole_text(side);
+        let mut side = OneSide { side, one };
+        let (lines, text) = reading.whole_text(side.side);
         for lengths in lengths(reading.element_count() * ROW_WIDTH, lines.len() * LINE_WIDTH, text.len(), rng) {
-            one.ask(lengths);
+            side.ask(lengths);
         }
         if reading.refusal().is_none() {
-            one.against_the_list(rng);
-            one.against_the_crate();
+            side.against_the_list(rng);
+            side.against_the_crate();
         }
     }
 }
@@ -56,21 +58,16 @@ fn lengths(table: usize, lines: usize, out: usize, rng: &mut Rng) -> Vec<Lengths
     all
 }
 
-/// The comparisons on one side of one stream by one edition.
-struct One<'a> {
-    edition: Edition,
+/// The comparisons on one side.
+struct OneSide<'o, 'a> {
     side: Side,
-    stream: &'a [u8],
-    reading: &'a Reading<'a>,
-    origin: &'a Origin,
-    tally: &'a mut Tally,
+    one: &'o mut One<'a>,
 }
 
-impl One<'_> {
+impl OneSide<'_, '_> {
     fn expect(&mut self, holds: bool, what: &str, tell: impl FnOnce() -> String) {
-        let One { origin, edition, side, stream, .. } = *self;
-        self.tally
-            .expect(holds, || format!("{origin}, by {edition}: {side:?} text: {what}: {}\n  {}", tell(), hex(stream)));
+        let side = self.side;
+        self.one.expect(holds, &format!("{side:?} text: {what}"), tell);
     }
 
     fn ask(&mut self, lengths: Lengths) {
@@ -82,10 +79,10 @@ impl One<'_> {
         let (mut our_out, mut their_out) = (out_before.clone(), out_before.clone());
         let (table, lines, out) = (our_table.lend(), our_lines.lend(), our_out.lend());
         let answer = match self.side {
-            Side::Layout => raw::layout_text_numbers_in(self.edition, self.stream, table, lines, out),
-            Side::Logical => raw::logical_text_numbers_in(self.edition, self.stream, table, lines, out),
+            Side::Layout => raw::layout_text_numbers_in(self.one.edition, self.one.stream, table, lines, out),
+            Side::Logical => raw::logical_text_numbers_in(self.one.edition, self.one.stream, table, lines, out),
         };
-        let wanted = self.reading.text(self.side, their_table.lend(), &mut their_lines, their_out.lend());
+        let wanted = self.one.reading.text(self.side, their_table.lend(), &mut their_lines, their_out.lend());
         self.meet(answer.number);
         let question = format!("with {lengths:?}");
         let same = [answer.number, answer.place, answer.elements, answer.lines, answer.length]
@@ -103,7 +100,7 @@ impl One<'_> {
         self.expect(our_lines.is_untouched_past(used, &lines_before), &question, || "written past the lines".into());
         let used = answer.length as usize;
         self.expect(our_out.is_untouched_past(used, &out_before), &question, || "written past the text".into());
-        self.expect(used <= self.stream.len(), &question, || "the text is longer than the stream".into());
+        self.expect(used <= self.one.stream.len(), &question, || "the text is longer than the stream".into());
     }
 
     /// Counts what the library gave.
@@ -112,24 +109,23 @@ impl One<'_> {
             Side::Layout => Question::LayoutText,
             Side::Logical => Question::LogicalText,
         };
-        self.tally.meet(number);
-        self.tally.meet_in(self.edition, question, number);
+        self.one.meet(question, number);
     }
 
     /// The lines are the matches of the list in its order, they meet end to end, each has the joined content of its unit,
     /// whatever stood in the output before, and the table is the check's.
     fn against_the_list(&mut self, rng: &mut Rng) {
-        let numbers = self.reading.element_count() * ROW_WIDTH;
+        let numbers = self.one.reading.element_count() * ROW_WIDTH;
         let (mut table, mut other_table) = (vec![0; numbers], vec![1; numbers]);
         let mut list = vec![raw::Match::default(); MOST_ELEMENTS];
         let listed = match self.side {
-            Side::Layout => raw::layout_in(self.edition, self.stream, &mut table, &mut list),
-            Side::Logical => raw::logical_in(self.edition, self.stream, &mut table, &mut list),
+            Side::Layout => raw::layout_in(self.one.edition, self.one.stream, &mut table, &mut list),
+            Side::Logical => raw::logical_in(self.one.edition, self.one.stream, &mut table, &mut list),
         };
         list.truncate(listed.matches as usize);
         let filled = !lent::octets(rng.below(256)) ^ rng.number() as u8;
-        let (mut lines, mut out) = (vec![raw::Line::default(); list.len()], vec![filled; self.stream.len()]);
-        let shown = ask(self.edition, self.side, self.stream, &mut other_table, &mut lines, &mut out);
+        let (mut lines, mut out) = (vec![raw::Line::default(); list.len()], vec![filled; self.one.stream.len()]);
+        let shown = ask(self.one.edition, self.side, self.one.stream, &mut other_table, &mut lines, &mut out);
         let counts = [shown.number, shown.place, shown.elements, shown.lines];
         let wanted = [0, 0, listed.elements, listed.matches];
         self.expect(counts == wanted, "beside the list", || format!("{shown:?}, not {listed:?}"));
@@ -140,8 +136,8 @@ impl One<'_> {
         self.expect(past == Some(shown.length), "the lines meet end to end", || format!("{lines:?}, {shown:?}"));
         let some: Vec<raw::Line> = (0..lines.len().min(4)).map(|_| *rng.pick(&lines)).collect();
         for line in some {
-            let mut joined = vec![0; self.stream.len()];
-            let copied = raw::joined_in(self.edition, self.stream, line.unit, &mut joined);
+            let mut joined = vec![0; self.one.stream.len()];
+            let copied = raw::joined_in(self.one.edition, self.one.stream, line.unit, &mut joined);
             let same = copied.number == 0
                 && out.get(line.first as usize..line.past as usize) == Some(&joined[..copied.length as usize]);
             self.expect(same, "the content of a line's unit", || format!("{line:?}, {copied:?}"));
@@ -150,9 +146,10 @@ impl One<'_> {
 
     /// The crate's text, of its letter and of the stream, is the reader's.
     fn against_the_crate(&mut self) {
-        let (wanted, octets) = self.reading.whole_text(self.side);
-        let letter = odif::Letter::read_in(self.edition, self.stream).and_then(|letter| letter.text(self.to_crate()));
-        let at_once = odif::text_in(self.edition, self.stream, self.to_crate());
+        let (wanted, octets) = self.one.reading.whole_text(self.side);
+        let letter =
+            odif::Letter::read_in(self.one.edition, self.one.stream).and_then(|letter| letter.text(self.to_crate()));
+        let at_once = odif::text_in(self.one.edition, self.one.stream, self.to_crate());
         self.expect(letter == at_once, "the crate's two texts", || format!("{letter:?} and {at_once:?}"));
         let Ok(text) = at_once else {
             return self.expect(false, "the crate's text", || format!("{at_once:?}"));

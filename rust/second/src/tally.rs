@@ -119,18 +119,34 @@ pub struct Tally {
     pub met: Counts,
     /// The same for each question of each edition.
     met_in: [[Counts; Question::ALL.len()]; Edition::ALL.len()],
+    /// What is told of comparisons that do not hold, where it is kept and not printed.
+    kept: Option<Vec<String>>,
 }
 
 impl Tally {
-    /// Counts a comparison; prints the first ones that do not hold.
+    /// Counts that keep what is told, and print nothing.
+    pub fn keeping() -> Tally {
+        Tally { kept: Some(Vec::new()), ..Tally::default() }
+    }
+
+    /// What was kept.
+    pub fn kept(&self) -> &[String] {
+        self.kept.as_deref().unwrap_or_default()
+    }
+
+    /// Counts a comparison; prints or keeps the first ones that do not hold.
     pub fn expect(&mut self, holds: bool, tell: impl FnOnce() -> String) {
         if holds {
             self.passed += 1;
             return;
         }
         self.failed += 1;
-        if self.failed <= SHOWN {
-            println!("FAILED {}", tell());
+        if self.failed > SHOWN {
+            return;
+        }
+        match &mut self.kept {
+            Some(kept) => kept.push(tell()),
+            None => println!("FAILED {}", tell()),
         }
     }
 
