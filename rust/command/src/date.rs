@@ -50,7 +50,7 @@ struct Answer {
     #[serde(skip_serializing_if = "Option::is_none")]
     past: Option<usize>,
     #[serde(skip_serializing_if = "Option::is_none")]
-    value: Option<String>,
+    value: Option<Option<String>>,
     #[serde(skip_serializing_if = "Option::is_none")]
     value_hex: Option<String>,
     /// What stands where the date should be, of a letter that has none.
@@ -144,7 +144,7 @@ fn json(source: &Source<'_>, date: &Result<Date, Refusal>, unread: bool) -> Stri
                     date: Some(found.to_string()),
                     first: Some(found.place.start),
                     past: Some(found.place.end),
-                    value: show::ascii(octets),
+                    value: Some(show::ascii(octets)),
                     value_hex: Some(show::hex(octets)),
                     ..answer
                 },

@@ -18,7 +18,7 @@ a missing date come from an independent reader that is tested and not proved.";
 pub const JSON: &str = "\
 With --json each file is one object on a line. Octets of a letter have one form in all of them: a field NAME and a field
 NAME_hex. NAME_hex always has all octets, in hexadecimal. NAME has them as a string if each is 00 to 7E, with the escapes of
-JSON and no others, and is null if not. What is no string of octets but made for people, as `detail`, may have \\xHH, \\n and
+JSON and no others, and is null or missing if not. What is no string of octets but made for people, as `detail`, may have \\xHH, \\n and
 the like in it. A file's name is `file`; where that is no UTF-8, `file_octets` has it in hexadecimal, and `file` is for people.
 Places and numbers of elements are counted from 0.";
 
@@ -67,8 +67,8 @@ pub fn run(mut command: Command) -> Outcome {
 
 /// Each refusal number with its sentence.
 fn numbers() -> String {
-    let rules = (1..).map_while(|number| Some((number, Rule::from_number(number)?)));
-    rules.map(|(number, rule)| format!(".TP\n.B {number}\n{}\n", roff(rule.sentence()))).collect()
+    let line = |rule: Rule| format!(".TP\n.B {}\n{}\n", rule.number(), roff(rule.sentence()));
+    Rule::ALL.into_iter().map(line).collect()
 }
 
 /// Says what a refusal number means: `odif help 7`.

@@ -20,7 +20,7 @@ const LOGICAL_TYPES: [&str; 3] = ["document-logical-root", "composite", "basic"]
 const EXAMPLES: &str = "\
 Examples:
   odif outline letter.odif
-  odif outline --logical --json letter.odif | jq '.outline[] | select(.parent == null)'
+  odif outline --logical --json samples/letters/claim.odif | jq -r '.outline[].text'
 
 Exit status: 0 shown; 1 a letter was refused; 2 a file could not be read.";
 

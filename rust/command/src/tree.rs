@@ -20,8 +20,8 @@ const SHOWN: usize = 32;
 
 const EXAMPLES: &str = "\
 Examples:
-  odif tree letter.odif | less
-  odif tree --json letter.odif | jq '.items[] | select(.name == \"title\") | .value'
+  odif tree letter.odif | head
+  odif tree --json letter.odif | jq -r '.items[] | select(.name == \"document-date-and-time\").value'
 
 Exit status: 0 accepted; 1 one was refused; 2 one could not be read.";
 

@@ -85,7 +85,11 @@ fn json_lines() {
     assert!(lines[1].contains(r#""outcome":"refused","number":12,"place":21,"#), "{}", lines[1]);
     assert!(lines[1].contains(r#","element":2,"kind":"text unit","item":"31(40) 24(04 05)","#), "{}", lines[1]);
     assert!(lines[1].contains(r#""around":{"first":5,"hex":"0104310C"#), "{}", lines[1]);
-    assert!(lines[1].ends_with(r#","octets":41,"headers":13,"elements":0,"date":null,"side":null,"not_shown":[]}"#), "{}", lines[1]);
+    assert!(
+        lines[1].ends_with(r#","octets":41,"headers":13,"elements":0,"date":null,"side":null,"not_shown":[]}"#),
+        "{}",
+        lines[1]
+    );
     assert!(lines[2].starts_with(r#"{"file":"none","outcome":"unreadable","reason":""#), "{}", lines[2]);
     assert_eq!(lines.len(), 3);
 }

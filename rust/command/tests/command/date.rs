@@ -51,8 +51,8 @@ fn what_stands_in_the_place_of_a_date() {
 #[test]
 fn the_octets_of_a_date_are_exact() {
     let run = odif_with(&["date", "--json", "--hex", "-"], b"A013 A311 A00F 800D 313939312D30342D3038 FFE90A");
-    let wanted = r#""value_hex":"313939312D30342D3038FFE90A","unread":false}"#;
-    assert!(run.text().contains(wanted) && !run.text().contains("\"value\":"), "{}", run.text());
+    let wanted = r#""value":null,"value_hex":"313939312D30342D3038FFE90A","unread":false}"#;
+    assert!(run.text().contains(wanted), "{}", run.text());
     let run = odif_with(&["date", "--json", "--hex", "-"], b"A011 A30F A00D 800B 313939312D30342D3038 0A");
     assert!(run.text().contains(r#""value":"1991-04-08\n","value_hex":"313939312D30342D30380A""#), "{}", run.text());
 }
@@ -64,12 +64,19 @@ fn the_first_element_alone() {
     let run = odif(&["date", &cut]);
     assert_eq!(run.status, 1);
     assert!(run.text().starts_with(&format!("{cut}: refused, number 7 at octet 26: ")), "{}", run.text());
-    assert!(run.text().contains("\n  000010  39 2D"), "the octets around it: {}", run.text());
+    assert!(
+        run.text().contains("\n  000010  30 35 54 30 39 3A 33 30 A2 00[A2]05"),
+        "the octets around it: {}",
+        run.text()
+    );
     let unread = "(by the first element alone; the rest is unread)";
     let run = odif(&["date", "--first", &cut]);
     assert_eq!((run.status, run.text()), (0, &*format!("{cut}: 1988-06-05 {unread}\n")));
     let run = odif_with(&["date", "--first", "--hex", "-"], b"A000 FF");
-    assert_eq!(run.text(), format!("standard input: no date, number 23: the profile has no date of the document {unread}\n"));
+    assert_eq!(
+        run.text(),
+        format!("standard input: no date, number 23: the profile has no date of the document {unread}\n")
+    );
     let run = odif_with(&["date", "--first", "--hex", "-"], b"A005 FF");
     assert!(run.text().ends_with(&format!("\n  {unread}\n")), "{}", run.text());
     // A profile that is longer than what is read at first, and a file that no letter can be as long as.

@@ -36,7 +36,11 @@ fn units_that_only_1993_has() {
     for unit in [&[0xA3, 0x00][..], &[0xA3, 0x02, 0x30, 0x00]] {
         let stream = [&[0xA0, 0x00], unit].concat();
         let run = odif_with(&["check", "-"], &stream);
-        assert!(run.text().contains("\n  1993 has such text units, and `--edition 1993` accepts the letter\n"), "{}", run.text());
+        assert!(
+            run.text().contains("\n  1993 has such text units, and `--edition 1993` accepts the letter\n"),
+            "{}",
+            run.text()
+        );
         assert_eq!(odif_with(&["check", "--edition", "1993", "-"], &stream).status, 0);
         let run = odif_with(&["check", "-"], &[&stream[..], &[0xA4, 0x00]].concat());
         let place = stream.len();
@@ -54,7 +58,9 @@ fn check_names_the_protected_parts() {
     assert_eq!(run.text(), format!("standard input: accepted, {counts}\n"));
     let run = odif_with(&["check", "--edition", "1993", "--json", "-"], OF_1993);
     assert!(
-        run.text().ends_with(",\"headers\":22,\"elements\":6,\"protected_parts\":2,\"date\":null,\"side\":\"layout\",\"not_shown\":[]}\n"),
+        run.text().ends_with(
+            ",\"headers\":22,\"elements\":6,\"protected_parts\":2,\"date\":null,\"side\":\"layout\",\"not_shown\":[]}\n"
+        ),
         "{}",
         run.text()
     );

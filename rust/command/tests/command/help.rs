@@ -65,7 +65,8 @@ fn completions_and_a_manual_page() {
     }
     assert_eq!(odif(&["completions", "none"]).status, 2);
     let run = odif(&["man"]);
-    let version = concat!("\" \"odif ", env!("CARGO_PKG_VERSION"), "\" \"User Commands\"\n.SH NAME\nodif \\- Reads letters");
+    let version =
+        concat!("\" \"odif ", env!("CARGO_PKG_VERSION"), "\" \"User Commands\"\n.SH NAME\nodif \\- Reads letters");
     assert!(run.text().starts_with(".TH ODIF 1 \"") && run.text().contains(version), "{}", run.text());
     for part in [
         ".SH odif survey\n",

@@ -4,6 +4,7 @@ mod blocks;
 mod check;
 mod date;
 mod editions;
+mod examples;
 mod export;
 mod export_kept;
 mod faults;

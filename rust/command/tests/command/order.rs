@@ -106,7 +106,11 @@ fn in_a_survey_by_a_flag() {
     assert_eq!(orders, ["order", "A", "B", "both", "", "neither", "neither"], "{}", run.text());
     assert!(run.stderr.ends_with("\nletters by order: 1 A, 1 B, 1 both, 2 neither\n"), "{}", run.stderr);
     let plain = odif(&["survey", &folder, "--csv", "-"]);
-    assert!(plain.text().lines().next().is_some_and(|names| names.ends_with(",date,file_octets")), "{}", plain.text());
+    assert!(
+        plain.text().lines().next().is_some_and(|names| names.ends_with(",first_date,file_octets")),
+        "{}",
+        plain.text()
+    );
     let run = odif(&["survey", &folder, "--order", "--json"]);
     assert!(run.text().contains("\"orders\":{\"A\":1,\"B\":1,\"both\":1,\"neither\":2}"), "{}", run.text());
     // What one of several surveys was asked is kept, and empty where it was not asked.

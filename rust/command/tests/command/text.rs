@@ -112,7 +112,8 @@ fn utf8_by_a_flag_or_by_what_is_declared() {
     assert_eq!(odif(&["text", "--utf8", &plain]).text(), "Müller $ $⟦1B⟧[1m\n");
     assert_eq!(odif(&["text", "--utf8=t61", &plain]).text(), "Müller $ ¤⟦1B⟧[1m\n");
     assert_eq!(odif(&["text", "--utf8=latin1", &plain]).text(), "MÈuller ¤ $⟦1B⟧[1m\n");
-    assert_eq!(on_terminal(&["text", "--utf8", &plain]), "Müller $ $⟦1B⟧[1m\n", "nothing for a terminal to obey");
+    let on_terminal = on_terminal(&["text", "--utf8=iso6937", &plain]);
+    assert_eq!(on_terminal, "Müller $ $⟦1B⟧[1m\n", "nothing for a terminal to obey");
     // a presentation style whose character attributes designate ISO 8859-1
     let style = b"\xA7\x0C\x45\x011\xA3\x07\xA0\x05\x8D\x03\x1B-A";
     let declared = scratch.write("declared", &[&letter(b"M\xFCller")[..], style].concat());
@@ -129,7 +130,7 @@ fn an_assumed_set_is_told() {
     let note = format!(
         "odif: {plain}: the letter declares no character set, so ISO 6937 is taken; with --utf8=SET another is\n"
     );
-    assert_eq!((run.status, run.text(), run.stderr), (0, "Zþrich cafØ\n", note));
+    assert_eq!((run.status, run.text(), run.stderr.as_str()), (0, "Zþrich cafØ\n", &*note));
     assert_eq!(odif(&["text", "--utf8=latin1", &plain]).stderr, "");
     let ascii = scratch.write("ascii", &letter(b"Zurich"));
     assert_eq!(odif(&["text", "--utf8", &ascii]).stderr, "", "all sets have the same letters for these");
