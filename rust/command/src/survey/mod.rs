@@ -2,6 +2,7 @@
 
 pub mod csv;
 mod record;
+mod report;
 mod tally;
 
 use std::fs::File;
