@@ -108,10 +108,10 @@ pub trait Answer: Serialize + Default {
 }
 
 /// Answers for each file.
-pub fn answer_each<A: Answer>(asked: &Asked, ask: impl Fn(&Letter<'_>) -> Result<A, Failure>) -> Outcome {
+pub fn answer_each<A: Answer>(asked: &Asked, ask: impl Fn(&Source<'_>, &Letter<'_>) -> Result<A, Failure>) -> Outcome {
     each(&asked.files, asked.json, |source| {
         let read = Letter::read_in(source.edition, &source.stream);
-        let answer = read.as_ref().map_or_else(|_| Ok(A::default()), &ask)?;
+        let answer = read.as_ref().map_or_else(|_| Ok(A::default()), |letter| ask(source, letter))?;
         write_answer(asked, source, &read, &answer, |out| {
             if read.is_err() {
                 return Ok(());

@@ -68,7 +68,7 @@ struct Line {
 }
 
 pub fn run(words: &Words) -> Outcome {
-    input::answer_each(&words.asked, |letter| Ok(listed(letter, &words.sides)))
+    input::answer_each(&words.asked, |_, letter| Ok(listed(letter, &words.sides)))
 }
 
 impl Answer for Listed {

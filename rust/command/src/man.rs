@@ -1,5 +1,6 @@
 //! The manual page and the completions, made from what the command knows of its own words.
 
+use std::collections::BTreeMap;
 use std::io::{self, Write};
 
 use clap::builder::PossibleValue;
@@ -65,16 +66,23 @@ pub fn run(mut command: Command) -> Outcome {
     Ok(Status::Accepted)
 }
 
-/// Each refusal number with its sentence.
+/// The numbers of the block engine, which refuse no stream: no rule has them.
+const OF_BLOCKS: [(u32, &str); 2] =
+    [(28, "a block is past the total that was told"), (29, "the letter was closed before all its octets had come")];
+
+/// Each refusal number with its sentence, in order.
+fn sentences() -> BTreeMap<u32, &'static str> {
+    Rule::ALL.into_iter().map(|rule| (rule.number(), rule.sentence())).chain(OF_BLOCKS).collect()
+}
+
 fn numbers() -> String {
-    let line = |rule: Rule| format!(".TP\n.B {}\n{}\n", rule.number(), roff(rule.sentence()));
-    Rule::ALL.into_iter().map(line).collect()
+    sentences().into_iter().map(|(number, words)| format!(".TP\n.B {number}\n{}\n", roff(words))).collect()
 }
 
 /// Says what a refusal number means: `odif help 7`.
 pub fn number(digits: &str) -> Option<String> {
     let number = digits.parse().ok()?;
-    Some(format!("{number}: {}\n", Rule::from_number(number)?.sentence()))
+    Some(format!("{number}: {}\n", sentences().get(&number)?))
 }
 
 fn about(command: &Command) -> String {

@@ -63,7 +63,7 @@ struct Line {
 }
 
 pub fn run(words: &Words) -> Outcome {
-    input::answer_each(&words.asked, |letter| {
+    input::answer_each(&words.asked, |_, letter| {
         let (side, outline) = outline(letter, &words.sides);
         Ok(Shown { side: Some(side.to_string()), outline })
     })

@@ -62,7 +62,13 @@ struct Listed {
 }
 
 pub fn run(words: &Words) -> Outcome {
-    input::answer_each(&words.asked, |letter| Ok(Listed { pages: lines(letter)? }))
+    input::answer_each(&words.asked, |source, letter| match lines(letter) {
+        Some(pages) => Ok(Listed { pages }),
+        None => {
+            let message = format!("{}: the two readers differ on its pages; please report this file", source.shown);
+            Err(Failure::File(message))
+        }
+    })
 }
 
 impl Answer for Listed {
@@ -75,8 +81,8 @@ impl Answer for Listed {
     }
 }
 
-/// The pages with the library's verdicts, and with their dimensions by the reader, if that has the same verdicts.
-fn lines(letter: &Letter<'_>) -> Result<Vec<Line>, Failure> {
+/// The pages with the library's verdicts, and with their dimensions by the reader; `None` if that has other verdicts.
+fn lines(letter: &Letter<'_>) -> Option<Vec<Line>> {
     let pages = letter.pages();
     let reading = Reading::by(of_reader(letter.edition()), letter.stream());
     let theirs = reading.page_list();
@@ -85,11 +91,11 @@ fn lines(letter: &Letter<'_>) -> Result<Vec<Line>, Failure> {
         (ours.element, Some(&ours.verdict)) == (theirs.element as usize, verdict)
     };
     if pages.len() != theirs.len() || !pages.iter().zip(&theirs).all(is_same) {
-        return Err(Failure::File("the two readers differ on the pages of a letter; please report it".into()));
+        return None;
     }
     let elements: Vec<&[Item]> = reading.tree().items().chunk_by(|_, next| next.level() > 1).collect();
     let dimensions = |page: &Page| Dimensions::of(letter.stream(), elements[page.element]);
-    Ok(pages.iter().map(|page| line(letter, page, dimensions(page))).collect())
+    Some(pages.iter().map(|page| line(letter, page, dimensions(page))).collect())
 }
 
 fn line(letter: &Letter<'_>, page: &Page, dimensions: Dimensions) -> Line {

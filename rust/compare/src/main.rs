@@ -1,7 +1,7 @@
 //! The program `compare`: holds the proved library against the independent reader.
 
 use std::process::ExitCode;
-use std::sync::atomic::{AtomicU64, AtomicUsize, Ordering};
+use std::sync::atomic::{AtomicU64, Ordering};
 use std::thread;
 use std::time::Instant;
 
@@ -129,48 +129,43 @@ fn hold_examples() -> Tally {
     holder.finish()
 }
 
-/// Each thread takes the next group that none has taken.
-fn hold_limits() -> impl Fn(&mut Holder) + Sync {
-    let next = AtomicUsize::new(0);
-    move |holder| {
-        while let Some(group) = limits::GROUPS.get(next.fetch_add(1, Ordering::Relaxed)) {
-            for (number, (name, stream)) in group().into_iter().enumerate() {
-                holder.hold(&stream, Origin::Fixed(name), &mut Rng::new(number as u64));
-            }
-        }
-    }
-}
-
-fn hold_short_streams() -> impl Fn(&mut Holder) + Sync {
-    let next = AtomicUsize::new(0);
-    move |holder| {
-        loop {
-            let group = next.fetch_add(1, Ordering::Relaxed);
-            if group >= short::GROUPS {
-                return;
-            }
-            for (number, stream) in short::group(group as u8).into_iter().enumerate() {
-                let origin = Origin::Fixed(format!("short stream {number} of group {group}"));
-                holder.hold(&stream, origin, &mut Rng::new(number as u64));
-            }
-        }
-    }
-}
-
-fn hold_generated(options: &Options) -> impl Fn(&mut Holder) + Sync {
-    let from = options.from.unwrap_or(0);
-    let (seed, past) = (options.seed, from.saturating_add(options.streams));
-    let next = AtomicU64::new(from);
+/// Work on each number from `from` on, so many of them: each thread takes the next one that none has taken.
+fn in_turn(from: u64, count: u64, work: impl Fn(&mut Holder, u64) + Sync) -> impl Fn(&mut Holder) + Sync {
+    let (next, past) = (AtomicU64::new(from), from.saturating_add(count));
     move |holder| {
         loop {
             let number = next.fetch_add(1, Ordering::Relaxed);
             if number >= past {
                 return;
             }
-            let (stream, mut rng) = seeded::stream(seed, number);
-            holder.hold(&stream, Origin::Seeded { seed, stream: number }, &mut rng);
+            work(holder, number);
         }
     }
+}
+
+fn hold_limits() -> impl Fn(&mut Holder) + Sync {
+    in_turn(0, limits::GROUPS.len() as u64, |holder, group| {
+        for (number, (name, stream)) in limits::GROUPS[group as usize]().into_iter().enumerate() {
+            holder.hold(&stream, Origin::Fixed(name), &mut Rng::new(number as u64));
+        }
+    })
+}
+
+fn hold_short_streams() -> impl Fn(&mut Holder) + Sync {
+    in_turn(0, short::GROUPS as u64, |holder, group| {
+        for (number, stream) in short::group(group as u8).into_iter().enumerate() {
+            let origin = Origin::Fixed(format!("short stream {number} of group {group}"));
+            holder.hold(&stream, origin, &mut Rng::new(number as u64));
+        }
+    })
+}
+
+fn hold_generated(options: &Options) -> impl Fn(&mut Holder) + Sync {
+    let seed = options.seed;
+    in_turn(options.from.unwrap_or(0), options.streams, move |holder, number| {
+        let (stream, mut rng) = seeded::stream(seed, number);
+        holder.hold(&stream, Origin::Seeded { seed, stream: number }, &mut rng);
+    })
 }
 
 fn hold_made() -> Tally {
@@ -183,35 +178,18 @@ fn hold_made() -> Tally {
 
 /// One letter is made for each ten streams that are generated.
 fn hold_made_at_random(options: &Options) -> impl Fn(&mut Holder) + Sync {
-    let from = options.from.unwrap_or(0);
-    let (seed, past) = (options.seed, from.saturating_add(options.streams.div_ceil(10)));
-    let next = AtomicU64::new(from);
-    move |holder| {
-        let mut met = [0; 7];
-        loop {
-            let number = next.fetch_add(1, Ordering::Relaxed);
-            if number >= past {
-                return;
-            }
-            making::hold_seeded(seed, number, &mut met, &mut holder.tally);
-        }
-    }
+    let seed = options.seed;
+    in_turn(options.from.unwrap_or(0), options.streams.div_ceil(10), move |holder, number| {
+        making::hold_seeded(seed, number, &mut [0; 7], &mut holder.tally);
+    })
 }
 
 /// One letter in the order of a class, or nearly so, for each two streams that are generated.
 fn hold_in_order(options: &Options) -> impl Fn(&mut Holder) + Sync {
-    let from = options.from.unwrap_or(0);
-    let (seed, past) = (options.seed, from.saturating_add(options.streams.div_ceil(2)));
-    let next = AtomicU64::new(from);
-    move |holder| {
-        loop {
-            let number = next.fetch_add(1, Ordering::Relaxed);
-            if number >= past {
-                return;
-            }
-            order::hold_seeded(seed, number, holder);
-        }
-    }
+    let seed = options.seed;
+    in_turn(options.from.unwrap_or(0), options.streams.div_ceil(2), move |holder, number| {
+        order::hold_seeded(seed, number, holder);
+    })
 }
 
 /// Tells how often each number was met, and the sums.

@@ -78,6 +78,7 @@ fn completions_and_a_manual_page() {
         "One of: auto (What the letter",
         ".SH JSON\n",
         ".SH REFUSAL NUMBERS\n.TP\n.B 1\n",
+        ".TP\n.B 28\na block is past the total",
         ".TP\n.B 30\n",
         "Exit status: 0 all were",
     ] {
