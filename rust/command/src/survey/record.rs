@@ -142,6 +142,7 @@ impl Record {
             Err(error) => return unreadable(error.to_string()),
         };
         let checked = odif::check_in(edition, &stream.octets);
+        let has_date = checked.verdict.is_ok() || columns.first_dates;
         let verdict = match checked.verdict {
             Ok(elements) => Record {
                 number: Some(0),
@@ -157,7 +158,7 @@ impl Record {
         Record {
             octets: stream.size,
             headers: Some(checked.headers),
-            first_date: date::column(edition, &stream.octets),
+            first_date: if has_date { date::column(edition, &stream.octets) } else { String::new() },
             order: columns.order.then(|| order::column(edition, &stream.octets)),
             pages: columns.pages.then(|| pages::column(edition, &stream.octets)),
             units: columns.units.then(|| units::column(edition, &stream.octets)),
