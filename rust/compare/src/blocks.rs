@@ -37,7 +37,8 @@ pub fn hold_fixed(tally: &mut Tally) {
 fn made_up(tally: &mut Tally) {
     let mut rng = Rng::new(209);
     for _ in 0..20_000 {
-        let numbers = [0, 1, 2, 7, 8, 15, 16, 17, 100, STREAM_LIMIT, STREAM_LIMIT + 1, u32::MAX as usize, usize::MAX];
+        let limit = STREAM_LIMIT as u64;
+        let numbers = [0, 1, 2, 7, 8, 15, 16, 17, 100, limit, limit + 1, u64::from(u32::MAX), u64::MAX];
         let mut number = || *rng.pick(&numbers);
         let (total, taken, at, level) = (number(), number(), number(), number());
         let [headers, found, place, have] = [number() as u32, number() as u32, number() as u32, number() as u32];
@@ -45,10 +46,10 @@ fn made_up(tally: &mut Tally) {
         let ends = std::array::from_fn(|_| number() as u32);
         let begun = std::array::from_fn(|_| rng.octet());
         let state = Blocks { total, taken, at, level, headers, number: found, place, have, ends, begun };
-        let good = found != 0 || level <= 16 && have <= 7 && headers as usize <= taken && total <= STREAM_LIMIT;
+        let good = found != 0 || level <= 16 && have <= 7 && u64::from(headers) <= taken && total <= limit;
         let block = rng.octets(rng.clone().below(20));
         let answer = raw::take(state, &block);
-        let fits = good && taken <= total && block.len() <= total - taken;
+        let fits = good && taken <= total && block.len() as u64 <= total - taken;
         let holds = if fits { answer.number == 0 } else { answer == Taken { number: 28, state } };
         tally.expect(holds, || format!("{state:?} takes {block:02X?}: {answer:?}"));
         let closed = raw::close(state);

@@ -83,7 +83,7 @@ fn meaning(state: &Blocks) -> impl PartialEq + use<> {
     let Blocks { total, taken, at, level, headers, number, place, have, ends, begun } = *state;
     match number {
         0 => {
-            let open = ends[..level.min(16)].to_vec();
+            let open = ends[..(level as usize).min(16)].to_vec();
             (total, taken, [0, 0, headers], at, open, begun[..(have as usize).min(8)].to_vec())
         }
         _ => (total, taken, [number, place, headers], 0, Vec::new(), Vec::new()),
