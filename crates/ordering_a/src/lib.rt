@@ -1,4 +1,5 @@
 // The order of class A in one pass over the rows, by numbers: no array, a small state by value.
+use order::Class;
 use order::Fault;
 use ranks::Sight;
 use ranks::State;
@@ -7,7 +8,6 @@ use turns::Own;
 ghost use mathlib.Core.Path.{_≡_};
 ghost use Prim.Native.Nat.{_<_};
 ghost use Rattle.index.specs.Columns.{kindAt};
-ghost use Rattle.order.specs.declared.Class.the-variants.{A};
 ghost use Rattle.order.specs.Fault.{FaultIn};
 ghost use Rattle.owners.specs.Owner.{Known};
 ghost use Rattle.ranks.specs.Step.{Small};
@@ -153,7 +153,7 @@ fn first_walk(n: usize) -> Walk
 fn pass(s: &[u8], rows: &[u32], head: &[u16], next: &[u16], n: usize) -> Fault
     requires { ⌜ Known (now s) (now rows) (now head) (now next) n ⌝ }
     requires { ⌜ (0 < n) × (kindAt (now rows) 0 ≡ 0) ⌝ }
-    ensures { λ r. ⌜ FaultIn A (now (s .entry)) (now (rows .entry)) n r ⌝ }
+    ensures { λ r. ⌜ FaultIn Class.A (now (s .entry)) (now (rows .entry)) n r ⌝ }
 {
     let mut w = first_walk(n);
     let mut k: usize = 1;
@@ -179,7 +179,7 @@ fn pass(s: &[u8], rows: &[u32], head: &[u16], next: &[u16], n: usize) -> Fault
 // is missing, or none.
 pub fn fault_a(s: &[u8], rows: &[u32], head: &[u16], next: &[u16], n: usize) -> Fault
     requires { ⌜ Known (now s) (now rows) (now head) (now next) n ⌝ }
-    ensures { λ r. ⌜ FaultIn A (now (s .entry)) (now (rows .entry)) n r ⌝ }
+    ensures { λ r. ⌜ FaultIn Class.A (now (s .entry)) (now (rows .entry)) n r ⌝ }
 {
     if n == 0 {
         return Fault::At(0);
