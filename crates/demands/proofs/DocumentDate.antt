@@ -23,8 +23,8 @@ use Rattle.contents.specs.declared.Span.{Span}
 use Rattle.contents.specs.Search.{firstRun, itemsIn}
 use Rattle.contents.proofs.Firsts.{run-here, run-after}
 use Rattle.dates.specs.Dates.{Date, DateItem, inPrimitive, inConstructed, noDateBy, dateFrom as datedValue, theDate, datesIn, dateIn}
-use Rattle.dates.specs.Places.{Place, bounds, noBounds}
-use Rattle.dates.specs.Finding.{readAt}
+use Rattle.dates.specs.Places.{Place, bounds, noBounds, inEachAt}
+use Rattle.dates.specs.Finding.{placesFrom, readAt}
 use Rattle.dates.proofs.Trees.{dates-places}
 use Rattle.dates.proofs.Real.{date-is-real, real-is-date, else-empty}
 use Rattle.elements.specs.declared.Edition.{Edition}
@@ -216,6 +216,7 @@ module _ (edition : Edition) (s : List ℕ) where
   stands : IsAccepted edition s → dateOf edition s .number ≡ 0
       → (datePlaces (itemsOfStream s) ≡ bounds (dated edition s .first) (dated edition s .past) ∷ [])
       × (slice (dated edition s .first) (dated edition s .past) s ≡ dateOf edition s .part)
+  unfolding inEachAt placesFrom
   stands a zero =
       let t = profileIn (treeOf s) in
       let n : dateIn t .number ≡ 0 = sym (ap (λ (x : DateAnswer). x .number) (letter-date edition s a)) ∙ zero in

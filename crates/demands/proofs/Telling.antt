@@ -311,20 +311,20 @@ module _ (edition : Edition) (s : List ℕ) where
 
   -- a row and an element of the tree are of one item
   record OfOne (row : Row) (top : TopItem) : Type 0 where
-    octet : ℕ
+    code : ℕ
     first : ℕ
     past : ℕ
     inside : Items
     inside-proper : Proper s (deepest - 1) inside
-    whole : CodesAlone (itemAt octet inside) (slice first past s)
-    row-is : rowOf (shapeAt octet) s first past inside ≡ row
-    item-is : itemAt octet inside ≡ top
+    whole : CodesAlone (itemAt code inside) (slice first past s)
+    row-is : rowOf (shapeAt code) s first past inside ≡ row
+    item-is : itemAt code inside ≡ top
 
   of-one : {i : Items} → Proper s deepest i → Alone s (length s) i → (j : ℕ) (row : Row) (top : TopItem) → getElem? (rowsOf edition s i) j ≡ some row
       → getElem? (topItems (plain s i)) j ≡ some top → OfOne row top
   unfolding rowsOf
   of-one no-more a j row top e f = let z : _≡_ {A = ℕ} 0 1 = cc in absurd (omega arith)
-  of-one (more {at = at} {octet} {start} {past} {inside} {after} there n nothing-in codes p q) a zero row top e f =
+  of-one (more {at = at} {code = octet} {start} {past} {inside} {after} there n nothing-in codes p q) a zero row top e f =
       let tops = same-top octet (slice start past s) inside (plain s after) nothing-in in
       let g : some (itemAt octet inside) ≡ some top = sym (ap (λ (ts : List TopItem). getElem? ts 0) tops) ∙ f in
       let item-is : itemAt octet inside ≡ top = cc in

@@ -12,6 +12,7 @@ use Rattle.normal.specs.Forms.{Definite}
 use Rattle.elements.specs.declared.Edition.{Edition}
 use Rattle.elements.specs.declared.Edition.the-variants.{Of1988}
 use Rattle.answers.specs.Answers.{written, writtenOutput}
+use Rattle.demands.specs.Demands.{IsAccepted}
 
 -- what the writer has written of a stream, to an output that is lent
 abbrev pub formWritten : Edition → (s out : List ℕ) → List ℕ
