@@ -1,6 +1,5 @@
--- The texts of the matches of a side, one after another, and a line for each: which match it is, and where its text stands. "The lent lines, a run of
--- records of five numbers (element, portion place, unit, first and past in out), one for each match of the side in the list's order; and out, the joined
--- contents of those units one after another." What the text of a unit is, is not said here. Definitions only: assumes nothing.
+-- The texts of the matches of a side, one after another, and a line for each: which match it is, and where its text stands. It is what the whole
+-- reading shows, our own question (answers, specs/Texts). What the text of a unit is, is not said here. Definitions only: assumes nothing.
 use Prim.Native.Nat.{ℕ, _+_}
 use mathlib.Core.List.{List, [], _∷_, _++_}
 use lib.ListN.{length}
@@ -10,12 +9,12 @@ use Rattle.reading.specs.declared.Match.{Match}
 abbrev pub Text : Type 0
 Text = ℕ → List ℕ
 
--- "the joined contents of those units one after another"
+-- the texts of the matched units, one after another
 unfoldable pub textsOf : Text → List Match → List ℕ
 textsOf text [] = []
 textsOf text (m ∷ ms) = text (m .unit) ++ textsOf text ms
 
--- "a run of records of five numbers"
+-- a line is a record of five numbers: the match's three, and the bounds of its text in the output
 pub record Line : Type 0 where
   pub element : ℕ
   pub portion : ℕ
@@ -32,7 +31,7 @@ unfoldable pub linesFrom : Text → (first : ℕ) → List Match → List Line
 linesFrom text first [] = []
 linesFrom text first (m ∷ ms) = lineOf text first m ∷ linesFrom text (lineOf text first m .past) ms
 
--- "element, portion place, unit, first and past in out"
+-- the numbers of a line
 abbrev pub lineWidth : ℕ
 lineWidth = 5
 
