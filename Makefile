@@ -3,6 +3,8 @@
 #   make                                      build all under target/install
 #   make install PREFIX=/usr DESTDIR=stage    headers, archives, shared libraries, odif.pc, pm1.pc, command, manual pages, completions
 #   make install-lib                          the same without the command: it needs rt, for the proved library, and a C compiler alone
+#   make portable TARGET=aarch64-linux        the archives for another machine, under target/portable/TARGET (portable/build --list)
+#   make install-lib TARGET=aarch64-linux CC=aarch64-linux-gnu-gcc    these, installed; shared libraries where CC makes them
 #   make uninstall                            take away what install put there
 #
 # The command needs cargo and the crates that it uses besides; where they are Debian's, rust/packages makes them ready first. `make` installs no
