@@ -23,7 +23,7 @@ use Rattle.elements.specs.declared.Row.{Row}
 use Rattle.elements.specs.Judge.{Element, shares, clash, twice}
 use Rattle.elements.specs.ElementRows.{cells, bytesIn}
 use Rattle.elements.specs.Says.{Names, Says}
-use Rattle.judging.specs.Done.{Keeps}
+use Rattle.judging.specs.Done.{DoneRows}
 use Rattle.judging.specs.Judges.{Taken}
 use Rattle.judging.proofs.Lists.{below-length, at-below, any-true, any-false, any-or}
 use Rattle.judging.proofs.Rows.{RowOf, row-of, kind-at, first-at, past-at}
@@ -71,8 +71,8 @@ not-true : (b : Bool) → (b ≡ true → ⊥) → b ≡ false
 not-true true n = absurd (n refl)
 not-true false n = refl
 
-module _ {s scratch head next head2 next2 : List ℕ} {n : ℕ} {table : List Row} {done : List Element}
-    (holds : Keeps s scratch head next head2 next2 n table done) {row : Row} {e : Element} (says : Says s row e) where
+module _ {s scratch : List ℕ} {n : ℕ} {table : List Row} {done : List Element}
+    (holds : DoneRows s scratch n table done) {row : Row} {e : Element} (says : Says s row e) where
   -- a column of the rows, the value that elements have there, and how the one bounds the other
   module _ (column : ℕ) (in-row : column + 1 < scratchWidth) (pair : Row → Span) (value : Element → Value)
       (first-is : (r : Row) → getD (cells r) column 0 ≡ pair r .first) (past-is : (r : Row) → getD (cells r) (column + 1) 0 ≡ pair r .past)

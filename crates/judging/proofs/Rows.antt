@@ -12,7 +12,7 @@ use Rattle.elements.specs.declared.Row.{Row}
 use Rattle.elements.specs.Judge.{Element}
 use Rattle.elements.specs.ElementRows.{cells, numbers}
 use Rattle.elements.specs.Says.{Says}
-use Rattle.judging.specs.Done.{Saying, none, more, Keeps}
+use Rattle.judging.specs.Done.{Saying, none, more, DoneRows}
 use Rattle.judging.proofs.Lists.{Last, before, last, below-length, at-front, at-end, at-last}
 
 pub numbers-length : (rows : List Row) → length (numbers rows) ≡ length rows * scratchWidth
@@ -71,8 +71,8 @@ row-of none j x e = let z : _≡_ {A = ℕ} 0 1 = cc in absurd (omega arith)
 row-of (more {row} {element} {rows} {elements} w says) j x e = row-last w says j x (λ o. row-of w j x o) (at-last elements element j x e)
 
 -- what the scratch has of row j
-module _ {s scratch head next head2 next2 : List ℕ} {n : ℕ} {rows : List Row} {elements : List Element}
-    (holds : Keeps s scratch head next head2 next2 n rows elements) (j : ℕ) (row : Row) (stands : getElem? rows j ≡ some row) where
+module _ {s scratch : List ℕ} {n : ℕ} {rows : List Row} {elements : List Element}
+    (holds : DoneRows s scratch n rows elements) (j : ℕ) (row : Row) (stands : getElem? rows j ≡ some row) where
   pub row-below : j < n
   row-below = omega (arith, below-length rows j row stands, saying-length (holds .saying), holds .counted)
 

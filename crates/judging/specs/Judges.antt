@@ -20,7 +20,7 @@ use Rattle.judging.specs.declared.Hashes.{Hashes}
 use Rattle.judging.specs.declared.PlacedItem.{PlacedItem}
 use Rattle.judging.specs.declared.Judgement.{Judgement}
 use Rattle.judging.specs.declared.Judgement.the-variants.{Fails, Passes}
-use Rattle.judging.specs.Done.{Keeps}
+use Rattle.judging.specs.Done.{DoneRows}
 
 -- rules 9 to 11, which look at an element's number and code alone; `known` is the octet of its shape
 unfoldable pub earlyRefusal : (n code known : ℕ) → ℕ
@@ -61,18 +61,18 @@ Judges edition s done item (Fails number) = (refusalOf edition done (typeField (
 Judges edition s done item (Passes row hashes) = Passing edition s done item row hashes
 
 -- what is said of an item, whichever elements the scratch holds
-abbrev pub JudgesAfter : Edition → (s scratch head next head2 next2 : List ℕ) (n : ℕ) → PlacedItem → Judgement → Type 0
-JudgesAfter edition s scratch head next head2 next2 n item judgement =
-    (table : List Row) (done : List Element) → Keeps s scratch head next head2 next2 n table done → Judges edition s done item judgement
+abbrev pub JudgesAfter : Edition → (s scratch : List ℕ) (n : ℕ) → PlacedItem → Judgement → Type 0
+JudgesAfter edition s scratch n item judgement =
+    (table : List Row) (done : List Element) → DoneRows s scratch n table done → Judges edition s done item judgement
 
 -- whether rule 15 refuses an element with a row and these portions, whichever elements the scratch holds
-abbrev pub TellsTwice : (s scratch head next head2 next2 : List ℕ) (n : ℕ) → Row → (portions : List (List ℕ)) → Bool → Type 0
-TellsTwice s scratch head next head2 next2 n row portions b =
-    (table : List Row) (done : List Element) (e : Element) → Keeps s scratch head next head2 next2 n table done → Says s row e
+abbrev pub TellsTwice : (s scratch : List ℕ) (n : ℕ) → Row → (portions : List (List ℕ)) → Bool → Type 0
+TellsTwice s scratch n row portions b =
+    (table : List Row) (done : List Element) (e : Element) → DoneRows s scratch n table done → Says s row e
     → portions ≡ e .portions → b ≡ twice done e
 
 -- the scratch with one row more, whichever elements it held
-abbrev pub Grows : (s scratch head next head2 next2 scratch' head' next' head2' next2' : List ℕ) (n : ℕ) → Row → Type 0
-Grows s scratch head next head2 next2 scratch' head' next' head2' next2' n row =
-    (table : List Row) (done : List Element) (e : Element) → Keeps s scratch head next head2 next2 n table done → Says s row e
-    → Keeps s scratch' head' next' head2' next2' (n + 1) (table ++ row ∷ []) (done ++ e ∷ [])
+abbrev pub Grows : (s scratch scratch' : List ℕ) (n : ℕ) → Row → Type 0
+Grows s scratch scratch' n row =
+    (table : List Row) (done : List Element) (e : Element) → DoneRows s scratch n table done → Says s row e
+    → DoneRows s scratch' (n + 1) (table ++ row ∷ []) (done ++ e ∷ [])

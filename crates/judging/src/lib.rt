@@ -16,11 +16,12 @@ ghost use Rattle.runs.specs.Runs.{itemsOf, Fine};
 ghost use Rattle.names.specs.Hash.{hash};
 ghost use Rattle.portions.specs.Portions.{mostPortions};
 ghost use Rattle.portions.specs.Bounds.{bounded, Inside};
-ghost use Rattle.index.specs.Columns.{Bounded};
+ghost use Rattle.index.specs.Columns.{identifierColumn, logicalColumn, Bounded};
 ghost use Rattle.ordered.specs.Ordered.{Filed};
+ghost use Rattle.elements.specs.Judge.{Element};
 ghost use Rattle.elements.specs.ElementRows.{bytesIn};
 ghost use Rattle.elements.specs.Says.{Placed, RowPlaced};
-ghost use Rattle.judging.specs.Done.{Indexes};
+ghost use Rattle.judging.specs.Done.{DoneRows};
 ghost use Rattle.judging.specs.Judges.{earlyRefusal, Taken, hashesOf, TellsTwice, MayBeBare, JudgesAfter};
 
 // An item of the stream that is to be judged: the code of its type field, where it stands, and the run inside it.
@@ -130,10 +131,11 @@ fn has_double(
     seen: Seen,
     hashes: Hashes,
 ) -> bool
-    requires { ⌜ Indexes (now s) (now rows) (now head) (now next) (now head2) (now next2) n ⌝ }
+    requires { ⌜ ((table : List Row) × (done : List Element) × DoneRows (now s) (now rows) n table done) ⌝ }
+    requires { ⌜ Filed (now s) (now rows) identifierColumn (now head) (now next) n × Filed (now s) (now rows) logicalColumn (now head2) (now next2) n ⌝ }
     requires { ⌜ RowPlaced (now s) (seen .row) × (hashes ≡ hashesOf (now s) (seen .row)) ⌝ }
     requires { ⌜ (2 * seen .count ≤ length (now bounds)) × Inside (now s) (take (2 * seen .count) (now bounds)) ⌝ }
-    ensures { λ r. ⌜ TellsTwice (now (s .entry)) (now (rows .entry)) (now (head .entry)) (now (next .entry)) (now (head2 .entry)) (now (next2 .entry)) n
+    ensures { λ r. ⌜ TellsTwice (now (s .entry)) (now (rows .entry)) n
         (seen .row) (bounded (now (s .entry)) (take (2 * seen .count) (now (bounds .entry)))) r ⌝ }
 {
     let row = seen.row;
@@ -180,8 +182,8 @@ fn may_be_bare(code: usize) -> bool
 // Rules 9 to 15 for element n, in which nothing stands and nothing has to: it has no name, so it shares none.
 fn judge_bare(n: usize, item: PlacedItem) -> Judgement
     requires { ⌜ ((edition : Edition) → MayBeBare edition (item .code)) × (item .first ≤ item .past) ⌝ }
-    ensures { λ r. ⌜ ((edition : Edition) (s scratch head next head2 next2 : List ℕ) → itemsOf s (item .inner) ≡ noItems → item .past ≤ length s
-        → JudgesAfter edition s scratch head next head2 next2 n item r) ⌝ }
+    ensures { λ r. ⌜ ((edition : Edition) (s scratch : List ℕ) → itemsOf s (item .inner) ≡ noItems → item .past ≤ length s
+        → JudgesAfter edition s scratch n item r) ⌝ }
 {
     let number = early(n, item.code, item.code);
     if number != 0 {
@@ -220,11 +222,11 @@ fn judge_any(
     n: usize,
     item: PlacedItem,
 ) -> Judgement
-    requires { ⌜ Indexes (now s) (now rows) (now head) (now next) (now head2) (now next2) n ⌝ }
+    requires { ⌜ ((table : List Row) × (done : List Element) × DoneRows (now s) (now rows) n table done) ⌝ }
+    requires { ⌜ Filed (now s) (now rows) identifierColumn (now head) (now next) n × Filed (now s) (now rows) logicalColumn (now head2) (now next2) n ⌝ }
     requires { ⌜ Fine (now s) (item .inner) × (length (now s) ≤ streamLimit) × (item .first ≤ item .past) × (item .past ≤ length (now s))
         × (2 * mostPortions ≤ length (now bounds)) ⌝ }
-    ensures { λ r. ⌜ JudgesAfter edition (now (s .entry)) (now (rows .entry)) (now (head .entry)) (now (next .entry)) (now (head2 .entry))
-        (now (next2 .entry)) n item r ⌝ }
+    ensures { λ r. ⌜ JudgesAfter edition (now (s .entry)) (now (rows .entry)) n item r ⌝ }
 {
     let shape = elements::shape_of(edition, item.code);
     let number = early(n, item.code, shape.octet);
@@ -258,11 +260,11 @@ pub fn judge_element(
     n: usize,
     item: PlacedItem,
 ) -> Judgement
-    requires { ⌜ Indexes (now s) (now rows) (now head) (now next) (now head2) (now next2) n ⌝ }
+    requires { ⌜ ((table : List Row) × (done : List Element) × DoneRows (now s) (now rows) n table done) ⌝ }
+    requires { ⌜ Filed (now s) (now rows) identifierColumn (now head) (now next) n × Filed (now s) (now rows) logicalColumn (now head2) (now next2) n ⌝ }
     requires { ⌜ Fine (now s) (item .inner) × (length (now s) ≤ streamLimit) × (item .first ≤ item .past) × (item .past ≤ length (now s))
         × (2 * mostPortions ≤ length (now bounds)) ⌝ }
-    ensures { λ r. ⌜ JudgesAfter edition (now (s .entry)) (now (rows .entry)) (now (head .entry)) (now (next .entry)) (now (head2 .entry))
-        (now (next2 .entry)) n item r ⌝ }
+    ensures { λ r. ⌜ JudgesAfter edition (now (s .entry)) (now (rows .entry)) n item r ⌝ }
 {
     if runs::is_over(s, item.inner) {
         if may_be_bare(item.code) {

@@ -36,8 +36,8 @@ space-of-requires c κs = search needs
 is-taken-requires : tie.Need-is-taken-requires
 is-taken-requires c κs =
     let start = c .before .before .before .before .before .before .before .before .before in
-    let indexes = start .pre .0 in
-    (indexes .identifiers, (indexes .by-identifier, (start .pre .1 .0 .0 .identifier, ap (λ (h : Hashes). h .identifier) (start .pre .1 .0 .1))))
+    let known = start .pre .1 .1 .0 in
+    (start .pre .0 .2 .identifiers, (start .pre .1 .0 .0, (known .0 .identifier, ap (λ (h : Hashes). h .identifier) (known .1))))
 
 returns : tie.Need-returns
 returns c = λ table done e holds says stored. sym (identifier-twice holds says (identifier-taken (c .before) true (c .if1 .taken)))
@@ -45,8 +45,8 @@ returns c = λ table done e holds says stored. sym (identifier-twice holds says 
 is-taken-requires-2 : tie.Need-is-taken-requires-2
 is-taken-requires-2 c κs =
     let start = c .before .before .before .before .before .before .before .before .before .before .before in
-    let indexes = start .pre .0 in
-    (indexes .logicals, (indexes .by-logical, (start .pre .1 .0 .0 .logical, ap (λ (h : Hashes). h .logical) (start .pre .1 .0 .1))))
+    let known = start .pre .1 .1 .0 in
+    (start .pre .0 .2 .logicals, (start .pre .1 .0 .1, (known .0 .logical, ap (λ (h : Hashes). h .logical) (known .1))))
 
 returns-2 : tie.Need-returns-2
 returns-2 c =

@@ -14,7 +14,7 @@ use Rattle.elements.specs.WellMade.{WellMade}
 use Rattle.elements.specs.Sees.{SeesShape, SeesSlots}
 use Rattle.elements.proofs.Made.{made}
 use Rattle.elements.proofs.Slotting.{octet-same, sees-shape}
-use Rattle.judging.specs.Done.{Keeps}
+use Rattle.judging.specs.Done.{DoneRows}
 use Rattle.judging.specs.Judges.{earlyRefusal, shapeBy, elementBy}
 use Rattle.judging.proofs.Steps.{refused-early, refused-later, refused-last}
 use Rattle.judging.proofs.judge_any.Statement.{statement}
@@ -23,7 +23,7 @@ use Rattle.judging.proofs.judge_any.Tie as tie
 -- the elements that are done, and their rows
 abbrev Done : tie.Start → List Row → List Element → Type 0
 Done c table done =
-    Keeps (c .args .s .now) (c .args .rows .now) (c .args .head .now) (c .args .next .now) (c .args .head2 .now) (c .args .next2 .now) (c .args .n) table done
+    DoneRows (c .args .s .now) (c .args .rows .now) (c .args .n) table done
 
 -- rules 9 to 11
 early-is : (c : tie.After-early) (table : List Row) (done : List Element) → Done (c .before .before .before .before .before .before .before .before .before) table done →
@@ -46,7 +46,7 @@ seen-is : (c : tie.After-see) →
     SeesShape (a .s .now) (shapeBy (a .edition) (a .item .code)) (a .item .inner) (a .item .first) (a .item .past) (c .see .last .1 .1 .1 .1 .1 .0) (c .see .result)
 seen-is c =
     let a = c .before .before .before .before .before .before .before .before .before .before .before .before .args in
-    sees-shape (c .before .before .before .before .before .before .before .before .before .before .before .before .pre .1 .0) (shapeBy (a .edition) (a .item .code)) (a .item .first) (a .item .past)
+    sees-shape (c .before .before .before .before .before .before .before .before .before .before .before .before .pre .1 .1 .0) (shapeBy (a .edition) (a .item .code)) (a .item .first) (a .item .past)
     (subst (λ (x : Slots). SeesSlots (a .s .now) x (a .item .inner) (a .item .first) (a .item .past) (c .see .last .1 .1 .1 .1 .1 .0) (c .see .result)) (c .before .before .before .before .shape-of .ensures) (c .see .ensures))
 
 later-passed : (c : tie.Else2) →
@@ -77,7 +77,7 @@ returns c =
 see-requires : tie.Need-see-requires
 see-requires c κs =
     let start = c .before .before .before .before .before .before .before .before .before .before .before in
-    let fits = start .pre .1 in
+    let fits = start .pre .1 .1 in
     (fits .0, subst WellMade (sym (c .before .before .before .shape-of .ensures)) (made (shapeBy (start .args .edition) (start .args .item .code))), fits .1, fits .2, fits .3, fits .4)
 
 same-length : tie.Need-same-length
@@ -99,7 +99,7 @@ has-double-requires : tie.Need-has-double-requires
 has-double-requires c κs =
     let seen = seen-is (c .before .before .before .before .before .before .before) in
     let passes = seen .passes (c .before .before .before .if2 .left) in
-    (c .before .before .before .before .before .before .before .before .before .before .before .before .before .before .before .before .before .before .before .pre .0, ((seen .placed, c .before .hashes-of .ensures), (omega (arith, passes .few, c .before .before .before .before .before .before .before .see .kept, c .before .before .before .before .before .before .before .before .before .before .before .before .before .before .before .before .before .before .before .pre .1), passes .inside)))
+    (c .before .before .before .before .before .before .before .before .before .before .before .before .before .before .before .before .before .before .before .pre .0, (c .before .before .before .before .before .before .before .before .before .before .before .before .before .before .before .before .before .before .before .pre .1 .0, ((seen .placed, c .before .hashes-of .ensures), (omega (arith, passes .few, c .before .before .before .before .before .before .before .see .kept, c .before .before .before .before .before .before .before .before .before .before .before .before .before .before .before .before .before .before .before .pre .1 .1), passes .inside))))
 
 same-length-2 : tie.Need-same-length-2
 same-length-2 c = search needs

@@ -17,13 +17,13 @@ early-requires c κs = search needs
 
 returns : tie.Need-returns
 returns c =
-    λ edition s scratch head next head2 next2 bare inside table done holds.
+    λ edition s scratch bare inside table done holds.
     let a = c .before .before .args in
     (bare-refused edition s done (a .item) (c .before .before .pre .0 edition) bare _ (early-is (c .before) (length done) (holds .counted)) (c .if1 .taken), c .if1 .taken)
 
 returns-2 : tie.Need-returns-2
 returns-2 c =
-    λ edition s scratch head next head2 next2 bare inside table done holds.
+    λ edition s scratch bare inside table done holds.
     let a = c .before .before .before .args in
     bare-passes edition s done (a .item) (c .before .before .before .pre .0 edition) bare
     (sym (early-is (c .before .before) (length done) (holds .counted)) ∙ c .before .if1 .left) (c .before .before .before .pre .1) inside

@@ -9,7 +9,7 @@ use Rattle.judging.proofs.judge_element.Statement.{statement}
 use Rattle.judging.proofs.judge_element.Tie as tie
 
 is-over-requires : tie.Need-is-over-requires
-is-over-requires c κs = c .before .before .before .before .before .before .before .pre .1 .0
+is-over-requires c κs = c .before .before .before .before .before .before .before .pre .1 .1 .0
 
 may-be-bare-requires : tie.Need-may-be-bare-requires
 may-be-bare-requires c κs = search needs
@@ -23,7 +23,7 @@ returns c =
     let start = at-test .before .before .before .before .before .before .before .before .before in
     let items = itemsOf (start .args .s .now) (start .args .item .inner) in
     let none-there = no-tops items (eqb-true (tops items) 0 (sym (at-test .before .is-over .ensures) ∙ at-test .if1 .taken)) in
-    c .judge-bare .ensures _ _ _ _ _ _ _ none-there (start .pre .1 .3)
+    c .judge-bare .ensures _ _ _ none-there (start .pre .1 .1 .3)
 
 judge-any-requires : tie.Need-judge-any-requires
 judge-any-requires c κs = search needs
