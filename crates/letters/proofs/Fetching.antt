@@ -3,14 +3,15 @@
 use mathlib.Core.Path.{_≡_, refl, ap, sym, _∙_, subst}
 use mathlib.Core.List.{List}
 use mathlib.Core.Option.{some}
-use Prim.Native.Nat.{ℕ, _<_}
+use Prim.Native.Nat.{ℕ, _+_, _*_, _<_, _≤_}
 use native.Mathlib.Omega.{arith}
-use lib.ListN.{getElem?}
+use lib.ListN.{length, getElem?}
 use lib.Seq.{slice, slice-empty}
 use Rattle.runs.specs.Runs.{treeIn, Fine}
 use Rattle.contents.specs.declared.Span.{Span}
 use Rattle.contents.specs.Search.{Value, absent, octets}
-use Rattle.index.specs.Columns.{wholeColumn}
+use Rattle.index.specs.Rows.{scratchWidth}
+use Rattle.index.specs.Columns.{wholeColumn, firstAt}
 use Rattle.elements.specs.declared.Edition.{Edition}
 use Rattle.elements.specs.declared.Holder.{Holder}
 use Rattle.elements.specs.declared.Row.{Row}
@@ -21,8 +22,8 @@ use Rattle.elements.specs.Frames.{HoldsContent, HoldingShape}
 use Rattle.judging.specs.declared.PlacedItem.{PlacedItem}
 use Rattle.judging.specs.Judges.{shapeBy}
 use Rattle.letters.specs.Letter.{rowsIn}
-use Rattle.letters.specs.Scratch.{Filled}
-use Rattle.letters.specs.Content.{RowIn, ElementAt, heldBy, HeldWhole, HeldAs, HoldsElement}
+use Rattle.letters.specs.Scratch.{LetterRows}
+use Rattle.letters.specs.Content.{ElementAt, heldBy, HeldWhole, HeldAs, HoldsElement}
 use Rattle.judging.proofs.Lists.{at-below}
 use Rattle.judging.proofs.Rows.{first-at, saying-length}
 
@@ -43,18 +44,18 @@ holds-element {edition} {s} {j} {item} at {holder} holding elements row element 
     subst (λ (e : Element). HeldAs s (row .content) (e .content) (heldBy holder)) (sym (said .element-is))
     (held-by s holder (row .content) fields (holding .fine) (contentOf (shapeBy edition (item .code) .contents) (treeIn s (item .inner))) (holding .held))
 
--- the rows that the judge of a letter left have each of its elements
-pub filled-row-in : {edition : Edition} {s scratch head next head2 next2 : List ℕ} {count : ℕ} → Filled edition s scratch head next head2 next2 count
-    → (j : ℕ) → j < count → RowIn edition s scratch j
-filled-row-in {edition} {s} filled j l =
-    let holds = filled .holds in
+-- row j of a letter is in the scratch, and tells where its element begins
+pub record RowAt (edition : Edition) (s scratch : List ℕ) (j : ℕ) : Type 0 where
+  pub within : j * scratchWidth + scratchWidth ≤ length scratch
+  pub row : Row
+  pub stands : getElem? (rowsIn edition s) j ≡ some row
+  pub first : firstAt scratch wholeColumn j ≡ row .whole .first
+
+pub row-at : {edition : Edition} {s scratch : List ℕ} {count : ℕ} → LetterRows edition s scratch count → (j : ℕ) → j < count → RowAt edition s scratch j
+row-at {edition} {s} letter j l =
+    let holds = letter .holds in
     let (row, stands) = at-below (rowsIn edition s) j (omega (arith, saying-length (holds .saying), holds .counted)) in
-    record {
-      within = omega (arith, holds .indexes .identifiers .in-table);
-      row = row;
-      stands = stands;
-      first = first-at holds j row stands wholeColumn (omega arith);
-    }
+    record { within = omega (arith, holds .identifiers .in-table); row = row; stands = stands; first = first-at holds j row stands wholeColumn (omega arith) }
 
 -- the part of a content that is the value of one item is all of it, joined
 pub part-joined : {s : List ℕ} {first past : ℕ} {fields : Span} {content : Content} → HeldWhole s first past fields content

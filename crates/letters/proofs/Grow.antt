@@ -16,7 +16,7 @@ use Rattle.elements.specs.Judge.{Element}
 use Rattle.elements.specs.ElementRows.{cells}
 use Rattle.elements.specs.Says.{Says, RowPlaced}
 use Rattle.letters.specs.Numbers.{Narrow}
-use Rattle.judging.specs.Done.{more, Indexes, Keeps}
+use Rattle.judging.specs.Done.{more, DoneRows}
 use Rattle.judging.proofs.Rows.{written-more, saying-length}
 
 -- the numbers of a row of a stream are small
@@ -35,38 +35,35 @@ pub record Written (s scratch head next : List ℕ) (column n : ℕ) (bytes : Li
   pub indexed : Filed s scratch column head next n
   pub value : valueAt s scratch column n ≡ bytes
 
-module _ {s scratch head next head2 next2 scratch' : List ℕ} {n : ℕ} {row : Row} (indexes : Indexes s scratch head next head2 next2 n)
+module _ {s scratch scratch' : List ℕ} {n : ℕ} {row : Row} {table : List Row} {done : List Element} (holds : DoneRows s scratch n table done)
     (long : n * scratchWidth + scratchWidth ≤ length scratch) (placed : RowPlaced s row) (stored : scratch' ≡ sets scratch (n * scratchWidth) (cells row)) where
-  written-at : (column : ℕ) → column + 1 < scratchWidth → {head next : List ℕ} → Bounded s scratch column n → Filed s scratch column head next n
-      → getD (cells row) column 0 ≤ getD (cells row) (column + 1) 0 → getD (cells row) (column + 1) 0 ≤ length s
-      → Written s scratch' head next column n (slice (getD (cells row) column 0) (getD (cells row) (column + 1) 0) s)
-  written-at column in-row {head} {next} b x order inside =
-      rw stored (record {
-        bounded = row-bounded s scratch n (cells row) refl long column in-row b order inside;
-        indexed = row-filed s scratch n (cells row) refl long column in-row head next x;
-        value = row-value s scratch n (cells row) refl long column in-row;
-      })
+  module _ (column : ℕ) (in-row : column + 1 < scratchWidth) (order : getD (cells row) column 0 ≤ getD (cells row) (column + 1) 0)
+      (inside : getD (cells row) (column + 1) 0 ≤ length s) where
+    bounded-at : Bounded s scratch column n → Bounded s scratch' column (n + 1)
+    bounded-at b = rw stored (row-bounded s scratch n (cells row) refl long column in-row b order inside)
 
-  pub identifier-written : Written s scratch' head next identifierColumn n (slice (row .identifier .first) (row .identifier .past) s)
-  identifier-written =
-      written-at identifierColumn (omega arith) (indexes .identifiers) (indexes .by-identifier) (placed .identifier .order) (placed .identifier .inside)
+    written-at : {head next : List ℕ} → Bounded s scratch column n → Filed s scratch column head next n
+        → Written s scratch' head next column n (slice (getD (cells row) column 0) (getD (cells row) (column + 1) 0) s)
+    written-at {head} {next} b x = record {
+      bounded = bounded-at b;
+      indexed = rw stored (row-filed s scratch n (cells row) refl long column in-row head next x);
+      value = rw stored (row-value s scratch n (cells row) refl long column in-row);
+    }
 
-  pub logical-written : Written s scratch' head2 next2 logicalColumn n (slice (row .logical .first) (row .logical .past) s)
-  logical-written =
-      written-at logicalColumn (omega arith) (indexes .logicals) (indexes .by-logical) (placed .logical .order) (placed .logical .inside)
+  pub identifier-written : {head next : List ℕ} → Filed s scratch identifierColumn head next n
+      → Written s scratch' head next identifierColumn n (slice (row .identifier .first) (row .identifier .past) s)
+  identifier-written = written-at identifierColumn (omega arith) (placed .identifier .order) (placed .identifier .inside) (holds .identifiers)
 
-  pub holds-more : {head' next' head2' next2' : List ℕ} → Filed s scratch' identifierColumn head' next' (n + 1) → Filed s scratch' logicalColumn head2' next2' (n + 1)
-      → (table : List Row) (done : List Element) (e : Element) → Keeps s scratch head next head2 next2 n table done → Says s row e
-      → Keeps s scratch' head' next' head2' next2' (n + 1) (table ++ row ∷ []) (done ++ e ∷ [])
-  holds-more by-identifier by-logical table done e holds says =
+  pub logical-written : {head next : List ℕ} → Filed s scratch logicalColumn head next n
+      → Written s scratch' head next logicalColumn n (slice (row .logical .first) (row .logical .past) s)
+  logical-written = written-at logicalColumn (omega arith) (placed .logical .order) (placed .logical .inside) (holds .logicals)
+
+  pub holds-more : (e : Element) → Says s row e → DoneRows s scratch' (n + 1) (table ++ row ∷ []) (done ++ e ∷ [])
+  holds-more e says =
       let size : length table ≡ n = saying-length (holds .saying) ∙ holds .counted in record {
         counted = length-append done (e ∷ []) ∙ ap (λ (k : ℕ). k + 1) (holds .counted);
         written = rw stored (written-more scratch n table row (holds .written) size long);
         saying = more (holds .saying) says;
-        indexes = record {
-          identifiers = identifier-written .bounded;
-          logicals = logical-written .bounded;
-          by-identifier = by-identifier;
-          by-logical = by-logical;
-        };
+        identifiers = bounded-at identifierColumn (omega arith) (placed .identifier .order) (placed .identifier .inside) (holds .identifiers);
+        logicals = bounded-at logicalColumn (omega arith) (placed .logical .order) (placed .logical .inside) (holds .logicals);
       }

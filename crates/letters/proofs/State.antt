@@ -16,6 +16,7 @@ use Rattle.runs.specs.Runs.{itemsOf, treeIn, wholeStream, tops, Fine, Meeting}
 use Rattle.runs.proofs.Laws.{start-at, no-tops}
 use Rattle.names.specs.Hash.{hashes}
 use Rattle.index.specs.Columns.{identifierColumn, logicalColumn}
+use Rattle.ordered.specs.Ordered.{Filed}
 use Rattle.index.proofs.Rows.{bounded-none}
 use Rattle.ordered.proofs.Rows.{filed-none}
 use Rattle.elements.specs.declared.Row.{Row}
@@ -26,8 +27,8 @@ use Rattle.judging.specs.declared.Hashes.{Hashes}
 use Rattle.judging.specs.declared.PlacedItem.{PlacedItem}
 use Rattle.judging.specs.declared.Judgement.the-variants.{Fails}
 use Rattle.letters.specs.Letter.{itemsOfStream, rowsIn}
-use Rattle.judging.specs.Done.{none, Keeps}
-use Rattle.letters.specs.Scratch.{Filled, Stopped, GivesVerdict}
+use Rattle.judging.specs.Done.{none, DoneRows}
+use Rattle.letters.specs.Scratch.{LetterRows, Stopped, GivesVerdict}
 use Rattle.letters.specs.Lent.{rowsNeeded, Lent, endVerdict}
 use Rattle.judging.specs.Judges.{elementBy, Passing, Judges}
 use Rattle.letters.proofs.Meetings.{nothing-inside}
@@ -39,7 +40,9 @@ pub record Judging (edition : Edition) (s scratch head next head2 next2 : List �
   pub to-end : cur .limit ≡ length s
   pub table : List Row
   pub done : List Element
-  pub holds : Keeps s scratch head next head2 next2 n table done
+  pub holds : DoneRows s scratch n table done
+  pub by-identifier : Filed s scratch identifierColumn head next n
+  pub by-logical : Filed s scratch logicalColumn head2 next2 n
   pub judged : judgeFrom edition [] (treeOf s) ≡ judgeFrom edition done (treeIn s cur)
   pub tabled : rowsIn edition s ≡ table ++ rowsOf edition s (itemsOf s cur)
   pub counted : tops (itemsOfStream s) ≡ n + tops (itemsOf s cur)
@@ -59,13 +62,11 @@ judging-none edition s scratch head next head2 next2 bounds lent fine = record {
     counted = refl;
     written = refl;
     saying = none;
-    indexes = record {
-      identifiers = bounded-none s scratch identifierColumn (omega arith);
-      logicals = bounded-none s scratch logicalColumn (omega arith);
-      by-identifier = filed-none s scratch identifierColumn head next (lent .some-heads) (lent .few-heads) (lent .empty-heads) (omega (arith, lent .links)) (lent .unmarked);
-      by-logical = filed-none s scratch logicalColumn head2 next2 (lent .some-heads2) (lent .few-heads2) (lent .empty-heads2) (omega (arith, lent .links2)) (lent .unmarked2);
-    };
+    identifiers = bounded-none s scratch identifierColumn (omega arith);
+    logicals = bounded-none s scratch logicalColumn (omega arith);
   };
+  by-identifier = filed-none s scratch identifierColumn head next (lent .some-heads) (lent .few-heads) (lent .empty-heads) (omega (arith, lent .links)) (lent .unmarked);
+  by-logical = filed-none s scratch logicalColumn head2 next2 (lent .some-heads2) (lent .few-heads2) (lent .empty-heads2) (omega (arith, lent .links2)) (lent .unmarked2);
   judged = refl;
   tabled = refl;
   counted = omega arith;
@@ -84,7 +85,7 @@ module _ {edition : Edition} {s scratch head next head2 next2 : List ℕ} {n : �
         let empty-stream : itemsOfStream s ≡ noItems = no-tops (itemsOfStream s) (whole-count ∙ e) in
         record { element = 0; judged = ap (λ (i : Items). judge edition (plain s i)) empty-stream; placed = sym (ap (placeOf 0) empty-stream) }
 
-    end-filled : (n ≡ 0 → ⊥) → Filled edition s scratch head next head2 next2 n
+    end-filled : (n ≡ 0 → ⊥) → LetterRows edition s scratch n
     unfolding judgeFrom rowsOf
     end-filled some =
         let all-rows : rowsIn edition s ≡ j .table = j .tabled ∙ ap (λ (i : Items). j .table ++ rowsOf edition s i) end ∙ append-nil (j .table) in
@@ -95,7 +96,7 @@ module _ {edition : Edition} {s scratch head next head2 next2 : List ℕ} {n : �
         }
 
     pub end-gives : GivesVerdict edition s scratch head next head2 next2 (endVerdict n)
-    end-gives = cases (eqb n 0) (λ t. rw t (end-empty (eqb-true n 0 t))) (λ t. rw t (end-filled (eqb-false n 0 t)))
+    end-gives = cases (eqb n 0) (λ t. rw t (end-empty (eqb-true n 0 t))) (λ t. rw t (end-filled (eqb-false n 0 t), j .by-identifier, j .by-logical))
 
   -- an element is met
   module _ {code first past : ℕ} {inner rest : Run} (m : Meeting s cur code first past inner rest) where
@@ -141,16 +142,19 @@ module _ {edition : Edition} {s scratch head next head2 next2 : List ℕ} {n : �
       rows-here = ap (rowsOf edition s) (m .tree) ∙ rw (ends-there, ← w .row-is)
 
       pub judging-more : {scratch' head' next' head2' next2' : List ℕ}
-          → Keeps s scratch' head' next' head2' next2' (n + 1) (j .table ++ row ∷ []) (j .done ++ elementBy edition code (treeIn s inner) ∷ [])
+          → DoneRows s scratch' (n + 1) (j .table ++ row ∷ []) (j .done ++ elementBy edition code (treeIn s inner) ∷ [])
+          → Filed s scratch' identifierColumn head' next' (n + 1) × Filed s scratch' logicalColumn head2' next2' (n + 1)
           → Judging edition s scratch' head' next' head2' next2' (n + 1) rest
       unfolding placeOf
-      judging-more holds = record {
+      judging-more holds filed = record {
         fine = m .rest-fine;
         unmarked = m .rest-marked ∙ j .unmarked;
         to-end = m .rest-limit ∙ j .to-end;
         table = j .table ++ row ∷ [];
         done = j .done ++ elementBy edition code (treeIn s inner) ∷ [];
         holds = holds;
+        by-identifier = filed .0;
+        by-logical = filed .1;
         judged = j .judged ∙ met-tree
             ∙ judged-passed edition s (j .done) (cur .at) code first past (itemsOf s inner) (itemsOf s rest) (nothing-inside (j .fine) m) (w .unrefused);
         tabled = j .tabled ∙ ap (λ (l : List Row). j .table ++ l) rows-here ∙ sym (append-assoc (j .table) (row ∷ []) (rowsOf edition s (itemsOf s rest)));

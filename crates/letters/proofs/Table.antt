@@ -20,7 +20,7 @@ use Rattle.elements.specs.Judge.{identifierOctet, logicalOctet, portionsOctet, 
 use Rattle.elements.specs.ElementRows.{bodyIn, contentOctet, rowOf, rowsOf, bytesIn}
 use Rattle.elements.specs.Says.{Contains, Says}
 use Rattle.letters.specs.Letter.{itemsOfStream, rowsIn, EndToEnd, PairsWithin}
-use Rattle.letters.specs.Scratch.{Filled}
+use Rattle.letters.specs.Scratch.{LetterRows}
 use Rattle.letters.specs.Apart.{Apart}
 use Rattle.judging.proofs.Rows.{RowOf, row-of}
 use Rattle.letters.proofs.Nested.{Nested, Separate, separate, bounds-at-within, body-within}
@@ -64,16 +64,12 @@ pairs-within edition s fine =
     let r = wholeStream s in
     rows-within edition s (itemsOfStream s) (separate (derives (r .room) s (r .at) (r .limit) (r .marked) (fine .order)) refl (fine .whole))
 
--- an accepted letter
-module _ {edition : Edition} {s scratch head next head2 next2 : List ℕ} {count : ℕ} (filled : Filled edition s scratch head next head2 next2 count) where
+-- the rows of a letter
+module _ {edition : Edition} {s scratch : List ℕ} {count : ℕ} (letter : LetterRows edition s scratch count) where
   -- no two of its elements share a name
-  pub filled-apart : Apart (filled .elements)
-  filled-apart = accepted-apart edition (treeOf s) (filled .elements) (filled .judged)
+  pub letter-apart : Apart (letter .elements)
+  letter-apart = accepted-apart edition (treeOf s) (letter .elements) (letter .judged)
 
-  -- each has its row
-  pub filled-row : (j : ℕ) (e : Element) → getElem? (filled .elements) j ≡ some e → RowOf s (rowsIn edition s) j e
-  filled-row = row-of (filled .holds .saying)
-
--- the content pair of a row bounds the content of its element
-pub content-bytes : {s : List ℕ} {row : Row} {e : Element} → Says s row e → (bytes : List ℕ) → e .content ≡ single (octets bytes) → bytesIn s (row .content) ≡ bytes
-content-bytes {s} {row} says bytes e = subst (Contains s (row .content)) e (says .content) .value
+  -- each of them has its row
+  pub letter-row : (j : ℕ) (e : Element) → getElem? (letter .elements) j ≡ some e → RowOf s (rowsIn edition s) j e
+  letter-row = row-of (letter .holds .saying)

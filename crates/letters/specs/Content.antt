@@ -4,15 +4,13 @@ use mathlib.Core.Path.{_≡_}
 use mathlib.Core.Bool.{cond}
 use mathlib.Core.List.{List}
 use mathlib.Core.Option.{some}
-use Prim.Native.Nat.{ℕ, _+_, _*_, _≤_}
-use lib.ListN.{length, getElem?}
+use Prim.Native.Nat.{ℕ}
+use lib.ListN.{getElem?}
 use Rattle.tree.specs.Tree.{treeOf}
 use Rattle.runs.specs.declared.Run.{Run}
 use Rattle.runs.specs.Runs.{itemsOf, treeIn, Fine}
 use Rattle.contents.specs.declared.Span.{Span}
 use Rattle.contents.specs.Search.{Value}
-use Rattle.index.specs.Rows.{scratchWidth}
-use Rattle.index.specs.Columns.{wholeColumn, firstAt}
 use Rattle.elements.specs.declared.Edition.{Edition}
 use Rattle.elements.specs.declared.Holder.{Holder}
 use Rattle.elements.specs.declared.Row.{Row}
@@ -24,13 +22,6 @@ use Rattle.judging.specs.Judges.{shapeBy, elementBy}
 use Rattle.letters.specs.declared.Held.{Held}
 use Rattle.letters.specs.declared.Held.the-variants.{Part, Pieces}
 use Rattle.letters.specs.Letter.{rowsIn}
-
--- the rows of a stream have a row j, and tell where its element begins
-pub record RowIn (edition : Edition) (s rows : List ℕ) (j : ℕ) : Type 0 where
-  pub within : j * scratchWidth + scratchWidth ≤ length rows
-  pub row : Row
-  pub stands : getElem? (rowsIn edition s) j ≡ some row
-  pub first : firstAt rows wholeColumn j ≡ row .whole .first
 
 -- a row and an element of a letter are those of an item
 pub record SaidBy (edition : Edition) (s : List ℕ) (item : PlacedItem) (row : Row) (element : Element) : Type 0 where

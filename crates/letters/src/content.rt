@@ -6,8 +6,10 @@ use judging::PlacedItem;
 use runs::Met;
 use runs::Run;
 ghost use mathlib.Core.Path.{_≡_};
+ghost use Prim.Native.Nat.{ℕ, _<_};
 ghost use Rattle.runs.specs.Runs.{wholeStream, Fine};
-ghost use Rattle.letters.specs.Content.{RowIn, ElementAt, heldBy, HoldsElement};
+ghost use Rattle.letters.specs.Scratch.{LetterRows};
+ghost use Rattle.letters.specs.Content.{ElementAt, heldBy, HoldsElement};
 
 fn wide(x: u32) -> usize
     ensures { λ r. ⌜ r ≡ x ⌝ }
@@ -32,7 +34,8 @@ fn held_by(holder: Holder) -> Held
 // The element in row j, as an item: it is met where its row begins. The rows are those of the stream. Whoever wants more of an element than its row
 // tells asks this first.
 pub fn element_at(edition: Edition, s: &[u8], rows: &[u32], j: usize) -> PlacedItem
-    requires { ⌜ Fine (now s) (wholeStream (now s)) × RowIn edition (now s) (now rows) j ⌝ }
+    requires { ⌜ Fine (now s) (wholeStream (now s)) ⌝ }
+    requires { ⌜ ((count : ℕ) × LetterRows edition (now s) (now rows) count × (j < count)) ⌝ }
     ensures { λ item. ⌜ ElementAt edition (now (s .entry)) j item ⌝ }
 {
     let at = wide(rows[j * index::SCRATCH_WIDTH + index::WHOLE]);
@@ -67,7 +70,8 @@ pub fn element_at(edition: Edition, s: &[u8], rows: &[u32], j: usize) -> PlacedI
 
 // Where the content of element j stands: its shape tells which of its items holds the content.
 pub fn content_of(edition: Edition, s: &[u8], rows: &[u32], j: usize) -> Held
-    requires { ⌜ Fine (now s) (wholeStream (now s)) × RowIn edition (now s) (now rows) j ⌝ }
+    requires { ⌜ Fine (now s) (wholeStream (now s)) ⌝ }
+    requires { ⌜ ((count : ℕ) × LetterRows edition (now s) (now rows) count × (j < count)) ⌝ }
     ensures { λ held. ⌜ HoldsElement edition (now (s .entry)) j held ⌝ }
 {
     let item = element_at(edition, s, rows, j);

@@ -2,16 +2,19 @@
 use elements::Row;
 use judging::Hashes;
 ghost use mathlib.Core.Path.{_≡_};
+ghost use mathlib.Core.List.{List};
 ghost use Prim.Native.Nat.{_+_, _*_, _<_, _≤_};
 ghost use lib.ListN.{length};
 ghost use lib.Seq.{sets, paste};
 ghost use Rattle.octets.specs.Walk.{streamLimit};
 ghost use Rattle.index.specs.Rows.{scratchWidth};
-ghost use Rattle.elements.specs.Judge.{mostElements};
+ghost use Rattle.index.specs.Columns.{identifierColumn, logicalColumn};
+ghost use Rattle.ordered.specs.Ordered.{Filed};
+ghost use Rattle.elements.specs.Judge.{Element, mostElements};
 ghost use Rattle.elements.specs.ElementRows.{cells};
 ghost use Rattle.elements.specs.Says.{RowPlaced};
 ghost use Rattle.letters.specs.Numbers.{Narrow};
-ghost use Rattle.judging.specs.Done.{Indexes};
+ghost use Rattle.judging.specs.Done.{DoneRows};
 ghost use Rattle.judging.specs.Judges.{hashesOf, Grows};
 
 // Copies the first numbers of one slice to a place of another.
@@ -72,11 +75,13 @@ pub fn add_row(
     row: Row,
     hashes: Hashes,
 )
-    requires { ⌜ Indexes (now s) (now rows) (now head) (now next) (now head2) (now next2) n ⌝ }
+    requires { ⌜ ((table : List Row) × (done : List Element) × DoneRows (now s) (now rows) n table done) ⌝ }
+    requires { ⌜ Filed (now s) (now rows) identifierColumn (now head) (now next) n × Filed (now s) (now rows) logicalColumn (now head2) (now next2) n ⌝ }
     requires { ⌜ RowPlaced (now s) row × (hashes ≡ hashesOf (now s) row) × (length (now s) ≤ streamLimit) ⌝ }
     requires { ⌜ (n * scratchWidth + scratchWidth ≤ length (now rows)) × (n + 1 < length (now next)) × (n + 1 < length (now next2)) × (n < mostElements) ⌝ }
-    ensures { λ _. ⌜ Grows (now (s .entry)) (now (rows .entry)) (now (head .entry)) (now (next .entry)) (now (head2 .entry)) (now (next2 .entry))
-        (now (rows .exit)) (now (head .exit)) (now (next .exit)) (now (head2 .exit)) (now (next2 .exit)) n row ⌝ }
+    ensures { λ _. ⌜ Grows (now (s .entry)) (now (rows .entry)) (now (rows .exit)) n row ⌝ }
+    ensures { λ _. ⌜ Filed (now (s .entry)) (now (rows .exit)) identifierColumn (now (head .exit)) (now (next .exit)) (n + 1)
+        × Filed (now (s .entry)) (now (rows .exit)) logicalColumn (now (head2 .exit)) (now (next2 .exit)) (n + 1) ⌝ }
 {
     put_row(rows, n * index::SCRATCH_WIDTH, row);
     ordered::insert(s, rows, head, next, n, index::IDENTIFIER, hashes.identifier);

@@ -105,13 +105,16 @@ judge-element-requires c κs =
     let start = c .before .before .before .before .before .before .before .before .before .before .before .before .before .before .before .before .before .before .before in
     let l = c .before .before .before .before .before .before .before .before .before .before .loop in
     let m = meeting (c .before .before .before .before .before .before) in (
-      l .inv .0 .holds .indexes,
+      (l .inv .0 .table, l .inv .0 .done, l .inv .0 .holds),
       (
-        m .inner-fine,
-        start .pre .0 .1,
-        omega (arith, m .starts, m .value-order, m .value-before),
-        omega (arith, m .rest-fine .order, m .rest-fine .inside),
-        omega (arith, start .pre .1 .portions, l .inv .6),
+        (l .inv .0 .by-identifier, l .inv .0 .by-logical),
+        (
+          m .inner-fine,
+          start .pre .0 .1,
+          omega (arith, m .starts, m .value-order, m .value-before),
+          omega (arith, m .rest-fine .order, m .rest-fine .inside),
+          omega (arith, start .pre .1 .portions, l .inv .6),
+        ),
       ),
     )
 
@@ -151,14 +154,17 @@ add-row-requires c κs =
     let w = passing (c .before .before .before .before .before) in
     let some = needed (l .inv .0) (meeting (c .before .before .before .before .before .before .before .before .before .before .before .before .before .before .before .before .before)) w in
     let lent = start .pre .1 in (
-      l .inv .0 .holds .indexes,
+      (l .inv .0 .table, l .inv .0 .done, l .inv .0 .holds),
       (
-        (w .placed, w .hashed, start .pre .0 .1),
+        (l .inv .0 .by-identifier, l .inv .0 .by-logical),
         (
-          omega (arith, some, lent .rows, l .inv .1),
-          omega (arith, some, lent .links, l .inv .3),
-          omega (arith, some, lent .links2, l .inv .5),
-          few (l .inv .0) (meeting (c .before .before .before .before .before .before .before .before .before .before .before .before .before .before .before .before .before)) w,
+          (w .placed, w .hashed, start .pre .0 .1),
+          (
+            omega (arith, some, lent .rows, l .inv .1),
+            omega (arith, some, lent .links, l .inv .3),
+            omega (arith, some, lent .links2, l .inv .5),
+            few (l .inv .0) (meeting (c .before .before .before .before .before .before .before .before .before .before .before .before .before .before .before .before .before)) w,
+          ),
         ),
       ),
     )
@@ -173,7 +179,7 @@ loop-again : tie.Need-loop-again Inv-loop μ-loop
 loop-again c =
     let l = c .before .before .before .before .before .before .before .before .before .before .before .before .before .before .before .before .before .before .before .before .before .before .before .before .before .before .before .before .before .before .before .before .loop in
     let w = passing (c .before .before .before .before .before .before .before .before .before .before .before .before .before .before .before .before) in (
-      judging-more (l .inv .0) (meeting (c .before .before .before .before .before .before .before .before .before .before .before .before .before .before .before .before .before .before .before .before .before .before .before .before .before .before .before .before)) w (c .before .before .before .before .before .before .before .before .before .before .add-row .ensures (l .inv .0 .table) (l .inv .0 .done) _ (l .inv .0 .holds) (w .says)),
+      judging-more (l .inv .0) (meeting (c .before .before .before .before .before .before .before .before .before .before .before .before .before .before .before .before .before .before .before .before .before .before .before .before .before .before .before .before)) w (c .before .before .before .before .before .before .before .before .before .before .add-row .ensures .0 (l .inv .0 .table) (l .inv .0 .done) _ (l .inv .0 .holds) (w .says)) (c .before .before .before .before .before .before .before .before .before .before .add-row .ensures .1),
       search needs,
       search needs,
       search needs,

@@ -14,21 +14,24 @@ mul-put-row c = search needs
 put-row-requires : tie.Need-put-row-requires
 put-row-requires c κs =
     let start = c .before .before .before .before .before .before .before in
-    (start .pre .1 .1 .0, narrow (start .args .s .now) (start .args .row) (start .pre .1 .0 .2) (start .pre .1 .0 .0))
+    let known = start .pre .1 .1 .0 in
+    (start .pre .1 .1 .1 .0, narrow (start .args .s .now) (start .args .row) (known .2) (known .0))
 
 insert-requires : tie.Need-insert-requires
 insert-requires c κs =
     let start = c .before .before .before .before .before .before .before .before .before .before .before .before .before in
-    let room = start .pre .1 .1 in
-    let w = identifier-written (start .pre .0) (room .0) (start .pre .1 .0 .0) (c .before .before .before .before .before .put-row .ensures) in
-    (w .bounded, (w .indexed, (room .1, (omega (arith, room .3), ap (λ (h : Hashes). h .identifier) (start .pre .1 .0 .1) ∙ ap hash (sym (w .value))))))
+    let known = start .pre .1 .1 .0 in
+    let room = start .pre .1 .1 .1 in
+    let w = identifier-written (start .pre .0 .2) (room .0) (known .0) (c .before .before .before .before .before .put-row .ensures) (start .pre .1 .0 .0) in
+    (w .bounded, (w .indexed, (room .1, (omega (arith, room .3), ap (λ (h : Hashes). h .identifier) (known .1) ∙ ap hash (sym (w .value))))))
 
 insert-requires-2 : tie.Need-insert-requires-2
 insert-requires-2 c κs =
     let start = c .before .before .before .before .before .before .before .before .before .before .before .before .before .before .before .before .before .before .before .before .before in
-    let room = start .pre .1 .1 in
-    let w = logical-written (start .pre .0) (room .0) (start .pre .1 .0 .0) (c .before .before .before .before .before .before .before .before .before .before .before .before .before .put-row .ensures) in
-    (w .bounded, (w .indexed, (room .2, (omega (arith, room .3), ap (λ (h : Hashes). h .logical) (start .pre .1 .0 .1) ∙ ap hash (sym (w .value))))))
+    let known = start .pre .1 .1 .0 in
+    let room = start .pre .1 .1 .1 in
+    let w = logical-written (start .pre .0 .2) (room .0) (known .0) (c .before .before .before .before .before .before .before .before .before .before .before .before .before .put-row .ensures) (start .pre .1 .0 .1) in
+    (w .bounded, (w .indexed, (room .2, (omega (arith, room .3), ap (λ (h : Hashes). h .logical) (known .1) ∙ ap hash (sym (w .value))))))
 
 same-length : tie.Need-same-length
 same-length c = search needs
@@ -48,7 +51,10 @@ same-length-5 c = search needs
 returns : tie.Need-returns
 returns c =
     let start = c .before .before .before .before .before .before .before .before .before .before .before .before .before .before .before .before .before .before .before .before .before .before .before .before .before .before in
-    holds-more (start .pre .0) (start .pre .1 .1 .0) (start .pre .1 .0 .0) (c .before .before .before .before .before .before .before .before .before .before .before .before .before .before .before .before .before .before .put-row .ensures) (c .before .before .before .before .before .before .before .before .before .before .before .before .insert .ensures .0) (c .before .before .before .before .insert2 .ensures .0)
+    let put = c .before .before .before .before .before .before .before .before .before .before .before .before .before .before .before .before .before .before .put-row .ensures in (
+      λ table done e holds says. holds-more holds (start .pre .1 .1 .1 .0) (start .pre .1 .1 .0 .0) put e says,
+      (c .before .before .before .before .before .before .before .before .before .before .before .before .insert .ensures .0, c .before .before .before .before .insert2 .ensures .0),
+    )
 
 pub add-row-spec : {M : Type 1} → statement M
 add-row-spec =
