@@ -15,7 +15,7 @@ ghost use Rattle.index.specs.Index.{FindsRow};
 ghost use Rattle.ordered.specs.Ordered.{Filed};
 ghost use Rattle.elements.specs.Judge.{mostElements};
 ghost use Rattle.reading.specs.declared.Side.{Side};
-ghost use Rattle.reading.specs.Ready.{spanAt, Searchable};
+ghost use Rattle.reading.specs.Ready.{spanAt};
 ghost use Rattle.parents.specs.Parent.{parentKinds};
 ghost use Rattle.parents.specs.Lookup.{objectSpace, LastSpace, FoundIn, onSide, ParentAt};
 
@@ -114,7 +114,8 @@ fn own_side(rows: &[u32], kind: usize, found: RowFound) -> usize
 
 // The parent's row of row j, or NO_PARENT. A text unit or style has none, whatever its identifier.
 pub fn parent_of(s: &[u8], rows: &[u32], head: &[u16], next: &[u16], n: usize, j: usize) -> usize
-    requires { ⌜ Searchable Side.Layout (now s) (now rows) (now head) (now next) n ⌝ }
+    requires { ⌜ ((edition : Edition) × LetterRows edition (now s) (now rows) n) ⌝ }
+    requires { ⌜ Filed (now s) (now rows) identifierColumn (now head) (now next) n ⌝ }
     requires { ⌜ (j < n) × (n ≤ mostElements) ⌝ }
     ensures { λ r. ⌜ ParentAt (now (s .entry)) (now (rows .entry)) n j r ⌝ }
 {

@@ -33,7 +33,7 @@ use Rattle.reading.specs.declared.Match.{Match}
 use Rattle.reading.specs.declared.Side.{Side}
 use Rattle.reading.specs.Match.{kindsOf, forEach, portionMatches, elementMatches}
 use Rattle.reading.specs.Records.{PutsRecords}
-use Rattle.reading.specs.Ready.{columnOf, unitSpace, spanAt, portionsAt, Tells, RowsTell, isListed, portionsColumn, Searchable, Room, PutsElement, foundMatches, FoundBelow, elementAt, noElement}
+use Rattle.reading.specs.Ready.{columnOf, unitSpace, spanAt, portionsAt, Tells, RowsTell, isListed, portionsColumn, Room, PutsElement, foundMatches, FoundBelow, elementAt, noElement}
 use Rattle.reading.proofs.Lists.{at-getD}
 use Rattle.reading.proofs.OnePlace.{few-portions}
 use Rattle.reading.proofs.Matches.{joins-told}
@@ -85,21 +85,19 @@ module _ (s rows : List ℕ) (n element : ℕ) (below : element < n) (elements :
   unfolding elementMatches
   all-to-come side = ap (λ (vs : List (List ℕ)). forEach 0 vs (portionMatches side elements element (elementAt elements element))) (element-told .portions)
 
-module _ {side : Side} {s rows head next : List ℕ} {n element : ℕ} (known : Searchable side s rows head next n) (below : element < n) (is-listed : isListed side rows element ≡ true) where
+module _ {side : Side} {s rows : List ℕ} {n element : ℕ} {of-letter : List Element} (known : RowsTell s rows n of-letter) (below : element < n) (is-listed : isListed side rows element ≡ true) where
   abbrev named : Named side rows n element
   named = listed-named side rows n element below is-listed
-
-  abbrev there : Tells s rows element (elementAt (known .elements) element)
-  there = element-told s rows n element (named .below) (known .elements) (known .ready)
 
   -- at the start all are left
   pub listing-all : (flat : List ℕ) (count : ℕ) → Room side s rows n element flat count → Listing side s rows n element flat count flat (portionsAt rows element) 0 count
   listing-all flat count room =
-      let spelt = known .ready .apart .spelt element (elementAt (known .elements) element) (element-there s rows n element (named .below) (known .elements) (known .ready)) in
+      let there = element-told s rows n element (named .below) of-letter known in
+      let spelt = known .apart .spelt element (elementAt of-letter element) (element-there s rows n element (named .below) of-letter known) in
       record {
         fine = there .portions-fine;
         only-portions = there .only-portions;
-        placed = omega (arith, ap length (there .portions), few-portions (elementAt (known .elements) element) spelt);
+        placed = omega (arith, ap length (there .portions), few-portions (elementAt of-letter element) spelt);
         kept = refl;
         room = λ elements ready. rw (all-to-come s rows n element (named .below) elements ready side) (room elements ready);
         goes-on = λ elements ready after end p. subst (λ (ms : List Match). PutsRecords flat count ms after end) (all-to-come s rows n element (named .below) elements ready side) p;
@@ -138,12 +136,12 @@ module _ {side : Side} {s rows head next : List ℕ} {n element : ℕ} (known : 
       -- so there is room for it, and its numbers are small,
       pub room-for-one : 3 * (total + length (foundMatches element place found)) ≤ length flat
       room-for-one =
-          let r = listing .room (known .elements) (known .ready) in
-          let e = ap length (one-more (known .elements) (known .ready)) ∙ length-append (foundMatches element place found) (toCome side s (known .elements) element rest (place + 1)) in
+          let r = listing .room of-letter known in
+          let e = ap length (one-more of-letter known) ∙ length-append (foundMatches element place found) (toCome side s of-letter element rest (place + 1)) in
           omega arith
 
       pub small-element : element < 4294967296
-      small-element = omega (arith, named .below, known .ready .counted, known .ready .apart .few)
+      small-element = omega (arith, named .below, known .counted, known .apart .few)
 
       pub small-place : place < mostPortions
       small-place = omega (arith, listing .placed, some-left)
@@ -152,7 +150,7 @@ module _ {side : Side} {s rows head next : List ℕ} {n element : ℕ} (known : 
       found-small = smaller found (finds-below s rows (columnOf side) n unitSpace (bytesIn s (spanAt rows identifierColumn element) ++ spaceByte ∷ slice from to s) found finds)
         where
           smaller : (f : RowFound) → FoundBelow n f → FoundBelow 4294967296 f
-          smaller (At u) b = omega (arith, known .ready .counted, known .ready .apart .few)
+          smaller (At u) b = omega (arith, known .counted, known .apart .few)
           smaller Nothing b = tt
 
       -- and once it is put, the others are left

@@ -1,5 +1,5 @@
--- What is known of an accepted letter when its matches are looked up: its elements, their rows, and the index of the text units by the
--- identifier of the side. Of any edition. Definitions only: assumes nothing.
+-- What the rows of a letter tell of its elements, of any edition, and the matches that are looked up by them. A function over rows says what it gives of
+-- all elements that the rows tell; the rows themselves are those of a letter (`LetterRows`). Definitions only: assumes nothing.
 use mathlib.Core.Path.{_≡_}
 use mathlib.Core.Bool.{Bool, true, cond, _&&_}
 use mathlib.Core.Option.{some}
@@ -15,14 +15,12 @@ use Rattle.contents.specs.Search.{Value, absent, octets}
 use Rattle.portions.specs.Portions.{allPortions, values}
 use Rattle.index.specs.declared.RowFound.{RowFound}
 use Rattle.index.specs.declared.RowFound.the-variants.{At, Nothing}
-use Rattle.index.specs.Columns.{identifierColumn, logicalColumn, kindAt, firstAt, pastAt, Bounded}
-use Rattle.ordered.specs.Ordered.{Filed}
-use Rattle.tree.specs.Tree.{treeOf}
+use Rattle.index.specs.Columns.{identifierColumn, logicalColumn, kindAt, firstAt, pastAt}
 use Rattle.elements.specs.declared.Edition.{Edition}
-use Rattle.elements.specs.Judge.{single, Element, accepted, judge}
+use Rattle.elements.specs.Judge.{single, Element}
 use Rattle.elements.specs.ElementRows.{bytesIn}
 use Rattle.elements.specs.Says.{portionsRun}
-use Rattle.letters.specs.Scratch.{Filled}
+use Rattle.letters.specs.Scratch.{LetterRows}
 use Rattle.letters.specs.Apart.{Apart}
 use Rattle.reading.specs.declared.Match.{Match}
 use Rattle.reading.specs.declared.Side.{Side}
@@ -73,14 +71,6 @@ pub record RowsTell (s rows : List ℕ) (n : ℕ) (elements : List Element) : Ty
   pub counted : length elements ≡ n
   pub tells : (j : ℕ) (element : Element) → getElem? elements j ≡ some element → Tells s rows j element
 
--- the elements need not be known, and the rows are indexed by the identifier of the side
-pub record Searchable (side : Side) (s rows head next : List ℕ) (n : ℕ) : Type 0 where
-  pub elements : List Element
-  pub ready : RowsTell s rows n elements
-  pub bounded : Bounded s rows identifierColumn n
-  pub bounded-on : Bounded s rows (columnOf side) n
-  pub indexed : Filed s rows (columnOf side) head next n
-
 -- the matches that a look-up of a portion yields
 abbrev pub foundMatches : (e p : ℕ) → RowFound → List Match
 foundMatches e p (At u) = record { element = e; portion = p; unit = u } ∷ []
@@ -117,8 +107,7 @@ PutsElement side s rows n e before count after total =
 abbrev pub PutsAll : (side : Side) (s rows : List ℕ) (n : ℕ) (before after : List ℕ) (total : ℕ) → Type 0
 PutsAll side s rows n before after total = (elements : List Element) → RowsTell s rows n elements → PutsRecords before 0 (matches side elements) after total
 
--- the reading list of a side of the stream that the judge filled the scratch with, by whichever edition
-abbrev pub ListsFilled : (side : Side) (s rows head next head2 next2 : List ℕ) (n : ℕ) (before after : List ℕ) (count : ℕ) → Type 0
-ListsFilled side s rows head next head2 next2 n before after count =
-    (edition : Edition) → Filled edition s rows head next head2 next2 n
-    → (elements : List Element) → judge edition (treeOf s) ≡ accepted elements → ListsMatches side elements before after count
+-- the reading list of a side of the letter whose rows these are, by whichever edition
+abbrev pub ListsLetter : (side : Side) (s rows : List ℕ) (n : ℕ) (before after : List ℕ) (count : ℕ) → Type 0
+ListsLetter side s rows n before after count =
+    (edition : Edition) (letter : LetterRows edition s rows n) → ListsMatches side (letter .elements) before after count

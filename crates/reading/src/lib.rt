@@ -17,16 +17,16 @@ ghost use Rattle.headers.specs.Head.{isIn};
 ghost use Rattle.names.specs.Names.{spaceByte};
 ghost use Rattle.names.specs.Hash.{hash, hashFrom, hashes};
 ghost use Rattle.index.specs.Rows.{scratchWidth};
-ghost use Rattle.index.specs.Columns.{Bounded};
+ghost use Rattle.index.specs.Columns.{identifierColumn, logicalColumn, Bounded};
 ghost use Rattle.index.specs.Index.{FindsRow};
 ghost use Rattle.ordered.specs.Ordered.{Filed};
 ghost use Rattle.elements.specs.declared.Edition.{Edition};
 ghost use Rattle.elements.specs.ElementRows.{bytesIn};
 ghost use Rattle.elements.specs.Says.{Placed};
-ghost use Rattle.letters.specs.Scratch.{Filled};
+ghost use Rattle.letters.specs.Scratch.{LetterRows};
 ghost use Rattle.reading.specs.Match.{kindsOf};
 ghost use Rattle.reading.specs.Records.{recordAt, records, PutsRecords};
-ghost use Rattle.reading.specs.Ready.{columnOf, unitSpace, spanAt, there, portionsAt, isListed, Searchable, Room, PutsElement, PutsAll, ListsFilled};
+ghost use Rattle.reading.specs.Ready.{columnOf, unitSpace, spanAt, there, portionsAt, isListed, Room, PutsElement, PutsAll, ListsLetter};
 ghost use Rattle.reading.specs.Ready.{foundMatches, FoundBelow};
 
 // The name space of text units.
@@ -228,7 +228,8 @@ fn list_portions(
     flat: &mut [u32],
     count: usize,
 ) -> usize
-    requires { ⌜ Searchable side (now s) (now rows) (now head) (now next) n ⌝ }
+    requires { ⌜ ((edition : Edition) × LetterRows edition (now s) (now rows) n) ⌝ }
+    requires { ⌜ Filed (now s) (now rows) (columnOf side) (now head) (now next) n ⌝ }
     requires { ⌜ (element < n) × (isListed side (now rows) element ≡ true) ⌝ }
     requires { ⌜ Room side (now s) (now rows) n element (now flat) count ⌝ }
     ensures { λ r. ⌜ PutsElement side (now (s .entry)) (now (rows .entry)) n element (now (flat .entry)) count (now (flat .exit)) r ⌝ }
@@ -271,7 +272,8 @@ fn list_element(
     flat: &mut [u32],
     count: usize,
 ) -> usize
-    requires { ⌜ Searchable side (now s) (now rows) (now head) (now next) n ⌝ }
+    requires { ⌜ ((edition : Edition) × LetterRows edition (now s) (now rows) n) ⌝ }
+    requires { ⌜ Filed (now s) (now rows) (columnOf side) (now head) (now next) n ⌝ }
     requires { ⌜ element < n ⌝ }
     requires { ⌜ Room side (now s) (now rows) n element (now flat) count ⌝ }
     ensures { λ r. ⌜ PutsElement side (now (s .entry)) (now (rows .entry)) n element (now (flat .entry)) count (now (flat .exit)) r ⌝ }
@@ -292,7 +294,8 @@ fn list_side(
     side: Side,
     flat: &mut [u32],
 ) -> usize
-    requires { ⌜ Searchable side (now s) (now rows) (now head) (now next) n ⌝ }
+    requires { ⌜ ((edition : Edition) × LetterRows edition (now s) (now rows) n) ⌝ }
+    requires { ⌜ Filed (now s) (now rows) (columnOf side) (now head) (now next) n ⌝ }
     requires { ⌜ 3 * n ≤ length (now flat) ⌝ }
     ensures { λ r. ⌜ PutsAll side (now (s .entry)) (now (rows .entry)) n (now (flat .entry)) (now (flat .exit)) r ⌝ }
 {
@@ -305,7 +308,7 @@ fn list_side(
     count
 }
 
-// Lists the matches of a side of an accepted letter, of which the judge filled the scratch: three numbers a record, and how many.
+// Lists the matches of a side of an accepted letter, by its rows: three numbers a record, and how many.
 pub fn list_matches(
     s: &[u8],
     rows: &[u32],
@@ -317,10 +320,10 @@ pub fn list_matches(
     side: Side,
     flat: &mut [u32],
 ) -> usize
-    requires { ⌜ ((edition : Edition) × Filled edition (now s) (now rows) (now head) (now next) (now head2) (now next2) n) ⌝ }
+    requires { ⌜ ((edition : Edition) × LetterRows edition (now s) (now rows) n) ⌝ }
+    requires { ⌜ Filed (now s) (now rows) identifierColumn (now head) (now next) n × Filed (now s) (now rows) logicalColumn (now head2) (now next2) n ⌝ }
     requires { ⌜ 3 * n ≤ length (now flat) ⌝ }
-    ensures { λ r. ⌜ ListsFilled side (now (s .entry)) (now (rows .entry)) (now (head .entry)) (now (next .entry)) (now (head2 .entry)) (now (next2 .entry)) n
-        (now (flat .entry)) (now (flat .exit)) r ⌝ }
+    ensures { λ r. ⌜ ListsLetter side (now (s .entry)) (now (rows .entry)) n (now (flat .entry)) (now (flat .exit)) r ⌝ }
 {
     match side {
         Side::Layout => list_side(s, rows, head, next, n, Side::Layout, flat),

@@ -31,7 +31,7 @@ returns c =
     let start = c .before .before .before .before .before .before .before .before in
     let kind = c .before .before .wide .ensures in
     let t = ap (λ (k : ℕ). isIn k (parentKinds k)) (sym kind) ∙ sym (c .before .is-parent-kind .ensures) ∙ not-true _ (c .if1 .taken) in
-    record { small = omega arith; is = λ elements ready. parent-other ready (start .args .j) (start .pre .1 .0) t }
+    record { small = omega arith; is = λ elements ready. parent-other ready (start .args .j) (start .pre .1 .1 .0) t }
 
 add-wide : tie.Need-add-wide
 add-wide c = search needs
@@ -63,11 +63,11 @@ wide-requires-3 c κs = search needs
 last-space-requires : tie.Need-last-space-requires
 last-space-requires c κs =
     let start = c .before .before .before .before .before .before .before .before .before .before .before .before in
-    let bounded = start .pre .0 .bounded in
+    let bounded = start .pre .0 .1 .holds .identifiers in
     let j = start .args .j in
     let first = c .before .before .wide2 .ensures in
     let past = c .wide3 .ensures in
-    (omega (arith, bounded .ordered j (start .pre .1 .0)), omega (arith, bounded .inside j (start .pre .1 .0)))
+    (omega (arith, bounded .ordered j (start .pre .1 .1 .0)), omega (arith, bounded .inside j (start .pre .1 .1 .0)))
 
 returns-2 : tie.Need-returns-2
 returns-2 c =
@@ -76,7 +76,7 @@ returns-2 c =
     let past = c .before .before .wide3 .ensures in
     record {
       small = omega arith;
-      is = λ elements ready. parent-one-group ready (start .args .j) (start .pre .1 .0) _ _ _ first past (c .before .last-space .ensures) (c .if2 .taken);
+      is = λ elements ready. parent-one-group ready (start .args .j) (start .pre .1 .1 .0) _ _ _ first past (c .before .last-space .ensures) (c .if2 .taken);
     }
 
 carrier-requires : tie.Need-carrier-requires
@@ -85,14 +85,14 @@ carrier-requires c κs =
     let j = start .args .j in
     let past = c .before .before .wide3 .ensures in
     let last = c .before .last-space .ensures in
-    let inside = start .pre .0 .bounded .inside j (start .pre .1 .0) in
-    (start .pre .0 .bounded, (start .pre .0 .indexed, (last .after, omega (arith, last .before))))
+    let inside = start .pre .0 .1 .holds .identifiers .inside j (start .pre .1 .1 .0) in
+    (start .pre .0 .1 .holds .identifiers, (start .pre .1 .0, (last .after, omega (arith, last .before))))
 
 own-side-requires : tie.Need-own-side-requires
 own-side-requires c κs =
     let start = c .before .before .before .before .before .before .before .before .before .before .before .before .before .before .before in
     found-in (start .args .s .now) (start .args .rows .now) (start .args .n)
-    (slice (c .before .before .before .before .before .wide2 .result) (c .before .before .last-space .result) (start .args .s .now)) (c .carrier .result) (c .carrier .ensures) (start .pre .0 .bounded .in-table)
+    (slice (c .before .before .before .before .before .wide2 .result) (c .before .before .last-space .result) (start .args .s .now)) (c .carrier .result) (c .carrier .ensures) (start .pre .0 .1 .holds .identifiers .in-table)
 
 returns-3 : tie.Need-returns-3
 returns-3 c =
@@ -104,10 +104,10 @@ returns-3 c =
     let found = c .before .carrier .ensures in
     let told = c .own-side .ensures in
     let small = side-small (start .args .s .now) (start .args .rows .now) (start .args .n)
-    (slice (c .before .before .before .before .before .before .wide2 .result) (c .before .before .before .last-space .result) (start .args .s .now)) (c .before .carrier .result) found (start .pre .1 .1) (c .before .before .before .before .before .before .before .before .before .before .wide .result) in
+    (slice (c .before .before .before .before .before .before .wide2 .result) (c .before .before .before .last-space .result) (start .args .s .now)) (c .before .carrier .result) found (start .pre .1 .1 .1) (c .before .before .before .before .before .before .before .before .before .before .wide .result) in
     record {
       small = subst (λ (k : ℕ). k ≤ noParent) (sym told) small;
-      is = λ elements ready. told ∙ parent-found ready (start .args .j) (start .pre .1 .0) _ _ _ first past last (c .before .before .if2 .left) (c .before .carrier .result) found _ kind;
+      is = λ elements ready. told ∙ parent-found ready (start .args .j) (start .pre .1 .1 .0) _ _ _ first past last (c .before .before .if2 .left) (c .before .carrier .result) found _ kind;
     }
 
 pub parent-of-spec : {M : Type 1} → statement M

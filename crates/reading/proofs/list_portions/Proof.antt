@@ -6,6 +6,7 @@ use native.Mathlib.Omega.{arith}
 use mathlib.Core.List.{_∷_, _++_}
 use lib.Seq.{slice}
 use borrow.Author.Needs.{needs}
+use Rattle.reading.proofs.Scratch.{rows-tell, bounded-on}
 use Rattle.reading.proofs.Listing.{Listing, listing-all, listing-none, listing-more, room-for-one, small-element, small-place, found-small, span-placed}
 use Rattle.runs.specs.Runs.{Meets, Meeting}
 use Rattle.names.specs.Names.{spaceByte}
@@ -50,12 +51,12 @@ finds c =
 name-placed : (c : tie.After-bounds-at Inv-loop μ-loop) → Placed (c .before .before .before .before .before .before .args .s .now) (c .bounds-at .result)
 name-placed c =
     let start = c .before .before .before .before .before .before in
-    rw (c .bounds-at .ensures) (span-placed (start .pre .0 .bounded) (start .pre .1 .0 .0))
+    rw (c .bounds-at .ensures) (span-placed (start .pre .0 .1 .holds .identifiers) (start .pre .1 .1 .0 .0))
 
 bounds-at-requires : tie.Need-bounds-at-requires Inv-loop μ-loop
 bounds-at-requires c κs =
     let start = c .before .before .before .before .before in
-    (omega arith, omega (arith, start .pre .1 .0 .0, start .pre .0 .bounded .in-table))
+    (omega arith, omega (arith, start .pre .1 .1 .0 .0, start .pre .0 .1 .holds .identifiers .in-table))
 
 hash-over-requires : tie.Need-hash-over-requires Inv-loop μ-loop
 hash-over-requires c κs = let placed = name-placed c in (placed .order, placed .inside, omega arith)
@@ -66,12 +67,12 @@ hash-space-requires c κs = c .hash-over .ensures .1
 portions-at-requires : tie.Need-portions-at-requires Inv-loop μ-loop
 portions-at-requires c κs =
     let start = c .before .before .before .before .before .before .before .before in
-    omega (arith, start .pre .1 .0 .0, start .pre .0 .bounded .in-table)
+    omega (arith, start .pre .1 .1 .0 .0, start .pre .0 .1 .holds .identifiers .in-table)
 
 loop-holds : tie.Need-loop-holds Inv-loop μ-loop
 loop-holds c =
     let start = c .before .before .before .before .before .before .before .before .before in
-    rw (c .portions-at .ensures) (listing-all (start .pre .0) (start .pre .1 .0 .0) (start .pre .1 .0 .1) (start .args .flat .now) (start .args .count) (start .pre .1 .1))
+    rw (c .portions-at .ensures) (listing-all (rows-tell (start .pre .0 .1)) (start .pre .1 .1 .0 .0) (start .pre .1 .1 .0 .1) (start .args .flat .now) (start .args .count) (start .pre .1 .1 .1))
 
 meet-requires : tie.Need-meet-requires Inv-loop μ-loop
 meet-requires c κs = c .loop .inv .fine
@@ -86,7 +87,7 @@ returns : tie.Need-returns Inv-loop μ-loop
 returns c =
     let at = c .before .before .before in
     let start = entry at in
-    listing-none (start .pre .0) (start .pre .1 .0 .0) (start .pre .1 .0 .1) (at .loop .inv)
+    listing-none (rows-tell (start .pre .0 .1)) (start .pre .1 .1 .0 .0) (start .pre .1 .1 .0 .1) (at .loop .inv)
     (subst (Meets (start .args .s .now) (at .loop .left)) (c .enum-told .given .1) (c .before .before .meet .ensures))
 
 enum-known-first : tie.Need-enum-known-first Inv-loop μ-loop
@@ -102,9 +103,9 @@ unit-of-requires c κs =
     let hashed = at .before .before .before .hash-over .ensures in
     let spaced = at .before .before .hash-space .ensures in
     let met = meeting (c .before) in (
-      rw (c .column-of .ensures) (start .pre .0 .bounded-on),
+      rw (c .column-of .ensures) (bounded-on (start .pre .0 .1) (start .args .side)),
       (
-        rw (c .column-of .ensures) (start .pre .0 .indexed),
+        rw (c .column-of .ensures) (start .pre .1 .0),
         ((rw (← hashed .0) (spaced .0), spaced .1), (name-placed (at .before .before .before .before), record { order = met .value-order; inside = met .value-inside })),
       ),
     )
@@ -113,12 +114,12 @@ put-found-requires : tie.Need-put-found-requires Inv-loop μ-loop
 put-found-requires c κs =
     let at = c .before .before .before .before .before .before .before in
     let start = entry at in
-    let known = start .pre .0 in
+    let known = rows-tell (start .pre .0 .1) in
     let met = meeting (c .before .before .before) in
     let found = c .before .unit-of .result in
     let one = finds (c .before) in (
-      room-for-one known (start .pre .1 .0 .0) (start .pre .1 .0 .1) (at .loop .inv) met found one,
-      (small-element known (start .pre .1 .0 .0) (start .pre .1 .0 .1) (at .loop .inv) met found one, omega (arith, small-place known (start .pre .1 .0 .0) (start .pre .1 .0 .1) (at .loop .inv) met found one), found-small known (start .pre .1 .0 .0) (start .pre .1 .0 .1) (at .loop .inv) met found one),
+      room-for-one known (start .pre .1 .1 .0 .0) (start .pre .1 .1 .0 .1) (at .loop .inv) met found one,
+      (small-element known (start .pre .1 .1 .0 .0) (start .pre .1 .1 .0 .1) (at .loop .inv) met found one, omega (arith, small-place known (start .pre .1 .1 .0 .0) (start .pre .1 .1 .0 .1) (at .loop .inv) met found one), found-small known (start .pre .1 .1 .0 .0) (start .pre .1 .1 .0 .1) (at .loop .inv) met found one),
     )
 
 add-place : tie.Need-add-place Inv-loop μ-loop
@@ -126,7 +127,7 @@ add-place c =
     let at = c .before .before .before .before .before .before .before .before .before .before in
     let start = entry at in
     let unit = c .before .before .before .before in
-    omega (arith, small-place (start .pre .0) (start .pre .1 .0 .0) (start .pre .1 .0 .1) (at .loop .inv) (meeting (unit .before .before)) (unit .unit-of .result) (finds unit))
+    omega (arith, small-place (rows-tell (start .pre .0 .1)) (start .pre .1 .1 .0 .0) (start .pre .1 .1 .0 .1) (at .loop .inv) (meeting (unit .before .before)) (unit .unit-of .result) (finds unit))
 
 loop-less : tie.Need-loop-less Inv-loop μ-loop
 loop-less c = meeting (c .before .before .before .before .before .before) .less
@@ -136,7 +137,7 @@ loop-again c =
     let at = c .before .before .before .before .before .before .before .before .before .before in
     let start = entry at in
     let unit = c .before .before .before .before in
-    listing-more (start .pre .0) (start .pre .1 .0 .0) (start .pre .1 .0 .1) (at .loop .inv) (meeting (unit .before .before)) (unit .unit-of .result) (finds unit) (c .before .before .put-found .ensures)
+    listing-more (rows-tell (start .pre .0 .1)) (start .pre .1 .1 .0 .0) (start .pre .1 .1 .0 .1) (at .loop .inv) (meeting (unit .before .before)) (unit .unit-of .result) (finds unit) (c .before .before .put-found .ensures)
 
 pub list-portions-spec : {M : Type 1} → statement M
 list-portions-spec =

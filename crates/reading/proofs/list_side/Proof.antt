@@ -15,13 +15,13 @@ loop-holds : tie.Need-loop-holds Inv-loop μ-loop
 loop-holds c =
     let start = c .before .before .before .before .before in
     let a = start .args in
-    turning-all (a .side) (a .s .now) (a .rows .now) (a .n) (a .flat .now) (start .pre .1)
+    turning-all (a .side) (a .s .now) (a .rows .now) (a .n) (a .flat .now) (start .pre .1 .1)
 
 list-element-requires : tie.Need-list-element-requires Inv-loop μ-loop
 list-element-requires c κs =
     let start = c .before .before .before .before .before .before .before .before in
     let less = c .before .loop-test .taken in
-    (start .pre .0, (less, room-for-element (c .before .before .loop .inv) less))
+    (start .pre .0, (start .pre .1 .0, (less, room-for-element (c .before .before .loop .inv) less)))
 
 add-element : tie.Need-add-element Inv-loop μ-loop
 add-element c = omega arith
