@@ -16,7 +16,9 @@ ghost use Rattle.order.specs.ClassB.{rowsB};
 ghost use Rattle.order.specs.declared.Class.the-variants.{B};
 ghost use Rattle.order.specs.PassB.{stepB};
 ghost use Rattle.order.specs.Fault.{FaultIn};
-ghost use Rattle.owners.specs.Owner.{Known};
+ghost use Rattle.letters.specs.Scratch.{LetterRows};
+ghost use Rattle.elements.specs.declared.Edition.{Edition};
+ghost use Rattle.ordered.specs.Ordered.{Filed};
 ghost use Rattle.ordering.specs.Steps.{stateOf, StepIs, firstStep, unitStep, mayFollow, headStep, PassIs};
 
 const PROFILE: usize = 0;
@@ -106,7 +108,8 @@ fn may_follow(state: State, kind: usize) -> bool
 
 // The first element: it must be the profile.
 fn first_step(s: &[u8], rows: &[u32], head: &[u16], next: &[u16], n: usize) -> Step
-    requires { ⌜ Known (now s) (now rows) (now head) (now next) n ⌝ }
+    requires { ⌜ ((edition : Edition) × LetterRows edition (now s) (now rows) n) ⌝ }
+    requires { ⌜ Filed (now s) (now rows) identifierColumn (now head) (now next) n ⌝ }
     requires { ⌜ 0 < n ⌝ }
     ensures { λ r. ⌜ StepIs (now (s .entry)) (now (rows .entry)) n 0 firstStep r ⌝ }
 {
@@ -135,7 +138,8 @@ fn unit_step(
     state: State,
     u: usize,
 ) -> Step
-    requires { ⌜ Known (now s) (now rows) (now head) (now next) n ⌝ }
+    requires { ⌜ ((edition : Edition) × LetterRows edition (now s) (now rows) n) ⌝ }
+    requires { ⌜ Filed (now s) (now rows) identifierColumn (now head) (now next) n ⌝ }
     requires { ⌜ u < n ⌝ }
     ensures { λ r. ⌜ StepIs (now (s .entry)) (now (rows .entry)) n u (unitStep (stateOf state)) r ⌝ }
 {
@@ -164,7 +168,8 @@ fn head_step(
     state: State,
     j: usize,
 ) -> Step
-    requires { ⌜ Known (now s) (now rows) (now head) (now next) n ⌝ }
+    requires { ⌜ ((edition : Edition) × LetterRows edition (now s) (now rows) n) ⌝ }
+    requires { ⌜ Filed (now s) (now rows) identifierColumn (now head) (now next) n ⌝ }
     requires { ⌜ j < n ⌝ }
     ensures { λ r. ⌜ StepIs (now (s .entry)) (now (rows .entry)) n j (headStep (stateOf state) j) r ⌝ }
 {
@@ -193,7 +198,8 @@ fn step_b(
     state: State,
     j: usize,
 ) -> Step
-    requires { ⌜ Known (now s) (now rows) (now head) (now next) n ⌝ }
+    requires { ⌜ ((edition : Edition) × LetterRows edition (now s) (now rows) n) ⌝ }
+    requires { ⌜ Filed (now s) (now rows) identifierColumn (now head) (now next) n ⌝ }
     requires { ⌜ j < n ⌝ }
     ensures { λ r. ⌜ StepIs (now (s .entry)) (now (rows .entry)) n j (stepB (stateOf state) j) r ⌝ }
 {
@@ -205,7 +211,8 @@ fn step_b(
 
 // The elements after the first, from the state that it left.
 fn pass(s: &[u8], rows: &[u32], head: &[u16], next: &[u16], n: usize, start: State) -> Fault
-    requires { ⌜ Known (now s) (now rows) (now head) (now next) n ⌝ }
+    requires { ⌜ ((edition : Edition) × LetterRows edition (now s) (now rows) n) ⌝ }
+    requires { ⌜ Filed (now s) (now rows) identifierColumn (now head) (now next) n ⌝ }
     requires { ⌜ 0 < n ⌝ }
     ensures { λ r. ⌜ PassIs (now (s .entry)) (now (rows .entry)) n (stateOf start) r ⌝ }
 {
@@ -228,7 +235,8 @@ fn pass(s: &[u8], rows: &[u32], head: &[u16], next: &[u16], n: usize, start: Sta
 
 // Where the elements of an accepted letter leave the order of class B.
 pub fn fault_b(s: &[u8], rows: &[u32], head: &[u16], next: &[u16], n: usize) -> Fault
-    requires { ⌜ Known (now s) (now rows) (now head) (now next) n ⌝ }
+    requires { ⌜ ((edition : Edition) × LetterRows edition (now s) (now rows) n) ⌝ }
+    requires { ⌜ Filed (now s) (now rows) identifierColumn (now head) (now next) n ⌝ }
     ensures { λ r. ⌜ FaultIn B (now (s .entry)) (now (rows .entry)) n r ⌝ }
 {
     if n == 0 {

@@ -8,7 +8,9 @@ use native.Mathlib.Omega.{arith}
 use native.Mathlib.Numerals.{add-one}
 use lib.ListN.{length}
 use Rattle.index.specs.Columns.{kindAt}
+use Rattle.elements.specs.declared.Edition.{Edition}
 use Rattle.elements.specs.Judge.{Element}
+use Rattle.letters.specs.Scratch.{LetterRows}
 use Rattle.reading.specs.declared.Side.the-variants.{Layout, Logical}
 use Rattle.reading.specs.Ready.{RowsTell}
 use Rattle.order.specs.Represents.{LimitsAside}
@@ -18,22 +20,18 @@ use Rattle.order.specs.Fault.{FaultIn}
 use Rattle.order.proofs.PassA.{pass-exactly}
 use Rattle.ranks.specs.declared.Sight.{Sight}
 use Rattle.ranks.specs.Step.{stands, waiting, Small}
-use Rattle.owners.specs.Owner.{Known}
-use Rattle.owners.proofs.Telling.{kind-told, named-told, lists-told, meetable}
+use Rattle.reading.proofs.Scratch.{rows-tell}
+use Rattle.owners.proofs.Telling.{few-rows, kind-told, named-told, lists-told, meetable}
 use Rattle.turns.specs.declared.Own.{Own}
 use Rattle.ordering_a.specs.declared.Walk.{Walk}
 use Rattle.ordering_a.specs.declared.Step.the-variants.{Stops, Goes}
-use Rattle.turns.specs.Turns.{OwnIs, OwnAt, kindFor, ownFor, rowFor, Told, before, Reaches}
+use Rattle.turns.specs.Turns.{OwnIs, OwnAt, kindFor, ownFor, rowFor, before, Reaches}
 use Rattle.ordering_a.specs.Pass.{sightFor, walkFor, startOf, Standing, Bounds, StepAt}
-use Rattle.turns.proofs.Reaching.{few-rows}
 use Rattle.turns.proofs.Turns.{row-rises, row-few}
 use Rattle.ordering_a.proofs.Standing.{Seen, stops-here, goes-here}
 use Rattle.ordering_a.proofs.Passing.{start, start-bounds, ends-waiting, ends-whole, small, bounds-next}
 
-pub told-of : {s rows head next : List ℕ} {n : ℕ} → Known s rows head next n → Told s rows n
-told-of known = record { elements = known .elements; ready = known .ready; in-table = known .identifiers .in-table }
-
-module _ {s rows : List ℕ} {n : ℕ} (told : Told s rows n) (k : ℕ) (l : k < n) (w : Walk) (bounds : Bounds k w) (layout logical : Own)
+module _ {edition : Edition} {s rows : List ℕ} {n : ℕ} (rows-of : LetterRows edition s rows n) (k : ℕ) (l : k < n) (w : Walk) (bounds : Bounds k w) (layout logical : Own)
     (a : OwnAt Layout s rows n k layout) (b : OwnAt Logical s rows n k logical) (kind row : ℕ) (kind-is : kind ≡ kindFor (w .layouts))
     (row-is : row ≡ rowFor (ownFor (w .layouts) layout logical) kind (w .row)) where
   own-low : ownFor (w .layouts) layout logical .row ≤ k
@@ -49,10 +47,10 @@ module _ {s rows : List ℕ} {n : ℕ} (told : Told s rows n) (k : ℕ) (l : k <
   module _ (base : ℕ) (reaches : Reaches s rows n kind (w .row) (w .base) row base) (x : Sight) (x-is : x ≡ sightFor s rows k w layout logical row base) where
     lists-few : x .lists ≤ 64
     unfolding sightFor
-    lists-few = subst (λ (y : Sight). y .lists ≤ 64) (sym x-is) (meetable (told .ready) k l .few)
+    lists-few = subst (λ (y : Sight). y .lists ≤ 64) (sym x-is) (meetable (rows-tell rows-of) k l .few)
 
     pub small-is : Small (w .state) x
-    small-is = small k w x (omega (arith, few-rows told)) bounds lists-few
+    small-is = small k w x (omega (arith, few-rows rows-of)) bounds lists-few
 
     module _ (es : List Element) (ready : RowsTell s rows n es) (aside : LimitsAside es) (st : Standing es k w) where
       inside : k < length es
@@ -104,8 +102,8 @@ pub record Walking (s rows : List ℕ) (n k : ℕ) (w : Walk) : Type 0 where
   pub bounds : Bounds k w
   pub standing : (es : List Element) → RowsTell s rows n es → LimitsAside es → Standing es k w
 
-pub walking-first : {s rows : List ℕ} {n : ℕ} → Told s rows n → 0 < n → kindAt rows 0 ≡ 0 → Walking s rows n 1 (startOf n)
-walking-first {s} {rows} {n} told l k =
+pub walking-first : {s rows : List ℕ} {n : ℕ} → 0 < n → kindAt rows 0 ≡ 0 → Walking s rows n 1 (startOf n)
+walking-first {s} {rows} {n} l k =
     record {
       within = omega arith;
       bounds = start-bounds n;

@@ -7,12 +7,14 @@ use reading::Side;
 use turns::Own;
 ghost use mathlib.Core.Path.{_≡_};
 ghost use Prim.Native.Nat.{_<_};
-ghost use Rattle.index.specs.Columns.{kindAt};
+ghost use Rattle.index.specs.Columns.{identifierColumn, kindAt};
 ghost use Rattle.order.specs.Fault.{FaultIn};
-ghost use Rattle.owners.specs.Owner.{Known};
+ghost use Rattle.letters.specs.Scratch.{LetterRows};
+ghost use Rattle.elements.specs.declared.Edition.{Edition};
+ghost use Rattle.ordered.specs.Ordered.{Filed};
 ghost use Rattle.ranks.specs.Step.{Small};
 ghost use Rattle.reading.specs.declared.Side.{Side};
-ghost use Rattle.turns.specs.Turns.{OwnAt, Told};
+ghost use Rattle.turns.specs.Turns.{OwnAt};
 ghost use Rattle.ordering_a.specs.Pass.{lesser, hasLayouts, sightFor, walkFor, startOf, Bounds, StepAt};
 
 const LAYOUT_CLASS: usize = 1;
@@ -71,7 +73,7 @@ fn see(
     row: usize,
     base: usize,
 ) -> Sight
-    requires { ⌜ Told (now s) (now rows) n × (k < n) ⌝ }
+    requires { ⌜ ((edition : Edition) × LetterRows edition (now s) (now rows) n) × (k < n) ⌝ }
     ensures { λ r. ⌜ r ≡ sightFor (now (s .entry)) (now (rows .entry)) k w layout logical row base ⌝ }
 {
     let own = turns::own_for(w.layouts, layout, logical);
@@ -115,7 +117,7 @@ fn walk_on(w: Walk, x: Sight, layout: Own, logical: Own, row: usize, base: usize
 
 // What comes of row k.
 fn take_row(s: &[u8], rows: &[u32], n: usize, k: usize, w: Walk, layout: Own, logical: Own) -> Step
-    requires { ⌜ Told (now s) (now rows) n × (k < n) ⌝ }
+    requires { ⌜ ((edition : Edition) × LetterRows edition (now s) (now rows) n) × (k < n) ⌝ }
     requires { ⌜ Bounds k w ⌝ }
     requires { ⌜ OwnAt Side.Layout (now s) (now rows) n k layout × OwnAt Side.Logical (now s) (now rows) n k logical ⌝ }
     ensures { λ r. ⌜ StepAt (now (s .entry)) (now (rows .entry)) n k w r ⌝ }
@@ -151,7 +153,8 @@ fn first_walk(n: usize) -> Walk
 
 // The pass over the rows after the profile.
 fn pass(s: &[u8], rows: &[u32], head: &[u16], next: &[u16], n: usize) -> Fault
-    requires { ⌜ Known (now s) (now rows) (now head) (now next) n ⌝ }
+    requires { ⌜ ((edition : Edition) × LetterRows edition (now s) (now rows) n) ⌝ }
+    requires { ⌜ Filed (now s) (now rows) identifierColumn (now head) (now next) n ⌝ }
     requires { ⌜ (0 < n) × (kindAt (now rows) 0 ≡ 0) ⌝ }
     ensures { λ r. ⌜ FaultIn Class.A (now (s .entry)) (now (rows .entry)) n r ⌝ }
 {
@@ -175,10 +178,11 @@ fn pass(s: &[u8], rows: &[u32], head: &[u16], next: &[u16], n: usize) -> Fault
     Fault::Nowhere
 }
 
-// The fault of the order of class A, of the letter whose rows the judge filled: 26 at an element, from 0, at how many they are if only the end
+// The fault of the order of class A, of the letter whose rows these are: 26 at an element, from 0, at how many they are if only the end
 // is missing, or none.
 pub fn fault_a(s: &[u8], rows: &[u32], head: &[u16], next: &[u16], n: usize) -> Fault
-    requires { ⌜ Known (now s) (now rows) (now head) (now next) n ⌝ }
+    requires { ⌜ ((edition : Edition) × LetterRows edition (now s) (now rows) n) ⌝ }
+    requires { ⌜ Filed (now s) (now rows) identifierColumn (now head) (now next) n ⌝ }
     ensures { λ r. ⌜ FaultIn Class.A (now (s .entry)) (now (rows .entry)) n r ⌝ }
 {
     if n == 0 {

@@ -1,4 +1,4 @@
--- The scratch that the judge filled is what the passes need; and a row has its element's place. So what a pass finds is what the definition says.
+-- A row has its element's place, so what a pass over the rows of a letter finds is what the definition says.
 -- Assumes nothing.
 use mathlib.Core.Path.{_≡_, refl, ap, sym, _∙_}
 use mathlib.Core.Bool.{true, false, cond}
@@ -22,9 +22,9 @@ use Rattle.elements.specs.ElementRows.{rowOf, rowsOf, placeOf}
 use Rattle.judging.proofs.Lists.{at-below}
 use Rattle.judging.proofs.Rows.{first-at}
 use Rattle.letters.specs.Letter.{Letter, itemsOfStream, letter, letterIn}
-use Rattle.letters.specs.Scratch.{Filled}
-use Rattle.letters.proofs.Table.{filled-row}
-use Rattle.reading.proofs.Scratch.{filled-ready}
+use Rattle.letters.specs.Scratch.{LetterRows}
+use Rattle.letters.proofs.Table.{letter-row}
+use Rattle.reading.proofs.Scratch.{rows-tell}
 use Rattle.order.specs.declared.Class.{Class}
 use Rattle.order.specs.declared.Fault.{Fault}
 use Rattle.order.specs.declared.Fault.the-variants.{Nowhere, At}
@@ -35,7 +35,6 @@ use Rattle.order.specs.Question.{verdict, outOfOrder, octetAt}
 use Rattle.order.specs.Computed.{byFound, byLetter, orderIn}
 use Rattle.order.specs.Fault.{FaultIn}
 use Rattle.order.proofs.Accepted.{judged-aside}
-use Rattle.owners.specs.Owner.{Known}
 use Rattle.orders.specs.Orders.{faultPlace}
 
 -- the row of an item begins where the item does
@@ -51,46 +50,37 @@ row-place edition s (item at code first past inside after) zero row e = ap whole
     row-is f = cc
 row-place edition s (item at code first past inside after) (suc k) row e = row-place edition s after k row e
 
-module _ {edition : Edition} {s rows head next head2 next2 : List ℕ} {count : ℕ} (filled : Filled edition s rows head next head2 next2 count) where
-  pub known : Known s rows head next count
-  known = record {
-    elements = filled .elements;
-    ready = filled-ready filled;
-    identifiers = filled .holds .indexes .identifiers;
-    logicals = filled .holds .indexes .logicals;
-    indexed = filled .holds .indexes .by-identifier;
-  }
-
+module _ {edition : Edition} {s rows : List ℕ} {count : ℕ} (held : LetterRows edition s rows count) where
   place-at : (k : ℕ) → k < count → firstAt rows wholeColumn k ≡ placeOf k (itemsOfStream s)
   place-at k below =
-      let (e, there) = at-below (filled .elements) k (omega (arith, filled .holds .counted)) in
-      let own = filled-row filled k e there in
-      first-at (filled .holds) k (own .row) (own .stands) wholeColumn (omega arith) ∙ row-place edition s (itemsOfStream s) k (own .row) (own .stands)
+      let (e, there) = at-below (held .elements) k (omega (arith, held .holds .counted)) in
+      let own = letter-row held k e there in
+      first-at (held .holds) k (own .row) (own .stands) wholeColumn (omega arith) ∙ row-place edition s (itemsOfStream s) k (own .row) (own .stands)
 
   module _ {headers : ℕ} (walked : walkOf s ≡ Ended (length s) headers) (class : Class) where
-    is-letter : letterIn edition s ≡ letter headers (filled .elements)
+    is-letter : letterIn edition s ≡ letter headers (held .elements)
     unfolding letterIn
-    is-letter = rw (walked, filled .judged)
+    is-letter = rw (walked, held .judged)
 
-    by-fault : (found : Fault) → FaultIn class s rows count found → byFound s (filled .elements) found ≡ orderIn edition class s
+    by-fault : (found : Fault) → FaultIn class s rows count found → byFound s (held .elements) found ≡ orderIn edition class s
     unfolding orderIn
     by-fault found f =
-        let aside = judged-aside edition (treeOf s) (filled .elements) (filled .judged) in
+        let aside = judged-aside edition (treeOf s) (held .elements) (held .judged) in
         sym (ap (λ (l : Letter). byLetter class s l) is-letter
-        ∙ ap (λ (x : Fault). byFound s (filled .elements) x) (sym (f (filled .elements) (filled-ready filled) aside)))
+        ∙ ap (λ (x : Fault). byFound s (held .elements) x) (sym (f (held .elements) (rows-tell held) aside)))
 
     -- nothing was found
     pub none-found : (found : Fault) → FaultIn class s rows count found → found ≡ Nowhere → verdict 0 0 ≡ orderIn edition class s
-    none-found found f e = ap (λ (x : Fault). byFound s (filled .elements) x) (sym e) ∙ by-fault found f
+    none-found found f e = ap (λ (x : Fault). byFound s (held .elements) x) (sym e) ∙ by-fault found f
 
     -- a fault was found at a row, or past them
     pub fault-found : (found : Fault) (k : ℕ) → FaultIn class s rows count found → found ≡ At k → faultPlace s rows count k ≡ orderIn edition class s
     fault-found found k f e =
         ap (λ (p : ℕ). verdict outOfOrder p) same-octet
-        ∙ ap (λ (x : Fault). byFound s (filled .elements) x) (sym e) ∙ by-fault found f
+        ∙ ap (λ (x : Fault). byFound s (held .elements) x) (sym e) ∙ by-fault found f
       where
         by-count : cond (ltb k count) (firstAt rows wholeColumn k) (length s) ≡ cond (ltb k count) (placeOf k (itemsOfStream s)) (length s)
         by-count = cases (ltb k count) (λ t. rw (t, place-at k (ltb-true k count t))) (λ t. rw t)
 
-        same-octet : cond (ltb k count) (firstAt rows wholeColumn k) (length s) ≡ octetAt s (filled .elements) k
-        same-octet = by-count ∙ ap (λ (n : ℕ). cond (ltb k n) (placeOf k (itemsOfStream s)) (length s)) (sym (filled .holds .counted))
+        same-octet : cond (ltb k count) (firstAt rows wholeColumn k) (length s) ≡ octetAt s (held .elements) k
+        same-octet = by-count ∙ ap (λ (n : ℕ). cond (ltb k n) (placeOf k (itemsOfStream s)) (length s)) (sym (held .holds .counted))

@@ -11,9 +11,10 @@ ghost use Prim.Native.Nat.{ℕ, _*_, _≤_};
 ghost use lib.ListN.{length};
 ghost use Rattle.octets.specs.Walk.{streamLimit, walkOf};
 ghost use Rattle.index.specs.Rows.{scratchWidth};
-ghost use Rattle.letters.specs.Scratch.{Filled};
 ghost use Rattle.order.specs.Fault.{FaultIn};
-ghost use Rattle.owners.specs.Owner.{Known};
+ghost use Rattle.letters.specs.Scratch.{LetterRows};
+ghost use Rattle.ordered.specs.Ordered.{Filed};
+ghost use Rattle.index.specs.Columns.{identifierColumn};
 ghost use Rattle.order.specs.Computed.{orderIn};
 ghost use Rattle.orders.specs.Orders.{faultPlace};
 
@@ -21,7 +22,8 @@ const OUT_OF_ORDER: u32 = 26;
 
 // Where the elements leave the order of a class.
 fn fault_in(s: &[u8], class: Class, rows: &[u32], head: &[u16], next: &[u16], n: usize) -> Fault
-    requires { ⌜ Known (now s) (now rows) (now head) (now next) n ⌝ }
+    requires { ⌜ ((edition : Edition) × LetterRows edition (now s) (now rows) n) ⌝ }
+    requires { ⌜ Filed (now s) (now rows) identifierColumn (now head) (now next) n ⌝ }
     ensures { λ r. ⌜ FaultIn class (now (s .entry)) (now (rows .entry)) n r ⌝ }
 {
     match class {
@@ -47,7 +49,7 @@ fn out_of_order(stream: &[u8], rows: &[u32], count: usize, element: usize) -> Or
     }
 }
 
-// The order of a letter, of which the judge filled the scratch.
+// The order of a letter, by its rows.
 pub fn order_judged(
     edition: Edition,
     stream: &[u8],
@@ -55,12 +57,11 @@ pub fn order_judged(
     rows: &[u32],
     head: &[u16],
     next: &[u16],
-    head2: &[u16],
-    next2: &[u16],
     count: usize,
 ) -> Ordered
     requires { ⌜ ((headers : ℕ) × (walkOf (now stream) ≡ Outcome.Ended (length (now stream)) headers)) ⌝ }
-    requires { ⌜ Filled edition (now stream) (now rows) (now head) (now next) (now head2) (now next2) count ⌝ }
+    requires { ⌜ LetterRows edition (now stream) (now rows) count ⌝ }
+    requires { ⌜ Filed (now stream) (now rows) identifierColumn (now head) (now next) count ⌝ }
     ensures { λ r. ⌜ r ≡ orderIn edition class (now (stream .entry)) ⌝ }
 {
     match fault_in(stream, class, rows, head, next, count) {

@@ -10,8 +10,7 @@ use Rattle.headers.specs.Head.{isIn}
 use Rattle.names.specs.Names.{same}
 use Rattle.runs.specs.Runs.{treeIn, Fine}
 use Rattle.portions.specs.Portions.{mostPortions, allPortions, values}
-use Rattle.index.specs.Columns.{identifierColumn, logicalColumn, kindAt, Bounded}
-use Rattle.ordered.specs.Ordered.{Filed}
+use Rattle.index.specs.Columns.{kindAt}
 use Rattle.elements.specs.Judge.{Element}
 use Rattle.reading.specs.declared.Match.{Match}
 use Rattle.reading.specs.declared.Side.{Side}
@@ -32,14 +31,6 @@ OwnerIs side elements unit Nobody = (element portion : ℕ) → matchOf element 
 -- of whatever elements the rows tell
 abbrev pub OwnerAt : Side → (s rows : List ℕ) → (n unit : ℕ) → Owner → Type 0
 OwnerAt side s rows n unit owner = (elements : List Element) → RowsTell s rows n elements → OwnerIs side elements unit owner
-
--- what is known when owners are looked up: the rows of an accepted letter, and the index of its identifiers
-pub record Known (s rows head next : List ℕ) (n : ℕ) : Type 0 where
-  pub elements : List Element
-  pub ready : RowsTell s rows n elements
-  pub identifiers : Bounded s rows identifierColumn n
-  pub logicals : Bounded s rows logicalColumn n
-  pub indexed : Filed s rows identifierColumn head next n
 
 -- a row's portions
 abbrev pub listedAt : (s rows : List ℕ) → (j : ℕ) → List (List ℕ)

@@ -12,7 +12,10 @@ ghost use lib.Seq.{slice};
 ghost use Rattle.index.specs.Rows.{scratchWidth};
 ghost use Rattle.index.specs.Columns.{identifierColumn, kindAt};
 ghost use Rattle.reading.specs.Ready.{spanAt, there};
-ghost use Rattle.owners.specs.Owner.{OwnerAt, Known, Meetable, ownerAmong, listedAt, ownerBy};
+ghost use Rattle.letters.specs.Scratch.{LetterRows};
+ghost use Rattle.elements.specs.declared.Edition.{Edition};
+ghost use Rattle.ordered.specs.Ordered.{Filed};
+ghost use Rattle.owners.specs.Owner.{OwnerAt, Meetable, ownerAmong, listedAt, ownerBy};
 
 // The kind of a text unit.
 const TEXT_UNIT: usize = 3;
@@ -123,7 +126,8 @@ pub fn owner_of(
     side: Side,
     u: usize,
 ) -> Owner
-    requires { ⌜ Known (now s) (now rows) (now head) (now next) n ⌝ }
+    requires { ⌜ ((edition : Edition) × LetterRows edition (now s) (now rows) n) ⌝ }
+    requires { ⌜ Filed (now s) (now rows) identifierColumn (now head) (now next) n ⌝ }
     requires { ⌜ u < n ⌝ }
     ensures { λ r. ⌜ OwnerAt side (now (s .entry)) (now (rows .entry)) n u r ⌝ }
 {

@@ -7,21 +7,13 @@ use native.Mathlib.Numerals.{add-one}
 use lib.Dec.{eqb}
 use lib.ListN.{length}
 use borrow.Table.Steps.{cases}
-use Rattle.index.specs.Rows.{scratchWidth}
 use Rattle.index.specs.Columns.{kindAt}
 use Rattle.elements.specs.Judge.{Element}
 use Rattle.reading.specs.Ready.{RowsTell, elementAt}
 use Rattle.order.specs.PassA.{countIf}
 use Rattle.owners.proofs.Telling.{kind-told, lists-told, meetable}
-use Rattle.turns.specs.Turns.{countsIn, Told, before, Reaches}
+use Rattle.turns.specs.Turns.{countsIn, before, Reaches}
 use Rattle.turns.proofs.Slots.{before-more}
-
--- there are few rows, and each is one of the table
-pub few-rows : {s rows : List ℕ} {n : ℕ} → Told s rows n → n ≤ 4096
-few-rows told = omega (arith, told .ready .apart .few, told .ready .counted)
-
-pub row-inside : {s rows : List ℕ} {n : ℕ} → Told s rows n → (j : ℕ) → j < n → j * scratchWidth + scratchWidth ≤ length rows
-row-inside told j l = omega (arith, told .in-table)
 
 -- what was counted up to a row
 pub record Counted (s rows : List ℕ) (n kind row base at total : ℕ) : Type 0 where
@@ -31,13 +23,13 @@ pub record Counted (s rows : List ℕ) (n kind row base at total : ℕ) : Type 0
 pub counted-none : (s rows : List ℕ) (n kind row base : ℕ) → base ≤ 64 * row → Counted s rows n kind row base row base
 counted-none s rows n kind row base l = record { small = l; is = λ elements ready e. e }
 
-pub counts-few : {s rows : List ℕ} {n : ℕ} → Told s rows n → (kind j : ℕ) → j < n → countsIn s rows kind j ≤ 64
+pub counts-few : {s rows : List ℕ} {n : ℕ} {elements : List Element} → RowsTell s rows n elements → (kind j : ℕ) → j < n → countsIn s rows kind j ≤ 64
 unfolding countsIn
 counts-few {s} {rows} told kind j l =
-    let few = meetable (told .ready) j l .few in
+    let few = meetable told j l .few in
     cases (eqb (kindAt rows j) kind) (λ t. rw t few) (λ t. rw t (omega arith))
 
-module _ {s rows : List ℕ} {n kind row base at total : ℕ} (c : Counted s rows n kind row base at total) (told : Told s rows n) (l : at < n) where
+module _ {s rows : List ℕ} {n kind row base at total : ℕ} {of-letter : List Element} (c : Counted s rows n kind row base at total) (told : RowsTell s rows n of-letter) (l : at < n) where
   counts-is : (elements : List Element) → RowsTell s rows n elements → countsIn s rows kind at ≡ countIf (eqb (elementAt elements at .kind) kind) (length (elementAt elements at .portions))
   unfolding countsIn
   counts-is elements ready = rw (kind-told ready at l, lists-told ready at l)

@@ -8,7 +8,6 @@ use mathlib.Core.List.{List, [], _∷_}
 use lib.Dec.{eqb, leb, ltb}
 use lib.ListN.{length, take}
 use Rattle.headers.specs.Head.{isIn}
-use Rattle.index.specs.Rows.{scratchWidth}
 use Rattle.index.specs.Columns.{kindAt}
 use Rattle.elements.specs.Judge.{Element}
 use Rattle.reading.specs.declared.Side.{Side}
@@ -71,12 +70,6 @@ counts layout a logical b = countIf (eqb (layout .kind) a) 1 + countIf (eqb (log
 -- what row j lists, if it is of a kind
 unfoldable pub countsIn : (s rows : List ℕ) → (kind j : ℕ) → ℕ
 countsIn s rows kind j = countIf (eqb (kindAt rows j) kind) (length (listedAt s rows j))
-
--- the rows tell of elements, whichever they are
-pub record Told (s rows : List ℕ) (n : ℕ) : Type 0 where
-  pub elements : List Element
-  pub ready : RowsTell s rows n elements
-  pub in-table : n * scratchWidth ≤ length rows
 
 -- how many portions elements of a kind list before element j
 abbrev pub before : (kind : ℕ) → List Element → (j : ℕ) → ℕ

@@ -6,8 +6,11 @@ ghost use mathlib.Core.Path.{_≡_};
 ghost use Prim.Native.Nat.{_*_, _<_, _≤_};
 ghost use lib.ListN.{length};
 ghost use Rattle.index.specs.Rows.{scratchWidth};
-ghost use Rattle.owners.specs.Owner.{Known};
-ghost use Rattle.turns.specs.Turns.{RowBelow, ownOf, OwnAt, kindFor, ownFor, rowFor, turnFor, counts, countsIn, Told, Reaches};
+ghost use Rattle.letters.specs.Scratch.{LetterRows};
+ghost use Rattle.elements.specs.declared.Edition.{Edition};
+ghost use Rattle.ordered.specs.Ordered.{Filed};
+ghost use Rattle.index.specs.Columns.{identifierColumn};
+ghost use Rattle.turns.specs.Turns.{RowBelow, ownOf, OwnAt, kindFor, ownFor, rowFor, turnFor, counts, countsIn, Reaches};
 
 const LAYOUT_OBJECT: usize = 2;
 
@@ -63,7 +66,8 @@ pub fn look(
     side: Side,
     u: usize,
 ) -> Own
-    requires { ⌜ Known (now s) (now rows) (now head) (now next) n ⌝ }
+    requires { ⌜ ((edition : Edition) × LetterRows edition (now s) (now rows) n) ⌝ }
+    requires { ⌜ Filed (now s) (now rows) identifierColumn (now head) (now next) n ⌝ }
     requires { ⌜ u < n ⌝ }
     ensures { λ r. ⌜ OwnAt side (now (s .entry)) (now (rows .entry)) n u r ⌝ }
 {
@@ -137,7 +141,8 @@ pub fn count_kinds(layout: Own, a: usize, logical: Own, b: usize) -> usize
 
 // How many portions row j lists, if it is of a kind.
 fn count_in(s: &[u8], rows: &[u32], n: usize, kind: usize, j: usize) -> usize
-    requires { ⌜ Told (now s) (now rows) n × (j < n) ⌝ }
+    requires { ⌜ ((edition : Edition) × LetterRows edition (now s) (now rows) n) ⌝ }
+    requires { ⌜ j < n ⌝ }
     ensures { λ r. ⌜ r ≡ countsIn (now (s .entry)) (now (rows .entry)) kind j ⌝ }
 {
     if owners::kind_at(rows, j) == kind {
@@ -156,7 +161,7 @@ pub fn reach(
     base: usize,
     to: usize,
 ) -> usize
-    requires { ⌜ Told (now s) (now rows) n ⌝ }
+    requires { ⌜ ((edition : Edition) × LetterRows edition (now s) (now rows) n) ⌝ }
     requires { ⌜ (row ≤ to) × (to ≤ n) × (base ≤ 64 * row) ⌝ }
     ensures { λ r. ⌜ Reaches (now (s .entry)) (now (rows .entry)) n kind row base to r ⌝ }
 {

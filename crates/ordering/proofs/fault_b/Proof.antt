@@ -16,7 +16,7 @@ returns : tie.Need-returns
 returns c elements ready aside = none-fault elements (ready .counted ∙ c .if1 .taken)
 
 first-step-requires : tie.Need-first-step-requires
-first-step-requires c κs = (c .before .before .before .before .before .pre, positive _ (c .if1 .left))
+first-step-requires c κs = let start = c .before .before .before .before .before in (start .pre .0, (start .pre .1, positive _ (c .if1 .left)))
 
 enum-told : tie.Need-enum-told
 enum-told c = search needs
@@ -25,7 +25,7 @@ enum-known-start : tie.Need-enum-known-start
 enum-known-start c = search needs
 
 pass-requires : tie.Need-pass-requires
-pass-requires c κs = (c .before .before .before .before .before .before .before .before .before .pre, positive _ (c .before .before .before .before .if1 .left))
+pass-requires c κs = let start = c .before .before .before .before .before .before .before .before .before in (start .pre .0, (start .pre .1, positive _ (c .before .before .before .before .if1 .left)))
 
 returns-2 : tie.Need-returns-2
 returns-2 c elements ready aside =

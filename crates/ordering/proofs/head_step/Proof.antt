@@ -3,6 +3,7 @@ use mathlib.Core.Path.{sym, _∙_}
 use native.Mathlib.Omega.{arith}
 use borrow.Author.Needs.{needs}
 use borrow.Author.Tests.{not-true, not-false}
+use Rattle.reading.proofs.Scratch.{rows-tell}
 use Rattle.owners.proofs.Telling.{meetable}
 use Rattle.ordering.specs.Steps.{stateOf}
 use Rattle.ordering.proofs.Seeing.{head-not, head-cannot, head-goes}
@@ -10,7 +11,7 @@ use Rattle.ordering.proofs.head_step.Statement.{statement}
 use Rattle.ordering.proofs.head_step.Tie as tie
 
 kind-at-requires : tie.Need-kind-at-requires
-kind-at-requires c κs = let start = c .before .before .before .before in omega (arith, start .pre .1, start .pre .0 .identifiers .in-table)
+kind-at-requires c κs = let start = c .before .before .before .before in omega (arith, start .pre .1 .1, start .pre .0 .1 .holds .identifiers .in-table)
 
 may-follow-requires : tie.Need-may-follow-requires
 may-follow-requires c κs = search needs
@@ -19,16 +20,16 @@ returns : tie.Need-returns
 returns c elements ready aside =
     let start = c .before .before .before .before .before .before .before in
     let kind = c .before .before in
-    head-not ready (start .args .j) (start .pre .1) (stateOf (start .args .state)) (kind .kind-at .result) (kind .kind-at .ensures)
+    head-not ready (start .args .j) (start .pre .1 .1) (stateOf (start .args .state)) (kind .kind-at .result) (kind .kind-at .ensures)
     (sym (c .before .may-follow .ensures) ∙ not-true _ (c .if1 .taken))
 
 portions-of-requires : tie.Need-portions-of-requires
 portions-of-requires c κs =
     let start = c .before .before .before .before .before .before .before in
-    (omega (arith, start .pre .1, start .pre .0 .identifiers .in-table), meetable (start .pre .0 .ready) (start .args .j) (start .pre .1))
+    (omega (arith, start .pre .1 .1, start .pre .0 .1 .holds .identifiers .in-table), meetable (rows-tell (start .pre .0 .1)) (start .args .j) (start .pre .1 .1))
 
 can-come-requires : tie.Need-can-come-requires
-can-come-requires c κs = let start = c .before .before .before .before .before .before .before .before in omega (arith, start .pre .1, start .pre .0 .identifiers .in-table)
+can-come-requires c κs = let start = c .before .before .before .before .before .before .before .before in omega (arith, start .pre .1 .1, start .pre .0 .1 .holds .identifiers .in-table)
 
 returns-2 : tie.Need-returns-2
 returns-2 c elements ready aside =
@@ -36,7 +37,7 @@ returns-2 c elements ready aside =
     let kind = c .before .before .before .before .before in
     let lists = c .before .before .portions-of in
     let can = c .before .can-come in
-    head-cannot ready (start .args .j) (start .pre .1) (kind .kind-at .result) (lists .result) (can .result) (kind .kind-at .ensures) (lists .ensures) (can .ensures)
+    head-cannot ready (start .args .j) (start .pre .1 .1) (kind .kind-at .result) (lists .result) (can .result) (kind .kind-at .ensures) (lists .ensures) (can .ensures)
     (stateOf (start .args .state)) (sym (c .before .before .before .before .may-follow .ensures) ∙ not-false _ (c .before .before .before .if1 .left)) (not-true _ (c .if2 .taken))
 
 rank-of-requires : tie.Need-rank-of-requires
@@ -48,7 +49,7 @@ returns-3 c elements ready aside =
     let kind = c .before .before .before .before .before .before in
     let lists = c .before .before .before .portions-of in
     let can = c .before .before .can-come in
-    head-goes ready (start .args .j) (start .pre .1) (kind .kind-at .result) (lists .result) (can .result) (kind .kind-at .ensures) (lists .ensures) (can .ensures)
+    head-goes ready (start .args .j) (start .pre .1 .1) (kind .kind-at .result) (lists .result) (can .result) (kind .kind-at .ensures) (lists .ensures) (can .ensures)
     (stateOf (start .args .state)) (sym (c .before .before .before .before .before .may-follow .ensures) ∙ not-false _ (c .before .before .before .before .if1 .left))
     (c .rank-of .result) (c .rank-of .ensures) (not-false _ (c .before .if2 .left))
 

@@ -11,6 +11,7 @@ use Rattle.elements.specs.Judge.{Element}
 use Rattle.reading.specs.Ready.{RowsTell}
 use Rattle.order.specs.Represents.{LimitsAside}
 use Rattle.order.specs.declared.Fault.the-variants.{Nowhere, At}
+use Rattle.owners.proofs.Telling.{few-rows}
 use Rattle.ordering.specs.Steps.{stateOf, stepOf}
 use Rattle.ordering.proofs.Passing.{passFrom, pass-stops, pass-goes, pass-ends}
 use Rattle.ordering.proofs.pass.Statement.{statement}
@@ -25,10 +26,10 @@ abbrev μ-loop : tie.MeasureT-loop
 μ-loop s rows head next n state₀ j₀ state j = n - j
 
 loop-holds : tie.Need-loop-holds Inv-loop μ-loop
-loop-holds c = let some-rows = c .before .before .before .before .pre .1 in (omega arith, omega arith, λ elements ready aside. refl)
+loop-holds c = let some-rows = c .before .before .before .before .pre .1 .1 in (omega arith, omega arith, λ elements ready aside. refl)
 
 step-b-requires : tie.Need-step-b-requires Inv-loop μ-loop
-step-b-requires c κs = (c .before .before .before .before .before .before .pre .0, c .loop-test .taken)
+step-b-requires c κs = let start = c .before .before .before .before .before .before in (start .pre .0, (start .pre .1 .0, c .loop-test .taken))
 
 enum-told : tie.Need-enum-told Inv-loop μ-loop
 enum-told c = search needs
@@ -44,7 +45,7 @@ enum-known-after : tie.Need-enum-known-after Inv-loop μ-loop
 enum-known-after c = search needs
 
 add-j : tie.Need-add-j Inv-loop μ-loop
-add-j c = let known = c .before .before .before .before .before .before .before .before .before .before .pre .0 in omega (arith, c .before .before .before .before .loop-test .taken, known .ready .counted, known .ready .apart .few)
+add-j c = let known = c .before .before .before .before .before .before .before .before .before .before .pre .0 in omega (arith, c .before .before .before .before .loop-test .taken, few-rows (known .1))
 
 loop-less : tie.Need-loop-less Inv-loop μ-loop
 loop-less c = omega (arith, c .before .before .before .before .loop-test .taken)

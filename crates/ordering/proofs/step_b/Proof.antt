@@ -8,7 +8,7 @@ use Rattle.ordering.proofs.step_b.Statement.{statement}
 use Rattle.ordering.proofs.step_b.Tie as tie
 
 kind-at-requires : tie.Need-kind-at-requires
-kind-at-requires c κs = let start = c .before .before .before .before in omega (arith, start .pre .1, start .pre .0 .identifiers .in-table)
+kind-at-requires c κs = let start = c .before .before .before .before in omega (arith, start .pre .1 .1, start .pre .0 .1 .holds .identifiers .in-table)
 
 unit-step-requires : tie.Need-unit-step-requires
 unit-step-requires c κs = search needs
@@ -17,7 +17,7 @@ returns : tie.Need-returns
 returns c elements ready aside =
     let start = c .before .before .before .before .before .before .before in
     c .unit-step .ensures elements ready aside
-    ∙ step-unit ready (start .args .j) (start .pre .1) (stateOf (start .args .state)) (sym (c .before .before .kind-at .ensures) ∙ c .before .if1 .taken)
+    ∙ step-unit ready (start .args .j) (start .pre .1 .1) (stateOf (start .args .state)) (sym (c .before .before .kind-at .ensures) ∙ c .before .if1 .taken)
 
 head-step-requires : tie.Need-head-step-requires
 head-step-requires c κs = search needs
@@ -26,7 +26,7 @@ returns-2 : tie.Need-returns-2
 returns-2 c elements ready aside =
     let start = c .before .before .before .before .before .before .before in
     c .head-step .ensures elements ready aside
-    ∙ step-head ready (start .args .j) (start .pre .1) (stateOf (start .args .state)) (λ e. c .before .if1 .left (c .before .before .kind-at .ensures ∙ e))
+    ∙ step-head ready (start .args .j) (start .pre .1 .1) (stateOf (start .args .state)) (λ e. c .before .if1 .left (c .before .before .kind-at .ensures ∙ e))
 
 pub step-b-spec : {M : Type 1} → statement M
 step-b-spec =

@@ -21,7 +21,7 @@ returns : tie.Need-returns
 returns c elements ready aside =
     let start = c .before .before .before .before .before .before .before .before .before .before in
     let found = c .before .before .before .row .given in
-    unit-other ready (start .args .u) (start .pre .1) aside (stateOf (start .args .state)) (found .0 .0) (found .0 .1 .0)
+    unit-other ready (start .args .u) (start .pre .1 .1) aside (stateOf (start .args .state)) (found .0 .0) (found .0 .1 .0)
     (subst (OwnerIs Layout elements (start .args .u)) (found .1) (c .before .before .before .before .before .owner-of .ensures elements ready)) (c .if1 .taken)
 
 one-fewer-requires : tie.Need-one-fewer-requires
@@ -30,14 +30,14 @@ one-fewer-requires c κs = search needs
 returns-2 : tie.Need-returns-2
 returns-2 c elements ready aside =
     let start = c .before .before .before .before .before .before .before in
-    unit-nobody ready (start .args .u) (start .pre .1) aside (stateOf (start .args .state))
+    unit-nobody ready (start .args .u) (start .pre .1 .1) aside (stateOf (start .args .state))
     (subst (OwnerIs Layout elements (start .args .u)) (c .enum-told .given .1) (c .before .before .owner-of .ensures elements ready))
 
 returns-3 : tie.Need-returns-3
 returns-3 c elements ready aside =
     let start = c .before .before .before .before .before .before .before .before .before .before .before in
     let found = c .before .before .before .before .row .given in
-    unit-own ready (start .args .u) (start .pre .1) aside (stateOf (start .args .state)) (found .0 .0) (found .0 .1 .0)
+    unit-own ready (start .args .u) (start .pre .1 .1) aside (stateOf (start .args .state)) (found .0 .0) (found .0 .1 .0)
     (subst (OwnerIs Layout elements (start .args .u)) (found .1) (c .before .before .before .before .before .before .owner-of .ensures elements ready)) (c .one-fewer .result) (c .one-fewer .ensures) (c .before .if1 .left)
 
 pub unit-step-spec : {M : Type 1} → statement M

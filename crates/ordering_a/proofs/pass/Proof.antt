@@ -4,8 +4,8 @@ use Prim.Native.Nat.{_-_}
 use native.Mathlib.Omega.{arith}
 use Rattle.ordering_a.specs.Pass.{StepAt}
 use borrow.Author.Needs.{needs}
-use Rattle.turns.proofs.Reaching.{few-rows}
-use Rattle.ordering_a.proofs.Stepping.{told-of, Walking, walking-first, walking-more, walking-stops, walking-ends, walking-whole}
+use Rattle.owners.proofs.Telling.{few-rows}
+use Rattle.ordering_a.proofs.Stepping.{Walking, walking-first, walking-more, walking-stops, walking-ends, walking-whole}
 use Rattle.ordering_a.proofs.pass.Statement.{statement}
 use Rattle.ordering_a.proofs.pass.Tie as tie
 
@@ -19,19 +19,19 @@ first-walk-requires : tie.Need-first-walk-requires Inv-loop μ-loop
 first-walk-requires c κs = search needs
 
 loop-holds : tie.Need-loop-holds Inv-loop μ-loop
-loop-holds c = let start = c .before .before .before .before .before in rw (c .first-walk .ensures) (walking-first (told-of (start .pre .0)) (start .pre .1 .0) (start .pre .1 .1))
+loop-holds c = let start = c .before .before .before .before .before in rw (c .first-walk .ensures) (walking-first (start .pre .1 .1 .0) (start .pre .1 .1 .1))
 
 add-k : tie.Need-add-k Inv-loop μ-loop
-add-k c = let start = c .before .before .before .before .before .before .before in omega (arith, few-rows (told-of (start .pre .0)))
+add-k c = let start = c .before .before .before .before .before .before .before in omega (arith, few-rows (start .pre .0 .1))
 
 look-requires : tie.Need-look-requires Inv-loop μ-loop
-look-requires c κs = let start = c .before .before .before .before .before .before .before in (start .pre .0, omega arith)
+look-requires c κs = let start = c .before .before .before .before .before .before .before in (start .pre .0, (start .pre .1 .0, omega arith))
 
 look-requires-2 : tie.Need-look-requires-2 Inv-loop μ-loop
-look-requires-2 c κs = let start = c .before .before .before .before .before .before .before .before in (start .pre .0, omega arith)
+look-requires-2 c κs = let start = c .before .before .before .before .before .before .before .before in (start .pre .0, (start .pre .1 .0, omega arith))
 
 take-row-requires : tie.Need-take-row-requires Inv-loop μ-loop
-take-row-requires c κs = let start = c .before .before .before .before .before .before .before .before .before in ((told-of (start .pre .0), omega arith), (c .before .before .before .loop .inv .bounds, (c .before .look .ensures, c .look2 .ensures)))
+take-row-requires c κs = let start = c .before .before .before .before .before .before .before .before .before in ((start .pre .0, omega arith), (c .before .before .before .loop .inv .bounds, (c .before .look .ensures, c .look2 .ensures)))
 
 enum-told : tie.Need-enum-told Inv-loop μ-loop
 enum-told c = search needs

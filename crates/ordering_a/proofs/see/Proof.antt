@@ -1,7 +1,7 @@
 -- `ordering_a::see` meets its contract: number by number. Assumes nothing.
 use Rattle.ordering_a.specs.Pass.{sightFor}
-use Rattle.owners.proofs.Telling.{meetable}
-use Rattle.turns.proofs.Reaching.{row-inside}
+use Rattle.reading.proofs.Scratch.{rows-tell}
+use Rattle.owners.proofs.Telling.{row-inside, meetable}
 use borrow.Author.Needs.{needs}
 use Rattle.ordering_a.proofs.see.Statement.{statement}
 use Rattle.ordering_a.proofs.see.Tie as tie
@@ -13,13 +13,13 @@ kind-for-requires : tie.Need-kind-for-requires
 kind-for-requires c κs = search needs
 
 kind-at-requires : tie.Need-kind-at-requires
-kind-at-requires c κs = let start = c .before .before .before .before in row-inside (start .pre .0) (start .args .k) (start .pre .1)
+kind-at-requires c κs = let start = c .before .before .before .before in row-inside (start .pre .0 .1) (start .args .k) (start .pre .1)
 
 is-named-requires : tie.Need-is-named-requires
-is-named-requires c κs = let start = c .before .before .before .before .before in row-inside (start .pre .0) (start .args .k) (start .pre .1)
+is-named-requires c κs = let start = c .before .before .before .before .before in row-inside (start .pre .0 .1) (start .args .k) (start .pre .1)
 
 portions-of-requires : tie.Need-portions-of-requires
-portions-of-requires c κs = let start = c .before .before .before .before .before .before in (row-inside (start .pre .0) (start .args .k) (start .pre .1), meetable (start .pre .0 .ready) (start .args .k) (start .pre .1))
+portions-of-requires c κs = let start = c .before .before .before .before .before .before in (row-inside (start .pre .0 .1) (start .args .k) (start .pre .1), meetable (rows-tell (start .pre .0 .1)) (start .args .k) (start .pre .1))
 
 count-kinds-requires : tie.Need-count-kinds-requires
 count-kinds-requires c κs = search needs

@@ -25,7 +25,7 @@ reach-requires c κs =
     let by = c .before .before .kind-for in
     let to = c .row-for in
     let row-is = to .ensures ∙ ap (λ (o : Own). rowFor o (by .result) (a .w .row)) (c .before .own-for .ensures) in
-    (start .pre .0 .0, (row-on (start .pre .0 .0) (a .k) (start .pre .0 .1) (a .w) (start .pre .1 .0) (a .layout) (a .logical) (start .pre .1 .1 .0) (start .pre .1 .1 .1) (by .result) (to .result) (by .ensures) row-is, omega (arith, row-low (start .pre .0 .0) (a .k) (start .pre .0 .1) (a .w) (start .pre .1 .0) (a .layout) (a .logical) (start .pre .1 .1 .0) (start .pre .1 .1 .1) (by .result) (to .result) (by .ensures) row-is, start .pre .0 .1), start .pre .1 .0 .base))
+    (start .pre .0 .0, (row-on (start .pre .0 .0 .1) (a .k) (start .pre .0 .1) (a .w) (start .pre .1 .0) (a .layout) (a .logical) (start .pre .1 .1 .0) (start .pre .1 .1 .1) (by .result) (to .result) (by .ensures) row-is, omega (arith, row-low (start .pre .0 .0 .1) (a .k) (start .pre .0 .1) (a .w) (start .pre .1 .0) (a .layout) (a .logical) (start .pre .1 .1 .0) (start .pre .1 .1 .1) (by .result) (to .result) (by .ensures) row-is, start .pre .0 .1), start .pre .1 .0 .base))
 
 see-requires : tie.Need-see-requires
 see-requires c κs = let start = c .before .before .before .before .before .before in (start .pre .0 .0, start .pre .0 .1)
@@ -42,7 +42,7 @@ returns c =
     let row-is = to .ensures ∙ ap (λ (o : Own). rowFor o (by .result) (a .w .row)) (c .before .before .before .before .before .own-for .ensures) in
     let base = c .before .before .before .reach in
     let x = c .before .before .see in
-    stops (start .pre .0 .0) (a .k) (start .pre .0 .1) (a .w) (start .pre .1 .0) (a .layout) (a .logical) (start .pre .1 .1 .0) (start .pre .1 .1 .1) (by .result) (to .result) (by .ensures) row-is (base .result) (base .ensures) (x .result) (x .ensures) (sym (c .before .may-stand .ensures) ∙ not-true _ (c .if1 .taken))
+    stops (start .pre .0 .0 .1) (a .k) (start .pre .0 .1) (a .w) (start .pre .1 .0) (a .layout) (a .logical) (start .pre .1 .1 .0) (start .pre .1 .1 .1) (by .result) (to .result) (by .ensures) row-is (base .result) (base .ensures) (x .result) (x .ensures) (sym (c .before .may-stand .ensures) ∙ not-true _ (c .if1 .taken))
 
 walk-on-requires : tie.Need-walk-on-requires
 walk-on-requires c κs =
@@ -53,7 +53,7 @@ walk-on-requires c κs =
     let row-is = to .ensures ∙ ap (λ (o : Own). rowFor o (by .result) (a .w .row)) (c .before .before .before .before .before .own-for .ensures) in
     let base = c .before .before .before .reach in
     let x = c .before .before .see in
-    small-is (start .pre .0 .0) (a .k) (start .pre .0 .1) (a .w) (start .pre .1 .0) (a .layout) (a .logical) (start .pre .1 .1 .0) (start .pre .1 .1 .1) (by .result) (to .result) (by .ensures) row-is (base .result) (base .ensures) (x .result) (x .ensures)
+    small-is (start .pre .0 .0 .1) (a .k) (start .pre .0 .1) (a .w) (start .pre .1 .0) (a .layout) (a .logical) (start .pre .1 .1 .0) (start .pre .1 .1 .1) (by .result) (to .result) (by .ensures) row-is (base .result) (base .ensures) (x .result) (x .ensures)
 
 returns-2 : tie.Need-returns-2
 returns-2 c =
@@ -64,7 +64,7 @@ returns-2 c =
     let row-is = to .ensures ∙ ap (λ (o : Own). rowFor o (by .result) (a .w .row)) (c .before .before .before .before .before .before .own-for .ensures) in
     let base = c .before .before .before .before .reach in
     let x = c .before .before .before .see in
-    goes (start .pre .0 .0) (a .k) (start .pre .0 .1) (a .w) (start .pre .1 .0) (a .layout) (a .logical) (start .pre .1 .1 .0) (start .pre .1 .1 .1) (by .result) (to .result) (by .ensures) row-is (base .result) (base .ensures) (x .result) (x .ensures) (c .walk-on .result) (c .walk-on .ensures) (sym (c .before .before .may-stand .ensures) ∙ not-false _ (c .before .if1 .left))
+    goes (start .pre .0 .0 .1) (a .k) (start .pre .0 .1) (a .w) (start .pre .1 .0) (a .layout) (a .logical) (start .pre .1 .1 .0) (start .pre .1 .1 .1) (by .result) (to .result) (by .ensures) row-is (base .result) (base .ensures) (x .result) (x .ensures) (c .walk-on .result) (c .walk-on .ensures) (sym (c .before .before .may-stand .ensures) ∙ not-false _ (c .before .if1 .left))
 
 pub take-row-spec : {M : Type 1} → statement M
 take-row-spec =

@@ -12,15 +12,16 @@ use Rattle.index.specs.declared.RowFound.the-variants.{At, Nothing}
 use Rattle.index.specs.Columns.{identifierColumn, firstAt, pastAt, Bounded}
 use Rattle.index.specs.Index.{Has, FindsRow}
 use Rattle.reading.specs.Ready.{columnOf, spanAt}
+use Rattle.reading.proofs.Scratch.{rows-tell, bounded-on}
 use Rattle.parents.specs.Lookup.{objectSpace, LastSpace}
 use Rattle.owners.specs.Owner.{OwnerIs}
-use Rattle.owners.proofs.Telling.{meetable, bounded-on}
+use Rattle.owners.proofs.Telling.{meetable}
 use Rattle.owners.proofs.Finding.{no-unit, one-group, no-carrier, by-carrier}
 use Rattle.owners.proofs.owner_of.Statement.{statement}
 use Rattle.owners.proofs.owner_of.Tie as tie
 
 kind-at-requires : tie.Need-kind-at-requires
-kind-at-requires c κs = let start = c .before .before .before .before in omega (arith, start .pre .1, start .pre .0 .identifiers .in-table)
+kind-at-requires c κs = let start = c .before .before .before .before in omega (arith, start .pre .1 .1, start .pre .0 .1 .holds .identifiers .in-table)
 
 returns : tie.Need-returns
 returns c elements ready =
@@ -33,7 +34,7 @@ column-of-requires c κs = search needs
 bounds-at-requires : tie.Need-bounds-at-requires
 bounds-at-requires c κs =
     let start = c .before .before .before .before .before .before .before in
-    (rw (c .column-of .ensures) (bounded-on (start .pre .0) (start .args .side) .in-row), omega (arith, start .pre .1, start .pre .0 .identifiers .in-table))
+    (rw (c .column-of .ensures) (bounded-on (start .pre .0 .1) (start .args .side) .in-row), omega (arith, start .pre .1 .1, start .pre .0 .1 .holds .identifiers .in-table))
 
 -- the unit's name of the side
 name-is : (c : tie.After-bounds-at) → let a = c .before .before .before .before .before .before .before .before .args in c .bounds-at .result ≡ spanAt (a .rows .now) (columnOf (a .side)) (a .u)
@@ -43,8 +44,8 @@ within : (c : tie.After-bounds-at) → let a = c .before .before .before .before
     (c .bounds-at .result .first ≤ c .bounds-at .result .past) × (c .bounds-at .result .past ≤ length (a .s .now))
 within c =
     let start = c .before .before .before .before .before .before .before .before in
-    let b = bounded-on (start .pre .0) (start .args .side) in
-    rw (name-is c) (b .ordered (start .args .u) (start .pre .1), b .inside (start .args .u) (start .pre .1))
+    let b = bounded-on (start .pre .0 .1) (start .args .side) in
+    rw (name-is c) (b .ordered (start .args .u) (start .pre .1 .1), b .inside (start .args .u) (start .pre .1 .1))
 
 last-space-requires : tie.Need-last-space-requires
 last-space-requires c κs = within c
@@ -63,7 +64,7 @@ carrier-requires : tie.Need-carrier-requires
 carrier-requires c κs =
     let start = c .before .before .before .before .before .before .before .before .before .before .before in
     let cut = c .before .before .last-space .ensures in
-    (start .pre .0 .identifiers, (start .pre .0 .indexed, (cut .after, omega (arith, cut .before, within (c .before .before .before) .1))))
+    (start .pre .0 .1 .holds .identifiers, (start .pre .1 .0, (cut .after, omega (arith, cut .before, within (c .before .before .before) .1))))
 
 -- the last space stands before the name's end, and that in the stream
 strict : (a b : ℕ) → a ≤ b → (a ≡ b → ⊥) → a < b
@@ -76,7 +77,7 @@ cut-before c =
     (strict (c .before .before .before .last-space .result) (name .bounds-at .result .past) (c .before .before .before .last-space .ensures .before) (c .before .if2 .left))
 
 inside : (c : tie.After-carrier) → let a = c .before .before .before .before .before .before .before .before .before .before .before .before .args in pastAt (a .rows .now) (columnOf (a .side)) (a .u) ≤ length (a .s .now)
-inside c = let start = c .before .before .before .before .before .before .before .before .before .before .before .before in bounded-on (start .pre .0) (start .args .side) .inside (start .args .u) (start .pre .1)
+inside c = let start = c .before .before .before .before .before .before .before .before .before .before .before .before in bounded-on (start .pre .0 .1) (start .args .side) .inside (start .args .u) (start .pre .1 .1)
 
 -- who carries what stands before it
 finds : (c : tie.After-carrier) → let a = c .before .before .before .before .before .before .before .before .before .before .before .before .args in
@@ -113,9 +114,9 @@ owner-by-requires c κs =
     let has = has-row c in
     let name = name-is (c .before .before .before .before .before .before .before) in
     let at = c .before .before .before in (
-      omega (arith, has .below, start .pre .0 .identifiers .in-table),
+      omega (arith, has .below, start .pre .0 .1 .holds .identifiers .in-table),
       (
-        meetable (start .pre .0 .ready) (c .before .row .given .0 .0) (has .below),
+        meetable (rows-tell (start .pre .0 .1)) (c .before .row .given .0 .0) (has .below),
         rw name (omega (arith, cut-before at), inside at),
       ),
     )
@@ -134,7 +135,7 @@ returns-4 c elements ready =
     let told = c .before in
     let at = told .before .before .before in
     let unit = sym (c .before .before .before .before .before .before .before .before .before .before .before .kind-at .ensures) ∙ c .before .before .before .before .before .before .before .before .before .before .if1 .left in
-    let by = by-carrier ready (a .side) (a .u) (last (at .before .before .before)) (cut-before at) (inside at) (told .before .row .given .0 .0) (has-row told) unit (start .pre .1) in
+    let by = by-carrier ready (a .side) (a .u) (last (at .before .before .before)) (cut-before at) (inside at) (told .before .row .given .0 .0) (has-row told) unit (start .pre .1 .1) in
     subst (OwnerIs (a .side) elements (a .u)) (sym (rw (name-is (at .before .before .before .before)) at (c .owner-by .ensures))) by
 
 pub owner-of-spec : {M : Type 1} → statement M

@@ -2,16 +2,16 @@
 use mathlib.Core.Path.{sym, _∙_}
 use borrow.Author.Tests.{eq-eqb, ne-eqb}
 use Rattle.turns.specs.Turns.{countsIn}
-use Rattle.owners.proofs.Telling.{meetable}
-use Rattle.turns.proofs.Reaching.{row-inside}
+use Rattle.reading.proofs.Scratch.{rows-tell}
+use Rattle.owners.proofs.Telling.{row-inside, meetable}
 use Rattle.turns.proofs.count_in.Statement.{statement}
 use Rattle.turns.proofs.count_in.Tie as tie
 
 kind-at-requires : tie.Need-kind-at-requires
-kind-at-requires c κs = let start = c .before .before in row-inside (start .pre .0) (start .args .j) (start .pre .1)
+kind-at-requires c κs = let start = c .before .before in row-inside (start .pre .0 .1) (start .args .j) (start .pre .1)
 
 portions-of-requires : tie.Need-portions-of-requires
-portions-of-requires c κs = let start = c .before .before .before .before in (row-inside (start .pre .0) (start .args .j) (start .pre .1), meetable (start .pre .0 .ready) (start .args .j) (start .pre .1))
+portions-of-requires c κs = let start = c .before .before .before .before in (row-inside (start .pre .0 .1) (start .args .j) (start .pre .1), meetable (rows-tell (start .pre .0 .1)) (start .args .j) (start .pre .1))
 
 returns : tie.Need-returns
 unfolding countsIn

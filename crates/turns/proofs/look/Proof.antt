@@ -1,6 +1,7 @@
 -- `turns::look` meets its contract: what the owner tells is so. Assumes nothing.
 use mathlib.Core.Path.{sym, subst}
 use Prim.Native.Nat.{_≤_}
+use Rattle.reading.proofs.Scratch.{rows-tell}
 use Rattle.turns.specs.declared.Own.{Own}
 use Rattle.turns.specs.Turns.{OwnIs}
 use Rattle.turns.proofs.Owning.{own-is, row-inside, row-low}
@@ -14,8 +15,8 @@ owner-of-requires c κs = search needs
 own-of-requires : tie.Need-own-of-requires
 own-of-requires c κs =
     let start = c .before .before .before .before .before in
-    let known = start .pre .0 in
-    (row-inside (known .ready) (start .args .side) (start .args .u) (start .pre .1) (c .owner-of .result) (c .owner-of .ensures (known .elements) (known .ready)), known .identifiers .in-table)
+    let known = rows-tell (start .pre .0 .1) in
+    (row-inside known (start .args .side) (start .args .u) (start .pre .1 .1) (c .owner-of .result) (c .owner-of .ensures _ known), start .pre .0 .1 .holds .identifiers .in-table)
 
 returns : tie.Need-returns
 returns c =
@@ -23,7 +24,7 @@ returns c =
     let a = start .args in
     record {
       is = λ elements ready. subst (OwnIs (a .side) elements (a .n) (a .u)) (sym (c .own-of .ensures))
-          (own-is ready (a .side) (a .u) (start .pre .1) (c .before .owner-of .result) (c .before .owner-of .ensures elements ready));
+          (own-is ready (a .side) (a .u) (start .pre .1 .1) (c .before .owner-of .result) (c .before .owner-of .ensures elements ready));
       in-rows = subst (λ (o : Own). o .row ≤ a .u) (sym (c .own-of .ensures)) (row-low (a .rows .now) (a .n) (a .u) (c .before .owner-of .result));
     }
 

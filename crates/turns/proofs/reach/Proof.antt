@@ -1,8 +1,9 @@
 -- `turns::reach` meets its contract: the rows are counted in turn. The measure is how many are left. Assumes nothing.
 use Prim.Native.Nat.{_-_, _<_, _≤_}
 use native.Mathlib.Omega.{arith}
+use Rattle.reading.proofs.Scratch.{rows-tell}
+use Rattle.owners.proofs.Telling.{few-rows}
 use Rattle.turns.proofs.Reaching.{Counted, counted-none, counts-few, counted-more, counted-all}
-use Rattle.turns.proofs.Reaching.{few-rows}
 use Rattle.turns.proofs.reach.Statement.{statement}
 use Rattle.turns.proofs.reach.Tie as tie
 
@@ -23,10 +24,10 @@ add-total c =
     let start = c .before .before .before .before .before in
     let at = c .before .before .loop in
     let l : at .at < start .args .n = omega (arith, start .pre .1 .1) in
-    omega (arith, at .inv .2 .small, counts-few (start .pre .0) (start .args .kind) (at .at) l, c .count-in .ensures, few-rows (start .pre .0))
+    omega (arith, at .inv .2 .small, counts-few (rows-tell (start .pre .0 .1)) (start .args .kind) (at .at) l, c .count-in .ensures, few-rows (start .pre .0 .1))
 
 add-at : tie.Need-add-at Inv-loop μ-loop
-add-at c = let start = c .before .before .before .before .before in omega (arith, few-rows (start .pre .0), start .pre .1 .1)
+add-at c = let start = c .before .before .before .before .before in omega (arith, few-rows (start .pre .0 .1), start .pre .1 .1)
 
 loop-less : tie.Need-loop-less Inv-loop μ-loop
 loop-less c = omega arith
@@ -36,7 +37,7 @@ loop-again c =
     let start = c .before .before .before .before .before in
     let at = c .before .before .loop in
     let l : at .at < start .args .n = omega (arith, start .pre .1 .1) in
-    (omega arith, omega arith, rw (c .count-in .ensures) (counted-more (at .inv .2) (start .pre .0) l))
+    (omega arith, omega arith, rw (c .count-in .ensures) (counted-more (at .inv .2) (rows-tell (start .pre .0 .1)) l))
 
 returns : tie.Need-returns Inv-loop μ-loop
 returns c = let at = c .before .loop in counted-all (at .inv .2) (omega arith)
