@@ -1,5 +1,5 @@
 -- `ordering_a::fault_a` meets its contract: the first is the profile, and then the pass. Assumes nothing.
-use mathlib.Core.Path.{_∙_}
+use mathlib.Core.Path.{sym, _∙_}
 use Prim.Native.Nat.{_<_}
 use native.Mathlib.Omega.{arith}
 use mathlib.Core.Logic.{inl, inr}
@@ -22,7 +22,9 @@ returns-2 c =
     λ elements ready aside. no-profile elements aside (inr (λ e. c .if2 .taken (c .before .kind-at .ensures ∙ kind-told ready 0 l ∙ e)))
 
 pass-requires : tie.Need-pass-requires
-pass-requires c κs = search needs
+pass-requires c κs =
+    let start = c .before .before .before .before .before .before .before in
+    (start .pre .0, (start .pre .1, (omega arith, sym (c .before .kind-at .ensures) ∙ c .if2 .left)))
 
 returns-3 : tie.Need-returns-3
 returns-3 c = search needs
