@@ -69,8 +69,8 @@
    1 comes first, then the first fault of 2 to 8 in stream order, then the elements in order, 9 to 15 in order within
    each, then 16, 17, 18, 19 or 20 where the question can give it; 21, 22 and 25 come after 20, 23, 24 and 26 after 15; of
    a whole reading 22 comes after 19. A refusal leaves the lent table, list, lines and output as they were, except that
-   19, 25 and the 22 of a whole reading leave the finished table. Counts are 0 with a refusal, except that these three
-   keep the element count and the check's header count comes with every answer.
+   19 and 25 leave the finished table. Counts are 0 with a refusal, except that these two keep the element count and the
+   check's header count comes with every answer.
 
    odif_make judges entries and no stream. Entries in order, from 0, and within one in this order, it gives 27; 14 for a
    bad identifier or portion, or both with a space between them over 64 octets; 15 for an identifier that an entry
@@ -240,7 +240,7 @@ typedef struct {
 typedef struct {
     uint32_t number;   /* 0, or the refusal: 1 to 16, 19, 22 */
     uint32_t place;    /* the refusal's place */
-    uint32_t elements; /* the rows filled, also with 19 and 22 */
+    uint32_t elements; /* the rows filled, also with 19 */
     uint32_t lines;    /* the lines filled */
     uint32_t length;   /* the octets written */
 } odif_shown;

@@ -29,8 +29,8 @@ use Rattle.letters.specs.Letter.{itemsOfStream}
 use Rattle.answers.specs.declared.Reason.{Reason}
 use Rattle.answers.specs.declared.Dated.{Dated}
 use Rattle.answers.specs.Answers.{ruled}
-use Rattle.answers.specs.Dates.{DateAnswer, noDate, dateAfter, profileIn, dateOf, datePlaces, soleSpan, dateSpan, datedAt, dated, Bounds, DateOutcome}
-use Rattle.answers.specs.Dating.{refusedDated, datedAs, Narrow}
+use Rattle.answers.specs.Dates.{DateAnswer, noDate, dateAfter, profileIn, dateOf, datePlaces, soleSpan, dateSpan, datedAt, dated, Bounds}
+use Rattle.answers.specs.Dating.{refusedDated, datedAs, Narrow, DateTells}
 use Rattle.answers.proofs.Letters.{letter-found}
 use Rattle.answers.proofs.Working.{is-letter}
 
@@ -174,7 +174,7 @@ found-narrow {s} {r} {d} a l =
 module _ (edition : Edition) (s : List ℕ) where
   -- of a letter
   pub date-told : ruled edition s .number ≡ 0 → {octet first past : ℕ} {inner rest : Run}
-      → Meeting s (wholeStream s) octet first past inner rest → {d : DateFound} → Answers s inner d → DateOutcome edition s (datedAs d)
+      → Meeting s (wholeStream s) octet first past inner rest → {d : DateFound} → Answers s inner d → DateTells edition s (datedAs d)
   unfolding dateOf dated
   date-told zero {inner = inner} m a =
       let f = found-told s inner (met-profile edition s zero m) (m .tree) (ruled edition s) zero a in
@@ -182,7 +182,7 @@ module _ (edition : Edition) (s : List ℕ) where
 
   -- of a stream that rules 1 to 15 refuse
   pub date-refused : (ruled edition s .number ≡ 0 → ⊥) → (number place : ℕ) → ruled edition s ≡ record { number = number; place = place }
-      → DateOutcome edition s (refusedDated number place)
+      → DateTells edition s (refusedDated number place)
   unfolding dateOf dated
   date-refused some number place e =
       let not-zero : (number ≡ 0 → ⊥) = λ z. some (ap (λ (r : Reason). r .number) e ∙ z) in

@@ -52,7 +52,7 @@ rule-formed edition false type value inside after = refl
 module _ (edition : Edition) (s : List ℕ) where
   first-told : {told : Dated} → Tells s (walkFirst s .items) (firstRuled edition s) told → FirstTells edition s told
   unfolding firstDateOf
-  first-told t = record { answered = t .answered; stands = t .stands }
+  first-told t = t .answered
 
   -- 1
   pub first-over : streamLimit < length s → FirstTells edition s (refusedDated 1 0)

@@ -1,14 +1,15 @@
 -- The lister's answer, table and numbers, case by case: what the stream is decides them, and the matches were counted before. Assumes
 -- nothing.
 use mathlib.Core.Path.{_≡_, refl, ap, sym, _∙_}
-use mathlib.Core.Bool.{true, false}
+use mathlib.Core.Bool.{true, false, true≢false}
 use mathlib.Core.List.{List, [], _++_}
 use Prim.Native.Nat.{ℕ, _<_, _≤_}
 use native.Mathlib.Omega.{arith}
 use lib.Dec.{eqb, ltb}
 use lib.ListN.{length, drop}
-use borrow.Author.Tests.{ne-eqb, lt-ltb, le-ltb}
+use borrow.Author.Tests.{ne-eqb, lt-ltb, le-ltb, ltb-false}
 use borrow.Table.Steps.{cases}
+use Rattle.headers.specs.Head.{isIn}
 use Rattle.elements.specs.declared.Edition.{Edition}
 use Rattle.elements.specs.Judge.{Element}
 use Rattle.letters.specs.Letter.{letter, refusal, letterIn}
@@ -19,9 +20,11 @@ use Rattle.reading.specs.Records.{records, ListsMatches}
 use Rattle.reading.proofs.Made.{length-records}
 use Rattle.reading.proofs.Scratch.{lists-records}
 use Rattle.answers.specs.declared.Listed.{Listed}
-use Rattle.answers.specs.Table.{rowsLent}
-use Rattle.answers.specs.Answers.{tableOf, listed, listedTable, matchesIn, listedList}
+use Rattle.answers.specs.Table.{rowsLent, tooFewRows}
+use Rattle.answers.specs.Answers.{listed, listedTable, matchesIn, listedList}
 use Rattle.answers.specs.Asking.{ListsFlat}
+use Rattle.answers.specs.Texts.{finishing, tableBy}
+use Rattle.answers.specs.Showing.{FindsMatches}
 use Rattle.answers.proofs.Small.{refusal-small}
 
 -- no records
@@ -39,37 +42,63 @@ module _ (edition : Edition) (side : Side) (s table flat : List ℕ) (room : ℕ
       let no-19 : eqb number 19 ≡ false = ne-eqb number 19 (λ z. omega arith) in
       record { answered = rw e; tabled = rw (e, some, no-19); stored = rw some (no-records flat); fits = omega arith; enough = omega arith }
 
-  module _ (headers : ℕ) (elements : List Element) (e : letterIn edition s ≡ letter headers elements) where
-    pub lists-16 : rowsLent table < length elements
-        → ListsFlat edition side s table room (record { number = 16; place = 0; elements = 0; matches = 0 }) table flat
-    unfolding listed listedTable
-    lists-16 few =
-        let t : ltb (rowsLent table) (length elements) ≡ true = lt-ltb _ _ few in
-        record { answered = rw (e, t); tabled = rw (e, t); stored = no-records flat; fits = omega arith; enough = omega arith }
+-- before the table is written
+module _ (edition : Edition) (side : Side) (s flat : List ℕ) (lent room : ℕ) (headers : ℕ) (elements : List Element) (e : letterIn edition s ≡ letter headers elements) where
+  pub finds-16 : lent < length elements → FindsMatches edition side s lent room (record { number = 16; place = 0; elements = 0; matches = 0 }) flat
+  unfolding listed
+  finds-16 few =
+      record {
+        answered = λ table same. let t : ltb (rowsLent table) (length elements) ≡ true = lt-ltb (rowsLent table) (length elements) (omega arith) in rw (e, t);
+        stored = no-records flat;
+        fits = omega arith;
+        enough = omega arith;
+      }
 
-    module _ (count : ℕ) (counted : length elements ≡ count) (enough-rows : count ≤ rowsLent table) (before : List ℕ) (m : ℕ) (lists : ListsMatches side elements before flat m) where
-      rows-enough : ltb (rowsLent table) (length elements) ≡ false
-      rows-enough = le-ltb (rowsLent table) (length elements) (omega arith)
+  module _ (count : ℕ) (counted : length elements ≡ count) (enough-rows : count ≤ lent) (before : List ℕ) (m : ℕ) (lists : ListsMatches side elements before flat m) where
+    rows-enough : (table : List ℕ) → rowsLent table ≡ lent → ltb (rowsLent table) (length elements) ≡ false
+    rows-enough table same = le-ltb (rowsLent table) (length elements) (omega arith)
 
-      pub lists-19 : room < m → ListsFlat edition side s table room (record { number = 19; place = 0; elements = count; matches = 0 }) (tableOf edition s table) flat
-      unfolding listed listedTable
-      lists-19 short =
-          let t = rows-enough in
-          let u : ltb room (length (matches side elements)) ≡ true = lt-ltb room (length (matches side elements)) (omega (arith, lists .counted)) in
-          record { answered = rw (e, t, u, counted); tabled = rw (e, t, u); stored = no-records flat; fits = omega arith; enough = omega arith }
+    pub finds-19 : room < m → FindsMatches edition side s lent room (record { number = 19; place = 0; elements = count; matches = 0 }) flat
+    unfolding listed
+    finds-19 short =
+        let u : ltb room (length (matches side elements)) ≡ true = lt-ltb room (length (matches side elements)) (omega (arith, lists .counted)) in
+        record { answered = λ table same. rw (e, rows-enough table same, u, counted); stored = no-records flat; fits = omega arith; enough = omega arith }
 
-      pub lists-letter : m ≤ room → ListsFlat edition side s table room (record { number = 0; place = 0; elements = count; matches = m }) (tableOf edition s table) flat
-      unfolding listed listedTable
-      lists-letter enough =
-          let t = rows-enough in
-          let u : ltb room (length (matches side elements)) ≡ false = le-ltb room (length (matches side elements)) (omega (arith, lists .counted)) in
-          let c = lists .counted in
-          record { answered = rw (e, t, u, counted, c); tabled = rw (e, t, u); stored = lists-records lists ∙ rw e; fits = lists .fits; enough = enough }
+    pub finds-letter : m ≤ room → FindsMatches edition side s lent room (record { number = 0; place = 0; elements = count; matches = m }) flat
+    unfolding listed
+    finds-letter enough =
+        let u : ltb room (length (matches side elements)) ≡ false = le-ltb room (length (matches side elements)) (omega (arith, lists .counted)) in
+        let c = lists .counted in
+        record {
+          answered = λ table same. rw (e, rows-enough table same, u, counted, c);
+          stored = lists-records lists ∙ rw e;
+          fits = lists .fits;
+          enough = enough;
+        }
 
--- the table is the finished one by another name
-pub retabled : {edition : Edition} {side : Side} {s table : List ℕ} {room : ℕ} {answer : Listed} {after finished flat : List ℕ} → after ≡ finished
-    → ListsFlat edition side s table room answer finished flat → ListsFlat edition side s table room answer after flat
-retabled e l = record { answered = l .answered; tabled = e ∙ l .tabled; stored = l .stored; fits = l .fits; enough = l .enough }
+module _ (edition : Edition) (side : Side) (s table : List ℕ) (room : ℕ) {lent : ℕ} {answer : Listed} {flat : List ℕ} (same : rowsLent table ≡ lent)
+    (l : FindsMatches edition side s lent room answer flat) where
+  -- the table has rows enough if it is finished: 16 is none of the numbers with which it is
+  pub finished-rows : {headers : ℕ} {elements : List Element} → letterIn edition s ≡ letter headers elements → isIn (answer .number) finishing ≡ true
+      → length elements ≤ rowsLent table
+  unfolding listed
+  finished-rows {headers} {elements} e finished =
+      cases (tooFewRows table elements)
+      (λ t.
+      let n : answer .number ≡ 16 = ap (λ (r : Listed). r .number) (l .answered table same) ∙ rw (e, t) in
+      absurd (true≢false (sym finished ∙ ap (λ (k : ℕ). isIn k finishing) n)))
+      (λ t. ltb-false (rowsLent table) (length elements) t)
+
+  -- and with the table at exit
+  pub lists-finished : {after : List ℕ} → after ≡ tableBy edition s table (answer .number) → ListsFlat edition side s table room answer after flat
+  unfolding listedTable
+  lists-finished e = record {
+    answered = l .answered table same;
+    tabled = e ∙ ap (λ (r : Listed). tableBy edition s table (r .number)) (l .answered table same);
+    stored = l .stored;
+    fits = l .fits;
+    enough = l .enough;
+  }
 
 -- the records that were answered, in front of what the list held, are the list at exit
 pub listed-list : (list : List Match) {edition : Edition} {side : Side} {s table : List ℕ} {answer : Listed} {after flat : List ℕ}

@@ -1,6 +1,6 @@
 -- The whole reading, case by case: what the list answered decides it, then whether all texts fit, and what is put is the texts of the list. Assumes
 -- nothing.
-use mathlib.Core.Path.{_≡_, refl, ap, sym, _∙_, subst}
+use mathlib.Core.Path.{_≡_, refl, ap, sym, _∙_}
 use mathlib.Core.Bool.{true, false, cond}
 use mathlib.Core.Option.{some}
 use mathlib.Core.List.{List, [], _++_}
@@ -9,8 +9,9 @@ use native.Mathlib.Omega.{arith}
 use lib.Dec.{eqb, ltb}
 use lib.ListN.{length, getD, drop, getElem?}
 use lib.Seq.{sets, sets-eq}
-use borrow.Author.Tests.{eq-eqb, ne-eqb, lt-ltb, le-ltb}
+use borrow.Author.Tests.{eqb-true, eqb-false, eq-eqb, ne-eqb, ltb-false}
 use borrow.Table.Steps.{cases}
+use Rattle.headers.specs.Head.{isIn}
 use Rattle.runs.specs.Runs.{wholeStream, Fine}
 use Rattle.elements.specs.declared.Edition.{Edition}
 use Rattle.elements.specs.Judge.{Element, joinedContent}
@@ -28,13 +29,13 @@ use Rattle.texts.proofs.Flat.{records-all, lines-all}
 use Rattle.texts.proofs.Fits.{texts-fit}
 use Rattle.answers.specs.declared.Listed.{Listed}
 use Rattle.answers.specs.declared.Shown.{Shown}
+use Rattle.answers.specs.Table.{rowsLent}
 use Rattle.answers.specs.Answers.{onto, listed, matchesIn, joinedIn, allOf}
-use Rattle.answers.specs.Asking.{ListsFlat}
-use Rattle.answers.specs.Texts.{textIn, textsIn, linesIn, linesLent, unshown, shownFrom, shown, shownLines, shownOutput, TextOutcome}
-use Rattle.answers.specs.Showing.{Listing, LinesNumbered, TextsFlat}
+use Rattle.answers.specs.Texts.{textIn, textsIn, linesIn, linesLent, finishing, tableBy, unshown, shownFrom, shown, shownTable, shownLines, shownOutput, TextOutcome}
+use Rattle.answers.specs.Showing.{FindsMatches, Listing, LinesNumbered, TextsFlat}
 use Rattle.answers.proofs.Judging.{Accepting}
 use Rattle.answers.proofs.Fetching.{of-unit}
-use Rattle.answers.proofs.Listing.{lists-refused}
+use Rattle.answers.proofs.Small.{refusal-small}
 
 -- the octets of a text by another name
 pub as-text : (text own out after : List ℕ) (k : ℕ) → text ≡ own → k ≡ length own → after ≡ own ++ drop k out → (k ≡ length text) × (after ≡ text ++ drop k out)
@@ -51,25 +52,51 @@ pub text-content : (edition : Edition) (s : List ℕ) {headers : ℕ} {elements 
 unfolding joinedIn
 text-content edition s e u unit there kind = ap (λ f. f .part) (of-unit edition s u e there kind allOf)
 
-module _ (edition : Edition) (side : Side) (s table : List ℕ) (room : ℕ) (out : List ℕ) {answer : Listed} {tableAfter flat : List ℕ}
-    (l : ListsFlat edition side s table room answer tableAfter flat) where
-  -- what the list answers tells what is shown
-  by-list : shown edition side s table room out ≡ shownFrom answer (textsIn edition side s) out
-  unfolding shown
-  by-list = ap (λ (r : Listed). shownFrom r (textsIn edition side s) out) (sym (l .answered))
+-- how a reading ends: all texts are put, or none
+pub data Ends (answer : Listed) (needed lent : ℕ) (told : Shown) : Type 0 where
+  put-all : answer .number ≡ 0 → needed ≤ lent → told ≡ record { number = 0; place = 0; elements = answer .elements; lines = answer .matches; length = needed }
+      → Ends answer needed lent told
+  put-none : (told .number ≡ 0 → ⊥) → told .lines ≡ 0 → Ends answer needed lent told
 
-  -- 1 to 16, 19
-  pub shows-refused : (answer .number ≡ 0 → ⊥) → TextsFlat edition side s table room out (unshown (answer .number) (answer .place) (answer .elements)) tableAfter flat out
-  unfolding shownOutput
-  shows-refused some-number =
+pub reading-ends : (answer : Listed) (needed lent : ℕ) → Ends answer needed lent (shownFrom answer needed lent)
+reading-ends answer needed lent =
+    cases (eqb (answer .number) 0)
+    (λ t.
+    cases (ltb lent needed)
+    (λ u.
+    let e : shownFrom answer needed lent ≡ unshown 22 0 0 = rw (t, u) in
+    put-none (λ z. let n = ap (λ (r : Shown). r .number) e in omega arith) (ap (λ (r : Shown). r .lines) e))
+    (λ u. put-all (eqb-true (answer .number) 0 t) (ltb-false lent needed u) (rw (t, u))))
+    (λ t.
+    let e : shownFrom answer needed lent ≡ unshown (answer .number) (answer .place) (answer .elements) = rw t in
+    put-none (λ z. eqb-false (answer .number) 0 t (sym (ap (λ (r : Shown). r .number) e) ∙ z)) (ap (λ (r : Shown). r .lines) e))
+
+-- the table is finished only if it is after the list
+finished-from : (answer : Listed) (needed lent : ℕ) → isIn (shownFrom answer needed lent .number) finishing ≡ true → isIn (answer .number) finishing ≡ true
+finished-from answer needed lent finished =
+    cases (eqb (answer .number) 0)
+    (λ t. rw (eqb-true (answer .number) 0 t))
+    (λ t. let n : shownFrom answer needed lent .number ≡ answer .number = rw t in sym (ap (λ (k : ℕ). isIn k finishing) n) ∙ finished)
+
+pub finished-list : (answer : Listed) (needed lent : ℕ) {told : Shown} → told ≡ shownFrom answer needed lent → isIn (told .number) finishing ≡ true
+    → isIn (answer .number) finishing ≡ true
+finished-list answer needed lent e finished =
+    finished-from answer needed lent (sym (ap (λ (r : Shown). isIn (r .number) finishing) e) ∙ finished)
+
+module _ (edition : Edition) (side : Side) (s table : List ℕ) (room : ℕ) (out : List ℕ) {lent : ℕ} {answer : Listed} {flat : List ℕ}
+    (same : rowsLent table ≡ lent) (l : FindsMatches edition side s lent room answer flat) where
+  -- what is known of the list tells what is shown
+  by-list : shown edition side s table room out ≡ shownFrom answer (length (textsIn edition side s)) (length out)
+  unfolding shown
+  by-list = ap (λ (r : Listed). shownFrom r (length (textsIn edition side s)) (length out)) (sym (l .answered table same))
+
+  -- a refused list has no matches
+  none-found : (answer .number ≡ 0 → ⊥) → answer .matches ≡ 0
+  none-found some-number =
+      let stored = l .stored in
       let t : eqb (answer .number) 0 ≡ false = ne-eqb (answer .number) 0 some-number in
-      let told : shown edition side s table room out ≡ unshown (answer .number) (answer .place) (answer .elements) = by-list ∙ rw t in
-      record {
-        answered = sym told;
-        tabled = l .tabled;
-        put = rw (told, t);
-        lined = record { stored = no-lines flat ∙ rw t; fits = omega arith; enough = omega arith };
-      }
+      let none : records flat (answer .matches) ≡ [] = rw t at stored in
+      sym (length-records flat (answer .matches)) ∙ ap length none
 
   module _ (zero-number : answer .number ≡ 0) where
     all-records : records flat (answer .matches) ≡ matchesIn edition side s
@@ -78,87 +105,139 @@ module _ (edition : Edition) (side : Side) (s table : List ℕ) (room : ℕ) (ou
     all-matches : recordsFrom flat 0 (answer .matches) ≡ matchesIn edition side s
     all-matches = records-all flat (answer .matches) ∙ all-records
 
-    pub how-many : length (matchesIn edition side s) ≡ answer .matches
+    how-many : length (matchesIn edition side s) ≡ answer .matches
     how-many = ap length (sym all-records) ∙ length-records flat (answer .matches)
 
-    pub all-texts : textsOf (textIn edition s) (recordsFrom flat 0 (answer .matches)) ≡ textsIn edition side s
+    those-texts : {lines : ℕ} → lines ≡ answer .matches → textsOf (textIn edition s) (recordsFrom flat 0 lines) ≡ textsIn edition side s
     unfolding textsIn
-    all-texts = ap (textsOf (textIn edition s)) all-matches
+    those-texts all = ap (λ (n : ℕ). textsOf (textIn edition s) (recordsFrom flat 0 n)) all ∙ ap (textsOf (textIn edition s)) all-matches
 
-    module _ {lines : ℕ} (all : lines ≡ answer .matches) where
-      those-texts : textsOf (textIn edition s) (recordsFrom flat 0 lines) ≡ textsIn edition side s
-      those-texts = ap (λ (n : ℕ). textsOf (textIn edition s) (recordsFrom flat 0 n)) all ∙ all-texts
+  -- no lines are few, and have no octets
+  nothing-listed : {lines : ℕ} → lines ≡ 0 → Listing edition s flat lines
+  unfolding textsOf recordsFrom
+  nothing-listed e = rw e (record { room = omega arith; few = omega arith; short = omega arith })
 
-      -- 22
-      pub shows-22 : {n : ℕ} → n ≡ length (textsOf (textIn edition s) (recordsFrom flat 0 lines)) → length out < n
-          → TextsFlat edition side s table room out (unshown 22 0 (answer .elements)) tableAfter flat out
-      unfolding shownOutput
-      shows-22 {n} size short =
-          let t : eqb (answer .number) 0 ≡ true = eq-eqb (answer .number) 0 zero-number in
-          let long : n ≡ length (textsIn edition side s) = size ∙ ap length those-texts in
-          let u : ltb (length out) (length (textsIn edition side s)) ≡ true = lt-ltb (length out) (length (textsIn edition side s)) (omega arith) in
-          let told : shown edition side s table room out ≡ unshown 22 0 (answer .elements) = by-list ∙ rw (t, u) in
-          record { answered = sym told; tabled = l .tabled; put = rw told; lined = record { stored = no-lines flat; fits = omega arith; enough = omega arith } }
+  module _ {rows : List ℕ} {count headers : ℕ} (a : Accepting edition s rows count headers) (fine : Fine s (wholeStream s)) (enough : 4 * rowsNeeded s ≤ length flat) where
+    -- there are few matches, and their texts are short
+    all-listed : answer .number ≡ 0 → {lines : ℕ} → lines ≡ answer .matches → Listing edition s flat lines
+    all-listed zero-number {lines} all =
+        let e = a .judged in
+        let is : matchesIn edition side s ≡ matches side (a .elements) = rw e in
+        let many : length (matches side (a .elements)) ≡ answer .matches = ap length (sym is) ∙ how-many zero-number in
+        let few = no-more-than-elements (a .elements) (a .apart) side in
+        let fit = texts-fit edition s fine (a .elements) (a .judge-accepted) (a .apart) (textIn edition s) (text-content edition s (a .judged)) side in
+        let size : length (textsOf (textIn edition s) (recordsFrom flat 0 lines)) ≡ length (textsOf (textIn edition s) (matches side (a .elements))) =
+        ap (λ (n : ℕ). length (textsOf (textIn edition s) (recordsFrom flat 0 n))) all
+        ∙ ap (λ (ms : List Match). length (textsOf (textIn edition s) ms)) (all-matches zero-number ∙ is) in
+        record {
+          room = omega (arith, a .counted, a .needed);
+          few = omega (arith, a .counted, a .few);
+          short = omega (arith, a .within-limit);
+        }
 
-      -- all is put
-      pub shows-all : {n : ℕ} {numbers after : List ℕ} → n ≡ length (textsOf (textIn edition s) (recordsFrom flat 0 lines)) → n ≤ length out
-          → Listing edition s flat lines → length numbers ≡ length flat → PutsTexts (textIn edition s) flat lines out numbers after
-          → TextsFlat edition side s table room out (record { number = 0; place = 0; elements = answer .elements; lines = answer .matches; length = n }) tableAfter numbers after
-      unfolding shownOutput linesIn
-      shows-all {n} {numbers} {after} size room-out few long p =
-          let texts = textsIn edition side s in
-          let in-all : n ≡ length texts = size ∙ ap length those-texts in
-          let room-flat = few .room in
-          let t : eqb (answer .number) 0 ≡ true = eq-eqb (answer .number) 0 zero-number in
-          let u : ltb (length out) (length texts) ≡ false = le-ltb (length out) (length texts) (omega arith) in
-          let told : shown edition side s table room out ≡ record { number = 0; place = 0; elements = answer .elements; lines = answer .matches; length = n } =
-          by-list ∙ rw (t, u, in-all) in
-          let e : 0 + length texts ≡ length texts = omega arith in
-          let form : sets out 0 texts ≡ onto texts out = sets-eq texts out 0 (omega arith) ∙ ap (λ (k : ℕ). texts ++ drop k out) e in
-          let put-all : after ≡ onto texts out = p .put ∙ ap (sets out 0) those-texts ∙ form in
-          let ends : numbers ≡ sets flat (3 * answer .matches) (pasts (textIn edition s) 0 (matchesIn edition side s)) =
-          p .ended ∙ ap (λ (k : ℕ). sets flat (3 * k) (pasts (textIn edition s) 0 (recordsFrom flat 0 k))) all
-          ∙ ap (λ (ms : List Match). sets flat (3 * answer .matches) (pasts (textIn edition s) 0 ms)) all-matches in
+    -- so they can be measured, whatever the list answers
+    pub listing : {found : ℕ} → found ≡ answer .matches → Listing edition s flat found
+    listing all =
+        cases (eqb (answer .number) 0)
+        (λ t. all-listed (eqb-true (answer .number) 0 t) all)
+        (λ t. nothing-listed (all ∙ none-found (eqb-false (answer .number) 0 t)))
+
+    module _ {found needed : ℕ} (all : found ≡ answer .matches) (size : needed ≡ length (textsOf (textIn edition s) (recordsFrom flat 0 found))) where
+      -- and then put, as far as they are to be
+      pub puts : {told : Shown} → Ends answer needed (length out) told → {lines : ℕ} → lines ≡ told .lines
+          → Listing edition s flat lines × (length (textsOf (textIn edition s) (recordsFrom flat 0 lines)) ≤ length out)
+      unfolding textsOf recordsFrom
+      puts (put-all zero-number fits e) {lines} some-lines =
+          let those : lines ≡ answer .matches = some-lines ∙ ap (λ (r : Shown). r .lines) e in
+          let again : length (textsOf (textIn edition s) (recordsFrom flat 0 lines)) ≡ needed =
+          ap (λ (n : ℕ). length (textsOf (textIn edition s) (recordsFrom flat 0 n))) (those ∙ sym all) ∙ sym size in
+          (all-listed zero-number those, omega arith)
+      puts (put-none some-number e) some-lines = let z = some-lines ∙ e in (nothing-listed z, rw z (omega arith))
+
+  module _ {found needed : ℕ} (all : found ≡ answer .matches) (size : needed ≡ length (textsOf (textIn edition s) (recordsFrom flat 0 found))) where
+    -- the answer
+    pub answer-is : shownFrom answer needed (length out) ≡ shown edition side s table room out
+    answer-is =
+        cases (eqb (answer .number) 0)
+        (λ t.
+        let e : needed ≡ length (textsIn edition side s) = size ∙ ap length (those-texts (eqb-true (answer .number) 0 t) all) in
+        ap (λ (n : ℕ). shownFrom answer n (length out)) e ∙ sym by-list)
+        (λ t.
+        let none : unshown (answer .number) (answer .place) (answer .elements) ≡ shown edition side s table room out = sym (by-list ∙ rw t) in
+        let own : shownFrom answer needed (length out) ≡ unshown (answer .number) (answer .place) (answer .elements) = rw t in
+        own ∙ none)
+
+    -- and all that was lent, at exit
+    module _ {told : Shown} (answered : told ≡ shown edition side s table room out) {tableAfter : List ℕ} (tabled : tableAfter ≡ tableBy edition s table (told .number)) where
+      table-is : tableAfter ≡ shownTable edition side s table room out
+      unfolding shownTable
+      table-is = tabled ∙ ap (λ (r : Shown). tableBy edition s table (r .number)) answered
+
+      pub shows : Ends answer needed (length out) told → {lines : ℕ} {numbers after : List ℕ} → lines ≡ told .lines → 4 * lines ≤ length flat
+          → length numbers ≡ length flat → PutsTexts (textIn edition s) flat lines out numbers after
+          → TextsFlat edition side s table room out told tableAfter numbers after
+      unfolding shownOutput linesIn textsOf recordsFrom pasts
+      shows (put-none some-number no-lines-told) {lines} {numbers} {after} some-lines room-flat long p =
+          let z : lines ≡ 0 = some-lines ∙ no-lines-told in
+          let t : eqb (shown edition side s table room out .number) 0 ≡ false = ne-eqb _ 0 (λ w. some-number (ap (λ (r : Shown). r .number) answered ∙ w)) in
+          let u : eqb (told .number) 0 ≡ false = ne-eqb (told .number) 0 some-number in
+          let put : after ≡ out = p .put ∙ rw z in
           record {
-            answered = sym told;
-            tabled = l .tabled;
-            put = put-all ∙ rw told;
+            answered = answered;
+            tabled = table-is;
+            put = put ∙ rw t;
             lined = record {
-              stored = lines-all (textIn edition s) flat numbers (answer .matches) (matchesIn edition side s) all-matches how-many (omega arith) ends;
-              fits = omega arith;
-              enough = l .enough;
+              stored = rw (no-lines-told, u) (no-lines numbers);
+              fits = rw no-lines-told (omega arith);
+              enough = rw no-lines-told (omega arith);
+            };
+          }
+      shows (put-all zero-number fits e) {lines} {numbers} {after} some-lines room-flat long p =
+          let texts = textsIn edition side s in
+          let is-matches : told .lines ≡ answer .matches = ap (λ (r : Shown). r .lines) e in
+          let those : lines ≡ answer .matches = some-lines ∙ is-matches in
+          let told-zero : told .number ≡ 0 = ap (λ (r : Shown). r .number) e in
+          let t : eqb (shown edition side s table room out .number) 0 ≡ true = eq-eqb _ 0 (ap (λ (r : Shown). r .number) (sym answered) ∙ told-zero) in
+          let u : eqb (told .number) 0 ≡ true = eq-eqb (told .number) 0 told-zero in
+          let in-all : needed ≡ length texts = size ∙ ap length (those-texts zero-number all) in
+          let z : 0 + length texts ≡ length texts = omega arith in
+          let form : sets out 0 texts ≡ onto texts out = sets-eq texts out 0 (omega arith) ∙ ap (λ (k : ℕ). texts ++ drop k out) z in
+          let put : after ≡ onto texts out = p .put ∙ ap (sets out 0) (those-texts zero-number those) ∙ form in
+          let ends : numbers ≡ sets flat (3 * answer .matches) (pasts (textIn edition s) 0 (matchesIn edition side s)) =
+          p .ended ∙ ap (λ (k : ℕ). sets flat (3 * k) (pasts (textIn edition s) 0 (recordsFrom flat 0 k))) those
+          ∙ ap (λ (ms : List Match). sets flat (3 * answer .matches) (pasts (textIn edition s) 0 ms)) (all-matches zero-number) in
+          record {
+            answered = answered;
+            tabled = table-is;
+            put = put ∙ rw t;
+            lined = record {
+              stored = rw (is-matches, u) (lines-all (textIn edition s) flat numbers (answer .matches) (matchesIn edition side s) (all-matches zero-number) (how-many zero-number) (omega arith) ends);
+              fits = rw is-matches (omega arith);
+              enough = rw is-matches (l .enough);
             };
           }
 
-      -- there are few, and they are short
-      pub listing : {rows : List ℕ} {count headers : ℕ} → Accepting edition s rows count headers → Fine s (wholeStream s) → 4 * rowsNeeded s ≤ length flat
-          → Listing edition s flat lines
-      listing {count = count} a fine enough =
-          let e = a .judged in
-          let same : matchesIn edition side s ≡ matches side (a .elements) = rw e in
-          let many : length (matches side (a .elements)) ≡ answer .matches = ap length (sym same) ∙ how-many in
-          let few = no-more-than-elements (a .elements) (a .apart) side in
-          let fit = texts-fit edition s fine (a .elements) (a .judge-accepted) (a .apart) (textIn edition s) (text-content edition s (a .judged)) side in
-          let size : length (textsOf (textIn edition s) (recordsFrom flat 0 lines)) ≡ length (textsOf (textIn edition s) (matches side (a .elements))) =
-          ap (λ (n : ℕ). length (textsOf (textIn edition s) (recordsFrom flat 0 n))) all ∙ ap (λ (ms : List Match). length (textsOf (textIn edition s) ms)) (all-matches ∙ same) in
-          record {
-            room = omega (arith, a .counted, a .needed);
-            few = omega (arith, a .counted, a .few);
-            short = omega (arith, a .within-limit);
-          }
-
--- an answer by another name
-pub renamed-shown : {edition : Edition} {side : Side} {s table : List ℕ} {room : ℕ} {out : List ℕ} {answer same : Shown} {tableAfter numbers outAfter : List ℕ}
-    → answer ≡ same → TextsFlat edition side s table room out same tableAfter numbers outAfter
-    → TextsFlat edition side s table room out answer tableAfter numbers outAfter
-renamed-shown {edition} {side} {s} {table} {room} {out} {answer} {same} {tableAfter} {numbers} {outAfter} e f =
-    subst (λ (r : Shown). TextsFlat edition side s table room out r tableAfter numbers outAfter) (sym e) f
+told-ruled : (edition : Edition) (side : Side) (s table : List ℕ) (room : ℕ) (out : List ℕ) (number place headers : ℕ) → (number ≡ 0 → ⊥)
+    → letterIn edition s ≡ refusal number place headers → shown edition side s table room out ≡ unshown number place 0
+unfolding listed shown
+told-ruled edition side s table room out number place headers not-zero e = let t : eqb number 0 ≡ false = ne-eqb number 0 not-zero in rw (e, t)
 
 -- what rules 1 to 15 refuse
-pub shows-ruled : (edition : Edition) (side : Side) (s table flat : List ℕ) (room : ℕ) (out : List ℕ) (number place headers : ℕ) → (number ≡ 0 → ⊥)
+pub shows-ruled : (edition : Edition) (side : Side) (s table flat : List ℕ) (room : ℕ) (out : List ℕ) (number place headers : ℕ)
     → letterIn edition s ≡ refusal number place headers → TextsFlat edition side s table room out (unshown number place 0) table flat out
-shows-ruled edition side s table flat room out number place headers some-number e =
-    shows-refused edition side s table room out (lists-refused edition side s table flat room number place headers e) some-number
+unfolding shownTable shownOutput
+shows-ruled edition side s table flat room out number place headers e =
+    let small = refusal-small edition s number place headers e in
+    let some : eqb number 0 ≡ false = ne-eqb number 0 (λ z. omega arith) in
+    let no-19 : eqb number 19 ≡ false = ne-eqb number 19 (λ z. omega arith) in
+    let told = told-ruled edition side s table room out number place headers (λ z. omega arith) e in
+    let n : shown edition side s table room out .number ≡ number = ap (λ (r : Shown). r .number) told in
+    record {
+      answered = sym told;
+      tabled = rw (n, some, no-19);
+      put = rw (n, some);
+      lined = record { stored = rw some (no-lines flat); fits = omega arith; enough = omega arith };
+    }
 
 left-length : (numbers : List ℕ) (count k left first : ℕ) → length (linesLeft numbers count k left first) ≡ 5 * left
 unfolding linesLeft

@@ -140,9 +140,7 @@ module _ (edition : Edition) (s table flat out : List ℕ) where
   leaves-refused (Reading side room) number place headers e = leaves-list (lists-refused edition side s table flat room number place headers e)
   leaves-refused (Children row room) number place headers e = leaves-children (relates-refused edition s table row room flat number place headers e)
   leaves-refused (Order class) number place headers e = leaves-order (sym (ordered-refused edition class s number place headers e))
-  leaves-refused (Text side room) number place headers e =
-      let low = refusal-small edition s number place headers e .low in
-      leaves-text (shows-ruled edition side s table flat room out number place headers (λ z. omega arith) e)
+  leaves-refused (Text side room) number place headers e = leaves-text (shows-ruled edition side s table flat room out number place headers e)
 
 -- what each question answers, from what its work left
 module _ {edition : Edition} {s table flat out : List ℕ} {told : Told} {tableAfter flatAfter outAfter : List ℕ} where

@@ -162,9 +162,17 @@ partOf (inPieces run) = withheld 21 0
 unfoldable pub fetched : Edition → (s : List ℕ) → (asked : ℕ) → Fetched
 fetched edition s asked = fetchedBy partOf (letterIn edition s) asked
 
+-- the contract of the part: the octets that are handed back
+abbrev pub PartOutcome : Edition → (s : List ℕ) → (asked : ℕ) → (part : List ℕ) → Type 0
+PartOutcome edition s asked part = part ≡ fetched edition s asked .part
+
 -- "number and place of that refusal, 0 if answered"
 abbrev pub whyNot : Edition → (s : List ℕ) → (asked : ℕ) → Reason
 whyNot edition s asked = record { number = fetched edition s asked .number; place = fetched edition s asked .place }
+
+-- the contract of that question
+abbrev pub WhyOutcome : Edition → (s : List ℕ) → (asked : ℕ) → (answer : Reason) → Type 0
+WhyOutcome edition s asked answer = answer ≡ whyNot edition s asked
 
 -- The same question for callers that take bounds: those of the content in the unit's row, and 0 and 0 with a refusal.
 abbrev pub contentPair : Option Row → Span
@@ -178,6 +186,10 @@ unfoldable pub located : Edition → (s : List ℕ) → (asked : ℕ) → Found
 located edition s asked =
     locatedAt (fetched edition s asked)
     (cond (eqb (fetched edition s asked .number) 0) (contentPair (getElem? (rowsIn edition s) asked)) noSpan)
+
+-- the contract of the bounds
+abbrev pub LocatedOutcome : Edition → (s : List ℕ) → (asked : ℕ) → (answer : Found) → Type 0
+LocatedOutcome edition s asked answer = answer ≡ located edition s asked
 
 -- They are where the part stands that the question in its other form hands back, in the stream: demands has that of every stream.
 pub record Stands (edition : Edition) (s : List ℕ) (asked first past : ℕ) : Type 0 where

@@ -76,13 +76,16 @@ datedAt date span =
 unfoldable pub dated : Edition → (s : List ℕ) → Dated
 dated edition s = datedAt (dateOf edition s) (dateSpan (dateOf edition s) (datePlaces (itemsOfStream s)))
 
--- the bounds bound that part of the stream
+-- the contract of the question in numbers
+abbrev pub DateOutcome : Edition → (s : List ℕ) → (answer : Dated) → Type 0
+DateOutcome edition s answer = answer ≡ dated edition s
+
+-- and of that which hands back the part: its octets
+abbrev pub DatePartOutcome : Edition → (s part : List ℕ) → Type 0
+DatePartOutcome edition s part = part ≡ dateOf edition s .part
+
+-- The bounds bound that part of the stream: demands has it of every stream.
 pub record Bounds (s octets : List ℕ) (first past : ℕ) : Type 0 where
   pub part : slice first past s ≡ octets
   pub order : first ≤ past
   pub inside : past ≤ length s
-
--- the contract of the question
-pub record DateOutcome (edition : Edition) (s : List ℕ) (told : Dated) : Type 0 where
-  pub answered : told ≡ dated edition s
-  pub stands : Bounds s (dateOf edition s .part) (told .first) (told .past)

@@ -6,8 +6,8 @@ use Rattle.octets.specs.Walk.{streamLimit}
 use Rattle.dates.specs.declared.DateFound.{DateFound}
 use Rattle.elements.specs.declared.Edition.{Edition}
 use Rattle.answers.specs.declared.Dated.{Dated}
-use Rattle.answers.specs.Dates.{Bounds}
-use Rattle.answers.specs.FirstDates.{firstDateOf, firstNumbers}
+use Rattle.answers.specs.Dates.{dateOf, dated, Bounds}
+use Rattle.answers.specs.FirstDates.{firstNumbers}
 
 -- the numbers of a refusal
 abbrev pub refusedDated : (number place : ℕ) → Dated
@@ -27,7 +27,11 @@ pub record Narrow (d : DateFound) : Type 0 where
   pub month : d .month ≤ 12
   pub day : d .day ≤ 32
 
+-- the answer in numbers, with what `odif::date` needs to hand the part back; crate demands has that it holds of every stream (`DocumentDate.stands`)
+pub record DateTells (edition : Edition) (s : List ℕ) (told : Dated) : Type 0 where
+  pub answered : told ≡ dated edition s
+  pub stands : Bounds s (dateOf edition s .part) (told .first) (told .past)
+
 -- the answer by the first element, before the note is added
-pub record FirstTells (edition : Edition) (s : List ℕ) (told : Dated) : Type 0 where
-  pub answered : told ≡ firstNumbers edition s
-  pub stands : Bounds s (firstDateOf edition s .part) (told .first) (told .past)
+abbrev pub FirstTells : Edition → (s : List ℕ) → (told : Dated) → Type 0
+FirstTells edition s told = told ≡ firstNumbers edition s

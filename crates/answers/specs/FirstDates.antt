@@ -16,7 +16,7 @@ use Rattle.elements.specs.Judge.{firstOf, placeRules}
 use Rattle.answers.specs.declared.Reason.{Reason}
 use Rattle.answers.specs.declared.Dated.{Dated}
 use Rattle.answers.specs.declared.FirstDated.{FirstDated}
-use Rattle.answers.specs.Dates.{DateAnswer, dateAfter, profileIn, datePlaces, dateSpan, datedAt, Bounds}
+use Rattle.answers.specs.Dates.{DateAnswer, dateAfter, profileIn, datePlaces, dateSpan, datedAt}
 
 -- the tree of the first element, with nothing after it
 abbrev pub firstTree : List ℕ → Tree
@@ -63,6 +63,5 @@ unfoldable pub firstDated : Edition → (s : List ℕ) → FirstDated
 firstDated edition s = withUnread (firstNumbers edition s)
 
 -- the contract of the question
-pub record FirstDateOutcome (edition : Edition) (s : List ℕ) (told : FirstDated) : Type 0 where
-  pub answered : told ≡ firstDated edition s
-  pub stands : Bounds s (firstDateOf edition s .part) (told .first) (told .past)
+abbrev pub FirstDateOutcome : Edition → (s : List ℕ) → (answer : FirstDated) → Type 0
+FirstDateOutcome edition s answer = answer ≡ firstDated edition s

@@ -24,7 +24,7 @@ use Rattle.answers.specs.declared.Question.{Question}
 use Rattle.answers.specs.declared.Question.the-variants.{Rules, Check, Content, Joined, List as Reading, Children, Order, Text}
 use Rattle.answers.specs.Answers.{checked, checkedTable, listed, listedTable, matchesIn, ruled, refusedCheck, located, Stands, copied, copiedOutput}
 use Rattle.answers.specs.Related.{related, relatedTable, childrenOnto}
-use Rattle.answers.specs.Texts.{shown, shownOutput}
+use Rattle.answers.specs.Texts.{shown, shownTable, shownOutput}
 use Rattle.answers.specs.Showing.{LinesNumbered}
 
 -- each answer in the one form in which the work tells it: what a question does not ask for is 0
@@ -97,15 +97,15 @@ refusedTold (Order class) number place headers = reasonTold (record { number = n
 refusedTold (Text side room) number place headers = reasonTold (record { number = number; place = place })
 
 -- the table at exit
-abbrev pub tableLeft : Edition → Question → (s table : List ℕ) → List ℕ
-tableLeft edition Rules s table = table
-tableLeft edition Check s table = checkedTable edition s table
-tableLeft edition (Content element) s table = table
-tableLeft edition (Joined element) s table = table
-tableLeft edition (Reading side room) s table = listedTable edition side s table room
-tableLeft edition (Children row room) s table = relatedTable edition s table row room
-tableLeft edition (Order class) s table = table
-tableLeft edition (Text side room) s table = listedTable edition side s table room
+abbrev pub tableLeft : Edition → Question → (s table out : List ℕ) → List ℕ
+tableLeft edition Rules s table out = table
+tableLeft edition Check s table out = checkedTable edition s table
+tableLeft edition (Content element) s table out = table
+tableLeft edition (Joined element) s table out = table
+tableLeft edition (Reading side room) s table out = listedTable edition side s table room
+tableLeft edition (Children row room) s table out = relatedTable edition s table row room
+tableLeft edition (Order class) s table out = table
+tableLeft edition (Text side room) s table out = shownTable edition side s table room out
 
 -- the buffer at exit
 abbrev pub outLeft : Edition → Question → (s table out : List ℕ) → List ℕ
@@ -138,7 +138,7 @@ Beside edition (Text side room) s told flat flatAfter = LinesNumbered edition si
 -- the contract of the work, and of all that leads to it
 pub record Leaves (edition : Edition) (question : Question) (s table flat out : List ℕ) (told : Told) (tableAfter flatAfter outAfter : List ℕ) : Type 0 where
   pub answered : told ≡ toldTo edition question s table out
-  pub tabled : tableAfter ≡ tableLeft edition question s table
+  pub tabled : tableAfter ≡ tableLeft edition question s table out
   pub put : outAfter ≡ outLeft edition question s table out
   pub beside : Beside edition question s told flat flatAfter
 

@@ -8,11 +8,22 @@ use lib.ListN.{length, drop}
 use Rattle.octets.specs.Walk.{streamLimit}
 use Rattle.elements.specs.declared.Edition.{Edition}
 use Rattle.reading.specs.declared.Side.{Side}
+use Rattle.reading.specs.Records.{records}
 use Rattle.texts.specs.Texts.{textsOf, lineNumbers}
 use Rattle.texts.specs.Flat.{recordsFrom, linesLeft}
+use Rattle.answers.specs.declared.Listed.{Listed}
 use Rattle.answers.specs.declared.Shown.{Shown}
-use Rattle.answers.specs.Answers.{listedTable}
-use Rattle.answers.specs.Texts.{textIn, linesIn, shown, shownOutput}
+use Rattle.answers.specs.Table.{rowsLent}
+use Rattle.answers.specs.Answers.{listed, matchesIn}
+use Rattle.answers.specs.Texts.{textIn, linesIn, shown, shownTable, shownOutput}
+
+-- what is known of the reading list before the table is written: the answer with any table that has so many rows, and the matches as numbers, three a
+-- record: as many as are answered, all if the number is 0
+pub record FindsMatches (edition : Edition) (side : Side) (s : List ℕ) (lent room : ℕ) (answer : Listed) (flat : List ℕ) : Type 0 where
+  pub answered : (table : List ℕ) → rowsLent table ≡ lent → answer ≡ listed edition side s table room
+  pub stored : records flat (answer .matches) ≡ cond (eqb (answer .number) 0) (matchesIn edition side s) []
+  pub fits : 3 * answer .matches ≤ length flat
+  pub enough : answer .matches ≤ room
 
 -- there are so many matches in the numbers, and their texts are no longer than a stream may be
 pub record Listing (edition : Edition) (s numbers : List ℕ) (count : ℕ) : Type 0 where
@@ -30,6 +41,6 @@ pub record LinesNumbered (edition : Edition) (side : Side) (s : List ℕ) (room 
 pub record TextsFlat (edition : Edition) (side : Side) (s table : List ℕ) (room : ℕ) (out : List ℕ) (answer : Shown)
     (tableAfter numbers outAfter : List ℕ) : Type 0 where
   pub answered : answer ≡ shown edition side s table room out
-  pub tabled : tableAfter ≡ listedTable edition side s table room
+  pub tabled : tableAfter ≡ shownTable edition side s table room out
   pub put : outAfter ≡ shownOutput edition side s table room out
   pub lined : LinesNumbered edition side s room (answer .number) (answer .lines) numbers

@@ -9,8 +9,7 @@ ghost use Rattle.octets.specs.Walk.{streamLimit};
 ghost use Rattle.runs.specs.Runs.{wholeStream, Fine};
 ghost use Rattle.elements.specs.declared.Edition.{Edition};
 ghost use Rattle.answers.specs.Answers.{ruled};
-ghost use Rattle.answers.specs.Dates.{DateOutcome};
-ghost use Rattle.answers.specs.Dating.{refusedDated, datedAs, Narrow};
+ghost use Rattle.answers.specs.Dating.{refusedDated, datedAs, Narrow, DateTells};
 
 // What is answered where there is no date to show.
 pub fn refused_date(number: u32, place: u32) -> Dated
@@ -46,7 +45,7 @@ pub fn dated_as(found: DateFound) -> Dated
 // The date of a stream that was walked, if it is a letter: the first element of a letter is its profile.
 pub fn date_of_letter(stream: &[u8]) -> Dated
     requires { ⌜ Fine (now stream) (wholeStream (now stream)) × (length (now stream) ≤ streamLimit) ⌝ }
-    ensures { λ r. ⌜ ((edition : Edition) → ruled edition (now (stream .entry)) .number ≡ 0 → DateOutcome edition (now (stream .entry)) r) ⌝ }
+    ensures { λ r. ⌜ ((edition : Edition) → ruled edition (now (stream .entry)) .number ≡ 0 → DateTells edition (now (stream .entry)) r) ⌝ }
 {
     match runs::meet(stream, runs::whole_stream(stream)) {
         Met::End => refused_date(0, 0),

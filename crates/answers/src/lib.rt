@@ -7,15 +7,10 @@ use order::Ordered;
 use reading::Side;
 use runs::Run;
 ghost use mathlib.Core.Path.{_≡_};
-ghost use Prim.Native.Nat.{_*_, _≤_};
 ghost use lib.ListN.{length};
 ghost use Rattle.octets.specs.Walk.{walkOf};
-ghost use Rattle.tree.specs.Tree.{treeOf};
-ghost use Rattle.tree.specs.Accepts.{Accepts};
-ghost use Rattle.letters.specs.Lent.{rowsNeeded};
 ghost use Rattle.letters.specs.Scratch.{Filled};
 ghost use Rattle.answers.specs.Answers.{refusedCheck, CheckOutcome};
-ghost use Rattle.answers.specs.Asking.{ListsFlat};
 ghost use Rattle.answers.specs.Questions.{reasonTold, checkTold, locatedTold, copiedTold, listedTold, relatedTold, orderedTold};
 ghost use Rattle.answers.specs.Questions.{listedOf, refusedTold, Leaves, Roomy};
 ghost use Rattle.answers.specs.Questions.{shownTold, shownOf};
@@ -24,6 +19,7 @@ mod children; // children.rt: the children of a row
 mod content; // content.rt: the content of one element, as a part or copied
 mod date; // date.rt: the date of the document
 mod first_date; // first_date.rt: the same by the first element alone
+mod list; // list.rt: the reading list of a side
 mod table; // table.rt: the lent table
 mod whole; // whole.rt: the whole reading of a side
 
@@ -33,6 +29,7 @@ use content::locate_judged;
 pub use date::date_of_letter;
 pub use date::refused_date;
 pub use first_date::date_of_first;
+use list::list_judged;
 pub use table::TABLE_WIDTH;
 use whole::text_judged;
 
@@ -215,62 +212,6 @@ fn check_judged(
         place: 0,
         headers,
         elements: count as u32,
-    }
-}
-
-// The reading list of a letter, as numbers: 16, then the table, then 19.
-fn list_judged(
-    edition: Edition,
-    stream: &[u8],
-    side: Side,
-    room: usize,
-    rows: &[u32],
-    head: &[u16],
-    next: &[u16],
-    head2: &[u16],
-    next2: &[u16],
-    elements: usize,
-    table: &mut [u32],
-    flat: &mut [u32],
-) -> Listed
-    requires { ⌜ Accepts (now stream) (treeOf (now stream)) ⌝ }
-    requires { ⌜ Filled edition (now stream) (now rows) (now head) (now next) (now head2) (now next2) elements ⌝ }
-    requires { ⌜ 3 * rowsNeeded (now stream) ≤ length (now flat) ⌝ }
-    ensures { λ r. ⌜ ListsFlat edition side (now (stream .entry)) (now (table .entry)) room r (now (table .exit)) (now (flat .exit)) ⌝ }
-{
-    if table.len() / TABLE_WIDTH < elements {
-        return Listed {
-            number: TOO_FEW_ROWS,
-            place: 0,
-            elements: 0,
-            matches: 0,
-        };
-    }
-    table::fill(stream, rows, head, next, elements, table);
-    let matches = reading::list_matches(
-        stream,
-        rows,
-        head,
-        next,
-        head2,
-        next2,
-        elements,
-        side,
-        flat,
-    );
-    if room < matches {
-        return Listed {
-            number: LIST_TOO_SHORT,
-            place: 0,
-            elements: elements as u32,
-            matches: 0,
-        };
-    }
-    Listed {
-        number: 0,
-        place: 0,
-        elements: elements as u32,
-        matches: matches as u32,
     }
 }
 

@@ -1,13 +1,22 @@
 // The lent table: how wide its rows are, and how they are filled. A row of the scratch has its own width (`index::SCRATCH_WIDTH`); the lent one has its
 // parent's row besides.
+use super::LIST_TOO_SHORT;
+use elements::Edition;
 use index::SCRATCH_WIDTH;
+ghost use mathlib.Core.Path.{_≡_};
+ghost use mathlib.Core.Bool.{true};
 ghost use Prim.Native.Nat.{_*_, _<_, _≤_};
 ghost use lib.ListN.{length};
+ghost use Rattle.headers.specs.Head.{isIn};
+ghost use Rattle.tree.specs.Tree.{treeOf};
+ghost use Rattle.tree.specs.Accepts.{Accepts};
 ghost use Rattle.elements.specs.Judge.{mostElements};
+ghost use Rattle.letters.specs.Scratch.{Filled};
 ghost use Rattle.reading.specs.declared.Side.{Side};
 ghost use Rattle.reading.specs.Ready.{Searchable};
-ghost use Rattle.answers.specs.Table.{tableWidth};
+ghost use Rattle.answers.specs.Table.{tableWidth, rowsLent};
 ghost use Rattle.answers.specs.Filling.{PutsRow, Fills};
+ghost use Rattle.answers.specs.Texts.{finishing, tableBy};
 
 pub const TABLE_WIDTH: usize = 13;
 
@@ -46,4 +55,35 @@ pub fn fill(s: &[u8], rows: &[u32], head: &[u16], next: &[u16], count: usize, ta
         put_row(s, rows, head, next, count, j, table);
         j += 1;
     }
+}
+
+// Whether an answer with this number leaves the finished table: if it is no refusal, or that of a list too short.
+fn is_finishing(number: u32) -> bool
+    ensures { λ r. ⌜ r ≡ isIn number finishing ⌝ }
+{
+    number == 0 || number == LIST_TOO_SHORT
+}
+
+// The table as an answer with this number leaves it: finished, or as it was.
+pub fn finish(
+    edition: Edition,
+    stream: &[u8],
+    rows: &[u32],
+    head: &[u16],
+    next: &[u16],
+    head2: &[u16],
+    next2: &[u16],
+    count: usize,
+    number: u32,
+    table: &mut [u32],
+)
+    requires { ⌜ Accepts (now stream) (treeOf (now stream)) ⌝ }
+    requires { ⌜ Filled edition (now stream) (now rows) (now head) (now next) (now head2) (now next2) count ⌝ }
+    requires { ⌜ (isIn number finishing ≡ true → count ≤ rowsLent (now table)) ⌝ }
+    ensures { λ _. ⌜ now (table .exit) ≡ tableBy edition (now (stream .entry)) (now (table .entry)) number ⌝ }
+{
+    if !is_finishing(number) {
+        return;
+    }
+    fill(stream, rows, head, next, count, table);
 }

@@ -1,15 +1,19 @@
 // The whole reading of a side of a letter: the texts of its matches, one after another, and where each ends. They are measured before any is written.
 use super::COPY_TOO_SHORT;
 use super::ContentFound;
+use super::Listed;
 use super::Shown;
 use super::content::fetch_judged;
-use super::list_judged;
+use super::list::find_matches;
+use super::table;
+use super::table::TABLE_WIDTH;
 use elements::Edition;
 use reading::Side;
 ghost use mathlib.Core.Path.{_≡_};
 ghost use mathlib.Core.List.{_++_};
 ghost use Prim.Native.Nat.{_*_, _≤_};
 ghost use lib.ListN.{length, drop};
+ghost use Rattle.octets.specs.Walk.{streamLimit};
 ghost use Rattle.tree.specs.Tree.{treeOf};
 ghost use Rattle.tree.specs.Accepts.{Accepts};
 ghost use Rattle.letters.specs.Lent.{rowsNeeded};
@@ -17,7 +21,7 @@ ghost use Rattle.letters.specs.Scratch.{Filled};
 ghost use Rattle.texts.specs.Texts.{textsOf};
 ghost use Rattle.texts.specs.Flat.{recordsFrom, PutsTexts};
 ghost use Rattle.answers.specs.Asking.{JudgedIn};
-ghost use Rattle.answers.specs.Texts.{textIn, unshown};
+ghost use Rattle.answers.specs.Texts.{textIn, unshown, shownFrom};
 ghost use Rattle.answers.specs.Showing.{Listing, TextsFlat};
 
 fn wide(x: u32) -> usize
@@ -125,7 +129,28 @@ fn refuse(number: u32, place: u32, elements: u32) -> Shown
     }
 }
 
-// The whole reading of a side of a letter, its lines as numbers: the list, with 16 and 19; then 22, before any text is written.
+// What is answered, by the answer of the list and by how many octets the texts have and the output: the list's refusal, then 22.
+fn answer(listed: Listed, needed: usize, lent: usize) -> Shown
+    requires { ⌜ needed ≤ streamLimit ⌝ }
+    ensures { λ r. ⌜ r ≡ shownFrom listed needed lent ⌝ }
+{
+    if listed.number != 0 {
+        return refuse(listed.number, listed.place, listed.elements);
+    }
+    if lent < needed {
+        return refuse(COPY_TOO_SHORT, 0, 0);
+    }
+    Shown {
+        number: 0,
+        place: 0,
+        elements: listed.elements,
+        lines: listed.matches,
+        length: needed as u32,
+    }
+}
+
+// The whole reading of a side of a letter, its lines as numbers. Nothing that was lent is written before the answer is known. A refused list has no
+// matches, so nothing is measured of it; a refused reading has no lines, so nothing is put.
 pub fn text_judged(
     edition: Edition,
     stream: &[u8],
@@ -147,7 +172,8 @@ pub fn text_judged(
     ensures { λ r. ⌜ TextsFlat edition side (now (stream .entry)) (now (table .entry)) room (now (out .entry)) r (now (table .exit)) (now (numbers .exit))
         (now (out .exit)) ⌝ }
 {
-    let listed = list_judged(
+    let lent = table.len() / TABLE_WIDTH;
+    let listed = find_matches(
         edition,
         stream,
         side,
@@ -158,23 +184,25 @@ pub fn text_judged(
         head2,
         next2,
         count,
-        table,
+        lent,
         numbers,
     );
-    if listed.number != 0 {
-        return refuse(listed.number, listed.place, listed.elements);
-    }
-    let lines = wide(listed.matches);
-    let length = measure(edition, stream, rows, count, numbers, lines);
-    if out.len() < length {
-        return refuse(COPY_TOO_SHORT, 0, listed.elements);
-    }
+    let found = wide(listed.matches);
+    let needed = measure(edition, stream, rows, count, numbers, found);
+    let shown = answer(listed, needed, out.len());
+    table::finish(
+        edition,
+        stream,
+        rows,
+        head,
+        next,
+        head2,
+        next2,
+        count,
+        shown.number,
+        table,
+    );
+    let lines = wide(shown.lines);
     put_texts(edition, stream, rows, count, numbers, lines, out);
-    Shown {
-        number: 0,
-        place: 0,
-        elements: listed.elements,
-        lines: listed.matches,
-        length: length as u32,
-    }
+    shown
 }

@@ -17,7 +17,7 @@ pub use order::Ordered;
 pub use reading::Match;
 pub use reading::Side;
 ghost use mathlib.Core.Path.{_≡_};
-ghost use Rattle.answers.specs.Answers.{ruled, CheckOutcome, NormalOutcome, ListOutcome, fetched, whyNot, located, Stands, JoinedOutcome};
+ghost use Rattle.answers.specs.Answers.{ruled, CheckOutcome, NormalOutcome, ListOutcome, PartOutcome, WhyOutcome, LocatedOutcome, Stands, JoinedOutcome};
 
 mod arriving; // arriving.rt: a letter that arrives in blocks
 mod dating; // dating.rt: the date of the document
@@ -114,7 +114,7 @@ pub fn list(
 // The content of a text unit: a part of the caller's own stream, and an empty part if the stream or the element is refused, the content is in
 // pieces or tiles, or there is none. The viewer asks this of an element of a match, and `why` if the part is empty.
 pub fn content<'a>(edition: Edition, stream: &'a [u8], element: usize) -> &'a [u8]
-    ensures { λ r. ⌜ now r ≡ fetched edition (now (stream .entry)) element .part ⌝ }
+    ensures { λ r. ⌜ PartOutcome edition (now (stream .entry)) element (now r) ⌝ }
 {
     let located = locate(edition, stream, element);
     let first = located.first as usize;
@@ -124,7 +124,7 @@ pub fn content<'a>(edition: Edition, stream: &'a [u8], element: usize) -> &'a [u
 
 // Why the content of an element was refused: 0 at 0 if it was not.
 pub fn why(edition: Edition, stream: &[u8], element: usize) -> Reason
-    ensures { λ r. ⌜ r ≡ whyNot edition (now (stream .entry)) element ⌝ }
+    ensures { λ r. ⌜ WhyOutcome edition (now (stream .entry)) element r ⌝ }
 {
     let located = locate(edition, stream, element);
     Reason {
@@ -135,7 +135,7 @@ pub fn why(edition: Edition, stream: &[u8], element: usize) -> Reason
 
 // Where the content of an element stands in the stream, with the number and place of a refusal.
 fn locate(edition: Edition, stream: &[u8], element: usize) -> Found
-    ensures { λ r. ⌜ (r ≡ located edition (now (stream .entry)) element) × Stands edition (now (stream .entry)) element (r .first) (r .past) ⌝ }
+    ensures { λ r. ⌜ LocatedOutcome edition (now (stream .entry)) element r × Stands edition (now (stream .entry)) element (r .first) (r .past) ⌝ }
 {
     let mut rows = [0u32; 0];
     let mut numbers = [0u32; 0];
@@ -263,14 +263,14 @@ pub extern "C" fn odif_logical_1993(stream: &[u8], table: &mut [u32], list: &mut
 
 #[no_mangle]
 pub extern "C" fn odif_content(stream: &[u8], element: u32) -> Found
-    ensures { λ r. ⌜ r ≡ located Edition.Of1988 (now (stream .entry)) element ⌝ }
+    ensures { λ r. ⌜ LocatedOutcome Edition.Of1988 (now (stream .entry)) element r ⌝ }
 {
     locate(Edition::Of1988, stream, element as usize)
 }
 
 #[no_mangle]
 pub extern "C" fn odif_content_1993(stream: &[u8], element: u32) -> Found
-    ensures { λ r. ⌜ r ≡ located Edition.Of1993 (now (stream .entry)) element ⌝ }
+    ensures { λ r. ⌜ LocatedOutcome Edition.Of1993 (now (stream .entry)) element r ⌝ }
 {
     locate(Edition::Of1993, stream, element as usize)
 }

@@ -147,7 +147,7 @@ pub struct Shown {
     pub number: u32,
     /// The place of the refusal.
     pub place: u32,
-    /// The rows filled, also with 19 and 22.
+    /// The rows filled, also with 19.
     pub elements: u32,
     /// The records filled.
     pub lines: u32,

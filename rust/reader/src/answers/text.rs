@@ -33,21 +33,23 @@ pub struct Shown {
 }
 
 impl Reading<'_> {
-    /// Fills the table, and puts the text of a side into the lines and the output.
+    /// Fills the table, and puts the text of a side into the lines and the output. Lines too few leave the filled table,
+    /// as a list too short does; an output too short leaves everything as it was.
     pub fn text(&self, side: Side, table: &mut [u32], lines: &mut [Line], out: &mut [u8]) -> Shown {
         let letter = match self.rows_for(table.len()) {
             Ok(letter) => letter,
             Err((number, place)) => return Shown { number, place, ..Shown::default() },
         };
-        fill(table, self.stream, letter);
         let elements = letter.rows.len() as u32;
         let (all, text) = self.whole_text(side);
         let Some(lines) = lines.get_mut(..all.len()) else {
+            fill(table, self.stream, letter);
             return Shown { number: 19, elements, ..Shown::default() };
         };
         let Some(out) = out.get_mut(..text.len()) else {
-            return Shown { number: 22, elements, ..Shown::default() };
+            return Shown { number: 22, ..Shown::default() };
         };
+        fill(table, self.stream, letter);
         lines.copy_from_slice(&all);
         out.copy_from_slice(&text);
         Shown { elements, lines: all.len() as u32, length: text.len() as u32, ..Shown::default() }
@@ -109,12 +111,12 @@ mod tests {
     #[test]
     fn what_is_too_short() {
         let reading = Reading::by(Edition::Of1993, LETTER);
-        for (rows, records, octets, number, elements) in [(6, 3, 6, 16, 0), (7, 2, 0, 19, 7), (7, 3, 5, 22, 7)] {
+        for (rows, records, octets, number, elements) in [(6, 3, 6, 16, 0), (7, 2, 0, 19, 7), (7, 3, 5, 22, 0)] {
             let (mut table, mut lines, mut out) = ([9; 7 * ROW_WIDTH], [Line::default(); 3], [b'.'; 6]);
             let table = &mut table[..rows * ROW_WIDTH];
             let shown = reading.text(Side::Layout, table, &mut lines[..records], &mut out[..octets]);
             assert_eq!(shown, Shown { number, elements, ..Shown::default() });
-            assert_eq!((table[0] == 0, lines, out), (number != 16, [Line::default(); 3], [b'.'; 6]));
+            assert_eq!((table[0] == 0, lines, out), (number == 19, [Line::default(); 3], [b'.'; 6]));
         }
         let refused = Reading::of(&LETTER[..LETTER.len() - 1]).text(Side::Layout, &mut [], &mut [], &mut []);
         assert_eq!((refused.number, refused.place), (7, LETTER.len() as u32 - 12));

@@ -7,7 +7,7 @@ use Rattle.runs.specs.declared.Met.{Met}
 use Rattle.runs.specs.Runs.{wholeStream, Fine, Meets, Meeting}
 use Rattle.contents.proofs.Firsts.{met}
 use Rattle.answers.specs.declared.Dated.{Dated}
-use Rattle.answers.specs.Dates.{DateOutcome}
+use Rattle.answers.specs.Dating.{DateTells}
 use Rattle.answers.proofs.Dating.{met-some, found-narrow, date-told}
 use Rattle.answers.proofs.date.date_of_letter.Statement.{statement}
 use Rattle.answers.proofs.date.date_of_letter.Tie as tie
@@ -55,7 +55,7 @@ returns c edition zero =
 returns-2 : tie.Need-returns-2
 returns-2 c edition zero =
     let s = now (c .before .before .before .before .before .before .before .before .args .stream) in
-    subst (DateOutcome edition s) (sym (c .dated-as .ensures)) (date-told edition s zero (meeting (c .before .before)) (c .before .date-in .ensures))
+    subst (DateTells edition s) (sym (c .dated-as .ensures)) (date-told edition s zero (meeting (c .before .before)) (c .before .date-in .ensures))
 
 pub date-of-letter-spec : {M : Type 1} → statement M
 date-of-letter-spec =

@@ -10,7 +10,7 @@ first-numbers-requires c κs = search needs
 
 returns : tie.Need-returns
 unfolding firstDated
-returns c = let f = c .first-numbers .ensures in record { answered = ap withUnread (f .answered); stands = f .stands }
+returns c = ap withUnread (c .first-numbers .ensures)
 
 pub date-of-first-spec : {M : Type 1} → statement M
 date-of-first-spec = tie.close (tie.spec first-numbers-requires returns)

@@ -1,21 +1,68 @@
--- `answers::whole::text_judged` meets its contract: the list tells the matches, their texts fit in the output or not, and are put. Assumes nothing.
-use mathlib.Core.Path.{_≡_, refl, ap, sym, _∙_}
-use Prim.Native.Nat.{_*_, _≤_}
+-- `answers::whole::text_judged` meets its contract: the list tells the matches, so that their texts can be measured; then the answer is known, and what was
+-- lent is written as it says. Assumes nothing.
+use mathlib.Core.Path.{refl, sym, _∙_, subst}
 use native.Mathlib.Omega.{arith}
 use borrow.Author.Needs.{needs}
 use denote.Ref.{now}
 use lib.ListN.{length}
 use Rattle.runs.proofs.Laws.{stream-fine}
 use Rattle.answers.proofs.Judging.{judged-in, accepted-judged}
-use Rattle.answers.proofs.Showing.{shows-refused, shows-22, shows-all, listing, renamed-shown}
+use Rattle.answers.proofs.Listing.{finished-rows}
+use Rattle.answers.proofs.Showing.{Ends, reading-ends, finished-list, listing, puts, answer-is, shows}
 use Rattle.answers.proofs.whole.text_judged.Statement.{statement}
 use Rattle.answers.proofs.whole.text_judged.Tie as tie
 
-list-judged-requires : tie.Need-list-judged-requires
-list-judged-requires c κs = let a = c .before .before .before .before .before .before .before .before .before .before .before in (a .pre .0, (a .pre .1 .0, omega (arith, a .pre .1 .1)))
+find-matches-requires : tie.Need-find-matches-requires
+find-matches-requires c κs = let a = c .before .before .before .before .before .before .before .before .before .before in (a .pre .0, (a .pre .1 .0, omega (arith, a .pre .1 .1)))
 
-refuse-requires : tie.Need-refuse-requires
-refuse-requires c κs = search needs
+wide-requires : tie.Need-wide-requires
+wide-requires c κs = search needs
+
+measure-requires : tie.Need-measure-requires
+measure-requires c κs =
+    let a = c .before .before .before .before .before .before .before .before .before .before .before .before .before .before .before in
+    let x = a .args in
+    let l = accepted-judged (a .pre .0 .ended) (judged-in (a .pre .1 .0)) in
+    let find = c .before .before .before .before .find-matches in
+    let few = listing (x .edition) (x .side) (now (x .stream)) (now (x .table)) (x .room) (now (x .out)) refl (find .ensures) l (stream-fine (now (x .stream)) _ _ (a .pre .0 .ended)) (omega (arith, a .pre .1 .1, find .kept .1 .1 .1 .1 .1 .1 .1 .1 .1 .1 .1 .0)) (c .before .wide .ensures) in
+    (a .pre .0, (judged-in (a .pre .1 .0), few))
+
+answer-requires : tie.Need-answer-requires
+answer-requires c κs =
+    let a = c .before .before .before .before .before .before .before .before .before .before .before .before .before .before .before .before in
+    let x = a .args in
+    let l = accepted-judged (a .pre .0 .ended) (judged-in (a .pre .1 .0)) in
+    let find = c .before .before .before .before .before .find-matches in
+    let few = listing (x .edition) (x .side) (now (x .stream)) (now (x .table)) (x .room) (now (x .out)) refl (find .ensures) l (stream-fine (now (x .stream)) _ _ (a .pre .0 .ended)) (omega (arith, a .pre .1 .1, find .kept .1 .1 .1 .1 .1 .1 .1 .1 .1 .1 .1 .0)) (c .before .before .wide .ensures) in
+    omega (arith, c .measure .ensures, few .short)
+
+finish-requires : tie.Need-finish-requires
+finish-requires c κs =
+    let a = c .before .before .before .before .before .before .before .before .before .before .before .before .before .before .before .before .before .before in
+    let x = a .args in
+    let l = accepted-judged (a .pre .0 .ended) (judged-in (a .pre .1 .0)) in
+    let find = c .before .before .before .before .before .before .before .find-matches in (
+      a .pre .0,
+      (
+        a .pre .1 .0,
+        λ finished.
+            let rows = finished-rows (x .edition) (x .side) (now (x .stream)) (now (x .table)) (x .room) refl (find .ensures) (l .judged) (finished-list (find .result) (c .before .before .measure .result) (length (now (x .out))) (c .before .answer .ensures) finished) in
+            omega (arith, l .counted),
+      ),
+    )
+
+wide-requires-2 : tie.Need-wide-requires-2
+wide-requires-2 c κs = search needs
+
+put-texts-requires : tie.Need-put-texts-requires
+put-texts-requires c κs =
+    let a = c .before .before .before .before .before .before .before .before .before .before .before .before .before .before .before .before .before .before .before .before .before .before .before .before in
+    let x = a .args in
+    let l = accepted-judged (a .pre .0 .ended) (judged-in (a .pre .1 .0)) in
+    let find = c .before .before .before .before .before .before .before .before .before .before .before .before .before .find-matches in
+    let ends = subst (Ends _ _ (length (now (x .out)))) (sym (c .before .before .before .before .before .before .before .answer .ensures)) (reading-ends _ _ (length (now (x .out)))) in
+    let put = puts (x .edition) (x .side) (now (x .stream)) (now (x .table)) (x .room) (now (x .out)) refl (find .ensures) l (stream-fine (now (x .stream)) _ _ (a .pre .0 .ended)) (omega (arith, a .pre .1 .1, find .kept .1 .1 .1 .1 .1 .1 .1 .1 .1 .1 .1 .0)) (c .before .before .before .before .before .before .before .before .before .before .wide .ensures) (c .before .before .before .before .before .before .before .before .measure .ensures) ends (c .before .before .wide2 .ensures) in
+    (a .pre .0, (judged-in (a .pre .1 .0), (put .0, put .1)))
 
 same-length : tie.Need-same-length
 same-length c = search needs
@@ -23,108 +70,36 @@ same-length c = search needs
 same-length-2 : tie.Need-same-length-2
 same-length-2 c = search needs
 
-returns : tie.Need-returns
-returns c =
-    let a = c .before .before .before .before .before .before .before .before .before .before .before .before .before .before .before .before .before .before .before in
-    let x = a .args in
-    let list = c .before .before .before .before .before .before .before .list-judged in
-    renamed-shown (c .refuse .ensures) (shows-refused (x .edition) (x .side) (now (x .stream)) (now (x .table)) (x .room) (now (x .out)) (list .ensures) (c .before .if1 .taken))
-
-wide-requires : tie.Need-wide-requires
-wide-requires c κs = search needs
-
-measure-requires : tie.Need-measure-requires
-measure-requires c κs =
-    let a = c .before .before .before .before .before .before .before .before .before .before .before .before .before .before .before .before .before .before .before .before in
-    let x = a .args in
-    let list = c .before .before .before .before .before .before .before .before .list-judged in
-    let zero = c .before .before .if1 .left in
-    let all = c .before .wide .ensures in
-    let l = accepted-judged (a .pre .0 .ended) (judged-in (a .pre .1 .0)) in
-    let few = listing (x .edition) (x .side) (now (x .stream)) (now (x .table)) (x .room) (now (x .out)) (list .ensures) zero all l
-    (stream-fine (now (x .stream)) _ _ (a .pre .0 .ended)) (omega (arith, a .pre .1 .1, list .kept .1 .1 .1 .1 .1 .1 .1 .1 .1 .1 .1 .0)) in
-    (a .pre .0, (judged-in (a .pre .1 .0), few))
-
-refuse-requires-2 : tie.Need-refuse-requires-2
-refuse-requires-2 c κs = search needs
-
 same-length-3 : tie.Need-same-length-3
 same-length-3 c = search needs
 
-same-length-4 : tie.Need-same-length-4
-same-length-4 c = search needs
-
-returns-2 : tie.Need-returns-2
-returns-2 c =
-    let a = c .before .before .before .before .before .before .before .before .before .before .before .before .before .before .before .before .before .before .before .before .before .before .before in
-    let x = a .args in
-    let list = c .before .before .before .before .before .before .before .before .before .before .before .list-judged in
-    renamed-shown (c .refuse2 .ensures) (shows-22 (x .edition) (x .side) (now (x .stream)) (now (x .table)) (x .room) (now (x .out)) (list .ensures) (c .before .before .before .before .before .if1 .left) (c .before .before .before .before .wide .ensures) (c .before .before .measure .ensures) (c .before .if2 .taken))
-
-put-texts-requires : tie.Need-put-texts-requires
-put-texts-requires c κs =
-    let a = c .before .before .before .before .before .before .before .before .before .before .before .before .before .before .before .before .before .before .before .before .before .before .before .before in
-    let x = a .args in
-    let list = c .before .before .before .before .before .before .before .before .before .before .before .before .list-judged in
-    let zero = c .before .before .before .before .before .before .if1 .left in
-    let all = c .before .before .before .before .before .wide .ensures in
-    let l = accepted-judged (a .pre .0 .ended) (judged-in (a .pre .1 .0)) in
-    let few = listing (x .edition) (x .side) (now (x .stream)) (now (x .table)) (x .room) (now (x .out)) (list .ensures) zero all l
-    (stream-fine (now (x .stream)) _ _ (a .pre .0 .ended)) (omega (arith, a .pre .1 .1, list .kept .1 .1 .1 .1 .1 .1 .1 .1 .1 .1 .1 .0)) in
-    (a .pre .0, (judged-in (a .pre .1 .0), (few, omega (arith, c .before .before .before .measure .ensures, c .before .before .if2 .left))))
-
-cast-t30 : tie.Need-cast-t30
-cast-t30 c =
+returns : tie.Need-returns
+returns c =
     let a = c .before .before .before .before .before .before .before .before .before .before .before .before .before .before .before .before .before .before .before .before .before .before .before .before .before .before .before .before .before in
     let x = a .args in
-    let list = c .before .before .before .before .before .before .before .before .before .before .before .before .before .before .before .before .before .list-judged in
-    let zero = c .before .before .before .before .before .before .before .before .before .before .before .if1 .left in
-    let all = c .before .before .before .before .before .before .before .before .before .before .wide .ensures in
     let l = accepted-judged (a .pre .0 .ended) (judged-in (a .pre .1 .0)) in
-    let few = listing (x .edition) (x .side) (now (x .stream)) (now (x .table)) (x .room) (now (x .out)) (list .ensures) zero all l
-    (stream-fine (now (x .stream)) _ _ (a .pre .0 .ended)) (omega (arith, a .pre .1 .1, list .kept .1 .1 .1 .1 .1 .1 .1 .1 .1 .1 .1 .0)) in
-    omega (arith, c .before .before .before .before .before .before .before .before .measure .ensures, few .short)
-
-same-length-5 : tie.Need-same-length-5
-same-length-5 c = search needs
-
-same-length-6 : tie.Need-same-length-6
-same-length-6 c = search needs
-
-same-length-7 : tie.Need-same-length-7
-same-length-7 c = search needs
-
-returns-3 : tie.Need-returns-3
-returns-3 c =
-    let a = c .before .before .before .before .before .before .before .before .before .before .before .before .before .before .before .before .before .before .before .before .before .before .before .before .before .before .before .before .before in
-    let x = a .args in
-    let list = c .before .before .before .before .before .before .before .before .before .before .before .before .before .before .before .before .before .list-judged in
-    let zero = c .before .before .before .before .before .before .before .before .before .before .before .if1 .left in
-    let all = c .before .before .before .before .before .before .before .before .before .before .wide .ensures in
-    let l = accepted-judged (a .pre .0 .ended) (judged-in (a .pre .1 .0)) in
-    let few = listing (x .edition) (x .side) (now (x .stream)) (now (x .table)) (x .room) (now (x .out)) (list .ensures) zero all l
-    (stream-fine (now (x .stream)) _ _ (a .pre .0 .ended)) (omega (arith, a .pre .1 .1, list .kept .1 .1 .1 .1 .1 .1 .1 .1 .1 .1 .1 .0)) in
+    let find = c .before .before .before .before .before .before .before .before .before .before .before .before .before .before .before .before .before .before .find-matches in
+    let all = c .before .before .before .before .before .before .before .before .before .before .before .before .before .before .before .wide .ensures in
+    let size = c .before .before .before .before .before .before .before .before .before .before .before .before .before .measure .ensures in
+    let told = c .before .before .before .before .before .before .before .before .before .before .before .before .answer .ensures in
+    let ends = subst (Ends _ _ (length (now (x .out)))) (sym told) (reading-ends _ _ (length (now (x .out)))) in
+    let lines = c .before .before .before .before .before .before .before .wide2 .ensures in
     let put = c .before .before .before .before .put-texts in
-    shows-all (x .edition) (x .side) (now (x .stream)) (now (x .table)) (x .room) (now (x .out)) (list .ensures) zero all (c .before .before .before .before .before .before .before .before .measure .ensures) (omega (arith, c .before .before .before .before .before .before .before .if2 .left)) few (put .kept .1 .1 .1 .1 .0) (put .ensures)
+    let few = puts (x .edition) (x .side) (now (x .stream)) (now (x .table)) (x .room) (now (x .out)) refl (find .ensures) l (stream-fine (now (x .stream)) _ _ (a .pre .0 .ended)) (omega (arith, a .pre .1 .1, find .kept .1 .1 .1 .1 .1 .1 .1 .1 .1 .1 .1 .0)) all size ends lines in
+    shows (x .edition) (x .side) (now (x .stream)) (now (x .table)) (x .room) (now (x .out)) refl (find .ensures) all size (told ∙ answer-is (x .edition) (x .side) (now (x .stream)) (now (x .table)) (x .room) (now (x .out)) refl (find .ensures) all size) (c .before .before .before .before .before .before .before .before .before .before .finish .ensures) ends lines (few .0 .room) (put .kept .1 .1 .1 .1 .0) (put .ensures)
 
 pub text-judged-spec : {M : Type 1} → statement M
 text-judged-spec =
     tie.close
     (tie.spec
-    list-judged-requires
-    refuse-requires
-    same-length
-    same-length-2
-    returns
+    find-matches-requires
     wide-requires
     measure-requires
-    refuse-requires-2
-    same-length-3
-    same-length-4
-    returns-2
+    answer-requires
+    finish-requires
+    wide-requires-2
     put-texts-requires
-    cast-t30
-    same-length-5
-    same-length-6
-    same-length-7
-    returns-3)
+    same-length
+    same-length-2
+    same-length-3
+    returns)

@@ -7,8 +7,8 @@ use Rattle.pieces.proofs.Putting.{part-slice}
 use Rattle.odif.proofs.dating.date.Statement.{statement}
 use Rattle.odif.proofs.dating.date.Tie as tie
 
-dated-requires : tie.Need-dated-requires
-dated-requires c κs = search needs
+find-date-requires : tie.Need-find-date-requires
+find-date-requires c κs = search needs
 
 cast-first : tie.Need-cast-first
 cast-first c = search needs
@@ -17,24 +17,24 @@ cast-past : tie.Need-cast-past
 cast-past c = search needs
 
 sub-result : tie.Need-sub-result
-sub-result c = let f = c .before .before .dated .ensures .stands in omega (arith, f .order)
+sub-result c = let f = c .before .before .find-date .ensures .stands in omega (arith, f .order)
 
 part-result-start : tie.Need-part-result-start
-part-result-start c = let f = c .before .before .dated .ensures .stands in omega (arith, f .order)
+part-result-start c = let f = c .before .before .find-date .ensures .stands in omega (arith, f .order)
 
 part-result-end : tie.Need-part-result-end
-part-result-end c = let f = c .before .before .dated .ensures .stands in omega (arith, f .order, f .inside)
+part-result-end c = let f = c .before .before .find-date .ensures .stands in omega (arith, f .order, f .inside)
 
 returns : tie.Need-returns
 returns c =
-    let f = c .before .before .before .dated .ensures .stands in
+    let f = c .before .before .before .find-date .ensures .stands in
     part-slice _ _ (now (c .before .before .before .before .before .args .stream)) (f .order) ∙ f .part
 
 pub date-spec : {M : Type 1} → statement M
 date-spec =
     tie.close
     (tie.spec
-    dated-requires
+    find-date-requires
     cast-first
     cast-past
     sub-result

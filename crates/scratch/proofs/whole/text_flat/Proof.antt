@@ -9,7 +9,7 @@ use denote.Ref.{now}
 use Rattle.octets.specs.declared.Outcome.{Outcome}
 use Rattle.letters.specs.Lent.{rowsNeeded}
 use Rattle.answers.specs.Asking.{rowsAfter}
-use Rattle.answers.proofs.Small.{walk-small, headers-small, refusal-small}
+use Rattle.answers.proofs.Small.{walk-small, headers-small}
 use Rattle.answers.proofs.Letters.{refused-walk}
 use Rattle.answers.proofs.Showing.{shows-ruled}
 use Rattle.answers.proofs.Working.{text-told}
@@ -98,8 +98,7 @@ returns-3 c =
     let a = c .before .before .before .before .before .before .before in
     let x = a .args in
     let e = refused-walk (x .edition) _ _ _ _ (a .pre .outcome ∙ c .before .walked2 .given .1) in
-    let low = refusal-small (x .edition) (now (x .stream)) _ _ _ e .low in
-    shows-ruled (x .edition) (x .side) (now (x .stream)) (now (x .table)) (now (x .numbers)) (x .room) (now (x .out)) _ _ _ (λ z. omega arith) e
+    shows-ruled (x .edition) (x .side) (now (x .stream)) (now (x .table)) (now (x .numbers)) (x .room) (now (x .out)) _ _ _ e
 
 pub text-flat-spec : {M : Type 1} → statement M
 text-flat-spec =
