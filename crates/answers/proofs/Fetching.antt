@@ -22,7 +22,7 @@ use Rattle.elements.specs.Says.{Bounds}
 use Rattle.letters.specs.Letter.{letter, refusal, letterIn, rowsIn}
 use Rattle.letters.specs.Content.{HeldWhole, HeldInPieces}
 use Rattle.judging.proofs.Lists.{at-below}
-use Rattle.judging.proofs.Rows.{RowOf, row-of}
+use Rattle.judging.proofs.Rows.{RowOf, row-of, cell-at}
 use Rattle.letters.proofs.Fetching.{part-joined}
 use Rattle.reading.specs.Match.{unitKind}
 use Rattle.answers.specs.declared.ContentFound.{ContentFound}
@@ -92,10 +92,10 @@ module _ (edition : Edition) (s : List ℕ) (asked : ℕ) where
     pub finds-missing : count ≤ asked → FindsContent edition s asked NoUnit
     finds-missing past =
         let e = l .judged in
-        let no-element = nothing-past (l .elements) asked (omega (arith, l .counted)) in
+        let no-element = nothing-past (l .held .elements) asked (omega (arith, l .held .holds .counted)) in
         no-unit (λ wanted. rw (e, no-element))
 
-    module _ (element : Element) (there : getElem? (l .elements) asked ≡ some element) where
+    module _ (element : Element) (there : getElem? (l .held .elements) asked ≡ some element) where
       -- 20 "asked element is no text unit"
       finds-other : (element .kind ≡ unitKind → ⊥) → FindsContent edition s asked NoUnit
       finds-other other = let e = l .judged in no-unit (λ wanted. rw (e, there, ne-eqb (element .kind) unitKind other))
@@ -134,20 +134,20 @@ module _ (edition : Edition) (s : List ℕ) (asked : ℕ) where
             short = omega arith;
           }
 
-    finds-by : (element : Element) → getElem? (l .elements) asked ≡ some element → (row : RowOf s (rowsIn edition s) asked element)
+    finds-by : (element : Element) → getElem? (l .held .elements) asked ≡ some element → (row : RowOf s (rowsIn edition s) asked element)
         → kindAt rows asked ≡ element .kind → {found : ContentFound} → ContentAt edition s rows asked found → FindsContent edition s asked found
     finds-by element there row kind (otherKind other) = finds-other element there (λ k. other (kind ∙ k))
     finds-by element there row kind (heldWhole {first} {past} is holds) =
-        finds-part element there row first past (sym kind ∙ is) (holds (l .elements) (row .row) element (l .judge-accepted) (row .stands) there)
+        finds-part element there row first past (sym kind ∙ is) (holds (l .held .elements) (row .row) element (l .held .judged) (row .stands) there)
     finds-by element there row kind (heldInPieces {run} is holds) =
-        finds-pieces element there run (sym kind ∙ is) (holds (l .elements) (row .row) element (l .judge-accepted) (row .stands) there)
+        finds-pieces element there run (sym kind ∙ is) (holds (l .held .elements) (row .row) element (l .held .judged) (row .stands) there)
 
     -- what was found of it
     pub finds-at : {found : ContentFound} → asked < count → ContentAt edition s rows asked found → FindsContent edition s asked found
     finds-at below found =
-        let (element, there) = at-below (l .elements) asked (omega (arith, l .counted)) in
-        let row = row-of (l .saying) asked element there in
+        let (element, there) = at-below (l .held .elements) asked (omega (arith, l .held .holds .counted)) in
+        let row = row-of (l .held .holds .saying) asked element there in
         let to : asked * scratchWidth ≡ asked * scratchWidth + 0 = omega arith in
         let kind : kindAt rows asked ≡ element .kind =
-        ap (λ (i : ℕ). getD rows i 0) to ∙ l .cells-at asked (row .row) (row .stands) 0 (omega arith) ∙ row .says .kind in
+        ap (λ (i : ℕ). getD rows i 0) to ∙ cell-at (l .held .holds) asked (row .row) (row .stands) 0 (omega arith) ∙ row .says .kind in
         finds-by element there row kind found

@@ -27,6 +27,7 @@ use Rattle.texts.specs.Texts.{textsOf, lineWidth, lineNumbers}
 use Rattle.texts.specs.Flat.{recordsFrom, linesLeft, pasts, PutsTexts}
 use Rattle.texts.proofs.Flat.{records-all, lines-all}
 use Rattle.texts.proofs.Fits.{texts-fit}
+use Rattle.letters.proofs.Table.{letter-apart}
 use Rattle.answers.specs.declared.Listed.{Listed}
 use Rattle.answers.specs.declared.Shown.{Shown}
 use Rattle.answers.specs.Table.{rowsLent}
@@ -122,16 +123,16 @@ module _ (edition : Edition) (side : Side) (s table : List ℕ) (room : ℕ) (ou
     all-listed : answer .number ≡ 0 → {lines : ℕ} → lines ≡ answer .matches → Listing edition s flat lines
     all-listed zero-number {lines} all =
         let e = a .judged in
-        let is : matchesIn edition side s ≡ matches side (a .elements) = rw e in
-        let many : length (matches side (a .elements)) ≡ answer .matches = ap length (sym is) ∙ how-many zero-number in
-        let few = no-more-than-elements (a .elements) (a .apart) side in
-        let fit = texts-fit edition s fine (a .elements) (a .judge-accepted) (a .apart) (textIn edition s) (text-content edition s (a .judged)) side in
-        let size : length (textsOf (textIn edition s) (recordsFrom flat 0 lines)) ≡ length (textsOf (textIn edition s) (matches side (a .elements))) =
+        let is : matchesIn edition side s ≡ matches side (a .held .elements) = rw e in
+        let many : length (matches side (a .held .elements)) ≡ answer .matches = ap length (sym is) ∙ how-many zero-number in
+        let few = no-more-than-elements (a .held .elements) (letter-apart (a .held)) side in
+        let fit = texts-fit edition s fine (a .held .elements) (a .held .judged) (letter-apart (a .held)) (textIn edition s) (text-content edition s (a .judged)) side in
+        let size : length (textsOf (textIn edition s) (recordsFrom flat 0 lines)) ≡ length (textsOf (textIn edition s) (matches side (a .held .elements))) =
         ap (λ (n : ℕ). length (textsOf (textIn edition s) (recordsFrom flat 0 n))) all
         ∙ ap (λ (ms : List Match). length (textsOf (textIn edition s) ms)) (all-matches zero-number ∙ is) in
         record {
-          room = omega (arith, a .counted, a .needed);
-          few = omega (arith, a .counted, a .few);
+          room = omega (arith, a .held .holds .counted, a .needed);
+          few = omega (arith, a .held .holds .counted, a .few);
           short = omega (arith, a .within-limit);
         }
 

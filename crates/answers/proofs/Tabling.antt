@@ -19,11 +19,11 @@ use Rattle.elements.specs.declared.Row.{Row}
 use Rattle.elements.specs.Judge.{Element, accepted, judge}
 use Rattle.elements.specs.ElementRows.{cells, numbers}
 use Rattle.letters.specs.Letter.{letter, letterIn, rowsIn}
-use Rattle.letters.specs.Scratch.{Filled}
+use Rattle.letters.specs.Scratch.{LetterRows}
 use Rattle.judging.proofs.Lists.{at-below}
 use Rattle.judging.proofs.Rows.{saying-length}
 use Rattle.reading.specs.Match.{forEach, only}
-use Rattle.reading.proofs.Scratch.{filled-ready}
+use Rattle.reading.proofs.Scratch.{rows-tell}
 use Rattle.parents.specs.Parent.{parent, noParent, rowOrNone, isRow, children}
 use Rattle.answers.specs.Table.{tableWidth, rowNumbers, tableNumbers, parentAt}
 use Rattle.answers.specs.Filling.{Tabled, PutsRow, Fills, rowsWith}
@@ -116,29 +116,16 @@ module _ {s scratch : List ℕ} {count : ℕ} {table₀ table : List ℕ} {j : �
       sym (filling .goes-on elements rows t ∙ ap (λ (l : List Row). sets table (j * tableWidth) (forEach j l f)) none)
       ∙ sets-eq (tableNumbers elements rows) table₀ 0 (omega arith) ∙ ap (λ (k : ℕ). tableNumbers elements rows ++ drop k table₀) whole
 
--- the scratch that the judge filled
-pub tabled-by : {edition : Edition} {s rows head next head2 next2 : List ℕ} {count : ℕ} (filled : Filled edition s rows head next head2 next2 count)
-    → Tabled s rows count (filled .elements) (rowsIn edition s)
-tabled-by filled = record {
-  ready = filled-ready filled;
-  counted = saying-length (filled .holds .saying) ∙ filled .holds .counted;
-  written = filled .holds .written;
-}
+-- the table that is filled by the rows of a letter is the finished one
+module _ {edition : Edition} {s rows : List ℕ} {count : ℕ} (held : LetterRows edition s rows count) where
+  pub tabled : Tabled s rows count (held .elements) (rowsIn edition s)
+  tabled = record { ready = rows-tell held; counted = saying-length (held .holds .saying) ∙ held .holds .counted; written = held .holds .written }
 
--- the table that was filled is the finished one
-module _ {edition : Edition} {s rows head next head2 next2 : List ℕ} {count : ℕ} (filled : Filled edition s rows head next head2 next2 count)
-    {elements : List Element} (judged : judge edition (treeOf s) ≡ accepted elements) where
-  pub tabled : Tabled s rows count elements (rowsIn edition s)
-  tabled =
-      let p : accepted (filled .elements) ≡ accepted elements = sym (filled .judged) ∙ judged in
-      let own : filled .elements ≡ elements = cc in
-      subst (λ (es : List Element). Tabled s rows count es (rowsIn edition s)) own (tabled-by filled)
-
-  pub table-filled : {headers : ℕ} → letterIn edition s ≡ letter headers elements → (table after : List ℕ) → Fills s rows count table after → after ≡ tableOf edition s table
+  pub table-filled : {headers : ℕ} → letterIn edition s ≡ letter headers (held .elements) → (table after : List ℕ) → Fills s rows count table after → after ≡ tableOf edition s table
   table-filled e table after fills =
-      let size : length (tableNumbers elements (rowsIn edition s)) ≡ count * tableWidth =
-      table-length elements 0 (rowsIn edition s) ∙ ap (λ (k : ℕ). k * tableWidth) (tabled .counted) in
-      fills elements (rowsIn edition s) tabled ∙ rw (e, size)
+      let size : length (tableNumbers (held .elements) (rowsIn edition s)) ≡ count * tableWidth =
+      table-length (held .elements) 0 (rowsIn edition s) ∙ ap (λ (k : ℕ). k * tableWidth) (tabled .counted) in
+      fills (held .elements) (rowsIn edition s) tabled ∙ rw (e, size)
 
 -- "the last being the parent's row"
 parent-there : (elements : List Element) (n : ℕ) (rows : List Row) (rest : List ℕ) (j : ℕ) → j < length rows

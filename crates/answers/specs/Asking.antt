@@ -16,17 +16,13 @@ use Rattle.index.specs.Columns.{kindAt}
 use Rattle.pieces.specs.Pieces.{joined}
 use Rattle.normal.specs.declared.Answer.{Answer}
 use Rattle.normal.specs.declared.Answer.the-variants.{Written as Wrote, Refused as Unwritten}
-use Rattle.letters.specs.declared.Verdict.{Verdict}
-use Rattle.letters.specs.declared.Verdict.the-variants.{Accepted, Refused as Rejected}
 use Rattle.letters.specs.declared.Held.the-variants.{Part, Pieces as PiecesIn}
 use Rattle.letters.specs.Lent.{rowsNeeded}
 use Rattle.elements.specs.declared.Edition.{Edition}
-use Rattle.letters.specs.Scratch.{Filled}
 use Rattle.letters.specs.Content.{HoldsElement}
 use Rattle.reading.specs.declared.Side.{Side}
 use Rattle.reading.specs.Match.{unitKind}
 use Rattle.reading.specs.Records.{records}
-use Rattle.answers.specs.declared.Reason.{Reason}
 use Rattle.answers.specs.declared.Written.{Written}
 use Rattle.answers.specs.declared.Copied.{Copied}
 use Rattle.answers.specs.declared.Listed.{Listed}
@@ -34,14 +30,6 @@ use Rattle.answers.specs.declared.Found.{Found}
 use Rattle.answers.specs.declared.ContentFound.{ContentFound}
 use Rattle.answers.specs.declared.ContentFound.the-variants.{NoUnit, Content, Pieces}
 use Rattle.answers.specs.Answers.{listed, listedTable, matchesIn, onto, Fetched, handed, withheld, located, Stands, joinedIn, copiedFrom}
-
--- a stream was judged and accepted, and these are its rows in scratch, whatever the indexes hold
-pub record JudgedIn (edition : Edition) (s rows : List ℕ) (count : ℕ) : Type 0 where
-  pub head : List ℕ
-  pub next : List ℕ
-  pub head2 : List ℕ
-  pub next2 : List ℕ
-  pub filled : Filled edition s rows head next head2 next2 count
 
 -- what is found of the element in row j: no text unit, or where its content stands
 pub data ContentAt (edition : Edition) (s rows : List ℕ) (j : ℕ) : ContentFound → Type 0 where
@@ -53,11 +41,6 @@ pub data ContentAt (edition : Edition) (s rows : List ℕ) (j : ℕ) : ContentFo
 abbrev pub writtenAs : Answer → Written
 writtenAs (Wrote length) = record { number = 0; place = 0; length = length }
 writtenAs (Unwritten number place) = record { number = number; place = place; length = 0 }
-
--- the number and place of each verdict of the judge
-abbrev pub verdictAs : Verdict → Reason
-verdictAs (Accepted count) = record { number = 0; place = 0 }
-verdictAs (Rejected number place) = record { number = number; place = place }
 
 -- the bounds of a refused fetch
 abbrev pub nowhere : (number place : ℕ) → Found

@@ -14,7 +14,9 @@ ghost use lib.ListN.{length, drop};
 ghost use Rattle.tree.specs.Tree.{treeOf};
 ghost use Rattle.tree.specs.Accepts.{Accepts};
 ghost use Rattle.elements.specs.Judge.{mostElements};
-ghost use Rattle.letters.specs.Scratch.{Filled};
+ghost use Rattle.index.specs.Columns.{identifierColumn};
+ghost use Rattle.ordered.specs.Ordered.{Filed};
+ghost use Rattle.letters.specs.Scratch.{LetterRows};
 ghost use Rattle.answers.specs.Table.{tableWidth};
 ghost use Rattle.answers.specs.Filling.{rowsWith, Relates};
 ghost use Rattle.answers.specs.Related.{unrelated};
@@ -84,14 +86,13 @@ pub fn children_judged(
     rows: &[u32],
     head: &[u16],
     next: &[u16],
-    head2: &[u16],
-    next2: &[u16],
     count: usize,
     table: &mut [u32],
     list: &mut [u32],
 ) -> Related
     requires { ⌜ Accepts (now stream) (treeOf (now stream)) ⌝ }
-    requires { ⌜ Filled edition (now stream) (now rows) (now head) (now next) (now head2) (now next2) count ⌝ }
+    requires { ⌜ LetterRows edition (now stream) (now rows) count ⌝ }
+    requires { ⌜ Filed (now stream) (now rows) identifierColumn (now head) (now next) count ⌝ }
     requires { ⌜ room ≤ length (now list) ⌝ }
     ensures { λ r. ⌜ Relates edition (now (stream .entry)) (now (table .entry)) row room (now (list .entry)) r (now (table .exit)) (now (list .exit)) ⌝ }
 {

@@ -9,23 +9,23 @@ use elements::Edition;
 use index::SCRATCH_WIDTH;
 use letters::Held;
 use runs::Run;
-ghost use Prim.Native.Nat.{_<_, _≤_};
+ghost use Prim.Native.Nat.{ℕ, _<_, _≤_};
 ghost use lib.ListN.{length};
 ghost use lib.Seq.{slice};
 ghost use Rattle.tree.specs.Tree.{treeOf};
 ghost use Rattle.tree.specs.Accepts.{Accepts};
 ghost use Rattle.runs.specs.Runs.{wholeStream, treeIn, Fine};
 ghost use Rattle.pieces.specs.Pieces.{joined};
-ghost use Rattle.letters.specs.Content.{RowIn};
+ghost use Rattle.letters.specs.Scratch.{LetterRows};
 ghost use Rattle.answers.specs.Answers.{JoinedOutcome};
-ghost use Rattle.answers.specs.Asking.{JudgedIn, ContentAt, Fetches, FindsContent, Copies};
+ghost use Rattle.answers.specs.Asking.{ContentAt, Fetches, FindsContent, Copies};
 
 const TEXT_UNIT: u32 = 3;
 
 // The content of the element whose row is given, if it is a text unit.
 fn content_at(edition: Edition, stream: &[u8], rows: &[u32], element: usize) -> ContentFound
     requires { ⌜ Fine (now stream) (wholeStream (now stream)) ⌝ }
-    requires { ⌜ (element < 4096) × RowIn edition (now stream) (now rows) element ⌝ }
+    requires { ⌜ (element < 4096) × ((count : ℕ) × LetterRows edition (now stream) (now rows) count × (element < count)) ⌝ }
     ensures { λ r. ⌜ ContentAt edition (now (stream .entry)) (now (rows .entry)) element r ⌝ }
 {
     if rows[element * SCRATCH_WIDTH] != TEXT_UNIT {
@@ -46,7 +46,7 @@ pub fn fetch_judged(
     count: usize,
 ) -> ContentFound
     requires { ⌜ Accepts (now stream) (treeOf (now stream)) ⌝ }
-    requires { ⌜ JudgedIn edition (now stream) (now rows) count ⌝ }
+    requires { ⌜ LetterRows edition (now stream) (now rows) count ⌝ }
     ensures { λ r. ⌜ FindsContent edition (now (stream .entry)) element r ⌝ }
 {
     if element < count {
@@ -64,7 +64,7 @@ pub fn locate_judged(
     count: usize,
 ) -> Found
     requires { ⌜ Accepts (now stream) (treeOf (now stream)) ⌝ }
-    requires { ⌜ JudgedIn edition (now stream) (now rows) count ⌝ }
+    requires { ⌜ LetterRows edition (now stream) (now rows) count ⌝ }
     ensures { λ r. ⌜ Fetches edition (now (stream .entry)) element r ⌝ }
 {
     match fetch_judged(edition, stream, element, rows, count) {
@@ -99,7 +99,7 @@ pub fn join_judged(
     out: &mut [u8],
 ) -> Copied
     requires { ⌜ Accepts (now stream) (treeOf (now stream)) ⌝ }
-    requires { ⌜ JudgedIn edition (now stream) (now rows) count ⌝ }
+    requires { ⌜ LetterRows edition (now stream) (now rows) count ⌝ }
     ensures { λ r. ⌜ JoinedOutcome edition (now (stream .entry)) element (now (out .entry)) r (now (out .exit)) ⌝ }
 {
     match fetch_judged(edition, stream, element, rows, count) {

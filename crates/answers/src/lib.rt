@@ -9,7 +9,9 @@ use runs::Run;
 ghost use mathlib.Core.Path.{_≡_};
 ghost use lib.ListN.{length};
 ghost use Rattle.octets.specs.Walk.{walkOf};
-ghost use Rattle.letters.specs.Scratch.{Filled};
+ghost use Rattle.index.specs.Columns.{identifierColumn, logicalColumn};
+ghost use Rattle.ordered.specs.Ordered.{Filed};
+ghost use Rattle.letters.specs.Scratch.{LetterRows};
 ghost use Rattle.answers.specs.Answers.{refusedCheck, CheckOutcome};
 ghost use Rattle.answers.specs.Questions.{reasonTold, checkTold, locatedTold, copiedTold, listedTold, relatedTold, orderedTold};
 ghost use Rattle.answers.specs.Questions.{listedOf, refusedTold, Leaves, Roomy};
@@ -194,13 +196,12 @@ fn check_judged(
     rows: &[u32],
     head: &[u16],
     next: &[u16],
-    head2: &[u16],
-    next2: &[u16],
     count: usize,
     table: &mut [u32],
 ) -> Checked
     requires { ⌜ walkOf (now stream) ≡ Outcome.Ended (length (now stream)) headers ⌝ }
-    requires { ⌜ Filled edition (now stream) (now rows) (now head) (now next) (now head2) (now next2) count ⌝ }
+    requires { ⌜ LetterRows edition (now stream) (now rows) count ⌝ }
+    requires { ⌜ Filed (now stream) (now rows) identifierColumn (now head) (now next) count ⌝ }
     ensures { λ r. ⌜ CheckOutcome edition (now (stream .entry)) (now (table .entry)) r (now (table .exit)) ⌝ }
 {
     if table.len() / TABLE_WIDTH < count {
@@ -388,7 +389,8 @@ pub fn work(
     out: &mut [u8],
 ) -> Told
     requires { ⌜ walkOf (now stream) ≡ Outcome.Ended (length (now stream)) headers ⌝ }
-    requires { ⌜ Filled edition (now stream) (now rows) (now head) (now next) (now head2) (now next2) count ⌝ }
+    requires { ⌜ LetterRows edition (now stream) (now rows) count ⌝ }
+    requires { ⌜ Filed (now stream) (now rows) identifierColumn (now head) (now next) count × Filed (now stream) (now rows) logicalColumn (now head2) (now next2) count ⌝ }
     requires { ⌜ Roomy question (now stream) (length (now flat)) ⌝ }
     ensures { λ r. ⌜ Leaves edition question (now (stream .entry)) (now (table .entry)) (now (flat .entry)) (now (out .entry)) r (now (table .exit))
         (now (flat .exit)) (now (out .exit)) ⌝ }
@@ -405,8 +407,6 @@ pub fn work(
             rows,
             head,
             next,
-            head2,
-            next2,
             count,
             table,
         )),
@@ -447,8 +447,6 @@ pub fn work(
             rows,
             head,
             next,
-            head2,
-            next2,
             count,
             table,
             flat,
@@ -460,8 +458,6 @@ pub fn work(
             rows,
             head,
             next,
-            head2,
-            next2,
             count,
         )),
         Question::Text { side, room } => tell_shown(text_judged(

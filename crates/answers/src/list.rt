@@ -11,7 +11,9 @@ ghost use lib.ListN.{length};
 ghost use Rattle.tree.specs.Tree.{treeOf};
 ghost use Rattle.tree.specs.Accepts.{Accepts};
 ghost use Rattle.letters.specs.Lent.{rowsNeeded};
-ghost use Rattle.letters.specs.Scratch.{Filled};
+ghost use Rattle.index.specs.Columns.{identifierColumn, logicalColumn};
+ghost use Rattle.ordered.specs.Ordered.{Filed};
+ghost use Rattle.letters.specs.Scratch.{LetterRows};
 ghost use Rattle.answers.specs.Asking.{ListsFlat};
 ghost use Rattle.answers.specs.Showing.{FindsMatches};
 
@@ -31,7 +33,8 @@ pub fn find_matches(
     flat: &mut [u32],
 ) -> Listed
     requires { ⌜ Accepts (now stream) (treeOf (now stream)) ⌝ }
-    requires { ⌜ Filled edition (now stream) (now rows) (now head) (now next) (now head2) (now next2) elements ⌝ }
+    requires { ⌜ LetterRows edition (now stream) (now rows) elements ⌝ }
+    requires { ⌜ Filed (now stream) (now rows) identifierColumn (now head) (now next) elements × Filed (now stream) (now rows) logicalColumn (now head2) (now next2) elements ⌝ }
     requires { ⌜ 3 * rowsNeeded (now stream) ≤ length (now flat) ⌝ }
     ensures { λ r. ⌜ FindsMatches edition side (now (stream .entry)) lent room r (now (flat .exit)) ⌝ }
 {
@@ -86,7 +89,8 @@ pub fn list_judged(
     flat: &mut [u32],
 ) -> Listed
     requires { ⌜ Accepts (now stream) (treeOf (now stream)) ⌝ }
-    requires { ⌜ Filled edition (now stream) (now rows) (now head) (now next) (now head2) (now next2) count ⌝ }
+    requires { ⌜ LetterRows edition (now stream) (now rows) count ⌝ }
+    requires { ⌜ Filed (now stream) (now rows) identifierColumn (now head) (now next) count × Filed (now stream) (now rows) logicalColumn (now head2) (now next2) count ⌝ }
     requires { ⌜ 3 * rowsNeeded (now stream) ≤ length (now flat) ⌝ }
     ensures { λ r. ⌜ ListsFlat edition side (now (stream .entry)) (now (table .entry)) room r (now (table .exit)) (now (flat .exit)) ⌝ }
 {
@@ -111,8 +115,6 @@ pub fn list_judged(
         rows,
         head,
         next,
-        head2,
-        next2,
         count,
         listed.number,
         table,

@@ -11,9 +11,9 @@ ghost use Rattle.headers.specs.Head.{isIn};
 ghost use Rattle.tree.specs.Tree.{treeOf};
 ghost use Rattle.tree.specs.Accepts.{Accepts};
 ghost use Rattle.elements.specs.Judge.{mostElements};
-ghost use Rattle.letters.specs.Scratch.{Filled};
-ghost use Rattle.reading.specs.declared.Side.{Side};
-ghost use Rattle.reading.specs.Ready.{Searchable};
+ghost use Rattle.index.specs.Columns.{identifierColumn};
+ghost use Rattle.ordered.specs.Ordered.{Filed};
+ghost use Rattle.letters.specs.Scratch.{LetterRows};
 ghost use Rattle.answers.specs.Table.{tableWidth, rowsLent};
 ghost use Rattle.answers.specs.Filling.{PutsRow, Fills};
 ghost use Rattle.answers.specs.Texts.{finishing, tableBy};
@@ -33,7 +33,8 @@ fn put_row(
     j: usize,
     table: &mut [u32],
 )
-    requires { ⌜ Searchable Side.Layout (now s) (now rows) (now head) (now next) count ⌝ }
+    requires { ⌜ ((edition : Edition) × LetterRows edition (now s) (now rows) count) ⌝ }
+    requires { ⌜ Filed (now s) (now rows) identifierColumn (now head) (now next) count ⌝ }
     requires { ⌜ (j < count) × (count ≤ mostElements) × (count * tableWidth ≤ length (now table)) ⌝ }
     ensures { λ _. ⌜ PutsRow (now (s .entry)) (now (rows .entry)) count j (now (table .entry)) (now (table .exit)) ⌝ }
 {
@@ -46,7 +47,8 @@ fn put_row(
 
 // Fills the first rows of the table from those of the scratch. It has room for them.
 pub fn fill(s: &[u8], rows: &[u32], head: &[u16], next: &[u16], count: usize, table: &mut [u32])
-    requires { ⌜ Searchable Side.Layout (now s) (now rows) (now head) (now next) count ⌝ }
+    requires { ⌜ ((edition : Edition) × LetterRows edition (now s) (now rows) count) ⌝ }
+    requires { ⌜ Filed (now s) (now rows) identifierColumn (now head) (now next) count ⌝ }
     requires { ⌜ (count ≤ mostElements) × (count * tableWidth ≤ length (now table)) ⌝ }
     ensures { λ _. ⌜ Fills (now (s .entry)) (now (rows .entry)) count (now (table .entry)) (now (table .exit)) ⌝ }
 {
@@ -71,14 +73,13 @@ pub fn finish(
     rows: &[u32],
     head: &[u16],
     next: &[u16],
-    head2: &[u16],
-    next2: &[u16],
     count: usize,
     number: u32,
     table: &mut [u32],
 )
     requires { ⌜ Accepts (now stream) (treeOf (now stream)) ⌝ }
-    requires { ⌜ Filled edition (now stream) (now rows) (now head) (now next) (now head2) (now next2) count ⌝ }
+    requires { ⌜ LetterRows edition (now stream) (now rows) count ⌝ }
+    requires { ⌜ Filed (now stream) (now rows) identifierColumn (now head) (now next) count ⌝ }
     requires { ⌜ (isIn number finishing ≡ true → count ≤ rowsLent (now table)) ⌝ }
     ensures { λ _. ⌜ now (table .exit) ≡ tableBy edition (now (stream .entry)) (now (table .entry)) number ⌝ }
 {

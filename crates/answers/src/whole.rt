@@ -17,10 +17,11 @@ ghost use Rattle.octets.specs.Walk.{streamLimit};
 ghost use Rattle.tree.specs.Tree.{treeOf};
 ghost use Rattle.tree.specs.Accepts.{Accepts};
 ghost use Rattle.letters.specs.Lent.{rowsNeeded};
-ghost use Rattle.letters.specs.Scratch.{Filled};
+ghost use Rattle.index.specs.Columns.{identifierColumn, logicalColumn};
+ghost use Rattle.ordered.specs.Ordered.{Filed};
+ghost use Rattle.letters.specs.Scratch.{LetterRows};
 ghost use Rattle.texts.specs.Texts.{textsOf};
 ghost use Rattle.texts.specs.Flat.{recordsFrom, PutsTexts};
-ghost use Rattle.answers.specs.Asking.{JudgedIn};
 ghost use Rattle.answers.specs.Texts.{textIn, unshown, shownFrom};
 ghost use Rattle.answers.specs.Showing.{Listing, TextsFlat};
 
@@ -33,7 +34,7 @@ fn wide(x: u32) -> usize
 // How many octets the text of a unit has.
 fn text_length(edition: Edition, stream: &[u8], rows: &[u32], count: usize, unit: usize) -> usize
     requires { ⌜ Accepts (now stream) (treeOf (now stream)) ⌝ }
-    requires { ⌜ JudgedIn edition (now stream) (now rows) count ⌝ }
+    requires { ⌜ LetterRows edition (now stream) (now rows) count ⌝ }
     ensures { λ r. ⌜ r ≡ length (textIn edition (now (stream .entry)) unit) ⌝ }
 {
     match fetch_judged(edition, stream, unit, rows, count) {
@@ -53,7 +54,7 @@ fn put_text(
     out: &mut [u8],
 ) -> usize
     requires { ⌜ Accepts (now stream) (treeOf (now stream)) ⌝ }
-    requires { ⌜ JudgedIn edition (now stream) (now rows) count ⌝ }
+    requires { ⌜ LetterRows edition (now stream) (now rows) count ⌝ }
     requires { ⌜ length (textIn edition (now stream) unit) ≤ length (now out) ⌝ }
     ensures { λ r. ⌜ r ≡ length (textIn edition (now (stream .entry)) unit) ⌝ }
     ensures { λ r. ⌜ now (out .exit) ≡ textIn edition (now (stream .entry)) unit ++ drop r (now (out .entry)) ⌝ }
@@ -75,7 +76,7 @@ fn measure(
     lines: usize,
 ) -> usize
     requires { ⌜ Accepts (now stream) (treeOf (now stream)) ⌝ }
-    requires { ⌜ JudgedIn edition (now stream) (now rows) count ⌝ }
+    requires { ⌜ LetterRows edition (now stream) (now rows) count ⌝ }
     requires { ⌜ Listing edition (now stream) (now numbers) lines ⌝ }
     ensures { λ r. ⌜ r ≡ length (textsOf (textIn edition (now (stream .entry))) (recordsFrom (now (numbers .entry)) 0 lines)) ⌝ }
 {
@@ -100,7 +101,7 @@ fn put_texts(
     out: &mut [u8],
 )
     requires { ⌜ Accepts (now stream) (treeOf (now stream)) ⌝ }
-    requires { ⌜ JudgedIn edition (now stream) (now rows) count ⌝ }
+    requires { ⌜ LetterRows edition (now stream) (now rows) count ⌝ }
     requires { ⌜ Listing edition (now stream) (now numbers) lines ⌝ }
     requires { ⌜ length (textsOf (textIn edition (now stream)) (recordsFrom (now numbers) 0 lines)) ≤ length (now out) ⌝ }
     ensures { λ _. ⌜ PutsTexts (textIn edition (now (stream .entry))) (now (numbers .entry)) lines (now (out .entry)) (now (numbers .exit))
@@ -167,7 +168,8 @@ pub fn text_judged(
     out: &mut [u8],
 ) -> Shown
     requires { ⌜ Accepts (now stream) (treeOf (now stream)) ⌝ }
-    requires { ⌜ Filled edition (now stream) (now rows) (now head) (now next) (now head2) (now next2) count ⌝ }
+    requires { ⌜ LetterRows edition (now stream) (now rows) count ⌝ }
+    requires { ⌜ Filed (now stream) (now rows) identifierColumn (now head) (now next) count × Filed (now stream) (now rows) logicalColumn (now head2) (now next2) count ⌝ }
     requires { ⌜ 4 * rowsNeeded (now stream) ≤ length (now numbers) ⌝ }
     ensures { λ r. ⌜ TextsFlat edition side (now (stream .entry)) (now (table .entry)) room (now (out .entry)) r (now (table .exit)) (now (numbers .exit))
         (now (out .exit)) ⌝ }
@@ -196,8 +198,6 @@ pub fn text_judged(
         rows,
         head,
         next,
-        head2,
-        next2,
         count,
         shown.number,
         table,

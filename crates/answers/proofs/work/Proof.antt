@@ -5,7 +5,7 @@ use lib.ListN.{length}
 use denote.Ref.{now}
 use Rattle.answers.specs.declared.Question.{Question}
 use Rattle.answers.specs.Questions.{Roomy}
-use Rattle.answers.proofs.Judging.{accepts-walked, judged-in, accepted-judged}
+use Rattle.answers.proofs.Judging.{accepts-walked, accepted-judged}
 use Rattle.answers.proofs.Working.{as-asked, ruled-letter, leaves-rules, leaves-check, leaves-content, leaves-joined, leaves-list, leaves-children, leaves-order, leaves-text}
 use Rattle.answers.proofs.work.Statement.{statement}
 use Rattle.answers.proofs.work.Tie as tie
@@ -20,7 +20,7 @@ enum-told-2 : tie.Need-enum-told-2
 enum-told-2 c = search needs
 
 check-judged-requires : tie.Need-check-judged-requires
-check-judged-requires c κs = let a = c .before .before .before .before .before .before .before .before .before .before .before .before in (a .pre .0, a .pre .1 .0)
+check-judged-requires c κs = let a = c .before .before .before .before .before .before .before .before .before .before .before .before in (a .pre .0, (a .pre .1 .0, a .pre .1 .1 .0 .0))
 
 tell-checked-requires : tie.Need-tell-checked-requires
 tell-checked-requires c κs = search needs
@@ -49,8 +49,8 @@ enum-known-question-3 c = search needs
 list-judged-requires : tie.Need-list-judged-requires
 list-judged-requires c κs =
     let a = c .before .before .before .before .before .before .before .before .before .before .before .before .before .before in
-    let room = subst (λ (q : Question). Roomy q (now (a .args .stream)) (length (now (a .args .flat)))) (c .before .before .before .question3 .given .1) (a .pre .1 .1) in
-    (accepts-walked (a .pre .0), (a .pre .1 .0, room))
+    let room = subst (λ (q : Question). Roomy q (now (a .args .stream)) (length (now (a .args .flat)))) (c .before .before .before .question3 .given .1) (a .pre .1 .1 .1) in
+    (accepts-walked (a .pre .0), (a .pre .1 .0, (a .pre .1 .1 .0, room)))
 
 tell-listed-requires : tie.Need-tell-listed-requires
 tell-listed-requires c κs = search needs
@@ -61,8 +61,8 @@ enum-known-question-4 c = search needs
 children-judged-requires : tie.Need-children-judged-requires
 children-judged-requires c κs =
     let a = c .before .before .before .before .before .before .before .before .before .before .before .before .before .before in
-    let room = subst (λ (q : Question). Roomy q (now (a .args .stream)) (length (now (a .args .flat)))) (c .before .before .before .question4 .given .1) (a .pre .1 .1) in
-    (accepts-walked (a .pre .0), (a .pre .1 .0, room))
+    let room = subst (λ (q : Question). Roomy q (now (a .args .stream)) (length (now (a .args .flat)))) (c .before .before .before .question4 .given .1) (a .pre .1 .1 .1) in
+    (accepts-walked (a .pre .0), (a .pre .1 .0, (a .pre .1 .1 .0 .0, room)))
 
 tell-related-requires : tie.Need-tell-related-requires
 tell-related-requires c κs = search needs
@@ -73,7 +73,7 @@ enum-known-question-5 c = search needs
 order-judged-requires : tie.Need-order-judged-requires
 order-judged-requires c κs =
     let a = c .before .before .before .before .before .before .before .before .before .before .before .before in
-    ((a .args .headers, a .pre .0), a .pre .1 .0)
+    ((a .args .headers, a .pre .0), (a .pre .1 .0, a .pre .1 .1 .0 .0))
 
 tell-ordered-requires : tie.Need-tell-ordered-requires
 tell-ordered-requires c κs = search needs
@@ -84,8 +84,8 @@ enum-known-question-6 c = search needs
 text-judged-requires : tie.Need-text-judged-requires
 text-judged-requires c κs =
     let a = c .before .before .before .before .before .before .before .before .before .before .before .before .before .before .before in
-    let room = subst (λ (q : Question). Roomy q (now (a .args .stream)) (length (now (a .args .flat)))) (c .before .before .before .before .question6 .given .1) (a .pre .1 .1) in
-    (accepts-walked (a .pre .0), (a .pre .1 .0, room))
+    let room = subst (λ (q : Question). Roomy q (now (a .args .stream)) (length (now (a .args .flat)))) (c .before .before .before .before .question6 .given .1) (a .pre .1 .1 .1) in
+    (accepts-walked (a .pre .0), (a .pre .1 .0, (a .pre .1 .1 .0, room)))
 
 tell-shown-requires : tie.Need-tell-shown-requires
 tell-shown-requires c κs = search needs
@@ -94,7 +94,7 @@ returns : tie.Need-returns
 returns c =
     let a = c .before .before .before .before .before .before .before .before .before .before .before .before in
     let s = now (a .args .stream) in
-    let l = accepted-judged (a .pre .0) (judged-in (a .pre .1 .0)) in
+    let l = accepted-judged (a .pre .0) (a .pre .1 .0) in
     as-asked (c .before .enum-told .given .1) (c .tell-reason .ensures)
     (leaves-rules (a .args .edition) s (now (a .args .table)) (now (a .args .flat)) (now (a .args .out)) (sym (ruled-letter (a .args .edition) s (l .judged))))
 

@@ -7,10 +7,9 @@ use mathlib.Core.List.{List, _++_}
 use lib.ListN.{length, drop}
 use denote.Ref.{now}
 use borrow.Author.Needs.{needs}
-use Rattle.reading.proofs.Scratch.{layout-set}
 use Rattle.parents.specs.Parent.{noParent}
 use Rattle.parents.proofs.Children.{children-few}
-use Rattle.answers.proofs.Judging.{judged-in, accepted-judged}
+use Rattle.answers.proofs.Judging.{accepted-judged}
 use Rattle.answers.proofs.Tabling.{tabled, table-filled, finished-children}
 use Rattle.answers.proofs.Relating.{relates-16, relates-20, relates-25, relates-letter, renamed}
 use Rattle.answers.proofs.children.children_judged.Statement.{statement}
@@ -21,35 +20,35 @@ refuse-requires c κs = search needs
 
 returns : tie.Need-returns
 returns c =
-    let a = c .before .before .before .before .before .before .before .before .before .before in
-    let l = accepted-judged (a .pre .0 .ended) (judged-in (a .pre .1 .0)) in
-    renamed (c .refuse .ensures) refl refl (relates-16 (a .args .edition) (now (a .args .stream)) (now (a .args .table)) (a .args .row) (a .args .room) (now (a .args .list)) _ _ (l .elements) (l .judged) (l .counted) (omega arith))
+    let a = c .before .before .before .before .before .before .before .before in
+    let l = accepted-judged (a .pre .0 .ended) (a .pre .1 .0) in
+    renamed (c .refuse .ensures) refl refl (relates-16 (a .args .edition) (now (a .args .stream)) (now (a .args .table)) (a .args .row) (a .args .room) (now (a .args .list)) _ _ (l .held .elements) (l .judged) (l .held .holds .counted) (omega arith))
 
 refuse-requires-2 : tie.Need-refuse-requires-2
 refuse-requires-2 c κs = search needs
 
 returns-2 : tie.Need-returns-2
 returns-2 c =
-    let a = c .before .before .before .before .before .before .before .before .before .before .before in
-    let l = accepted-judged (a .pre .0 .ended) (judged-in (a .pre .1 .0)) in
-    renamed (c .refuse2 .ensures) refl refl (relates-20 (a .args .edition) (now (a .args .stream)) (now (a .args .table)) (a .args .row) (a .args .room) (now (a .args .list)) _ _ (l .elements) (l .judged) (l .counted) (omega arith) (c .before .if2 .taken))
+    let a = c .before .before .before .before .before .before .before .before .before in
+    let l = accepted-judged (a .pre .0 .ended) (a .pre .1 .0) in
+    renamed (c .refuse2 .ensures) refl refl (relates-20 (a .args .edition) (now (a .args .stream)) (now (a .args .table)) (a .args .row) (a .args .room) (now (a .args .list)) _ _ (l .held .elements) (l .judged) (l .held .holds .counted) (omega arith) (c .before .if2 .taken))
 
 fill-requires : tie.Need-fill-requires
 fill-requires c κs =
-    let a = c .before .before .before .before .before .before .before .before .before .before .before in
-    let l = accepted-judged (a .pre .0 .ended) (judged-in (a .pre .1 .0)) in
-    (layout-set (a .pre .1 .0), (l .few, omega arith))
+    let a = c .before .before .before .before .before .before .before .before .before in
+    let l = accepted-judged (a .pre .0 .ended) (a .pre .1 .0) in
+    ((a .args .edition, a .pre .1 .0), (a .pre .1 .1 .0, (l .few, omega arith)))
 
 count-children-requires : tie.Need-count-children-requires
 count-children-requires c κs =
-    let a = c .before .before .before .before .before .before .before .before .before .before .before .before .before .before .before in
-    let l = accepted-judged (a .pre .0 .ended) (judged-in (a .pre .1 .0)) in
+    let a = c .before .before .before .before .before .before .before .before .before .before .before .before .before in
+    let l = accepted-judged (a .pre .0 .ended) (a .pre .1 .0) in
     (l .few, omega (arith, c .before .before .before .fill .kept .1 .1 .1 .1 .1 .0))
 
 refuse-requires-3 : tie.Need-refuse-requires-3
 refuse-requires-3 c κs =
-    let a = c .before .before .before .before .before .before .before .before .before .before .before .before .before .before .before .before .before in
-    let l = accepted-judged (a .pre .0 .ended) (judged-in (a .pre .1 .0)) in
+    let a = c .before .before .before .before .before .before .before .before .before .before .before .before .before .before .before in
+    let l = accepted-judged (a .pre .0 .ended) (a .pre .1 .0) in
     l .few
 
 same-length : tie.Need-same-length
@@ -57,37 +56,37 @@ same-length c = search needs
 
 returns-3 : tie.Need-returns-3
 returns-3 c =
-    let a = c .before .before .before .before .before .before .before .before .before .before .before .before .before .before .before .before .before .before in
-    let l = accepted-judged (a .pre .0 .ended) (judged-in (a .pre .1 .0)) in
+    let a = c .before .before .before .before .before .before .before .before .before .before .before .before .before .before .before .before in
+    let l = accepted-judged (a .pre .0 .ended) (a .pre .1 .0) in
     let below : a .args .row < a .args .count = omega (arith, c .before .before .before .before .before .before .before .before .if2 .left) in
     let low : a .args .row < noParent = omega (arith, l .few) in
     let fills = c .before .before .before .before .before .before .fill .ensures in
-    let kids = finished-children (tabled (a .pre .1 .0) (l .judge-accepted)) (now (a .args .table)) _ fills (a .args .row) low in
+    let kids = finished-children (tabled (l .held)) (now (a .args .table)) _ fills (a .args .row) low in
     let found = c .before .before .count-children .ensures ∙ ap length kids in
-    renamed (c .refuse3 .ensures) (table-filled (a .pre .1 .0) (l .judge-accepted) (l .judged) (now (a .args .table)) _ fills) refl
-    (relates-25 (a .args .edition) (now (a .args .stream)) (now (a .args .table)) (a .args .row) (a .args .room) (now (a .args .list)) _ _ (l .elements) (l .judged) (l .counted) (omega arith) below _ found (c .before .if3 .taken))
+    renamed (c .refuse3 .ensures) (table-filled (l .held) (l .judged) (now (a .args .table)) _ fills) refl
+    (relates-25 (a .args .edition) (now (a .args .stream)) (now (a .args .table)) (a .args .row) (a .args .room) (now (a .args .list)) _ _ (l .held .elements) (l .judged) (l .held .holds .counted) (omega arith) below _ found (c .before .if3 .taken))
 
 put-children-requires : tie.Need-put-children-requires
 put-children-requires c κs =
-    let a = c .before .before .before .before .before .before .before .before .before .before .before .before .before .before .before .before .before .before .before in
-    let l = accepted-judged (a .pre .0 .ended) (judged-in (a .pre .1 .0)) in
+    let a = c .before .before .before .before .before .before .before .before .before .before .before .before .before .before .before .before .before in
+    let l = accepted-judged (a .pre .0 .ended) (a .pre .1 .0) in
     let counted = c .before .before .before .count-children .ensures in
-    ((l .few, omega (arith, c .before .before .before .before .before .before .before .fill .kept .1 .1 .1 .1 .1 .0)), omega (arith, counted, c .before .before .if3 .left, a .pre .1 .1))
+    ((l .few, omega (arith, c .before .before .before .before .before .before .before .fill .kept .1 .1 .1 .1 .1 .0)), omega (arith, counted, c .before .before .if3 .left, a .pre .1 .1 .1))
 
-cast-t26 : tie.Need-cast-t26
-cast-t26 c =
-    let a = c .before .before .before .before .before .before .before .before .before .before .before .before .before .before .before .before .before .before .before .before .before .before in
-    let l = accepted-judged (a .pre .0 .ended) (judged-in (a .pre .1 .0)) in
+cast-t24 : tie.Need-cast-t24
+cast-t24 c =
+    let a = c .before .before .before .before .before .before .before .before .before .before .before .before .before .before .before .before .before .before .before .before in
+    let l = accepted-judged (a .pre .0 .ended) (a .pre .1 .0) in
     omega (arith, l .few)
 
-cast-t27 : tie.Need-cast-t27
-cast-t27 c =
-    let a = c .before .before .before .before .before .before .before .before .before .before .before .before .before .before .before .before .before .before .before .before .before .before in
-    let l = accepted-judged (a .pre .0 .ended) (judged-in (a .pre .1 .0)) in
+cast-t25 : tie.Need-cast-t25
+cast-t25 c =
+    let a = c .before .before .before .before .before .before .before .before .before .before .before .before .before .before .before .before .before .before .before .before in
+    let l = accepted-judged (a .pre .0 .ended) (a .pre .1 .0) in
     let low : a .args .row < noParent = omega (arith, l .few, c .before .before .before .before .before .before .before .before .before .before .before .before .if2 .left) in
-    let kids = finished-children (tabled (a .pre .1 .0) (l .judge-accepted)) (now (a .args .table)) _ (c .before .before .before .before .before .before .before .before .before .before .fill .ensures) (a .args .row) low in
+    let kids = finished-children (tabled (l .held)) (now (a .args .table)) _ (c .before .before .before .before .before .before .before .before .before .before .fill .ensures) (a .args .row) low in
     let found = c .before .before .before .before .before .before .count-children .ensures ∙ ap length kids in
-    omega (arith, l .few, l .counted, found, children-few (l .elements) (a .args .row))
+    omega (arith, l .few, l .held .holds .counted, found, children-few (l .held .elements) (a .args .row))
 
 same-length-2 : tie.Need-same-length-2
 same-length-2 c = search needs
@@ -97,16 +96,16 @@ same-length-3 c = search needs
 
 returns-4 : tie.Need-returns-4
 returns-4 c =
-    let a = c .before .before .before .before .before .before .before .before .before .before .before .before .before .before .before .before .before .before .before .before .before .before in
-    let l = accepted-judged (a .pre .0 .ended) (judged-in (a .pre .1 .0)) in
+    let a = c .before .before .before .before .before .before .before .before .before .before .before .before .before .before .before .before .before .before .before .before in
+    let l = accepted-judged (a .pre .0 .ended) (a .pre .1 .0) in
     let below : a .args .row < a .args .count = omega (arith, c .before .before .before .before .before .before .before .before .before .before .before .before .if2 .left) in
     let low : a .args .row < noParent = omega (arith, l .few) in
     let fills = c .before .before .before .before .before .before .before .before .before .before .fill .ensures in
-    let kids = finished-children (tabled (a .pre .1 .0) (l .judge-accepted)) (now (a .args .table)) _ fills (a .args .row) low in
+    let kids = finished-children (tabled (l .held)) (now (a .args .table)) _ fills (a .args .row) low in
     let found = c .before .before .before .before .before .before .count-children .ensures ∙ ap length kids in
     let put = c .before .before .put-children .ensures ∙ ap (λ (l : List ℕ). l ++ drop (length l) (now (a .args .list))) kids in
-    renamed refl (table-filled (a .pre .1 .0) (l .judge-accepted) (l .judged) (now (a .args .table)) _ fills) put
-    (relates-letter (a .args .edition) (now (a .args .stream)) (now (a .args .table)) (a .args .row) (a .args .room) (now (a .args .list)) _ _ (l .elements) (l .judged) (l .counted) (omega arith) below _ found (omega (arith, c .before .before .before .before .before .if3 .left)))
+    renamed refl (table-filled (l .held) (l .judged) (now (a .args .table)) _ fills) put
+    (relates-letter (a .args .edition) (now (a .args .stream)) (now (a .args .table)) (a .args .row) (a .args .room) (now (a .args .list)) _ _ (l .held .elements) (l .judged) (l .held .holds .counted) (omega arith) below _ found (omega (arith, c .before .before .before .before .before .if3 .left)))
 
 pub children-judged-spec : {M : Type 1} → statement M
 children-judged-spec =
@@ -122,8 +121,8 @@ children-judged-spec =
     same-length
     returns-3
     put-children-requires
-    cast-t26
-    cast-t27
+    cast-t24
+    cast-t25
     same-length-2
     same-length-3
     returns-4)

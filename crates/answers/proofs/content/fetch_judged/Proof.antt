@@ -12,7 +12,7 @@ content-at-requires : tie.Need-content-at-requires
 content-at-requires c κs =
     let a = c .before .before .before in
     let l = accepted-judged (a .pre .0 .ended) (a .pre .1) in
-    (stream-fine (now (a .args .stream)) _ _ (a .pre .0 .ended), (omega arith, l .row-in (a .args .element) (omega arith)))
+    (stream-fine (now (a .args .stream)) _ _ (a .pre .0 .ended), (omega (arith, l .few), (a .args .count, a .pre .1, omega arith)))
 
 returns : tie.Need-returns
 returns c =

@@ -3,7 +3,8 @@ use native.Mathlib.Omega.{arith}
 use borrow.Author.Needs.{needs}
 use denote.Ref.{now}
 use Rattle.reading.proofs.Single.{no-more-than-elements}
-use Rattle.answers.proofs.Judging.{judged-in, accepted-judged}
+use Rattle.letters.proofs.Table.{letter-apart}
+use Rattle.answers.proofs.Judging.{accepted-judged}
 use Rattle.answers.proofs.Listing.{finds-16, finds-19, finds-letter}
 use Rattle.answers.proofs.list.find_matches.Statement.{statement}
 use Rattle.answers.proofs.list.find_matches.Tie as tie
@@ -11,19 +12,19 @@ use Rattle.answers.proofs.list.find_matches.Tie as tie
 returns : tie.Need-returns
 returns c =
     let a = c .before .before .before .before .before .before .before .before in
-    let l = accepted-judged (a .pre .0 .ended) (judged-in (a .pre .1 .0)) in
-    finds-16 (a .args .edition) (a .args .side) (now (a .args .stream)) (now (a .args .flat)) (a .args .lent) (a .args .room) _ (l .elements) (l .judged) (omega (arith, l .counted))
+    let l = accepted-judged (a .pre .0 .ended) (a .pre .1 .0) in
+    finds-16 (a .args .edition) (a .args .side) (now (a .args .stream)) (now (a .args .flat)) (a .args .lent) (a .args .room) _ (l .held .elements) (l .judged) (omega (arith, l .held .holds .counted))
 
 list-matches-requires : tie.Need-list-matches-requires
 list-matches-requires c κs =
     let a = c .before .before .before .before .before .before .before .before .before in
-    let l = accepted-judged (a .pre .0 .ended) (judged-in (a .pre .1 .0)) in
-    ((a .args .edition, a .pre .1 .0), omega (arith, a .pre .1 .1, l .counted, l .needed))
+    let l = accepted-judged (a .pre .0 .ended) (a .pre .1 .0) in
+    ((a .args .edition, a .pre .1 .0), (a .pre .1 .1 .0, omega (arith, a .pre .1 .1 .1, l .held .holds .counted, l .needed)))
 
 cast-t17 : tie.Need-cast-t17
 cast-t17 c =
     let a = c .before .before .before .before .before .before .before .before .before .before .before .before .before in
-    let l = accepted-judged (a .pre .0 .ended) (judged-in (a .pre .1 .0)) in
+    let l = accepted-judged (a .pre .0 .ended) (a .pre .1 .0) in
     omega (arith, l .few)
 
 same-length : tie.Need-same-length
@@ -32,23 +33,23 @@ same-length c = search needs
 returns-2 : tie.Need-returns-2
 returns-2 c =
     let a = c .before .before .before .before .before .before .before .before .before .before .before .before .before in
-    let l = accepted-judged (a .pre .0 .ended) (judged-in (a .pre .1 .0)) in
-    let lists = c .before .before .before .list-matches .ensures (a .args .edition) (a .pre .1 .0) (l .elements) (l .judge-accepted) in
-    finds-19 (a .args .edition) (a .args .side) (now (a .args .stream)) _ (a .args .lent) (a .args .room) _ (l .elements) (l .judged) _ (l .counted) (omega arith) _ _ lists (omega arith)
+    let l = accepted-judged (a .pre .0 .ended) (a .pre .1 .0) in
+    let lists = c .before .before .before .list-matches .ensures (a .args .edition) (l .held) in
+    finds-19 (a .args .edition) (a .args .side) (now (a .args .stream)) _ (a .args .lent) (a .args .room) _ (l .held .elements) (l .judged) _ (l .held .holds .counted) (omega arith) _ _ lists (omega arith)
 
 cast-t18 : tie.Need-cast-t18
 cast-t18 c =
     let a = c .before .before .before .before .before .before .before .before .before .before .before .before .before in
-    let l = accepted-judged (a .pre .0 .ended) (judged-in (a .pre .1 .0)) in
+    let l = accepted-judged (a .pre .0 .ended) (a .pre .1 .0) in
     omega (arith, l .few)
 
 cast-t19 : tie.Need-cast-t19
 cast-t19 c =
     let a = c .before .before .before .before .before .before .before .before .before .before .before .before .before in
-    let l = accepted-judged (a .pre .0 .ended) (judged-in (a .pre .1 .0)) in
-    let lists = c .before .before .before .list-matches .ensures (a .args .edition) (a .pre .1 .0) (l .elements) (l .judge-accepted) in
-    let few = no-more-than-elements (l .elements) (l .apart) (a .args .side) in
-    omega (arith, lists .counted, l .counted, l .few)
+    let l = accepted-judged (a .pre .0 .ended) (a .pre .1 .0) in
+    let lists = c .before .before .before .list-matches .ensures (a .args .edition) (l .held) in
+    let few = no-more-than-elements (l .held .elements) (letter-apart (l .held)) (a .args .side) in
+    omega (arith, lists .counted, l .held .holds .counted, l .few)
 
 same-length-2 : tie.Need-same-length-2
 same-length-2 c = search needs
@@ -56,9 +57,9 @@ same-length-2 c = search needs
 returns-3 : tie.Need-returns-3
 returns-3 c =
     let a = c .before .before .before .before .before .before .before .before .before .before .before .before .before in
-    let l = accepted-judged (a .pre .0 .ended) (judged-in (a .pre .1 .0)) in
-    let lists = c .before .before .before .list-matches .ensures (a .args .edition) (a .pre .1 .0) (l .elements) (l .judge-accepted) in
-    finds-letter (a .args .edition) (a .args .side) (now (a .args .stream)) _ (a .args .lent) (a .args .room) _ (l .elements) (l .judged) _ (l .counted) (omega arith) _ _ lists (omega arith)
+    let l = accepted-judged (a .pre .0 .ended) (a .pre .1 .0) in
+    let lists = c .before .before .before .list-matches .ensures (a .args .edition) (l .held) in
+    finds-letter (a .args .edition) (a .args .side) (now (a .args .stream)) _ (a .args .lent) (a .args .room) _ (l .held .elements) (l .judged) _ (l .held .holds .counted) (omega arith) _ _ lists (omega arith)
 
 pub find-matches-spec : {M : Type 1} → statement M
 find-matches-spec =

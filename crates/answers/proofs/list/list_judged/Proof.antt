@@ -3,26 +3,29 @@ use mathlib.Core.Path.{refl}
 use native.Mathlib.Omega.{arith}
 use borrow.Author.Needs.{needs}
 use denote.Ref.{now}
-use Rattle.answers.proofs.Judging.{judged-in, accepted-judged}
+use Rattle.answers.proofs.Judging.{accepted-judged}
 use Rattle.answers.proofs.Listing.{finished-rows, lists-finished}
 use Rattle.answers.proofs.list.list_judged.Statement.{statement}
 use Rattle.answers.proofs.list.list_judged.Tie as tie
 
 find-matches-requires : tie.Need-find-matches-requires
-find-matches-requires c κs = let a = c .before .before .before .before .before .before .before .before .before in (a .pre .0, (a .pre .1 .0, a .pre .1 .1))
+find-matches-requires c κs = let a = c .before .before .before .before .before .before .before .before .before in (a .pre .0, (a .pre .1 .0, (a .pre .1 .1 .0, a .pre .1 .1 .1)))
 
 finish-requires : tie.Need-finish-requires
 finish-requires c κs =
     let a = c .before .before .before .before .before .before .before .before .before .before .before .before .before in
     let x = a .args in
-    let l = accepted-judged (a .pre .0 .ended) (judged-in (a .pre .1 .0)) in
+    let l = accepted-judged (a .pre .0 .ended) (a .pre .1 .0) in
     let found = c .before .before .before .find-matches .ensures in (
       a .pre .0,
       (
         a .pre .1 .0,
-        λ finished.
-            let rows = finished-rows (x .edition) (x .side) (now (x .stream)) (now (x .table)) (x .room) refl found (l .judged) finished in
-            omega (arith, l .counted),
+        (
+          a .pre .1 .1 .0 .0,
+          λ finished.
+              let rows = finished-rows (x .edition) (x .side) (now (x .stream)) (now (x .table)) (x .room) refl found (l .judged) finished in
+              omega (arith, l .held .holds .counted),
+        ),
       ),
     )
 

@@ -17,7 +17,7 @@ loop-holds c = let a = c .before .before .before .before .before .args in fillin
 put-row-requires : tie.Need-put-row-requires Inv-loop μ-loop
 put-row-requires c κs =
     let start = c .before .before .before .before .before .before .before .before in
-    (start .pre .0, (c .before .loop-test .taken, start .pre .1 .0, omega (arith, start .pre .1 .1, c .before .before .loop .inv .kept)))
+    (start .pre .0, (start .pre .1 .0, (c .before .loop-test .taken, start .pre .1 .1 .0, omega (arith, start .pre .1 .1 .1, c .before .before .loop .inv .kept))))
 
 add-j : tie.Need-add-j Inv-loop μ-loop
 add-j c = omega arith
@@ -33,7 +33,7 @@ same-length : tie.Need-same-length Inv-loop μ-loop
 same-length c = c .before .loop .inv .kept
 
 returns : tie.Need-returns Inv-loop μ-loop
-returns c = filling-none (c .before .loop .inv) (c .loop-test .left) (c .before .before .before .before .before .before .before .pre .1 .1)
+returns c = filling-none (c .before .loop .inv) (c .loop-test .left) (c .before .before .before .before .before .before .before .pre .1 .1 .1)
 
 pub fill-spec : {M : Type 1} → statement M
 fill-spec =

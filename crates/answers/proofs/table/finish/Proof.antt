@@ -4,8 +4,7 @@ use native.Mathlib.Omega.{arith}
 use borrow.Author.Needs.{needs}
 use borrow.Author.Tests.{not-true, not-false}
 use denote.Ref.{now}
-use Rattle.reading.proofs.Scratch.{layout-set}
-use Rattle.answers.proofs.Judging.{judged-in, accepted-judged}
+use Rattle.answers.proofs.Judging.{accepted-judged}
 use Rattle.answers.proofs.Tabling.{table-filled}
 use Rattle.answers.proofs.table.finish.Statement.{statement}
 use Rattle.answers.proofs.table.finish.Tie as tie
@@ -18,19 +17,19 @@ returns c = rw (sym (c .before .is-finishing .ensures) ∙ not-true _ (c .if1 .t
 
 fill-requires : tie.Need-fill-requires
 fill-requires c κs =
-    let a = c .before .before .before .before .before .before .before .before .before .before in
-    let l = accepted-judged (a .pre .0 .ended) (judged-in (a .pre .1 .0)) in
-    let enough = a .pre .1 .1 (sym (c .before .before .is-finishing .ensures) ∙ not-false _ (c .before .if1 .left)) in
-    (layout-set (a .pre .1 .0), (l .few, omega (arith, enough)))
+    let a = c .before .before .before .before .before .before .before .before in
+    let l = accepted-judged (a .pre .0 .ended) (a .pre .1 .0) in
+    let enough = a .pre .1 .1 .1 (sym (c .before .before .is-finishing .ensures) ∙ not-false _ (c .before .if1 .left)) in
+    ((a .args .edition, a .pre .1 .0), (a .pre .1 .1 .0, (l .few, omega (arith, enough))))
 
 same-length : tie.Need-same-length
 same-length c = search needs
 
 returns-2 : tie.Need-returns-2
 returns-2 c =
-    let a = c .before .before .before .before .before .before .before .before .before .before .before .before .before in
-    let l = accepted-judged (a .pre .0 .ended) (judged-in (a .pre .1 .0)) in
-    let filled = table-filled (a .pre .1 .0) (l .judge-accepted) (l .judged) (now (a .args .table)) _ (c .before .before .fill .ensures) in
+    let a = c .before .before .before .before .before .before .before .before .before .before .before in
+    let l = accepted-judged (a .pre .0 .ended) (a .pre .1 .0) in
+    let filled = table-filled (l .held) (l .judged) (now (a .args .table)) _ (c .before .before .fill .ensures) in
     filled ∙ rw (sym (c .before .before .before .before .before .is-finishing .ensures) ∙ not-false _ (c .before .before .before .before .if1 .left))
 
 pub finish-spec : {M : Type 1} → statement M

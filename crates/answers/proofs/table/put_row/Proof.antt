@@ -62,13 +62,13 @@ returns c elements rows row t there =
     let start = c .before .before .before .before .before .before .before .before .before .before .before in
     let a = start .args in
     let j = a .j in
-    let own = scratch-slice t j row (start .pre .1 .0) there in
+    let own = scratch-slice t j row (start .pre .1 .1 .0) there in
     let part = part-slice (j * scratchWidth) (j * scratchWidth + scratchWidth) (a .rows .now) (omega arith) in
     let put = c .before .before .copy-numbers .ensures ∙ ap (λ (l : List ℕ). paste (a .table .now) (j * tableWidth) l scratchWidth) (part ∙ own) in
     let above = c .before .before .before .before .before .parent-of .ensures .is elements (t .ready) in
     ap (λ (l : List ℕ). set l (j * tableWidth + scratchWidth) (c .before .before .before .before .before .parent-of .result)) put
     ∙ ap (λ (p : ℕ). set (paste (a .table .now) (j * tableWidth) (cells row) scratchWidth) (j * tableWidth + scratchWidth) p) above
-    ∙ put-behind (a .table .now) (j * tableWidth) (cells row) (rowOrNone (parent elements j)) refl (omega (arith, start .pre .1 .0, start .pre .1 .2))
+    ∙ put-behind (a .table .now) (j * tableWidth) (cells row) (rowOrNone (parent elements j)) refl (omega (arith, start .pre .1 .1 .0, start .pre .1 .1 .2))
 
 pub put-row-spec : {M : Type 1} → statement M
 put-row-spec =

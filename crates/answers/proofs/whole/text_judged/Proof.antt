@@ -6,14 +6,14 @@ use borrow.Author.Needs.{needs}
 use denote.Ref.{now}
 use lib.ListN.{length}
 use Rattle.runs.proofs.Laws.{stream-fine}
-use Rattle.answers.proofs.Judging.{judged-in, accepted-judged}
+use Rattle.answers.proofs.Judging.{accepted-judged}
 use Rattle.answers.proofs.Listing.{finished-rows}
 use Rattle.answers.proofs.Showing.{Ends, reading-ends, finished-list, listing, puts, answer-is, shows}
 use Rattle.answers.proofs.whole.text_judged.Statement.{statement}
 use Rattle.answers.proofs.whole.text_judged.Tie as tie
 
 find-matches-requires : tie.Need-find-matches-requires
-find-matches-requires c κs = let a = c .before .before .before .before .before .before .before .before .before .before in (a .pre .0, (a .pre .1 .0, omega (arith, a .pre .1 .1)))
+find-matches-requires c κs = let a = c .before .before .before .before .before .before .before .before .before .before in (a .pre .0, (a .pre .1 .0, (a .pre .1 .1 .0, omega (arith, a .pre .1 .1 .1))))
 
 wide-requires : tie.Need-wide-requires
 wide-requires c κs = search needs
@@ -22,32 +22,35 @@ measure-requires : tie.Need-measure-requires
 measure-requires c κs =
     let a = c .before .before .before .before .before .before .before .before .before .before .before .before .before .before .before in
     let x = a .args in
-    let l = accepted-judged (a .pre .0 .ended) (judged-in (a .pre .1 .0)) in
+    let l = accepted-judged (a .pre .0 .ended) (a .pre .1 .0) in
     let find = c .before .before .before .before .find-matches in
-    let few = listing (x .edition) (x .side) (now (x .stream)) (now (x .table)) (x .room) (now (x .out)) refl (find .ensures) l (stream-fine (now (x .stream)) _ _ (a .pre .0 .ended)) (omega (arith, a .pre .1 .1, find .kept .1 .1 .1 .1 .1 .1 .1 .1 .1 .1 .1 .0)) (c .before .wide .ensures) in
-    (a .pre .0, (judged-in (a .pre .1 .0), few))
+    let few = listing (x .edition) (x .side) (now (x .stream)) (now (x .table)) (x .room) (now (x .out)) refl (find .ensures) l (stream-fine (now (x .stream)) _ _ (a .pre .0 .ended)) (omega (arith, a .pre .1 .1 .1, find .kept .1 .1 .1 .1 .1 .1 .1 .1 .1 .1 .1 .0)) (c .before .wide .ensures) in
+    (a .pre .0, (a .pre .1 .0, few))
 
 answer-requires : tie.Need-answer-requires
 answer-requires c κs =
     let a = c .before .before .before .before .before .before .before .before .before .before .before .before .before .before .before .before in
     let x = a .args in
-    let l = accepted-judged (a .pre .0 .ended) (judged-in (a .pre .1 .0)) in
+    let l = accepted-judged (a .pre .0 .ended) (a .pre .1 .0) in
     let find = c .before .before .before .before .before .find-matches in
-    let few = listing (x .edition) (x .side) (now (x .stream)) (now (x .table)) (x .room) (now (x .out)) refl (find .ensures) l (stream-fine (now (x .stream)) _ _ (a .pre .0 .ended)) (omega (arith, a .pre .1 .1, find .kept .1 .1 .1 .1 .1 .1 .1 .1 .1 .1 .1 .0)) (c .before .before .wide .ensures) in
+    let few = listing (x .edition) (x .side) (now (x .stream)) (now (x .table)) (x .room) (now (x .out)) refl (find .ensures) l (stream-fine (now (x .stream)) _ _ (a .pre .0 .ended)) (omega (arith, a .pre .1 .1 .1, find .kept .1 .1 .1 .1 .1 .1 .1 .1 .1 .1 .1 .0)) (c .before .before .wide .ensures) in
     omega (arith, c .measure .ensures, few .short)
 
 finish-requires : tie.Need-finish-requires
 finish-requires c κs =
     let a = c .before .before .before .before .before .before .before .before .before .before .before .before .before .before .before .before .before .before in
     let x = a .args in
-    let l = accepted-judged (a .pre .0 .ended) (judged-in (a .pre .1 .0)) in
+    let l = accepted-judged (a .pre .0 .ended) (a .pre .1 .0) in
     let find = c .before .before .before .before .before .before .before .find-matches in (
       a .pre .0,
       (
         a .pre .1 .0,
-        λ finished.
-            let rows = finished-rows (x .edition) (x .side) (now (x .stream)) (now (x .table)) (x .room) refl (find .ensures) (l .judged) (finished-list (find .result) (c .before .before .measure .result) (length (now (x .out))) (c .before .answer .ensures) finished) in
-            omega (arith, l .counted),
+        (
+          a .pre .1 .1 .0 .0,
+          λ finished.
+              let rows = finished-rows (x .edition) (x .side) (now (x .stream)) (now (x .table)) (x .room) refl (find .ensures) (l .judged) (finished-list (find .result) (c .before .before .measure .result) (length (now (x .out))) (c .before .answer .ensures) finished) in
+              omega (arith, l .held .holds .counted),
+        ),
       ),
     )
 
@@ -58,11 +61,11 @@ put-texts-requires : tie.Need-put-texts-requires
 put-texts-requires c κs =
     let a = c .before .before .before .before .before .before .before .before .before .before .before .before .before .before .before .before .before .before .before .before .before .before .before .before in
     let x = a .args in
-    let l = accepted-judged (a .pre .0 .ended) (judged-in (a .pre .1 .0)) in
+    let l = accepted-judged (a .pre .0 .ended) (a .pre .1 .0) in
     let find = c .before .before .before .before .before .before .before .before .before .before .before .before .before .find-matches in
     let ends = subst (Ends _ _ (length (now (x .out)))) (sym (c .before .before .before .before .before .before .before .answer .ensures)) (reading-ends _ _ (length (now (x .out)))) in
-    let put = puts (x .edition) (x .side) (now (x .stream)) (now (x .table)) (x .room) (now (x .out)) refl (find .ensures) l (stream-fine (now (x .stream)) _ _ (a .pre .0 .ended)) (omega (arith, a .pre .1 .1, find .kept .1 .1 .1 .1 .1 .1 .1 .1 .1 .1 .1 .0)) (c .before .before .before .before .before .before .before .before .before .before .wide .ensures) (c .before .before .before .before .before .before .before .before .measure .ensures) ends (c .before .before .wide2 .ensures) in
-    (a .pre .0, (judged-in (a .pre .1 .0), (put .0, put .1)))
+    let put = puts (x .edition) (x .side) (now (x .stream)) (now (x .table)) (x .room) (now (x .out)) refl (find .ensures) l (stream-fine (now (x .stream)) _ _ (a .pre .0 .ended)) (omega (arith, a .pre .1 .1 .1, find .kept .1 .1 .1 .1 .1 .1 .1 .1 .1 .1 .1 .0)) (c .before .before .before .before .before .before .before .before .before .before .wide .ensures) (c .before .before .before .before .before .before .before .before .measure .ensures) ends (c .before .before .wide2 .ensures) in
+    (a .pre .0, (a .pre .1 .0, (put .0, put .1)))
 
 same-length : tie.Need-same-length
 same-length c = search needs
@@ -77,7 +80,7 @@ returns : tie.Need-returns
 returns c =
     let a = c .before .before .before .before .before .before .before .before .before .before .before .before .before .before .before .before .before .before .before .before .before .before .before .before .before .before .before .before .before in
     let x = a .args in
-    let l = accepted-judged (a .pre .0 .ended) (judged-in (a .pre .1 .0)) in
+    let l = accepted-judged (a .pre .0 .ended) (a .pre .1 .0) in
     let find = c .before .before .before .before .before .before .before .before .before .before .before .before .before .before .before .before .before .before .find-matches in
     let all = c .before .before .before .before .before .before .before .before .before .before .before .before .before .before .before .wide .ensures in
     let size = c .before .before .before .before .before .before .before .before .before .before .before .before .before .measure .ensures in
@@ -85,7 +88,7 @@ returns c =
     let ends = subst (Ends _ _ (length (now (x .out)))) (sym told) (reading-ends _ _ (length (now (x .out)))) in
     let lines = c .before .before .before .before .before .before .before .wide2 .ensures in
     let put = c .before .before .before .before .put-texts in
-    let few = puts (x .edition) (x .side) (now (x .stream)) (now (x .table)) (x .room) (now (x .out)) refl (find .ensures) l (stream-fine (now (x .stream)) _ _ (a .pre .0 .ended)) (omega (arith, a .pre .1 .1, find .kept .1 .1 .1 .1 .1 .1 .1 .1 .1 .1 .1 .0)) all size ends lines in
+    let few = puts (x .edition) (x .side) (now (x .stream)) (now (x .table)) (x .room) (now (x .out)) refl (find .ensures) l (stream-fine (now (x .stream)) _ _ (a .pre .0 .ended)) (omega (arith, a .pre .1 .1 .1, find .kept .1 .1 .1 .1 .1 .1 .1 .1 .1 .1 .1 .0)) all size ends lines in
     shows (x .edition) (x .side) (now (x .stream)) (now (x .table)) (x .room) (now (x .out)) refl (find .ensures) all size (told ∙ answer-is (x .edition) (x .side) (now (x .stream)) (now (x .table)) (x .room) (now (x .out)) refl (find .ensures) all size) (c .before .before .before .before .before .before .before .before .before .before .finish .ensures) ends lines (few .0 .room) (put .kept .1 .1 .1 .1 .0) (put .ensures)
 
 pub text-judged-spec : {M : Type 1} → statement M
