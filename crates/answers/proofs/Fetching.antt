@@ -11,8 +11,8 @@ use lib.ListN.{length, getD, getElem?}
 use lib.Seq.{length-slice}
 use borrow.Author.Tests.{eq-eqb, ne-eqb}
 use Rattle.runs.specs.declared.Run.{Run}
-use Rattle.index.specs.Rows.{scratchWidth}
-use Rattle.index.specs.Columns.{kindAt}
+use Rattle.rows.specs.Rows.{scratchWidth}
+use Rattle.rows.specs.Columns.{kindAt}
 use Rattle.contents.specs.declared.Span.{Span}
 use Rattle.contents.specs.Search.{Value, absent, octets}
 use Rattle.pieces.proofs.Joined.{joined-fits}

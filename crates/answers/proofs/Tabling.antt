@@ -13,7 +13,7 @@ use lib.Seq.{sets, sets-eq, paste, slice, take-take, take-at, take-length, take-
 use borrow.Author.Tests.{eq-eqb, ne-eqb}
 use Rattle.laws.proofs.Writes.{sets-append}
 use Rattle.tree.specs.Tree.{treeOf}
-use Rattle.index.specs.Rows.{scratchWidth}
+use Rattle.rows.specs.Rows.{scratchWidth}
 use Rattle.elements.specs.declared.Edition.{Edition}
 use Rattle.elements.specs.declared.Row.{Row}
 use Rattle.elements.specs.Judge.{Element, accepted, judge}
@@ -23,7 +23,7 @@ use Rattle.letters.specs.Scratch.{LetterRows}
 use Rattle.judging.proofs.Lists.{at-below}
 use Rattle.judging.proofs.Rows.{saying-length}
 use Rattle.reading.specs.Match.{forEach, only}
-use Rattle.reading.proofs.Scratch.{rows-tell}
+use Rattle.letters.proofs.Telling.{rows-tell}
 use Rattle.parents.specs.Parent.{parent, noParent, rowOrNone, isRow, children}
 use Rattle.answers.specs.Table.{tableWidth, rowNumbers, tableNumbers, parentAt}
 use Rattle.answers.specs.Filling.{Tabled, PutsRow, Fills, rowsWith}

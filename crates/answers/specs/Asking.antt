@@ -12,7 +12,7 @@ use Rattle.octets.specs.declared.Outcome.the-variants.{Ended, Refused as Faulty
 use Rattle.octets.specs.Walk.{streamLimit, walkOf}
 use Rattle.runs.specs.declared.Run.{Run}
 use Rattle.runs.specs.Runs.{treeIn, Fine}
-use Rattle.index.specs.Columns.{kindAt}
+use Rattle.rows.specs.Columns.{kindAt}
 use Rattle.pieces.specs.Pieces.{joined}
 use Rattle.normal.specs.declared.Answer.{Answer}
 use Rattle.normal.specs.declared.Answer.the-variants.{Written as Wrote, Refused as Unwritten}

@@ -6,12 +6,12 @@ use mathlib.Core.Option.{some}
 use lib.Dec.{eqb}
 use lib.ListN.{length, take, drop, getElem?}
 use lib.Seq.{sets}
-use Rattle.index.specs.Rows.{scratchWidth}
+use Rattle.rows.specs.Rows.{scratchWidth}
 use Rattle.elements.specs.declared.Row.{Row}
 use Rattle.elements.specs.Judge.{Element}
 use Rattle.elements.specs.ElementRows.{numbers}
 use Rattle.reading.specs.Match.{only}
-use Rattle.reading.specs.Ready.{RowsTell}
+use Rattle.letters.specs.Telling.{RowsTell}
 use Rattle.answers.specs.Table.{tableWidth, rowNumbers, tableNumbers, parentAt}
 use Rattle.elements.specs.declared.Edition.{Edition}
 use Rattle.answers.specs.declared.Related.{Related}

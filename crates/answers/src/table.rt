@@ -1,8 +1,8 @@
-// The lent table: how wide its rows are, and how they are filled. A row of the scratch has its own width (`index::SCRATCH_WIDTH`); the lent one has its
+// The lent table: how wide its rows are, and how they are filled. A row of the scratch has its own width (`rows::SCRATCH_WIDTH`); the lent one has its
 // parent's row besides.
 use super::LIST_TOO_SHORT;
 use elements::Edition;
-use index::SCRATCH_WIDTH;
+use rows::SCRATCH_WIDTH;
 ghost use mathlib.Core.Path.{_≡_};
 ghost use mathlib.Core.Bool.{true};
 ghost use Prim.Native.Nat.{_*_, _<_, _≤_};
@@ -11,8 +11,8 @@ ghost use Rattle.headers.specs.Head.{isIn};
 ghost use Rattle.tree.specs.Tree.{treeOf};
 ghost use Rattle.tree.specs.Accepts.{Accepts};
 ghost use Rattle.elements.specs.Judge.{mostElements};
-ghost use Rattle.index.specs.Columns.{identifierColumn};
-ghost use Rattle.ordered.specs.Ordered.{Filed};
+ghost use Rattle.rows.specs.Columns.{identifierColumn};
+ghost use Rattle.rows.specs.Lookup.{Filed};
 ghost use Rattle.letters.specs.Scratch.{LetterRows};
 ghost use Rattle.answers.specs.Table.{tableWidth, rowsLent};
 ghost use Rattle.answers.specs.Filling.{PutsRow, Fills};

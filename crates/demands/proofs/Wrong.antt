@@ -13,7 +13,7 @@ use Rattle.octets.proofs.RulesHold.{derives}
 use Rattle.tree.specs.Tree.{Tree, empty, leaf, branch, treeOf}
 use Rattle.names.specs.Names.{isDigit, grouped, isIdentifier, allDigits, isPortion, same}
 use Rattle.normal.specs.Normal.{numberOctets, normalOf}
-use Rattle.index.specs.Rows.{nameSpaceOf}
+use Rattle.rows.specs.Rows.{nameSpaceOf}
 use Rattle.contents.specs.Search.{absent, octets, amount, firstValue, firstRun, boundsOf, itemsIn as insideOf, inOrder}
 use Rattle.pieces.specs.Pieces.{onlyPieces, joined}
 use Rattle.portions.specs.Portions.{allPortions, values, wellSpelt, among, repeats}

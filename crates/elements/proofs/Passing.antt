@@ -22,7 +22,8 @@ use Rattle.elements.specs.declared.Slots.{Slots}
 use Rattle.elements.specs.declared.Typed.{Typed}
 use Rattle.elements.specs.Judge.{spelt}
 use Rattle.elements.specs.Slots.{slotContent, slotElement, slotRow}
-use Rattle.elements.specs.Says.{Says, portionsRun}
+use Rattle.rows.specs.Columns.{portionsRun}
+use Rattle.elements.specs.Says.{Says}
 use Rattle.elements.specs.Sees.{listSpelt, speltBy, rowBy, Passes}
 use Rattle.elements.proofs.Findings.{Findings, elementIn, identifier-bounds, logical-bounds, portions-are, names-by}
 use Rattle.elements.proofs.Holding.{held-contains}

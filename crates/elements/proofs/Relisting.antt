@@ -21,7 +21,7 @@ use Rattle.runs.proofs.Again.{value-again}
 use Rattle.contents.specs.declared.Span.{Span}
 use Rattle.contents.specs.Search.{boundsOf, itemsIn}
 use Rattle.contents.specs.Gather.{Counted}
-use Rattle.elements.specs.Says.{portionsRun}
+use Rattle.rows.specs.Columns.{portionsRun}
 
 -- by the rules, the items are a run of one level between the bounds
 abbrev Again : List ℕ → Span → Items → Type 0

@@ -9,7 +9,7 @@ use lib.ListN.{length}
 use mathlib.Core.Option.{Option, none, some}
 use Rattle.tree.specs.Tree.{empty, Tree, leaf, branch}
 use Rattle.names.specs.Names.{isIdentifier, same}
-use Rattle.index.specs.Rows.{nameSpaceOf}
+use Rattle.rows.specs.Rows.{nameSpaceOf}
 use Rattle.contents.specs.Search.{Value, firstRun, absent, firstValue, amount, octets, inOrder, is}
 use Rattle.contents.specs.declared.Slot.{Slot}
 use Rattle.pieces.specs.Pieces.{joined, octetPieces, bitPieces}

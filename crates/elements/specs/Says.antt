@@ -6,8 +6,9 @@ use mathlib.Core.List.{List}
 use Prim.Native.Nat.{ℕ, _≤_, _<_}
 use lib.ListN.{length}
 use lib.Seq.{slice}
+use Rattle.rows.specs.Columns.{portionsRun}
 use Rattle.runs.specs.declared.Run.{Run}
-use Rattle.runs.specs.Runs.{treeIn, Fine, definiteRun}
+use Rattle.runs.specs.Runs.{treeIn, Fine}
 use Rattle.contents.specs.declared.Span.{Span}
 use Rattle.contents.specs.Search.{Value, absent, octets, noSpan}
 use Rattle.portions.specs.Portions.{allPortions, values}
@@ -39,10 +40,6 @@ Names s v (octets bytes) = Covers s v bytes × (v .first < v .past)
 abbrev pub Contains : List ℕ → Span → Content → Type 0
 Contains s v (single value) = Bounds s v value
 Contains s v (inPieces run) = Placed s v × (0 < v .past)
-
--- the run of the portions, read again from the bounds of their value: it has primitive items alone, which takes one level
-abbrev pub portionsRun : Span → Run
-portionsRun v = definiteRun (v .first) (v .past) 1
 
 -- a row says what its element says, which is well spelt
 pub record Says (s : List ℕ) (row : Row) (e : Element) : Type 0 where

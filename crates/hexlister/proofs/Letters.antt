@@ -12,7 +12,7 @@ use lib.Seq.{take-append-seam}
 use borrow.Author.Tests.{ltb-false, eq-eqb, ne-eqb}
 use borrow.Table.Steps.{cases}
 use Rattle.text.specs.Lines.{element, refused}
-use Rattle.index.specs.Columns.{wholeColumn}
+use Rattle.rows.specs.Columns.{wholeColumn}
 use Rattle.answers.specs.Table.{tableWidth, tableNumbers}
 use Rattle.answers.proofs.Tabling.{cell-there, table-length}
 use Rattle.elements.specs.declared.Row.{Row}

@@ -11,7 +11,7 @@ use Rattle.hex.specs.Examples.{input}
 use Rattle.headers.specs.Head.{permits, formAllowed, bigEndianFrom, misfits, definiteAt, indefiniteAt, longAt, byFirst, lengthAt, itemAt, closingAt, headAt}
 use Rattle.octets.specs.Walk.{runFor, run, walkOf}
 use Rattle.names.specs.Names.{isDigit, grouped, isIdentifier, allDigits, isPortion, same}
-use Rattle.index.specs.Rows.{nameSpaceOf}
+use Rattle.rows.specs.Rows.{nameSpaceOf}
 use Rattle.contents.specs.Search.{amount, firstValue, firstRun, itemsIn, boundsOf, inOrder}
 use Rattle.portions.specs.Portions.{allPortions, values, wellSpelt, among, repeats}
 use Rattle.elements.specs.Shape.{shapeOf}

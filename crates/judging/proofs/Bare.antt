@@ -18,13 +18,14 @@ use Rattle.runs.specs.Runs.{walkIn, itemsOf, Fine}
 use Rattle.names.specs.Hash.{hashFrom}
 use Rattle.contents.specs.Search.{Value, absent, octets, amount, firstValue, firstRun, boundsOf, itemsIn, noSpan}
 use Rattle.portions.specs.Portions.{allPortions, values, wellSpelt, repeats}
-use Rattle.index.specs.Rows.{nameSpaceOf}
+use Rattle.rows.specs.Rows.{nameSpaceOf}
 use Rattle.elements.specs.declared.Edition.{Edition}
 use Rattle.elements.specs.declared.Row.{Row}
 use Rattle.elements.specs.Shape.{Contents, profile, described, unit, style, protected, ContentItem, whole, pieced, Shape}
 use Rattle.elements.specs.Judge.{single, holdersOf, contentIn, contentOf, Element, noType, bodyOf, elementOf, namesFit, shares, clash, twice, refusalOf}
 use Rattle.elements.specs.ElementRows.{holderIn, contentOctet, bodyIn, rowOf}
-use Rattle.elements.specs.Says.{portionsRun, Says}
+use Rattle.rows.specs.Columns.{portionsRun}
+use Rattle.elements.specs.Says.{Says}
 use Rattle.judging.specs.declared.PlacedItem.{PlacedItem}
 use Rattle.judging.specs.Judges.{earlyRefusal, shapeBy, elementBy, MayBeBare, Passing}
 use Rattle.judging.proofs.Lists.{any-false}

@@ -14,11 +14,11 @@ use Rattle.names.proofs.Same.{same-eq, same-refl}
 use Rattle.contents.specs.declared.Span.{Span}
 use Rattle.contents.specs.Search.{Value, absent, octets}
 use Rattle.portions.specs.Portions.{any, repeats}
-use Rattle.index.specs.declared.RowFound.{RowFound}
-use Rattle.index.specs.declared.RowFound.the-variants.{At, Nothing}
-use Rattle.index.specs.Rows.{scratchWidth, nameSpaceOf}
-use Rattle.index.specs.Columns.{identifierColumn, logicalColumn, kindAt, firstAt, pastAt, valueAt, Bounded}
-use Rattle.index.specs.Index.{Has, FindsRow}
+use Rattle.rows.specs.declared.RowFound.{RowFound}
+use Rattle.rows.specs.declared.RowFound.the-variants.{At, Nothing}
+use Rattle.rows.specs.Rows.{scratchWidth, nameSpaceOf}
+use Rattle.rows.specs.Columns.{identifierColumn, logicalColumn, kindAt, firstAt, pastAt, valueAt, Bounded}
+use Rattle.rows.specs.Chains.{Has, FindsRow}
 use Rattle.elements.specs.declared.Row.{Row}
 use Rattle.elements.specs.Judge.{Element, shares, clash, twice}
 use Rattle.elements.specs.ElementRows.{cells, bytesIn}

@@ -6,8 +6,8 @@ use Prim.Native.Nat.{ℕ, zero, suc, _+_, _*_, _<_, _≤_}
 use native.Mathlib.Omega.{arith}
 use lib.ListN.{length, getD, take, drop, getElem?, length-append, List·getD-append}
 use lib.Seq.{sets, sets-eq, getD-take, getD-append-add, take-at}
-use Rattle.index.specs.Rows.{scratchWidth}
-use Rattle.index.specs.Columns.{kindAt, firstAt, pastAt}
+use Rattle.rows.specs.Rows.{scratchWidth}
+use Rattle.rows.specs.Columns.{kindAt, firstAt, pastAt}
 use Rattle.elements.specs.declared.Row.{Row}
 use Rattle.elements.specs.Judge.{Element}
 use Rattle.elements.specs.ElementRows.{cells, numbers}

@@ -4,8 +4,8 @@ use mathlib.Core.Path.{_≡_}
 use mathlib.Core.List.{List, [], _∷_, _++_}
 use Prim.Native.Nat.{ℕ, _*_}
 use lib.ListN.{length, take}
-use Rattle.index.specs.Rows.{scratchWidth}
-use Rattle.index.specs.Columns.{identifierColumn, logicalColumn, Bounded}
+use Rattle.rows.specs.Rows.{scratchWidth}
+use Rattle.rows.specs.Columns.{identifierColumn, logicalColumn, Bounded}
 use Rattle.elements.specs.declared.Row.{Row}
 use Rattle.elements.specs.Judge.{Element}
 use Rattle.elements.specs.ElementRows.{numbers}

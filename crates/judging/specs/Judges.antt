@@ -8,7 +8,7 @@ use Rattle.headers.specs.Head.{typeField}
 use Rattle.tree.specs.Tree.{Tree, empty}
 use Rattle.runs.specs.Runs.{itemsOf, treeIn}
 use Rattle.names.specs.Hash.{hash}
-use Rattle.index.specs.Index.{Has}
+use Rattle.rows.specs.Chains.{Has}
 use Rattle.elements.specs.declared.Edition.{Edition}
 use Rattle.elements.specs.declared.Row.{Row}
 use Rattle.elements.specs.Shape.{Shape, shapeOf}

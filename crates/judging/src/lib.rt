@@ -3,8 +3,8 @@ use contents::Span;
 use elements::Edition;
 use elements::Row;
 use elements::Seen;
-use index::RowFound;
 use names::Asked;
+use rows::RowFound;
 use runs::Run;
 ghost use mathlib.Core.Path.{_≡_};
 ghost use mathlib.Core.Bool.{true};
@@ -16,8 +16,8 @@ ghost use Rattle.runs.specs.Runs.{itemsOf, Fine};
 ghost use Rattle.names.specs.Hash.{hash};
 ghost use Rattle.portions.specs.Portions.{mostPortions};
 ghost use Rattle.portions.specs.Bounds.{bounded, Inside};
-ghost use Rattle.index.specs.Columns.{identifierColumn, logicalColumn, Bounded};
-ghost use Rattle.ordered.specs.Ordered.{Filed};
+ghost use Rattle.rows.specs.Columns.{identifierColumn, logicalColumn, Bounded};
+ghost use Rattle.rows.specs.Lookup.{Filed};
 ghost use Rattle.elements.specs.Judge.{Element};
 ghost use Rattle.elements.specs.ElementRows.{bytesIn};
 ghost use Rattle.elements.specs.Says.{Placed, RowPlaced};
@@ -111,7 +111,7 @@ fn is_taken(
         from: 0,
         to: 0,
     };
-    match ordered::find(s, rows, head, next, n, column, space, hashed, asked) {
+    match rows::find(s, rows, head, next, n, column, space, hashed, asked) {
         RowFound::At(_) => true,
         RowFound::Nothing => false,
     }
@@ -139,14 +139,14 @@ fn has_double(
         (seen .row) (bounded (now (s .entry)) (take (2 * seen .count) (now (bounds .entry)))) r ⌝ }
 {
     let row = seen.row;
-    let space = index::space_of(row.kind);
+    let space = rows::space_of(row.kind);
     if is_taken(
         s,
         rows,
         head,
         next,
         n,
-        index::IDENTIFIER,
+        rows::IDENTIFIER,
         space,
         hashes.identifier,
         row.identifier,
@@ -159,7 +159,7 @@ fn has_double(
         head2,
         next2,
         n,
-        index::LOGICAL,
+        rows::LOGICAL,
         space,
         hashes.logical,
         row.logical,

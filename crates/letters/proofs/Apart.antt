@@ -13,7 +13,7 @@ use Rattle.tree.specs.Tree.{Tree, empty, leaf, branch}
 use Rattle.names.proofs.Same.{same-refl}
 use Rattle.contents.specs.Search.{octets, is, firstValue}
 use Rattle.portions.specs.Portions.{any, repeats}
-use Rattle.index.specs.Rows.{nameSpaceOf}
+use Rattle.rows.specs.Rows.{nameSpaceOf}
 use Rattle.elements.specs.declared.Edition.{Edition}
 use Rattle.elements.specs.Shape.{shapeOf}
 use Rattle.elements.specs.Judge.{valueAt, typeOctet, typesOf, Element, elementOf, asTabled, typeFits, namesFit, mostElements, profileOctet, shares, clash, twice, refusalOf, Judged, accepted, refused, judgeOne, judgeFrom, judge}

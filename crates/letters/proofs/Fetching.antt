@@ -10,8 +10,8 @@ use lib.Seq.{slice, slice-empty}
 use Rattle.runs.specs.Runs.{treeIn, Fine}
 use Rattle.contents.specs.declared.Span.{Span}
 use Rattle.contents.specs.Search.{Value, absent, octets}
-use Rattle.index.specs.Rows.{scratchWidth}
-use Rattle.index.specs.Columns.{wholeColumn, firstAt}
+use Rattle.rows.specs.Rows.{scratchWidth}
+use Rattle.rows.specs.Columns.{wholeColumn, firstAt}
 use Rattle.elements.specs.declared.Edition.{Edition}
 use Rattle.elements.specs.declared.Holder.{Holder}
 use Rattle.elements.specs.declared.Row.{Row}

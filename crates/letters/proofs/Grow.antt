@@ -6,11 +6,11 @@ use native.Mathlib.Omega.{arith}
 use lib.ListN.{length, getD, length-append}
 use lib.Seq.{slice, sets}
 use Rattle.octets.specs.Walk.{streamLimit}
-use Rattle.index.specs.Rows.{scratchWidth}
-use Rattle.index.specs.Columns.{identifierColumn, logicalColumn, valueAt, Bounded}
-use Rattle.ordered.specs.Ordered.{Filed}
-use Rattle.index.proofs.Rows.{row-value, row-bounded}
-use Rattle.ordered.proofs.Rows.{row-filed}
+use Rattle.rows.specs.Rows.{scratchWidth}
+use Rattle.rows.specs.Columns.{identifierColumn, logicalColumn, valueAt, Bounded}
+use Rattle.rows.specs.Lookup.{Filed}
+use Rattle.rows.proofs.RowsKept.{row-value, row-bounded}
+use Rattle.rows.proofs.FiledKept.{row-filed}
 use Rattle.elements.specs.declared.Row.{Row}
 use Rattle.elements.specs.Judge.{Element}
 use Rattle.elements.specs.ElementRows.{cells}

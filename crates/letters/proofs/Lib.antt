@@ -8,3 +8,4 @@ pub mod Apart
 pub mod Table
 pub mod Standing
 pub mod Fetching
+pub mod Telling

@@ -15,10 +15,10 @@ use Rattle.runs.specs.declared.Run.{Run}
 use Rattle.runs.specs.Runs.{itemsOf, treeIn, wholeStream, tops, Fine, Meeting}
 use Rattle.runs.proofs.Laws.{start-at, no-tops}
 use Rattle.names.specs.Hash.{hashes}
-use Rattle.index.specs.Columns.{identifierColumn, logicalColumn}
-use Rattle.ordered.specs.Ordered.{Filed}
-use Rattle.index.proofs.Rows.{bounded-none}
-use Rattle.ordered.proofs.Rows.{filed-none}
+use Rattle.rows.specs.Columns.{identifierColumn, logicalColumn}
+use Rattle.rows.specs.Lookup.{Filed}
+use Rattle.rows.proofs.RowsKept.{bounded-none}
+use Rattle.rows.proofs.FiledKept.{filed-none}
 use Rattle.elements.specs.declared.Row.{Row}
 use Rattle.elements.specs.declared.Edition.{Edition}
 use Rattle.elements.specs.Judge.{Element, mostElements, judgeFrom, judge}

@@ -8,9 +8,9 @@ use lib.ListN.{length}
 use Rattle.runs.specs.Runs.{tops}
 use Rattle.names.specs.Hash.{hashes}
 use Rattle.portions.specs.Portions.{mostPortions}
-use Rattle.index.specs.Rows.{scratchWidth}
-use Rattle.index.specs.Index.{Empty}
-use Rattle.ordered.specs.Ordered.{markOf}
+use Rattle.rows.specs.Rows.{scratchWidth}
+use Rattle.rows.specs.Chains.{Empty}
+use Rattle.rows.specs.Lookup.{markOf}
 use Rattle.elements.specs.Judge.{mostElements}
 use Rattle.letters.specs.declared.Verdict.{Verdict}
 use Rattle.letters.specs.declared.Verdict.the-variants.{Accepted, Refused}

@@ -6,3 +6,4 @@ pub mod Lent
 pub mod Numbers
 pub mod Content
 pub mod Apart
+pub mod Telling

@@ -7,8 +7,8 @@ use Rattle.elements.specs.declared.Edition.{Edition}
 use Rattle.elements.specs.Judge.{Element, accepted, refused, judge}
 use Rattle.elements.specs.ElementRows.{placeOf}
 use Rattle.tree.specs.Tree.{treeOf}
-use Rattle.index.specs.Columns.{identifierColumn, logicalColumn}
-use Rattle.ordered.specs.Ordered.{Filed}
+use Rattle.rows.specs.Columns.{identifierColumn, logicalColumn}
+use Rattle.rows.specs.Lookup.{Filed}
 use Rattle.judging.specs.Done.{DoneRows}
 use Rattle.letters.specs.declared.Verdict.{Verdict}
 use Rattle.letters.specs.declared.Verdict.the-variants.{Accepted, Refused}

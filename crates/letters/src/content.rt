@@ -38,7 +38,7 @@ pub fn element_at(edition: Edition, s: &[u8], rows: &[u32], j: usize) -> PlacedI
     requires { ⌜ ((count : ℕ) × LetterRows edition (now s) (now rows) count × (j < count)) ⌝ }
     ensures { λ item. ⌜ ElementAt edition (now (s .entry)) j item ⌝ }
 {
-    let at = wide(rows[j * index::SCRATCH_WIDTH + index::WHOLE]);
+    let at = wide(rows[j * rows::SCRATCH_WIDTH + rows::WHOLE]);
     let whole = runs::whole_stream(s);
     let from = Run {
         at,

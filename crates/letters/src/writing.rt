@@ -7,9 +7,9 @@ ghost use Prim.Native.Nat.{_+_, _*_, _<_, _≤_};
 ghost use lib.ListN.{length};
 ghost use lib.Seq.{sets, paste};
 ghost use Rattle.octets.specs.Walk.{streamLimit};
-ghost use Rattle.index.specs.Rows.{scratchWidth};
-ghost use Rattle.index.specs.Columns.{identifierColumn, logicalColumn};
-ghost use Rattle.ordered.specs.Ordered.{Filed};
+ghost use Rattle.rows.specs.Rows.{scratchWidth};
+ghost use Rattle.rows.specs.Columns.{identifierColumn, logicalColumn};
+ghost use Rattle.rows.specs.Lookup.{Filed};
 ghost use Rattle.elements.specs.Judge.{Element, mostElements};
 ghost use Rattle.elements.specs.ElementRows.{cells};
 ghost use Rattle.elements.specs.Says.{RowPlaced};
@@ -60,7 +60,7 @@ fn put_row(rows: &mut [u32], at: usize, row: Row)
     ensures { λ _. ⌜ now (rows .exit) ≡ sets (now (rows .entry)) at (cells row) ⌝ }
 {
     let numbers = cells_of(row);
-    copy_numbers(&numbers, index::SCRATCH_WIDTH, rows, at);
+    copy_numbers(&numbers, rows::SCRATCH_WIDTH, rows, at);
 }
 
 // Writes row n, and adds it to both indexes.
@@ -83,7 +83,7 @@ pub fn add_row(
     ensures { λ _. ⌜ Filed (now (s .entry)) (now (rows .exit)) identifierColumn (now (head .exit)) (now (next .exit)) (n + 1)
         × Filed (now (s .entry)) (now (rows .exit)) logicalColumn (now (head2 .exit)) (now (next2 .exit)) (n + 1) ⌝ }
 {
-    put_row(rows, n * index::SCRATCH_WIDTH, row);
-    ordered::insert(s, rows, head, next, n, index::IDENTIFIER, hashes.identifier);
-    ordered::insert(s, rows, head2, next2, n, index::LOGICAL, hashes.logical);
+    put_row(rows, n * rows::SCRATCH_WIDTH, row);
+    rows::insert(s, rows, head, next, n, rows::IDENTIFIER, hashes.identifier);
+    rows::insert(s, rows, head2, next2, n, rows::LOGICAL, hashes.logical);
 }

@@ -16,7 +16,7 @@ use Rattle.names.proofs.Joined.{joined-parts}
 use Rattle.tree.specs.Tree.{Tree, branch}
 use Rattle.contents.specs.Search.{is}
 use Rattle.portions.specs.Portions.{any, among, repeats}
-use Rattle.index.specs.Rows.{nameSpaceOf}
+use Rattle.rows.specs.Rows.{nameSpaceOf}
 use Rattle.elements.specs.declared.Edition.{Edition}
 use Rattle.elements.specs.Judge.{Element, mostElements, profileOctet, clash, twice, Judged, accepted, judgeOne, judgeFrom, judge}
 use Rattle.elements.proofs.Refusals.{refusal-by-shape}

@@ -9,7 +9,7 @@ use native.Mathlib.Omega.{arith}
 use lib.ListN.{length, getElem?}
 use Rattle.names.specs.Names.{spaceByte}
 use Rattle.contents.specs.Search.{octets}
-use Rattle.index.specs.Rows.{nameSpaceOf}
+use Rattle.rows.specs.Rows.{nameSpaceOf}
 use Rattle.elements.specs.Judge.{Element}
 use Rattle.letters.specs.Apart.{Apart}
 use Rattle.letters.proofs.Apart.{identifiers-differ}

@@ -7,9 +7,9 @@ use native.Mathlib.Numerals.{add-one}
 use native.Mathlib.Omega.{arith}
 use lib.ListN.{length, replicate, length-replicate, getD-replicate}
 use Rattle.names.specs.Hash.{hashes}
-use Rattle.index.specs.Rows.{scratchWidth}
-use Rattle.index.specs.Index.{Empty}
-use Rattle.ordered.specs.Ordered.{markOf}
+use Rattle.rows.specs.Rows.{scratchWidth}
+use Rattle.rows.specs.Chains.{Empty}
+use Rattle.rows.specs.Lookup.{markOf}
 use Rattle.answers.specs.declared.Reason.{Reason}
 use Rattle.making.specs.declared.Entry.{Entry}
 use Rattle.making.specs.Entries.{Said, saidBy, entryRefusal, fit, refusedEntry, judgeEntriesFrom, judgeEntries}

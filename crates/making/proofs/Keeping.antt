@@ -9,12 +9,12 @@ use lib.Seq.{slice, getD-set-same, getD-set-other}
 use borrow.Author.Tests.{eqb-true, eqb-false}
 use borrow.Table.Steps.{cases}
 use Rattle.names.specs.Hash.{hashes}
-use Rattle.index.specs.Rows.{scratchWidth}
-use Rattle.index.specs.Columns.{identifierColumn, kindAt, firstAt, pastAt, valueAt, Bounded}
-use Rattle.index.specs.Index.{Empty}
-use Rattle.ordered.specs.Ordered.{markOf, Filed}
-use Rattle.index.proofs.Rows.{Kept, kind-kept, value-kept, bounded-kept, bounded-more, bounded-none}
-use Rattle.ordered.proofs.Rows.{filed-kept, filed-none}
+use Rattle.rows.specs.Rows.{scratchWidth}
+use Rattle.rows.specs.Columns.{identifierColumn, kindAt, firstAt, pastAt, valueAt, Bounded}
+use Rattle.rows.specs.Chains.{Empty}
+use Rattle.rows.specs.Lookup.{markOf, Filed}
+use Rattle.rows.proofs.RowsKept.{Kept, kind-kept, value-kept, bounded-kept, bounded-more, bounded-none}
+use Rattle.rows.proofs.FiledKept.{filed-kept, filed-none}
 use Rattle.judging.proofs.Lists.{Last, before, last, below-length, at-last}
 use Rattle.making.specs.declared.Entry.{Entry}
 use Rattle.making.specs.Entries.{Said, saidBy}

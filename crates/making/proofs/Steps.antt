@@ -12,11 +12,11 @@ use borrow.Author.Tests.{ne-eqb, leb-true}
 use borrow.Table.Steps.{cases}
 use Rattle.names.specs.Names.{longestIdentifier, grouped, isIdentifier, same}
 use Rattle.names.proofs.Same.{same-eq, same-refl}
-use Rattle.index.specs.declared.RowFound.{RowFound}
-use Rattle.index.specs.declared.RowFound.the-variants.{At, Nothing}
-use Rattle.index.specs.Columns.{identifierColumn, firstAt, pastAt}
-use Rattle.index.specs.Rows.{nameSpaceOf}
-use Rattle.index.specs.Index.{Has, FindsRow}
+use Rattle.rows.specs.declared.RowFound.{RowFound}
+use Rattle.rows.specs.declared.RowFound.the-variants.{At, Nothing}
+use Rattle.rows.specs.Columns.{identifierColumn, firstAt, pastAt}
+use Rattle.rows.specs.Rows.{nameSpaceOf}
+use Rattle.rows.specs.Chains.{Has, FindsRow}
 use Rattle.judging.proofs.Lists.{below-length, at-below, any-true, any-false}
 use Rattle.making.specs.declared.Entry.{Entry}
 use Rattle.making.specs.Entries.{Said, saidBy, unitName, used, entryRefusal, refusedEntry, judgeEntriesFrom, Spelt}

@@ -8,12 +8,12 @@ use mathlib.Core.Option.{some}
 use lib.ListN.{length, getElem?}
 use Rattle.names.specs.Hash.{hashes, hash}
 use Rattle.contents.specs.declared.Span.{Span}
-use Rattle.index.specs.declared.RowFound.{RowFound}
-use Rattle.index.specs.declared.RowFound.the-variants.{At, Nothing}
-use Rattle.index.specs.Rows.{scratchWidth}
-use Rattle.index.specs.Columns.{identifierColumn, kindAt, valueAt, Bounded}
-use Rattle.index.specs.Index.{Empty}
-use Rattle.ordered.specs.Ordered.{markOf, Filed}
+use Rattle.rows.specs.declared.RowFound.{RowFound}
+use Rattle.rows.specs.declared.RowFound.the-variants.{At, Nothing}
+use Rattle.rows.specs.Rows.{scratchWidth}
+use Rattle.rows.specs.Columns.{identifierColumn, kindAt, valueAt, Bounded}
+use Rattle.rows.specs.Chains.{Empty}
+use Rattle.rows.specs.Lookup.{markOf, Filed}
 use Rattle.elements.specs.ElementRows.{bytesIn}
 use Rattle.making.specs.declared.Entry.{Entry}
 use Rattle.making.specs.declared.rules.Ruled.{Ruled}

@@ -4,8 +4,8 @@ use super::Entry;
 use super::entry_at;
 use answers::Reason;
 use contents::Span;
-use index::RowFound;
 use names::Asked;
+use rows::RowFound;
 ghost use mathlib.Core.Path.{_≡_};
 ghost use mathlib.Core.Bool.{true};
 ghost use mathlib.Core.List.{List};
@@ -13,9 +13,9 @@ ghost use Prim.Native.Nat.{ℕ, _+_, _*_, _<_, _≤_};
 ghost use lib.ListN.{length};
 ghost use lib.Seq.{slice};
 ghost use Rattle.names.specs.Hash.{hash};
-ghost use Rattle.index.specs.Rows.{scratchWidth};
-ghost use Rattle.index.specs.Columns.{identifierColumn, Bounded};
-ghost use Rattle.ordered.specs.Ordered.{Filed};
+ghost use Rattle.rows.specs.Rows.{scratchWidth};
+ghost use Rattle.rows.specs.Columns.{identifierColumn, Bounded};
+ghost use Rattle.rows.specs.Lookup.{Filed};
 ghost use Rattle.elements.specs.ElementRows.{bytesIn};
 ghost use Rattle.making.specs.Entries.{Said, saidBy, inside, partsInside, allSpelt, judgeEntries};
 ghost use Rattle.making.specs.Answers.{reasonOf};
@@ -42,10 +42,8 @@ const MOST_ENTRIES: usize = 2047;
 
 const LONGEST_NAME: usize = 64;
 
-// The kind of a block, and the name space of that kind.
+// The kind of a block, as a row has it.
 const BLOCK: u32 = 2;
-
-const BLOCKS: u8 = 1;
 
 // Whether a part lies in the buffer.
 fn lies(buffer: &[u8], part: Span) -> bool
@@ -106,14 +104,14 @@ fn is_used(
         from: 0,
         to: 0,
     };
-    match ordered::find(
+    match rows::find(
         buffer,
         rows,
         head,
         next,
         n,
-        index::IDENTIFIER,
-        BLOCKS,
+        rows::IDENTIFIER,
+        rows::OBJECTS,
         hashed,
         asked,
     ) {
@@ -173,11 +171,11 @@ fn keep(
     ensures { λ _. ⌜ KeepsOn (now (buffer .entry)) (now (rows .entry)) (now (head .entry)) (now (next .entry)) n first past (now (rows .exit))
         (now (head .exit)) (now (next .exit)) ⌝ }
 {
-    let at = n * index::SCRATCH_WIDTH;
+    let at = n * rows::SCRATCH_WIDTH;
     rows[at] = BLOCK;
-    rows[at + index::IDENTIFIER] = first;
-    rows[at + index::IDENTIFIER + 1] = past;
-    ordered::insert(buffer, rows, head, next, n, index::IDENTIFIER, hashed);
+    rows[at + rows::IDENTIFIER] = first;
+    rows[at + rows::IDENTIFIER + 1] = past;
+    rows::insert(buffer, rows, head, next, n, rows::IDENTIFIER, hashed);
 }
 
 // Judges the entries in order: the number and place of the first refusal, 0 and 0 if there is none.

@@ -12,7 +12,7 @@ use borrow.Author.Tests.{eq-eqb, le-leb, lt-leb}
 use borrow.Table.Steps.{cases}
 use Rattle.names.specs.Names.{spaceByte, same, isPortion}
 use Rattle.names.proofs.Same.{same-refl}
-use Rattle.index.specs.Rows.{nameSpaceOf}
+use Rattle.rows.specs.Rows.{nameSpaceOf}
 use Rattle.contents.specs.Search.{octets}
 use Rattle.portions.specs.Portions.{all, any, among, repeats}
 use Rattle.elements.specs.Judge.{Element, shares, clash}

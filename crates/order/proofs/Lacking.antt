@@ -14,7 +14,7 @@ use Rattle.headers.specs.Head.{isIn}
 use Rattle.names.specs.Names.{spaceByte, same, isDigit, allDigits, grouped, longestPortion, isPortion}
 use Rattle.names.proofs.Same.{same-refl}
 use Rattle.names.proofs.Joined.{joined-parts}
-use Rattle.index.specs.Rows.{nameSpaceOf}
+use Rattle.rows.specs.Rows.{nameSpaceOf}
 use Rattle.contents.specs.Search.{Value, absent, octets}
 use Rattle.portions.specs.Portions.{all, any, among, repeats}
 use Rattle.elements.specs.Judge.{Element, clash}

@@ -13,7 +13,7 @@ use Rattle.headers.specs.Head.{isIn}
 use Rattle.names.specs.Names.{spaceByte, isPortion}
 use Rattle.names.proofs.Same.{same-eq, same-refl}
 use Rattle.names.proofs.Joined.{joined-parts}
-use Rattle.index.specs.Rows.{nameSpaceOf}
+use Rattle.rows.specs.Rows.{nameSpaceOf}
 use Rattle.contents.specs.Search.{Value, absent, octets}
 use Rattle.elements.specs.Judge.{Element, shares, clash}
 use Rattle.reading.specs.declared.Side.{Side}

@@ -6,7 +6,7 @@ use mathlib.Core.List.{map}
 use Rattle.headers.specs.Head.{permits, formAllowed, bigEndianFrom, misfits, definiteAt, indefiniteAt, longAt, byFirst, lengthAt, itemAt, closingAt, headAt}
 use Rattle.octets.specs.Walk.{runFor, run, walkOf}
 use Rattle.names.specs.Names.{isDigit, grouped, isIdentifier, allDigits, isPortion, same}
-use Rattle.index.specs.Rows.{nameSpaceOf}
+use Rattle.rows.specs.Rows.{nameSpaceOf}
 use Rattle.contents.specs.Search.{amount, firstValue, firstRun, inOrder}
 use Rattle.pieces.specs.Pieces.{onlyPieces, joined}
 use Rattle.portions.specs.Portions.{allPortions, values, wellSpelt, repeats, among}

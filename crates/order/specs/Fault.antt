@@ -6,7 +6,7 @@ use mathlib.Core.Bool.{Bool, cond}
 use mathlib.Core.List.{List, [], _∷_, _++_}
 use lib.ListN.{length}
 use Rattle.elements.specs.Judge.{Element}
-use Rattle.reading.specs.Ready.{RowsTell}
+use Rattle.letters.specs.Telling.{RowsTell}
 use Rattle.order.specs.declared.Class.{Class}
 use Rattle.order.specs.declared.Class.the-variants.{A, B}
 use Rattle.order.specs.declared.Fault.{Fault}

@@ -10,7 +10,7 @@ use lib.ListN.{length, drop}
 use lib.Seq.{drop-cons, drop-length}
 use borrow.Table.Steps.{cases}
 use Rattle.elements.specs.Judge.{Element}
-use Rattle.reading.specs.Ready.{noElement, elementAt}
+use Rattle.letters.specs.Telling.{noElement, elementAt}
 use Rattle.order.specs.Represents.{profileKind, LimitsAside}
 use Rattle.order.specs.ClausesB.{orderedB}
 use Rattle.order.specs.declared.Class.the-variants.{B}

@@ -8,11 +8,12 @@ use native.Mathlib.Omega.{arith}
 use lib.Dec.{eqb}
 use lib.ListN.{length, getElem?}
 use borrow.Author.Tests.{eq-eqb, ne-eqb}
-use Rattle.index.specs.Columns.{identifierColumn, kindAt}
+use Rattle.rows.specs.Columns.{identifierColumn, kindAt}
 use Rattle.elements.specs.Judge.{Element}
 use Rattle.reading.specs.declared.Side.the-variants.{Layout}
 use Rattle.reading.specs.Match.{unitKind}
-use Rattle.reading.specs.Ready.{spanAt, there, RowsTell, elementAt}
+use Rattle.letters.specs.Telling.{RowsTell, elementAt}
+use Rattle.rows.specs.Columns.{spanAt, there}
 use Rattle.reading.proofs.Listing.{element-there}
 use Rattle.order.specs.Represents.{named, profileKind, LimitsAside}
 use Rattle.order.specs.Ranks.{rankIn}

@@ -7,7 +7,7 @@ use mathlib.Core.List.{List, map}
 use lib.Dec.{eqb, leb, ltb}
 use lib.ListN.{drop}
 use Rattle.elements.specs.Judge.{Element}
-use Rattle.reading.specs.Ready.{RowsTell, elementAt}
+use Rattle.letters.specs.Telling.{RowsTell, elementAt}
 use Rattle.order.specs.Represents.{profileKind, LimitsAside}
 use Rattle.order.specs.Ranks.{rankIn}
 use Rattle.order.specs.ClassB.{rowsB, endB}

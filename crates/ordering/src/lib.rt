@@ -3,14 +3,16 @@
 use order::Fault;
 use owners::Owner;
 use reading::Side;
+use rows::PROFILE;
+use rows::TEXT_UNIT;
 ghost use mathlib.Core.Path.{_≡_};
 ghost use mathlib.Core.Bool.{_||_};
 ghost use Prim.Native.Nat.{_+_, _*_, _-_, _<_, _≤_};
 ghost use lib.Dec.{eqb};
 ghost use lib.ListN.{length};
-ghost use Rattle.index.specs.Rows.{scratchWidth};
-ghost use Rattle.index.specs.Columns.{identifierColumn};
-ghost use Rattle.reading.specs.Ready.{spanAt, there};
+ghost use Rattle.rows.specs.Rows.{scratchWidth};
+ghost use Rattle.rows.specs.Columns.{identifierColumn};
+ghost use Rattle.rows.specs.Columns.{spanAt, there};
 ghost use Rattle.order.specs.Ranks.{rankIn};
 ghost use Rattle.order.specs.ClassB.{rowsB};
 ghost use Rattle.order.specs.declared.Class.the-variants.{B};
@@ -18,12 +20,8 @@ ghost use Rattle.order.specs.PassB.{stepB};
 ghost use Rattle.order.specs.Fault.{FaultIn};
 ghost use Rattle.letters.specs.Scratch.{LetterRows};
 ghost use Rattle.elements.specs.declared.Edition.{Edition};
-ghost use Rattle.ordered.specs.Ordered.{Filed};
+ghost use Rattle.rows.specs.Lookup.{Filed};
 ghost use Rattle.ordering.specs.Steps.{stateOf, StepIs, firstStep, unitStep, mayFollow, headStep, PassIs};
-
-const PROFILE: usize = 0;
-
-const TEXT_UNIT: usize = 3;
 
 // The rank past the last: that of kinds with no place.
 const NO_RANK: usize = 7;
@@ -86,7 +84,7 @@ fn can_come(rows: &[u32], j: usize, lists: usize) -> bool
     if lists == 0 {
         return true;
     }
-    owners::is_named(rows, j)
+    rows::is_named(rows, j)
 }
 
 // Whether an element of a kind that is no unit may stand next.
@@ -113,7 +111,7 @@ fn first_step(s: &[u8], rows: &[u32], head: &[u16], next: &[u16], n: usize) -> S
     requires { ⌜ 0 < n ⌝ }
     ensures { λ r. ⌜ StepIs (now (s .entry)) (now (rows .entry)) n 0 firstStep r ⌝ }
 {
-    let kind = owners::kind_at(rows, 0);
+    let kind = rows::kind_at(rows, 0);
     if kind != PROFILE {
         return Step::Stops;
     }
@@ -173,7 +171,7 @@ fn head_step(
     requires { ⌜ j < n ⌝ }
     ensures { λ r. ⌜ StepIs (now (s .entry)) (now (rows .entry)) n j (headStep (stateOf state) j) r ⌝ }
 {
-    let kind = owners::kind_at(rows, j);
+    let kind = rows::kind_at(rows, j);
     if !may_follow(state, kind) {
         return Step::Stops;
     }
@@ -203,7 +201,7 @@ fn step_b(
     requires { ⌜ j < n ⌝ }
     ensures { λ r. ⌜ StepIs (now (s .entry)) (now (rows .entry)) n j (stepB (stateOf state) j) r ⌝ }
 {
-    if owners::kind_at(rows, j) == TEXT_UNIT {
+    if rows::kind_at(rows, j) == TEXT_UNIT {
         return unit_step(s, rows, head, next, n, state, j);
     }
     head_step(s, rows, head, next, n, state, j)

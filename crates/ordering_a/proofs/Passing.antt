@@ -11,7 +11,7 @@ use borrow.Author.Tests.{eq-eqb, ne-eqb, not-true, not-false}
 use Rattle.elements.specs.Judge.{Element}
 use Rattle.reading.specs.declared.Side.{Side}
 use Rattle.reading.specs.Match.{matches}
-use Rattle.reading.specs.Ready.{elementAt}
+use Rattle.letters.specs.Telling.{elementAt}
 use Rattle.order.specs.Represents.{_∈_, LimitsAside}
 use Rattle.order.specs.declared.Class.the-variants.{A}
 use Rattle.order.specs.declared.Fault.the-variants.{Nowhere, At}

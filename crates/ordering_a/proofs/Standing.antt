@@ -16,7 +16,7 @@ use Rattle.elements.specs.Judge.{Element}
 use Rattle.reading.specs.declared.Side.{Side}
 use Rattle.reading.specs.declared.Side.the-variants.{Layout, Logical}
 use Rattle.reading.specs.Match.{unitKind, matches}
-use Rattle.reading.specs.Ready.{elementAt, noElement}
+use Rattle.letters.specs.Telling.{elementAt, noElement}
 use Rattle.order.specs.Represents.{_∈_, named, isAssociated, LimitsAside}
 use Rattle.order.specs.Ranks.{rankIn}
 use Rattle.order.specs.ClassA.{endA, specificRank, unitRank, classKinds, objectKinds, orderedBy, listedOf}

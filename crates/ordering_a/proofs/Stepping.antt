@@ -7,12 +7,12 @@ use borrow.Table.Steps.{cases}
 use native.Mathlib.Omega.{arith}
 use native.Mathlib.Numerals.{add-one}
 use lib.ListN.{length}
-use Rattle.index.specs.Columns.{kindAt}
+use Rattle.rows.specs.Columns.{kindAt}
 use Rattle.elements.specs.declared.Edition.{Edition}
 use Rattle.elements.specs.Judge.{Element}
 use Rattle.letters.specs.Scratch.{LetterRows}
 use Rattle.reading.specs.declared.Side.the-variants.{Layout, Logical}
-use Rattle.reading.specs.Ready.{RowsTell}
+use Rattle.letters.specs.Telling.{RowsTell}
 use Rattle.order.specs.Represents.{LimitsAside}
 use Rattle.order.specs.declared.Fault.the-variants.{Nowhere, At}
 use Rattle.order.specs.declared.Class.the-variants.{A}
@@ -20,8 +20,9 @@ use Rattle.order.specs.Fault.{FaultIn}
 use Rattle.order.proofs.PassA.{pass-exactly}
 use Rattle.ranks.specs.declared.Sight.{Sight}
 use Rattle.ranks.specs.Step.{stands, waiting, Small}
-use Rattle.reading.proofs.Scratch.{rows-tell}
-use Rattle.owners.proofs.Telling.{few-rows, kind-told, named-told, lists-told, meetable}
+use Rattle.letters.proofs.Telling.{rows-tell}
+use Rattle.letters.proofs.Telling.{few-rows}
+use Rattle.owners.proofs.Telling.{kind-told, named-told, lists-told, meetable}
 use Rattle.turns.specs.declared.Own.{Own}
 use Rattle.ordering_a.specs.declared.Walk.{Walk}
 use Rattle.ordering_a.specs.declared.Step.the-variants.{Stops, Goes}

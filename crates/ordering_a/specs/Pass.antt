@@ -8,11 +8,12 @@ use mathlib.Core.List.{List, [], map}
 use lib.Dec.{eqb, ltb}
 use lib.ListN.{length, take, drop}
 use Rattle.portions.specs.Portions.{any}
-use Rattle.index.specs.Columns.{identifierColumn, kindAt}
+use Rattle.rows.specs.Columns.{identifierColumn, kindAt}
 use Rattle.elements.specs.Judge.{Element}
 use Rattle.reading.specs.declared.Side.{Side}
 use Rattle.reading.specs.Match.{matches}
-use Rattle.reading.specs.Ready.{spanAt, there, RowsTell}
+use Rattle.letters.specs.Telling.{RowsTell}
+use Rattle.rows.specs.Columns.{spanAt, there}
 use Rattle.order.specs.Represents.{_∈_, LimitsAside}
 use Rattle.order.specs.ClassA.{specificRank}
 use Rattle.order.specs.declared.Fault.the-variants.{At}

@@ -4,26 +4,23 @@ use order::Fault;
 use ranks::Sight;
 use ranks::State;
 use reading::Side;
+use rows::LAYOUT_CLASS;
+use rows::LAYOUT_OBJECT;
+use rows::LOGICAL_CLASS;
+use rows::LOGICAL_OBJECT;
+use rows::PROFILE;
 use turns::Own;
 ghost use mathlib.Core.Path.{_≡_};
 ghost use Prim.Native.Nat.{_<_};
-ghost use Rattle.index.specs.Columns.{identifierColumn, kindAt};
+ghost use Rattle.rows.specs.Columns.{identifierColumn, kindAt};
 ghost use Rattle.order.specs.Fault.{FaultIn};
 ghost use Rattle.letters.specs.Scratch.{LetterRows};
 ghost use Rattle.elements.specs.declared.Edition.{Edition};
-ghost use Rattle.ordered.specs.Ordered.{Filed};
+ghost use Rattle.rows.specs.Lookup.{Filed};
 ghost use Rattle.ranks.specs.Step.{Small};
 ghost use Rattle.reading.specs.declared.Side.{Side};
 ghost use Rattle.turns.specs.Turns.{OwnAt};
 ghost use Rattle.ordering_a.specs.Pass.{lesser, hasLayouts, sightFor, walkFor, startOf, Bounds, StepAt};
-
-const LAYOUT_CLASS: usize = 1;
-
-const LAYOUT_OBJECT: usize = 2;
-
-const LOGICAL_CLASS: usize = 5;
-
-const LOGICAL_OBJECT: usize = 6;
 
 // What is known of the elements so far: the step's own state; the first row that a unit before it is associated with; up to which row the portions were
 // counted by which units are ordered, and how many they are; whether there was a layout object.
@@ -78,8 +75,8 @@ fn see(
 {
     let own = turns::own_for(w.layouts, layout, logical);
     let by = turns::kind_for(w.layouts);
-    let kind = owners::kind_at(rows, k);
-    let named = owners::is_named(rows, k);
+    let kind = rows::kind_at(rows, k);
+    let named = rows::is_named(rows, k);
     let lists = owners::portions_of(s, rows, k);
     let early = w.least == k;
     let generic = turns::count_kinds(layout, LAYOUT_CLASS, logical, LOGICAL_CLASS);
@@ -188,7 +185,7 @@ pub fn fault_a(s: &[u8], rows: &[u32], head: &[u16], next: &[u16], n: usize) -> 
     if n == 0 {
         return Fault::At(0);
     }
-    if owners::kind_at(rows, 0) != 0 {
+    if rows::kind_at(rows, 0) != PROFILE {
         return Fault::At(0);
     }
     pass(s, rows, head, next, n)

@@ -13,8 +13,8 @@ use borrow.Table.Steps.{cases}
 use Rattle.octets.specs.declared.Outcome.the-variants.{Ended}
 use Rattle.octets.specs.Walk.{Items, noItems, item, walkOf}
 use Rattle.tree.specs.Tree.{treeOf}
-use Rattle.index.specs.Rows.{scratchWidth}
-use Rattle.index.specs.Columns.{wholeColumn, firstAt}
+use Rattle.rows.specs.Rows.{scratchWidth}
+use Rattle.rows.specs.Columns.{wholeColumn, firstAt}
 use Rattle.elements.specs.declared.Edition.{Edition}
 use Rattle.elements.specs.declared.Row.{Row}
 use Rattle.elements.specs.Judge.{Element, judge}
@@ -24,7 +24,7 @@ use Rattle.judging.proofs.Rows.{first-at}
 use Rattle.letters.specs.Letter.{Letter, itemsOfStream, letter, letterIn}
 use Rattle.letters.specs.Scratch.{LetterRows}
 use Rattle.letters.proofs.Table.{letter-row}
-use Rattle.reading.proofs.Scratch.{rows-tell}
+use Rattle.letters.proofs.Telling.{rows-tell}
 use Rattle.order.specs.declared.Class.{Class}
 use Rattle.order.specs.declared.Fault.{Fault}
 use Rattle.order.specs.declared.Fault.the-variants.{Nowhere, At}

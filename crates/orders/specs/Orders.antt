@@ -4,7 +4,7 @@ use mathlib.Core.Bool.{cond}
 use mathlib.Core.List.{List}
 use lib.Dec.{ltb}
 use lib.ListN.{length}
-use Rattle.index.specs.Columns.{wholeColumn, firstAt}
+use Rattle.rows.specs.Columns.{wholeColumn, firstAt}
 use Rattle.order.specs.declared.Ordered.{Ordered}
 use Rattle.order.specs.Question.{verdict, outOfOrder}
 

@@ -1,20 +1,20 @@
 // The order of a letter by a class: what the pass of the class finds, as a number and a place in octets.
 use elements::Edition;
-use index::SCRATCH_WIDTH;
-use index::WHOLE;
 use octets::Outcome;
 use order::Class;
 use order::Fault;
 use order::Ordered;
+use rows::SCRATCH_WIDTH;
+use rows::WHOLE;
 ghost use mathlib.Core.Path.{_≡_};
 ghost use Prim.Native.Nat.{ℕ, _*_, _≤_};
 ghost use lib.ListN.{length};
 ghost use Rattle.octets.specs.Walk.{streamLimit, walkOf};
-ghost use Rattle.index.specs.Rows.{scratchWidth};
+ghost use Rattle.rows.specs.Rows.{scratchWidth};
 ghost use Rattle.order.specs.Fault.{FaultIn};
 ghost use Rattle.letters.specs.Scratch.{LetterRows};
-ghost use Rattle.ordered.specs.Ordered.{Filed};
-ghost use Rattle.index.specs.Columns.{identifierColumn};
+ghost use Rattle.rows.specs.Lookup.{Filed};
+ghost use Rattle.rows.specs.Columns.{identifierColumn};
 ghost use Rattle.order.specs.Computed.{orderIn};
 ghost use Rattle.orders.specs.Orders.{faultPlace};
 

@@ -14,15 +14,17 @@ use borrow.Table.Steps.{cases}
 use Rattle.headers.specs.Head.{isIn}
 use Rattle.names.specs.Names.{spaceByte, longestPortion, allDigits, isPortion}
 use Rattle.contents.specs.Search.{absent, octets}
-use Rattle.index.specs.Columns.{identifierColumn, kindAt, firstAt, pastAt}
-use Rattle.index.specs.Rows.{nameSpaceOf}
-use Rattle.index.specs.Index.{Has}
+use Rattle.rows.specs.Columns.{identifierColumn, kindAt, firstAt, pastAt}
+use Rattle.rows.specs.Rows.{nameSpaceOf}
+use Rattle.rows.specs.Chains.{Has}
 use Rattle.elements.specs.Judge.{Element}
 use Rattle.judging.proofs.Lists.{below-length}
 use Rattle.reading.specs.declared.Side.{Side}
 use Rattle.reading.specs.declared.Side.the-variants.{Layout, Logical}
 use Rattle.reading.specs.Match.{unitKind, kindsOf, nameOn, IsMatch}
-use Rattle.reading.specs.Ready.{columnOf, spanAt, nameIn, Tells, RowsTell, elementAt}
+use Rattle.letters.specs.Telling.{nameIn, Tells, RowsTell, elementAt}
+use Rattle.rows.specs.Columns.{spanAt}
+use Rattle.reading.specs.Ready.{columnOf}
 use Rattle.reading.proofs.Looking.{name-there}
 use Rattle.reading.proofs.Listing.{element-there}
 use Rattle.reading.proofs.OnePlace.{portion-spelt}

@@ -3,7 +3,7 @@
 use mathlib.Core.Path.{_≡_, ap, sym, _∙_}
 use mathlib.Core.Bool.{true}
 use mathlib.Core.List.{List}
-use Prim.Native.Nat.{ℕ, suc, _+_, _*_, _<_, _≤_}
+use Prim.Native.Nat.{ℕ, suc, _+_, _<_}
 use native.Mathlib.Omega.{arith}
 use lib.ListN.{length}
 use lib.Dec.{ltb}
@@ -13,25 +13,14 @@ use Rattle.runs.specs.declared.Run.{Run}
 use Rattle.runs.specs.Runs.{itemsOf, treeIn, Fine, Meeting}
 use Rattle.portions.specs.Portions.{mostPortions, allPortions, values}
 use Rattle.portions.proofs.Meetings.{values-next, portions-left, values-end}
-use Rattle.index.specs.Columns.{identifierColumn, kindAt, firstAt, pastAt}
-use Rattle.index.specs.Rows.{scratchWidth}
-use Rattle.elements.specs.declared.Edition.{Edition}
-use Rattle.elements.specs.Judge.{Element, mostElements}
-use Rattle.letters.specs.Scratch.{LetterRows}
-use Rattle.letters.proofs.Table.{letter-apart}
-use Rattle.reading.specs.Ready.{spanAt, there, nameIn, portionsAt, Tells, RowsTell, elementAt}
+use Rattle.rows.specs.Columns.{identifierColumn, kindAt, firstAt, pastAt}
+use Rattle.elements.specs.Judge.{Element}
+use Rattle.letters.specs.Telling.{nameIn, Tells, RowsTell, elementAt}
+use Rattle.rows.specs.Columns.{spanAt, there, portionsAt}
 use Rattle.reading.proofs.Listing.{element-there, element-told}
 use Rattle.reading.proofs.OnePlace.{few-portions}
 use Rattle.order.specs.Represents.{present, named}
 use Rattle.owners.specs.Owner.{listedAt, Meetable}
-
--- there are few rows, and each is one of the table
-module _ {edition : Edition} {s rows : List ℕ} {n : ℕ} (letter : LetterRows edition s rows n) where
-  pub few-rows : n ≤ mostElements
-  few-rows = omega (arith, letter-apart letter .few, letter .holds .counted)
-
-  pub row-inside : (j : ℕ) → j < n → j * scratchWidth + scratchWidth ≤ length rows
-  row-inside j l = omega (arith, letter .holds .identifiers .in-table)
 
 module _ {s rows : List ℕ} {n : ℕ} {elements : List Element} (ready : RowsTell s rows n elements) (j : ℕ) (below : j < n) where
   abbrev told : Tells s rows j (elementAt elements j)

@@ -10,12 +10,13 @@ use Rattle.headers.specs.Head.{isIn}
 use Rattle.names.specs.Names.{same}
 use Rattle.runs.specs.Runs.{treeIn, Fine}
 use Rattle.portions.specs.Portions.{mostPortions, allPortions, values}
-use Rattle.index.specs.Columns.{kindAt}
+use Rattle.rows.specs.Columns.{kindAt}
 use Rattle.elements.specs.Judge.{Element}
 use Rattle.reading.specs.declared.Match.{Match}
 use Rattle.reading.specs.declared.Side.{Side}
 use Rattle.reading.specs.Match.{kindsOf, matches}
-use Rattle.reading.specs.Ready.{portionsAt, RowsTell}
+use Rattle.letters.specs.Telling.{RowsTell}
+use Rattle.rows.specs.Columns.{portionsAt}
 use Rattle.order.specs.Represents.{_∈_}
 use Rattle.owners.specs.declared.Owner.{Owner}
 use Rattle.owners.specs.declared.Owner.the-variants.{Nobody, Of}

@@ -1,51 +1,25 @@
 // Which portion of which element a text unit represents: what its identifier says, looked up by the index that is there. And what else the order
 // rules look at. Nothing is stored: each is asked of the rows when it is wanted.
-use index::IDENTIFIER;
-use index::RowFound;
-use index::SCRATCH_WIDTH;
 use reading::Side;
+use rows::RowFound;
+use rows::TEXT_UNIT;
 use runs::Met;
 ghost use mathlib.Core.Path.{_≡_};
 ghost use Prim.Native.Nat.{_+_, _*_, _<_, _≤_};
 ghost use lib.ListN.{length};
 ghost use lib.Seq.{slice};
-ghost use Rattle.index.specs.Rows.{scratchWidth};
-ghost use Rattle.index.specs.Columns.{identifierColumn, kindAt};
-ghost use Rattle.reading.specs.Ready.{spanAt, there};
+ghost use Rattle.rows.specs.Rows.{scratchWidth};
+ghost use Rattle.rows.specs.Columns.{identifierColumn, kindAt};
+ghost use Rattle.rows.specs.Columns.{spanAt, there};
 ghost use Rattle.letters.specs.Scratch.{LetterRows};
 ghost use Rattle.elements.specs.declared.Edition.{Edition};
-ghost use Rattle.ordered.specs.Ordered.{Filed};
+ghost use Rattle.rows.specs.Lookup.{Filed};
 ghost use Rattle.owners.specs.Owner.{OwnerAt, Meetable, ownerAmong, listedAt, ownerBy};
-
-// The kind of a text unit.
-const TEXT_UNIT: usize = 3;
 
 // The element whose portion a text unit represents, and the place of that portion, both from 0.
 pub enum Owner {
     Nobody,
     Of { row: usize, portion: usize },
-}
-
-fn wide(x: u32) -> usize
-    ensures { λ r. ⌜ r ≡ x ⌝ }
-{
-    x as usize
-}
-
-// The kind of row j.
-pub fn kind_at(rows: &[u32], j: usize) -> usize
-    requires { ⌜ j * scratchWidth + scratchWidth ≤ length (now rows) ⌝ }
-    ensures { λ r. ⌜ r ≡ kindAt (now (rows .entry)) j ⌝ }
-{
-    wide(rows[j * SCRATCH_WIDTH])
-}
-
-// Whether the element of row j has an identifier.
-pub fn is_named(rows: &[u32], j: usize) -> bool
-    requires { ⌜ j * scratchWidth + scratchWidth ≤ length (now rows) ⌝ }
-    ensures { λ r. ⌜ r ≡ there (spanAt (now (rows .entry)) identifierColumn j) ⌝ }
-{
-    reading::is_there(reading::bounds_at(rows, j, IDENTIFIER))
 }
 
 // How many portions the element of row j lists.
@@ -54,7 +28,7 @@ pub fn portions_of(s: &[u8], rows: &[u32], j: usize) -> usize
     requires { ⌜ Meetable (now s) (now rows) j ⌝ }
     ensures { λ r. ⌜ r ≡ length (listedAt (now (s .entry)) (now (rows .entry)) j) ⌝ }
 {
-    let mut left = reading::portions_at(rows, j);
+    let mut left = rows::portions_at(rows, j);
     let mut count: usize = 0;
     loop {
         match runs::meet(s, left) {
@@ -80,7 +54,7 @@ fn portion_with(s: &[u8], rows: &[u32], row: usize, first: usize, past: usize) -
     requires { ⌜ (first ≤ past) × (past ≤ length (now s)) ⌝ }
     ensures { λ r. ⌜ r ≡ ownerAmong row 0 (listedAt (now (s .entry)) (now (rows .entry)) row) (slice first past (now (s .entry))) ⌝ }
 {
-    let mut left = reading::portions_at(rows, row);
+    let mut left = rows::portions_at(rows, row);
     let mut portion: usize = 0;
     loop {
         match runs::meet(s, left) {
@@ -109,7 +83,7 @@ fn owner_by(s: &[u8], rows: &[u32], side: Side, row: usize, first: usize, past: 
     requires { ⌜ (first ≤ past) × (past ≤ length (now s)) ⌝ }
     ensures { λ r. ⌜ r ≡ ownerBy side (now (s .entry)) (now (rows .entry)) row first past ⌝ }
 {
-    if !reading::is_read(side, kind_at(rows, row)) {
+    if !reading::is_read(side, rows::kind_at(rows, row)) {
         return Owner::Nobody;
     }
     portion_with(s, rows, row, first, past)
@@ -131,10 +105,10 @@ pub fn owner_of(
     requires { ⌜ u < n ⌝ }
     ensures { λ r. ⌜ OwnerAt side (now (s .entry)) (now (rows .entry)) n u r ⌝ }
 {
-    if kind_at(rows, u) != TEXT_UNIT {
+    if rows::kind_at(rows, u) != TEXT_UNIT {
         return Owner::Nobody;
     }
-    let name = reading::bounds_at(rows, u, reading::column_of(side));
+    let name = rows::bounds_at(rows, u, reading::column_of(side));
     let cut = parents::last_space(s, name.first, name.past);
     if cut == name.past {
         return Owner::Nobody;

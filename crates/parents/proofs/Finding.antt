@@ -16,18 +16,19 @@ use Rattle.names.specs.Names.{same}
 use Rattle.names.proofs.Same.{same-eq, same-refl}
 use Rattle.contents.specs.declared.Span.{Span}
 use Rattle.contents.specs.Search.{Value, absent, octets}
-use Rattle.index.specs.declared.RowFound.{RowFound}
-use Rattle.index.specs.declared.RowFound.the-variants.{At, Nothing}
-use Rattle.index.specs.Rows.{scratchWidth, nameSpaceOf}
-use Rattle.index.specs.Columns.{identifierColumn, kindAt, firstAt, pastAt}
-use Rattle.index.specs.Index.{Has, FindsRow}
+use Rattle.rows.specs.declared.RowFound.{RowFound}
+use Rattle.rows.specs.declared.RowFound.the-variants.{At, Nothing}
+use Rattle.rows.specs.Rows.{scratchWidth, nameSpaceOf}
+use Rattle.rows.specs.Columns.{identifierColumn, kindAt, firstAt, pastAt}
+use Rattle.rows.specs.Chains.{Has, FindsRow}
 use Rattle.elements.specs.Judge.{Element, shares, mostElements}
 use Rattle.letters.specs.Apart.{Apart}
 use Rattle.judging.proofs.Lists.{below-length, at-below}
 use Rattle.reading.specs.declared.Side.{Side}
 use Rattle.reading.specs.declared.Side.the-variants.{Layout, Logical}
 use Rattle.reading.specs.Match.{kindsOf}
-use Rattle.reading.specs.Ready.{spanAt, nameIn, RowsTell}
+use Rattle.letters.specs.Telling.{nameIn, RowsTell}
+use Rattle.rows.specs.Columns.{spanAt}
 use Rattle.reading.proofs.Looking.{name-there}
 use Rattle.reading.proofs.OnePlace.{one-element}
 use Rattle.reading.proofs.Single.{side-space, clash-identifier}

@@ -12,7 +12,7 @@ use borrow.Author.Tests.{eqb-true, ltb-true, ltb-false, le-ltb}
 use borrow.Table.Steps.{cases}
 use Rattle.names.specs.Names.{spaceByte, isDigit, grouped, allDigits}
 use Rattle.contents.specs.Search.{Value, absent, octets}
-use Rattle.reading.specs.Ready.{nameIn}
+use Rattle.letters.specs.Telling.{nameIn}
 use Rattle.parents.specs.Parent.{inFront, shorter, shorterOf}
 use Rattle.parents.specs.Lookup.{LastSpace}
 

@@ -7,13 +7,13 @@ use lib.Dec.{ltb}
 use lib.ListN.{length}
 use lib.Seq.{slice}
 use Rattle.headers.specs.Head.{isIn}
-use Rattle.index.specs.declared.RowFound.{RowFound}
-use Rattle.index.specs.declared.RowFound.the-variants.{At, Nothing}
-use Rattle.index.specs.Rows.{scratchWidth}
-use Rattle.index.specs.Columns.{kindAt}
+use Rattle.rows.specs.declared.RowFound.{RowFound}
+use Rattle.rows.specs.declared.RowFound.the-variants.{At, Nothing}
+use Rattle.rows.specs.Rows.{scratchWidth}
+use Rattle.rows.specs.Columns.{kindAt}
 use Rattle.contents.specs.Search.{absent, octets}
 use Rattle.elements.specs.Judge.{Element}
-use Rattle.reading.specs.Ready.{RowsTell}
+use Rattle.letters.specs.Telling.{RowsTell}
 use Rattle.parents.specs.Parent.{shorter, parentKinds, parent, noParent, rowOrNone}
 
 -- the name space of classes and objects

@@ -1,27 +1,29 @@
 // Whose child an element is: the row of the class or object whose identifier is its own without the last group.
-use index::IDENTIFIER;
-use index::RowFound;
-use index::SCRATCH_WIDTH;
 use names::Asked;
+use rows::IDENTIFIER;
+use rows::LAYOUT_CLASS;
+use rows::LAYOUT_OBJECT;
+use rows::LOGICAL_CLASS;
+use rows::LOGICAL_OBJECT;
+use rows::OBJECTS;
+use rows::RowFound;
+use rows::SCRATCH_WIDTH;
 ghost use mathlib.Core.Path.{_≡_};
 ghost use mathlib.Core.List.{_∷_, []};
 ghost use Prim.Native.Nat.{_+_, _*_, _<_, _≤_};
 ghost use lib.ListN.{length};
 ghost use lib.Seq.{slice};
 ghost use Rattle.headers.specs.Head.{isIn};
-ghost use Rattle.index.specs.Rows.{scratchWidth};
-ghost use Rattle.index.specs.Columns.{identifierColumn, Bounded};
-ghost use Rattle.index.specs.Index.{FindsRow};
-ghost use Rattle.ordered.specs.Ordered.{Filed};
+ghost use Rattle.rows.specs.Rows.{scratchWidth};
+ghost use Rattle.rows.specs.Columns.{identifierColumn, Bounded};
+ghost use Rattle.rows.specs.Chains.{FindsRow};
+ghost use Rattle.rows.specs.Lookup.{Filed};
 ghost use Rattle.elements.specs.declared.Edition.{Edition};
 ghost use Rattle.elements.specs.Judge.{mostElements};
 ghost use Rattle.letters.specs.Scratch.{LetterRows};
-ghost use Rattle.reading.specs.Ready.{spanAt};
+ghost use Rattle.rows.specs.Columns.{spanAt};
 ghost use Rattle.parents.specs.Parent.{parentKinds};
 ghost use Rattle.parents.specs.Lookup.{objectSpace, LastSpace, FoundIn, onSide, ParentAt};
-
-// The name space of classes and objects.
-const OBJECTS: u8 = 1;
 
 // Stands for no row where a parent's row is told.
 pub const NO_PARENT: usize = 65535;
@@ -34,24 +36,15 @@ fn wide(x: u32) -> usize
     x as usize
 }
 
-fn is_either(x: usize, a: usize, b: usize) -> bool
-    ensures { λ r. ⌜ r ≡ isIn x (a ∷ b ∷ []) ⌝ }
-{
-    if x == a {
-        return true;
-    }
-    x == b
-}
-
 // Whether an element of one kind may be the parent of one of another.
 fn is_parent_kind(kind: usize, other: usize) -> bool
     ensures { λ r. ⌜ r ≡ isIn other (parentKinds kind) ⌝ }
 {
-    if is_either(kind, 1, 2) {
-        return is_either(other, 1, 2);
+    if rows::is_either(kind, LAYOUT_CLASS, LAYOUT_OBJECT) {
+        return rows::is_either(other, LAYOUT_CLASS, LAYOUT_OBJECT);
     }
-    if is_either(kind, 5, 6) {
-        return is_either(other, 5, 6);
+    if rows::is_either(kind, LOGICAL_CLASS, LOGICAL_OBJECT) {
+        return rows::is_either(other, LOGICAL_CLASS, LOGICAL_OBJECT);
     }
     false
 }
@@ -94,7 +87,7 @@ pub fn carrier(
         to: past,
     };
     let hashed = names::hash_over(s, first, past, 0);
-    ordered::find(s, rows, head, next, n, IDENTIFIER, OBJECTS, hashed, asked)
+    rows::find(s, rows, head, next, n, IDENTIFIER, OBJECTS, hashed, asked)
 }
 
 // The row that was found, if its element may be the parent of one of this kind.

@@ -1,4 +1,9 @@
 // One step of the order of class A, by numbers: whether an element may stand next, and what is known after it.
+use rows::LAYOUT_CLASS;
+use rows::LAYOUT_OBJECT;
+use rows::LOGICAL_CLASS;
+use rows::LOGICAL_OBJECT;
+use rows::TEXT_UNIT;
 ghost use mathlib.Core.Path.{_≡_};
 ghost use Prim.Native.Nat.{_+_, _-_, _≤_};
 ghost use Rattle.order.specs.Ranks.{rankIn};
@@ -9,8 +14,6 @@ ghost use Rattle.ranks.specs.Step.{rankOf, tabled, settled, comes, compl
 const RANKS: [u8; 13] = [0, 1, 6, 3, 13, 2, 7, 4, 5, 9, 10, 11, 12];
 
 const END: usize = 13;
-
-const UNIT: usize = 3;
 
 const GENERIC: usize = 3;
 
@@ -59,7 +62,7 @@ fn rank_in(kind: usize) -> usize
 fn rank_of(x: Sight) -> usize
     ensures { λ r. ⌜ r ≡ rankOf x ⌝ }
 {
-    if x.kind != UNIT {
+    if x.kind != TEXT_UNIT {
         return rank_in(x.kind);
     }
     if x.generic == 0 {
@@ -173,8 +176,10 @@ pub fn after(s: State, x: Sight) -> State
     ensures { λ r. ⌜ r ≡ next s x ⌝ }
 {
     let rank = rank_of(x);
-    let generic = without(s.generic, x.generic) + count_of(x.kind, 1, 5, x.lists);
-    let specific = without(s.specific, x.specific) + count_of(x.kind, 2, 6, x.lists);
+    let generic = without(s.generic, x.generic)
+        + count_of(x.kind, LAYOUT_CLASS, LOGICAL_CLASS, x.lists);
+    let specific = without(s.specific, x.specific)
+        + count_of(x.kind, LAYOUT_OBJECT, LOGICAL_OBJECT, x.lists);
     let ordered = s.ordered + one_if(x.ordered);
     State {
         rank,

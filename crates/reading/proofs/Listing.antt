@@ -22,10 +22,10 @@ use Rattle.runs.specs.declared.Run.{Run}
 use Rattle.runs.specs.Runs.{itemsOf, treeIn, Fine, Meeting}
 use Rattle.portions.specs.Portions.{mostPortions, allPortions, values}
 use Rattle.portions.proofs.Meetings.{values-next, portions-left, values-end}
-use Rattle.index.specs.declared.RowFound.{RowFound}
-use Rattle.index.specs.declared.RowFound.the-variants.{At, Nothing}
-use Rattle.index.specs.Columns.{identifierColumn, kindAt, firstAt, pastAt, Bounded}
-use Rattle.index.specs.Index.{FindsRow}
+use Rattle.rows.specs.declared.RowFound.{RowFound}
+use Rattle.rows.specs.declared.RowFound.the-variants.{At, Nothing}
+use Rattle.rows.specs.Columns.{identifierColumn, kindAt, firstAt, pastAt, Bounded}
+use Rattle.rows.specs.Chains.{FindsRow}
 use Rattle.elements.specs.Judge.{Element}
 use Rattle.elements.specs.ElementRows.{bytesIn}
 use Rattle.elements.specs.Says.{Placed}
@@ -33,7 +33,9 @@ use Rattle.reading.specs.declared.Match.{Match}
 use Rattle.reading.specs.declared.Side.{Side}
 use Rattle.reading.specs.Match.{kindsOf, forEach, portionMatches, elementMatches}
 use Rattle.reading.specs.Records.{PutsRecords}
-use Rattle.reading.specs.Ready.{columnOf, unitSpace, spanAt, portionsAt, Tells, RowsTell, isListed, portionsColumn, Room, PutsElement, foundMatches, FoundBelow, elementAt, noElement}
+use Rattle.letters.specs.Telling.{Tells, RowsTell, elementAt, noElement}
+use Rattle.rows.specs.Columns.{spanAt, portionsAt, portionsColumn}
+use Rattle.reading.specs.Ready.{columnOf, unitSpace, isListed, Room, PutsElement, foundMatches, FoundBelow}
 use Rattle.reading.proofs.Lists.{at-getD}
 use Rattle.reading.proofs.OnePlace.{few-portions}
 use Rattle.reading.proofs.Matches.{joins-told}

@@ -13,11 +13,11 @@ use Rattle.headers.specs.Head.{isIn}
 use Rattle.names.specs.Names.{spaceByte}
 use Rattle.contents.specs.declared.Span.{Span}
 use Rattle.contents.specs.Search.{absent, octets}
-use Rattle.index.specs.declared.RowFound.{RowFound}
-use Rattle.index.specs.declared.RowFound.the-variants.{At, Nothing}
-use Rattle.index.specs.Columns.{kindAt, firstAt, pastAt}
-use Rattle.index.specs.Rows.{nameSpaceOf}
-use Rattle.index.specs.Index.{Has, FindsRow}
+use Rattle.rows.specs.declared.RowFound.{RowFound}
+use Rattle.rows.specs.declared.RowFound.the-variants.{At, Nothing}
+use Rattle.rows.specs.Columns.{kindAt, firstAt, pastAt}
+use Rattle.rows.specs.Rows.{nameSpaceOf}
+use Rattle.rows.specs.Chains.{Has, FindsRow}
 use Rattle.elements.specs.Judge.{Element}
 use Rattle.elements.specs.ElementRows.{bytesIn}
 use Rattle.judging.proofs.Lists.{below-length}
@@ -25,7 +25,9 @@ use Rattle.reading.specs.declared.Match.{Match}
 use Rattle.reading.specs.declared.Side.{Side}
 use Rattle.reading.specs.declared.Side.the-variants.{Layout, Logical}
 use Rattle.reading.specs.Match.{unitKind, kindsOf, nameOn, joins, portionMatches, Joined}
-use Rattle.reading.specs.Ready.{columnOf, unitSpace, spanAt, nameIn, Tells, RowsTell, foundMatches, FoundBelow, elementAt, noElement}
+use Rattle.letters.specs.Telling.{nameIn, Tells, RowsTell, elementAt, noElement}
+use Rattle.rows.specs.Columns.{spanAt}
+use Rattle.reading.specs.Ready.{columnOf, unitSpace, foundMatches, FoundBelow}
 use Rattle.reading.proofs.Lists.{at-getD}
 use Rattle.reading.proofs.Each.{none-passes, one-passes}
 use Rattle.reading.proofs.Matches.{joins-told, joined-joins}

@@ -7,8 +7,8 @@ use native.Mathlib.Omega.{arith}
 use native.Mathlib.Numerals.{add-one}
 use lib.ListN.{length, getD, set, take, drop, length-append}
 use lib.Seq.{sets-eq, length-sets, take-suc, take-all}
-use Rattle.index.specs.declared.RowFound.{RowFound}
-use Rattle.index.specs.declared.RowFound.the-variants.{At, Nothing}
+use Rattle.rows.specs.declared.RowFound.{RowFound}
+use Rattle.rows.specs.declared.RowFound.the-variants.{At, Nothing}
 use Rattle.reading.specs.declared.Match.{Match}
 use Rattle.reading.specs.Records.{numbersOf, recordAt, records, PutsRecords}
 use Rattle.reading.specs.Ready.{foundMatches, FoundBelow}

@@ -15,7 +15,7 @@ use Rattle.headers.specs.Head.{isIn}
 use Rattle.names.specs.Names.{spaceByte}
 use Rattle.names.proofs.Same.{same-refl}
 use Rattle.names.proofs.Joined.{joined-parts}
-use Rattle.index.specs.Rows.{nameSpaceOf}
+use Rattle.rows.specs.Rows.{nameSpaceOf}
 use Rattle.contents.specs.Search.{octets}
 use Rattle.elements.specs.Judge.{Element, shares, clash}
 use Rattle.letters.specs.Apart.{Apart}

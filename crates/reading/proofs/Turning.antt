@@ -12,7 +12,8 @@ use Rattle.reading.specs.declared.Match.{Match}
 use Rattle.reading.specs.declared.Side.{Side}
 use Rattle.reading.specs.Match.{forEach, elementMatches, matches}
 use Rattle.reading.specs.Records.{PutsRecords}
-use Rattle.reading.specs.Ready.{RowsTell, Room, PutsElement, PutsAll, elementAt, noElement}
+use Rattle.letters.specs.Telling.{RowsTell, elementAt, noElement}
+use Rattle.reading.specs.Ready.{Room, PutsElement, PutsAll}
 use Rattle.reading.proofs.Putting.{puts-none, puts-then}
 use Rattle.reading.proofs.Single.{no-more-than-elements}
 

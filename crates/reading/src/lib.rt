@@ -1,13 +1,16 @@
 // The reading list of a side.
 use contents::Span;
-use index::IDENTIFIER;
-use index::LOGICAL;
-use index::PORTIONS;
-use index::RowFound;
-use index::SCRATCH_WIDTH;
 use names::Asked;
+use rows::IDENTIFIER;
+use rows::LAYOUT_CLASS;
+use rows::LAYOUT_OBJECT;
+use rows::LOGICAL;
+use rows::LOGICAL_CLASS;
+use rows::LOGICAL_OBJECT;
+use rows::PORTIONS;
+use rows::RowFound;
+use rows::UNITS;
 use runs::Met;
-use runs::Run;
 ghost use mathlib.Core.Path.{_≡_};
 ghost use mathlib.Core.Bool.{true};
 ghost use mathlib.Core.List.{[], _∷_, _++_};
@@ -16,21 +19,19 @@ ghost use lib.ListN.{length, drop};
 ghost use Rattle.headers.specs.Head.{isIn};
 ghost use Rattle.names.specs.Names.{spaceByte};
 ghost use Rattle.names.specs.Hash.{hash, hashFrom, hashes};
-ghost use Rattle.index.specs.Rows.{scratchWidth};
-ghost use Rattle.index.specs.Columns.{identifierColumn, logicalColumn, Bounded};
-ghost use Rattle.index.specs.Index.{FindsRow};
-ghost use Rattle.ordered.specs.Ordered.{Filed};
+ghost use Rattle.rows.specs.Rows.{scratchWidth};
+ghost use Rattle.rows.specs.Columns.{identifierColumn, logicalColumn, Bounded};
+ghost use Rattle.rows.specs.Chains.{FindsRow};
+ghost use Rattle.rows.specs.Lookup.{Filed};
 ghost use Rattle.elements.specs.declared.Edition.{Edition};
 ghost use Rattle.elements.specs.ElementRows.{bytesIn};
 ghost use Rattle.elements.specs.Says.{Placed};
 ghost use Rattle.letters.specs.Scratch.{LetterRows};
 ghost use Rattle.reading.specs.Match.{kindsOf};
 ghost use Rattle.reading.specs.Records.{recordAt, records, PutsRecords};
-ghost use Rattle.reading.specs.Ready.{columnOf, unitSpace, spanAt, there, portionsAt, isListed, Room, PutsElement, PutsAll, ListsLetter};
+ghost use Rattle.rows.specs.Columns.{spanAt, there, portionsAt};
+ghost use Rattle.reading.specs.Ready.{columnOf, unitSpace, isListed, Room, PutsElement, PutsAll, ListsLetter};
 ghost use Rattle.reading.specs.Ready.{foundMatches, FoundBelow};
-
-// The name space of text units.
-const UNITS: u8 = 2;
 
 // Which objects and classes are read, and by which identifier of a text unit.
 pub enum Side {
@@ -72,12 +73,6 @@ pub fn fill(flat: &[u32], count: usize, list: &mut [Match])
     }
 }
 
-fn wide(x: u32) -> usize
-    ensures { λ r. ⌜ r ≡ x ⌝ }
-{
-    x as usize
-}
-
 pub fn column_of(side: Side) -> usize
     ensures { λ r. ⌜ r ≡ columnOf side ⌝ }
 {
@@ -87,54 +82,13 @@ pub fn column_of(side: Side) -> usize
     }
 }
 
-fn is_either(x: usize, a: usize, b: usize) -> bool
-    ensures { λ r. ⌜ r ≡ isIn x (a ∷ b ∷ []) ⌝ }
-{
-    if x == a {
-        return true;
-    }
-    x == b
-}
-
 // Whether elements of a kind are read on a side.
 pub fn is_read(side: Side, kind: usize) -> bool
     ensures { λ r. ⌜ r ≡ isIn kind (kindsOf side) ⌝ }
 {
     match side {
-        Side::Layout => is_either(kind, 1, 2),
-        Side::Logical => is_either(kind, 5, 6),
-    }
-}
-
-// The bounds of row j at a column.
-pub fn bounds_at(rows: &[u32], j: usize, column: usize) -> Span
-    requires { ⌜ (column + 1 < scratchWidth) × (j * scratchWidth + scratchWidth ≤ length (now rows)) ⌝ }
-    ensures { λ r. ⌜ r ≡ spanAt (now (rows .entry)) column j ⌝ }
-{
-    let at = j * SCRATCH_WIDTH + column;
-    let first = wide(rows[at]);
-    let past = wide(rows[at + 1]);
-    Span { first, past }
-}
-
-// Whether bounds are those of a value that is not empty.
-pub fn is_there(bounds: Span) -> bool
-    ensures { λ r. ⌜ r ≡ there bounds ⌝ }
-{
-    bounds.first < bounds.past
-}
-
-// The run of the portions of row j.
-pub fn portions_at(rows: &[u32], j: usize) -> Run
-    requires { ⌜ j * scratchWidth + scratchWidth ≤ length (now rows) ⌝ }
-    ensures { λ r. ⌜ r ≡ portionsAt (now (rows .entry)) j ⌝ }
-{
-    let bounds = bounds_at(rows, j, PORTIONS);
-    Run {
-        at: bounds.first,
-        limit: bounds.past,
-        marked: false,
-        room: 1,
+        Side::Layout => rows::is_either(kind, LAYOUT_CLASS, LAYOUT_OBJECT),
+        Side::Logical => rows::is_either(kind, LOGICAL_CLASS, LOGICAL_OBJECT),
     }
 }
 
@@ -143,14 +97,14 @@ fn is_listed(rows: &[u32], side: Side, j: usize) -> bool
     requires { ⌜ j * scratchWidth + scratchWidth ≤ length (now rows) ⌝ }
     ensures { λ r. ⌜ r ≡ isListed side (now (rows .entry)) j ⌝ }
 {
-    let kind = wide(rows[j * SCRATCH_WIDTH]);
+    let kind = rows::kind_at(rows, j);
     if !is_read(side, kind) {
         return false;
     }
-    if !is_there(bounds_at(rows, j, IDENTIFIER)) {
+    if !rows::is_named(rows, j) {
         return false;
     }
-    is_there(bounds_at(rows, j, PORTIONS))
+    rows::is_there(rows::bounds_at(rows, j, PORTIONS))
 }
 
 // The text unit whose identifier is a name, one space and a portion, given by their bounds; `hashed` is the hash up to the space.
@@ -180,7 +134,7 @@ fn unit_of(
         to: portion.past,
     };
     let whole = names::hash_over(s, portion.first, portion.past, hashed);
-    ordered::find(s, rows, head, next, n, column, UNITS, whole, asked)
+    rows::find(s, rows, head, next, n, column, UNITS, whole, asked)
 }
 
 // Puts one record in its place.
@@ -234,9 +188,9 @@ fn list_portions(
     requires { ⌜ Room side (now s) (now rows) n element (now flat) count ⌝ }
     ensures { λ r. ⌜ PutsElement side (now (s .entry)) (now (rows .entry)) n element (now (flat .entry)) count (now (flat .exit)) r ⌝ }
 {
-    let name = bounds_at(rows, element, IDENTIFIER);
+    let name = rows::bounds_at(rows, element, IDENTIFIER);
     let hashed = names::hash_space(names::hash_over(s, name.first, name.past, 0));
-    let mut left = portions_at(rows, element);
+    let mut left = rows::portions_at(rows, element);
     let mut place: usize = 0;
     let mut total = count;
     loop {

@@ -5,9 +5,9 @@ use Prim.Native.Nat.{ℕ, _+_, _-_, _*_, _/_, _<_, _≤_}
 use native.Mathlib.Omega.{arith}
 use lib.ListN.{length, replicate, length-replicate, getD-replicate}
 use Rattle.names.specs.Hash.{hashes}
-use Rattle.index.specs.Rows.{scratchWidth}
-use Rattle.index.specs.Index.{Empty}
-use Rattle.ordered.specs.Ordered.{markOf}
+use Rattle.rows.specs.Rows.{scratchWidth}
+use Rattle.rows.specs.Chains.{Empty}
+use Rattle.rows.specs.Lookup.{markOf}
 use Rattle.octets.specs.declared.Outcome.{Outcome}
 use Rattle.octets.specs.declared.Outcome.the-variants.{Ended}
 use Rattle.octets.specs.Walk.{streamLimit, walkOf}

@@ -22,7 +22,7 @@ use Rattle.letters.specs.Apart.{Apart}
 use Rattle.reading.specs.declared.Match.{Match}
 use Rattle.reading.specs.declared.Side.{Side}
 use Rattle.reading.specs.Match.{unitKind, matches, IsMatch}
-use Rattle.reading.specs.Ready.{noElement, elementAt}
+use Rattle.letters.specs.Telling.{noElement, elementAt}
 use Rattle.reading.specs.Lists.{Once}
 use Rattle.reading.proofs.Lists.{once-map}
 use Rattle.reading.proofs.Matches.{matches-are, matches-once}

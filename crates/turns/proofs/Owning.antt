@@ -10,12 +10,12 @@ use lib.ListN.{length, take}
 use borrow.Author.Tests.{eqb-true, eqb-false, ne-eqb, ltb-true, ltb-false}
 use borrow.Table.Steps.{cases}
 use Rattle.headers.specs.Head.{isIn}
-use Rattle.index.specs.Columns.{kindAt}
+use Rattle.rows.specs.Columns.{kindAt}
 use Rattle.elements.specs.Judge.{Element}
 use Rattle.reading.specs.declared.Side.{Side}
 use Rattle.reading.specs.declared.Side.the-variants.{Layout, Logical}
 use Rattle.reading.specs.Match.{kindsOf, matches}
-use Rattle.reading.specs.Ready.{RowsTell, elementAt}
+use Rattle.letters.specs.Telling.{RowsTell, elementAt}
 use Rattle.order.specs.Represents.{_∈_}
 use Rattle.order.specs.ClassA.{representsSome}
 use Rattle.owners.specs.declared.Owner.{Owner}

@@ -7,9 +7,9 @@ use native.Mathlib.Numerals.{add-one}
 use lib.Dec.{eqb}
 use lib.ListN.{length}
 use borrow.Table.Steps.{cases}
-use Rattle.index.specs.Columns.{kindAt}
+use Rattle.rows.specs.Columns.{kindAt}
 use Rattle.elements.specs.Judge.{Element}
-use Rattle.reading.specs.Ready.{RowsTell, elementAt}
+use Rattle.letters.specs.Telling.{RowsTell, elementAt}
 use Rattle.order.specs.PassA.{countIf}
 use Rattle.owners.proofs.Telling.{kind-told, lists-told, meetable}
 use Rattle.turns.specs.Turns.{countsIn, before, Reaches}

@@ -19,7 +19,7 @@ use Rattle.reading.specs.declared.Match.{Match}
 use Rattle.reading.specs.declared.Side.{Side}
 use Rattle.reading.specs.declared.Side.the-variants.{Layout, Logical}
 use Rattle.reading.specs.Match.{unitKind, kindsOf, matches, IsMatch}
-use Rattle.reading.specs.Ready.{elementAt, noElement}
+use Rattle.letters.specs.Telling.{elementAt, noElement}
 use Rattle.reading.proofs.Lists.{at-getD}
 use Rattle.reading.proofs.Matches.{matches-are}
 use Rattle.reading.proofs.Single.{unit-one-match}

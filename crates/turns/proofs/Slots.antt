@@ -13,7 +13,7 @@ use borrow.Table.Steps.{cases}
 use Rattle.elements.specs.Judge.{Element}
 use Rattle.reading.specs.declared.Side.{Side}
 use Rattle.reading.specs.Match.{matches}
-use Rattle.reading.specs.Ready.{elementAt, noElement}
+use Rattle.letters.specs.Telling.{elementAt, noElement}
 use Rattle.reading.proofs.Lists.{at-getD}
 use Rattle.order.specs.Represents.{_∈_, represents, LimitsAside, Listed, listedBy, everything, keep}
 use Rattle.order.specs.ClassA.{representsSome, listedOf}

@@ -13,7 +13,7 @@ use Rattle.elements.specs.Judge.{Element}
 use Rattle.reading.specs.declared.Side.{Side}
 use Rattle.reading.specs.declared.Side.the-variants.{Layout, Logical}
 use Rattle.reading.specs.Match.{kindsOf, matches}
-use Rattle.reading.specs.Ready.{elementAt}
+use Rattle.letters.specs.Telling.{elementAt}
 use Rattle.order.specs.Represents.{_∈_, LimitsAside}
 use Rattle.order.specs.ClassA.{listedOf}
 use Rattle.order.specs.PassA.{slotIn}

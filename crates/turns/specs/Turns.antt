@@ -8,11 +8,11 @@ use mathlib.Core.List.{List, [], _∷_}
 use lib.Dec.{eqb, leb, ltb}
 use lib.ListN.{length, take}
 use Rattle.headers.specs.Head.{isIn}
-use Rattle.index.specs.Columns.{kindAt}
+use Rattle.rows.specs.Columns.{kindAt}
 use Rattle.elements.specs.Judge.{Element}
 use Rattle.reading.specs.declared.Side.{Side}
 use Rattle.reading.specs.Match.{kindsOf, matches}
-use Rattle.reading.specs.Ready.{RowsTell, elementAt}
+use Rattle.letters.specs.Telling.{RowsTell, elementAt}
 use Rattle.order.specs.Represents.{_∈_}
 use Rattle.order.specs.ClassA.{representsSome, listedOf}
 use Rattle.order.specs.PassA.{countIf}

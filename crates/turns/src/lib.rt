@@ -2,19 +2,17 @@
 // are ordered. Nothing is stored.
 use owners::Owner;
 use reading::Side;
+use rows::LAYOUT_OBJECT;
+use rows::LOGICAL_OBJECT;
 ghost use mathlib.Core.Path.{_≡_};
 ghost use Prim.Native.Nat.{_*_, _<_, _≤_};
 ghost use lib.ListN.{length};
-ghost use Rattle.index.specs.Rows.{scratchWidth};
+ghost use Rattle.rows.specs.Rows.{scratchWidth};
 ghost use Rattle.letters.specs.Scratch.{LetterRows};
 ghost use Rattle.elements.specs.declared.Edition.{Edition};
-ghost use Rattle.ordered.specs.Ordered.{Filed};
-ghost use Rattle.index.specs.Columns.{identifierColumn};
+ghost use Rattle.rows.specs.Lookup.{Filed};
+ghost use Rattle.rows.specs.Columns.{identifierColumn};
 ghost use Rattle.turns.specs.Turns.{RowBelow, ownOf, OwnAt, kindFor, ownFor, rowFor, turnFor, counts, countsIn, Reaches};
-
-const LAYOUT_OBJECT: usize = 2;
-
-const LOGICAL_OBJECT: usize = 6;
 
 // Whose portion a unit represents on a side: the kind of the element, if it stands before the unit, its row and the place of the portion; kind 0,
 // if there is none. And its row, if it stands after the unit; else how many rows there are.
@@ -40,7 +38,7 @@ fn own_of(rows: &[u32], n: usize, u: usize, owner: Owner) -> Own
         Owner::Of { row, portion } => {
             if row < u {
                 return Own {
-                    kind: owners::kind_at(rows, row),
+                    kind: rows::kind_at(rows, row),
                     row,
                     portion,
                     later: n,
@@ -145,7 +143,7 @@ fn count_in(s: &[u8], rows: &[u32], n: usize, kind: usize, j: usize) -> usize
     requires { ⌜ j < n ⌝ }
     ensures { λ r. ⌜ r ≡ countsIn (now (s .entry)) (now (rows .entry)) kind j ⌝ }
 {
-    if owners::kind_at(rows, j) == kind {
+    if rows::kind_at(rows, j) == kind {
         return owners::portions_of(s, rows, j);
     }
     0

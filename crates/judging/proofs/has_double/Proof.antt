@@ -2,8 +2,8 @@
 use mathlib.Core.Path.{_≡_, sym, ap, _∙_, subst}
 use mathlib.Core.Bool.{Bool, true, false}
 use Prim.Native.Nat.{ℕ}
-use Rattle.index.specs.Columns.{identifierColumn, logicalColumn}
-use Rattle.index.specs.Rows.{nameSpaceOf}
+use Rattle.rows.specs.Columns.{identifierColumn, logicalColumn}
+use Rattle.rows.specs.Rows.{nameSpaceOf}
 use Rattle.portions.specs.Portions.{repeats}
 use Rattle.elements.specs.ElementRows.{bytesIn}
 use Rattle.judging.specs.declared.Hashes.{Hashes}

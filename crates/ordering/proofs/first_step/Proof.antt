@@ -2,7 +2,7 @@
 use native.Mathlib.Omega.{arith}
 use borrow.Author.Needs.{needs}
 use borrow.Author.Tests.{not-true, not-false}
-use Rattle.reading.proofs.Scratch.{rows-tell}
+use Rattle.letters.proofs.Telling.{rows-tell}
 use Rattle.owners.proofs.Telling.{meetable}
 use Rattle.ordering.proofs.Seeing.{first-not, first-cannot, first-goes}
 use Rattle.ordering.proofs.first_step.Statement.{statement}

@@ -3,7 +3,7 @@ use mathlib.Core.Path.{sym, _∙_}
 use native.Mathlib.Omega.{arith}
 use borrow.Author.Needs.{needs}
 use borrow.Author.Tests.{not-true, not-false}
-use Rattle.reading.proofs.Scratch.{rows-tell}
+use Rattle.letters.proofs.Telling.{rows-tell}
 use Rattle.owners.proofs.Telling.{meetable}
 use Rattle.ordering.specs.Steps.{stateOf}
 use Rattle.ordering.proofs.Seeing.{head-not, head-cannot, head-goes}

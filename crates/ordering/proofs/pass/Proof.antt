@@ -8,10 +8,10 @@ use borrow.Author.Needs.{needs}
 use borrow.Author.Tests.{eq-eqb, ne-eqb}
 use lib.ListN.{length}
 use Rattle.elements.specs.Judge.{Element}
-use Rattle.reading.specs.Ready.{RowsTell}
+use Rattle.letters.specs.Telling.{RowsTell}
 use Rattle.order.specs.Represents.{LimitsAside}
 use Rattle.order.specs.declared.Fault.the-variants.{Nowhere, At}
-use Rattle.owners.proofs.Telling.{few-rows}
+use Rattle.letters.proofs.Telling.{few-rows}
 use Rattle.ordering.specs.Steps.{stateOf, stepOf}
 use Rattle.ordering.proofs.Passing.{passFrom, pass-stops, pass-goes, pass-ends}
 use Rattle.ordering.proofs.pass.Statement.{statement}

@@ -4,7 +4,7 @@ use Prim.Native.Nat.{_-_}
 use native.Mathlib.Omega.{arith}
 use Rattle.ordering_a.specs.Pass.{StepAt}
 use borrow.Author.Needs.{needs}
-use Rattle.owners.proofs.Telling.{few-rows}
+use Rattle.letters.proofs.Telling.{few-rows}
 use Rattle.ordering_a.proofs.Stepping.{Walking, walking-first, walking-more, walking-stops, walking-ends, walking-whole}
 use Rattle.ordering_a.proofs.pass.Statement.{statement}
 use Rattle.ordering_a.proofs.pass.Tie as tie

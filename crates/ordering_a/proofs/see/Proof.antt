@@ -1,7 +1,8 @@
 -- `ordering_a::see` meets its contract: number by number. Assumes nothing.
 use Rattle.ordering_a.specs.Pass.{sightFor}
-use Rattle.reading.proofs.Scratch.{rows-tell}
-use Rattle.owners.proofs.Telling.{row-inside, meetable}
+use Rattle.letters.proofs.Telling.{rows-tell}
+use Rattle.letters.proofs.Telling.{row-inside}
+use Rattle.owners.proofs.Telling.{meetable}
 use borrow.Author.Needs.{needs}
 use Rattle.ordering_a.proofs.see.Statement.{statement}
 use Rattle.ordering_a.proofs.see.Tie as tie

@@ -4,7 +4,7 @@ use Prim.Native.Nat.{ℕ}
 use borrow.Author.Needs.{needs}
 use borrow.Author.Tests.{not-true, not-false}
 use Rattle.headers.specs.Head.{isIn}
-use Rattle.index.specs.Columns.{kindAt}
+use Rattle.rows.specs.Columns.{kindAt}
 use Rattle.reading.specs.Match.{kindsOf}
 use Rattle.owners.proofs.owner_by.Statement.{statement}
 use Rattle.owners.proofs.owner_by.Tie as tie

@@ -7,12 +7,14 @@ use mathlib.Core.List.{List}
 use lib.ListN.{length}
 use lib.Seq.{slice}
 use Rattle.contents.specs.declared.Span.{Span}
-use Rattle.index.specs.declared.RowFound.{RowFound}
-use Rattle.index.specs.declared.RowFound.the-variants.{At, Nothing}
-use Rattle.index.specs.Columns.{identifierColumn, firstAt, pastAt, Bounded}
-use Rattle.index.specs.Index.{Has, FindsRow}
-use Rattle.reading.specs.Ready.{columnOf, spanAt}
-use Rattle.reading.proofs.Scratch.{rows-tell, bounded-on}
+use Rattle.rows.specs.declared.RowFound.{RowFound}
+use Rattle.rows.specs.declared.RowFound.the-variants.{At, Nothing}
+use Rattle.rows.specs.Columns.{identifierColumn, firstAt, pastAt, Bounded}
+use Rattle.rows.specs.Chains.{Has, FindsRow}
+use Rattle.rows.specs.Columns.{spanAt}
+use Rattle.reading.specs.Ready.{columnOf}
+use Rattle.letters.proofs.Telling.{rows-tell}
+use Rattle.reading.proofs.Scratch.{bounded-on}
 use Rattle.parents.specs.Lookup.{objectSpace, LastSpace}
 use Rattle.owners.specs.Owner.{OwnerIs}
 use Rattle.owners.proofs.Telling.{meetable}

@@ -5,8 +5,8 @@ use native.Mathlib.Omega.{arith}
 use lib.ListN.{length}
 use borrow.Author.Needs.{needs}
 use Rattle.headers.specs.Head.{isIn}
-use Rattle.index.specs.declared.RowFound.{RowFound}
-use Rattle.index.specs.Rows.{scratchWidth}
+use Rattle.rows.specs.declared.RowFound.{RowFound}
+use Rattle.rows.specs.Rows.{scratchWidth}
 use Rattle.parents.specs.Parent.{parentKinds}
 use Rattle.parents.specs.Lookup.{FoundIn, onSide}
 use Rattle.parents.proofs.own_side.Statement.{statement}

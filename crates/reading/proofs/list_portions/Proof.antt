@@ -6,15 +6,17 @@ use native.Mathlib.Omega.{arith}
 use mathlib.Core.List.{_∷_, _++_}
 use lib.Seq.{slice}
 use borrow.Author.Needs.{needs}
-use Rattle.reading.proofs.Scratch.{rows-tell, bounded-on}
+use Rattle.letters.proofs.Telling.{rows-tell}
+use Rattle.reading.proofs.Scratch.{bounded-on}
 use Rattle.reading.proofs.Listing.{Listing, listing-all, listing-none, listing-more, room-for-one, small-element, small-place, found-small, span-placed}
 use Rattle.runs.specs.Runs.{Meets, Meeting}
 use Rattle.names.specs.Names.{spaceByte}
-use Rattle.index.specs.Columns.{identifierColumn}
-use Rattle.index.specs.Index.{FindsRow}
+use Rattle.rows.specs.Columns.{identifierColumn}
+use Rattle.rows.specs.Chains.{FindsRow}
 use Rattle.elements.specs.ElementRows.{bytesIn}
 use Rattle.elements.specs.Says.{Placed}
-use Rattle.reading.specs.Ready.{columnOf, unitSpace, spanAt}
+use Rattle.rows.specs.Columns.{spanAt}
+use Rattle.reading.specs.Ready.{columnOf, unitSpace}
 use Rattle.reading.proofs.list_portions.Statement.{statement}
 use Rattle.reading.proofs.list_portions.Tie as tie
 

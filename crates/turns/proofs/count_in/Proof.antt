@@ -2,8 +2,9 @@
 use mathlib.Core.Path.{sym, _∙_}
 use borrow.Author.Tests.{eq-eqb, ne-eqb}
 use Rattle.turns.specs.Turns.{countsIn}
-use Rattle.reading.proofs.Scratch.{rows-tell}
-use Rattle.owners.proofs.Telling.{row-inside, meetable}
+use Rattle.letters.proofs.Telling.{rows-tell}
+use Rattle.letters.proofs.Telling.{row-inside}
+use Rattle.owners.proofs.Telling.{meetable}
 use Rattle.turns.proofs.count_in.Statement.{statement}
 use Rattle.turns.proofs.count_in.Tie as tie
 

@@ -1,7 +1,7 @@
 -- `turns::look` meets its contract: what the owner tells is so. Assumes nothing.
 use mathlib.Core.Path.{sym, subst}
 use Prim.Native.Nat.{_≤_}
-use Rattle.reading.proofs.Scratch.{rows-tell}
+use Rattle.letters.proofs.Telling.{rows-tell}
 use Rattle.turns.specs.declared.Own.{Own}
 use Rattle.turns.specs.Turns.{OwnIs}
 use Rattle.turns.proofs.Owning.{own-is, row-inside, row-low}

@@ -1,8 +1,8 @@
 -- `turns::reach` meets its contract: the rows are counted in turn. The measure is how many are left. Assumes nothing.
 use Prim.Native.Nat.{_-_, _<_, _≤_}
 use native.Mathlib.Omega.{arith}
-use Rattle.reading.proofs.Scratch.{rows-tell}
-use Rattle.owners.proofs.Telling.{few-rows}
+use Rattle.letters.proofs.Telling.{rows-tell}
+use Rattle.letters.proofs.Telling.{few-rows}
 use Rattle.turns.proofs.Reaching.{Counted, counted-none, counts-few, counted-more, counted-all}
 use Rattle.turns.proofs.reach.Statement.{statement}
 use Rattle.turns.proofs.reach.Tie as tie

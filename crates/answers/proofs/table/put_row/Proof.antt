@@ -5,7 +5,7 @@ use Prim.Native.Nat.{ℕ, _+_, _*_}
 use native.Mathlib.Omega.{arith}
 use lib.ListN.{set}
 use lib.Seq.{paste}
-use Rattle.index.specs.Rows.{scratchWidth}
+use Rattle.rows.specs.Rows.{scratchWidth}
 use Rattle.elements.specs.ElementRows.{cells}
 use Rattle.pieces.proofs.Putting.{part-slice}
 use Rattle.parents.specs.Parent.{parent, rowOrNone}

@@ -4,7 +4,7 @@ use mathlib.Core.List.{List}
 use Prim.Native.Nat.{ℕ}
 use native.Mathlib.Omega.{arith}
 use lib.Seq.{paste, sets-eq}
-use Rattle.index.specs.Rows.{scratchWidth}
+use Rattle.rows.specs.Rows.{scratchWidth}
 use Rattle.elements.specs.ElementRows.{cells}
 use borrow.Author.Needs.{needs}
 use Rattle.letters.proofs.writing.put_row.Statement.{statement}

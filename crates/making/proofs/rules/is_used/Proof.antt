@@ -4,8 +4,8 @@ use mathlib.Core.List.{List}
 use Prim.Native.Nat.{ℕ}
 use native.Mathlib.Omega.{arith}
 use denote.Ref.{now}
-use Rattle.index.specs.Columns.{identifierColumn}
-use Rattle.index.specs.Index.{FindsRow}
+use Rattle.rows.specs.Columns.{identifierColumn}
+use Rattle.rows.specs.Chains.{FindsRow}
 use Rattle.making.specs.Keeps.{blockSpace, isFound}
 use Rattle.making.proofs.Steps.{used-found}
 use borrow.Author.Needs.{needs}

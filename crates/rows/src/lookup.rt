@@ -1,0 +1,171 @@
+// Look-up of a table's rows by name, whoever chose the names: by hash in chains of few rows, and, from the first row on for which a chain
+// has no room, in order of the names, searched by halves.
+use super::RowFound;
+use super::SCRATCH_WIDTH;
+use super::chains;
+use super::places;
+use super::wide16;
+use names::Asked;
+ghost use mathlib.Core.Path.{_≡_};
+ghost use mathlib.Core.Bool.{true};
+ghost use Prim.Native.Nat.{_+_, _<_};
+ghost use lib.ListN.{length, getD};
+ghost use Rattle.names.specs.Asked.{spelling, AskedWithin};
+ghost use Rattle.names.specs.Hash.{hash};
+ghost use Rattle.rows.specs.Columns.{valueAt, Bounded};
+ghost use Rattle.rows.specs.Chains.{FindsRow};
+ghost use Rattle.rows.specs.Lookup.{chained, AtMost, Filed, Linked};
+
+// Most rows of a chain. Names that nobody chose for it come nowhere near.
+const LONGEST_CHAIN: usize = 8;
+
+// How many of the first n rows are in chains.
+fn chained_of(next: &[u16], n: usize) -> usize
+    requires { ⌜ 0 < length (now next) ⌝ }
+    ensures { λ r. ⌜ r ≡ chained (now (next .entry)) n ⌝ }
+{
+    let mark = wide16(next[next.len() - 1]);
+    if mark == 0 {
+        return n;
+    }
+    mark - 1
+}
+
+// Whether the chain of a bucket has room for a row more.
+fn is_short(head: &[u16], next: &[u16], n: usize, bucket: usize) -> bool
+    requires { ⌜ Linked (now head) (now next) n × (bucket < length (now head)) ⌝ }
+    ensures { λ r. ⌜ (r ≡ true → AtMost (now (next .entry)) 7 (getD (now (head .entry)) bucket 0)) ⌝ }
+{
+    let mut link = wide16(head[bucket]);
+    let mut left = LONGEST_CHAIN;
+    while 0 < link {
+        left -= 1;
+        if left == 0 {
+            return false;
+        }
+        link = wide16(next[link - 1]);
+    }
+    true
+}
+
+// The last of the first n rows that is of the name space and has the name asked for, whose hash is `hashed`.
+fn find_any(
+    s: &[u8],
+    rows: &[u32],
+    head: &[u16],
+    next: &[u16],
+    n: usize,
+    column: usize,
+    space: u8,
+    hashed: usize,
+    asked: Asked,
+) -> RowFound
+    requires { ⌜ Bounded (now s) (now rows) column n ⌝ }
+    requires { ⌜ Filed (now s) (now rows) column (now head) (now next) n ⌝ }
+    requires { ⌜ AskedWithin (now s) asked ⌝ }
+    requires { ⌜ hashed ≡ hash (spelling (now s) asked) ⌝ }
+    ensures { λ r. ⌜ FindsRow (now (s .entry)) (now (rows .entry)) column n space (spelling (now (s .entry)) asked) r ⌝ }
+{
+    let from = chained_of(next, n);
+    match places::find_later(s, rows, next, from, n, column, space, asked) {
+        RowFound::At(j) => RowFound::At(j),
+        RowFound::Nothing => chains::find(s, rows, head, next, from, column, space, hashed, asked),
+    }
+}
+
+// The same. Mostly no row is in order and the bucket has none: that much is small enough to stand in the caller.
+pub fn find(
+    s: &[u8],
+    rows: &[u32],
+    head: &[u16],
+    next: &[u16],
+    n: usize,
+    column: usize,
+    space: u8,
+    hashed: usize,
+    asked: Asked,
+) -> RowFound
+    requires { ⌜ Bounded (now s) (now rows) column n ⌝ }
+    requires { ⌜ Filed (now s) (now rows) column (now head) (now next) n ⌝ }
+    requires { ⌜ AskedWithin (now s) asked ⌝ }
+    requires { ⌜ hashed ≡ hash (spelling (now s) asked) ⌝ }
+    ensures { λ r. ⌜ FindsRow (now (s .entry)) (now (rows .entry)) column n space (spelling (now (s .entry)) asked) r ⌝ }
+{
+    if next[next.len() - 1] != 0 {
+        return find_any(s, rows, head, next, n, column, space, hashed, asked);
+    }
+    if head[names::bucket_of(head.len(), hashed)] == 0 {
+        return RowFound::Nothing;
+    }
+    find_any(s, rows, head, next, n, column, space, hashed, asked)
+}
+
+// Adds row n, which has a value, or is to be put in order.
+fn insert_any(
+    s: &[u8],
+    rows: &[u32],
+    head: &mut [u16],
+    next: &mut [u16],
+    n: usize,
+    column: usize,
+    hashed: usize,
+)
+    requires { ⌜ Bounded (now s) (now rows) column (n + 1) ⌝ }
+    requires { ⌜ Filed (now s) (now rows) column (now head) (now next) n ⌝ }
+    requires { ⌜ n + 1 < length (now next) ⌝ }
+    requires { ⌜ n + 1 < 65536 ⌝ }
+    requires { ⌜ hashed ≡ hash (valueAt (now s) (now rows) column n) ⌝ }
+    ensures { λ _. ⌜ Filed (now (s .entry)) (now (rows .entry)) column (now (head .exit)) (now (next .exit)) (n + 1) ⌝ }
+    ensures { λ _. ⌜ length (now (head .exit)) ≡ length (now (head .entry)) ⌝ }
+    ensures { λ _. ⌜ length (now (next .exit)) ≡ length (now (next .entry)) ⌝ }
+{
+    let last = next.len() - 1;
+    let mark = wide16(next[last]);
+    if mark != 0 {
+        places::put_in_order(s, rows, next, mark - 1, n, column);
+        return;
+    }
+    if is_short(head, next, n, names::bucket_of(head.len(), hashed)) {
+        chains::insert(s, rows, head, next, n, column, hashed);
+        return;
+    }
+    next[n] = n as u16;
+    next[last] = (n + 1) as u16;
+}
+
+// Adds row n. `hashed` is the hash of its value, by which the caller has looked it up before. Mostly a row has no value, or
+// is the first of its bucket: that much is small enough to stand in the caller. What the rest is lent is lent anew, or the caller would
+// keep it in memory for all rows.
+pub fn insert(
+    s: &[u8],
+    rows: &[u32],
+    head: &mut [u16],
+    next: &mut [u16],
+    n: usize,
+    column: usize,
+    hashed: usize,
+)
+    requires { ⌜ Bounded (now s) (now rows) column (n + 1) ⌝ }
+    requires { ⌜ Filed (now s) (now rows) column (now head) (now next) n ⌝ }
+    requires { ⌜ n + 1 < length (now next) ⌝ }
+    requires { ⌜ n + 1 < 65536 ⌝ }
+    requires { ⌜ hashed ≡ hash (valueAt (now s) (now rows) column n) ⌝ }
+    ensures { λ _. ⌜ Filed (now (s .entry)) (now (rows .entry)) column (now (head .exit)) (now (next .exit)) (n + 1) ⌝ }
+    ensures { λ _. ⌜ length (now (head .exit)) ≡ length (now (head .entry)) ⌝ }
+    ensures { λ _. ⌜ length (now (next .exit)) ≡ length (now (next .entry)) ⌝ }
+{
+    let last = next.len() - 1;
+    if next[last] != 0 {
+        insert_any(&*s, &*rows, head, next, n, column, hashed);
+        return;
+    }
+    let at = n * SCRATCH_WIDTH + column;
+    if rows[at + 1] <= rows[at] {
+        return;
+    }
+    if head[names::bucket_of(head.len(), hashed)] == 0 {
+        chains::insert(s, rows, head, next, n, column, hashed);
+        return;
+    }
+    insert_any(&*s, &*rows, head, next, n, column, hashed);
+}
