@@ -78,8 +78,8 @@ work-requires : tie.Need-work-requires
 work-requires c κs =
     let a = c .before .before .before .before .before .before .before .before .before .before .before .before .before .before .before .before .before .before .before .before .before .before .before .before .before .before .before .before in
     let j = c .before .before .before .before .before .before .before .before .before .before .before .before .before .before .before .before .before .judge-stream in
-    let filled = subst (GivesVerdict (a .args .edition) (now (a .args .stream)) (j .last .1 .1 .0) (j .last .1 .1 .1 .0) (j .last .1 .1 .1 .1 .0) (j .last .1 .1 .1 .1 .1 .0) (j .last .1 .1 .1 .1 .1 .1 .0)) (c .before .before .before .before .before .before .before .before .before .count .given .1) (j .ensures) in
-    (a .pre .0, (filled, a .pre .1))
+    let held = subst (GivesVerdict (a .args .edition) (now (a .args .stream)) (j .last .1 .1 .0) (j .last .1 .1 .1 .0) (j .last .1 .1 .1 .1 .0) (j .last .1 .1 .1 .1 .1 .0) (j .last .1 .1 .1 .1 .1 .1 .0)) (c .before .before .before .before .before .before .before .before .before .count .given .1) (j .ensures) in
+    (a .pre .0, (held .0, ((held .1, held .2), a .pre .1)))
 
 returns : tie.Need-returns
 returns c =
