@@ -12,21 +12,19 @@ use lib.ListN.{length, getD, set, length-set, take, drop, getElem?, length-appen
 use lib.Seq.{sets, sets-eq, paste, slice, take-take, take-at, take-length, take-append-add, drop-append-add, getD-append-add}
 use borrow.Author.Tests.{eq-eqb, ne-eqb}
 use Rattle.laws.proofs.Writes.{sets-append}
-use Rattle.tree.specs.Tree.{treeOf}
 use Rattle.rows.specs.Rows.{scratchWidth}
 use Rattle.elements.specs.declared.Edition.{Edition}
 use Rattle.elements.specs.declared.Row.{Row}
-use Rattle.elements.specs.Judge.{Element, accepted, judge}
+use Rattle.elements.specs.Judge.{Element}
 use Rattle.elements.specs.ElementRows.{cells, numbers}
 use Rattle.letters.specs.Letter.{letter, letterIn, rowsIn}
 use Rattle.letters.specs.Scratch.{LetterRows}
 use Rattle.judging.proofs.Lists.{at-below}
 use Rattle.judging.proofs.Rows.{saying-length}
 use Rattle.reading.specs.Match.{forEach, only}
-use Rattle.letters.proofs.Telling.{rows-tell}
 use Rattle.parents.specs.Parent.{parent, noParent, rowOrNone, isRow, children}
 use Rattle.answers.specs.Table.{tableWidth, rowNumbers, tableNumbers, parentAt}
-use Rattle.answers.specs.Filling.{Tabled, PutsRow, Fills, rowsWith}
+use Rattle.answers.specs.Filling.{PutsRow, Fills, rowsWith}
 use Rattle.answers.specs.Answers.{elementsIn, onto, tableOf}
 
 -- the numbers of row j, among those of all rows
@@ -44,11 +42,11 @@ numbers-slice (r ∷ rows) (suc j) row e =
     ∙ numbers-slice rows j row e
 
 -- and in the scratch
-pub scratch-slice : {s scratch : List ℕ} {count : ℕ} {elements : List Element} {rows : List Row} → Tabled s scratch count elements rows → (j : ℕ) (row : Row) → j < count
-    → getElem? rows j ≡ some row → slice (j * scratchWidth) (j * scratchWidth + scratchWidth) scratch ≡ cells row
-scratch-slice {scratch = scratch} {count = count} {rows = rows} t j row below there =
+pub scratch-slice : {edition : Edition} {s scratch : List ℕ} {count : ℕ} → LetterRows edition s scratch count → (j : ℕ) (row : Row) → j < count
+    → getElem? (rowsIn edition s) j ≡ some row → slice (j * scratchWidth) (j * scratchWidth + scratchWidth) scratch ≡ cells row
+scratch-slice {edition} {s} {scratch} {count} held j row below there =
     ap (drop (j * scratchWidth)) (sym (take-take (j * scratchWidth + scratchWidth) (count * scratchWidth) scratch (omega arith)))
-    ∙ ap (slice (j * scratchWidth) (j * scratchWidth + scratchWidth)) (t .written) ∙ numbers-slice rows j row there
+    ∙ ap (slice (j * scratchWidth) (j * scratchWidth + scratchWidth)) (held .holds .written) ∙ numbers-slice (rowsIn edition s) j row there
 
 -- the numbers of a row are copied, and the parent's put behind them
 pub put-behind : (table : List ℕ) (at : ℕ) (own : List ℕ) (last : ℕ) → length own ≡ scratchWidth → at + scratchWidth ≤ length table
@@ -79,12 +77,16 @@ table-length elements n (row ∷ rows) =
 pub record Filling (s scratch : List ℕ) (count : ℕ) (table₀ table : List ℕ) (j : ℕ) : Type 0 where
   pub within : j ≤ count
   pub kept : length table ≡ length table₀
-  pub goes-on : (elements : List Element) (rows : List Row) → Tabled s scratch count elements rows
-      → sets table₀ 0 (tableNumbers elements rows) ≡ sets table (j * tableWidth) (forEach j (drop j rows) (rowNumbers elements))
+  pub goes-on : (edition : Edition) (held : LetterRows edition s scratch count)
+      → sets table₀ 0 (tableNumbers (held .elements) (rowsIn edition s)) ≡ sets table (j * tableWidth) (forEach j (drop j (rowsIn edition s)) (rowNumbers (held .elements)))
+
+-- there is a row for each element
+rows-counted : {edition : Edition} {s scratch : List ℕ} {count : ℕ} → LetterRows edition s scratch count → length (rowsIn edition s) ≡ count
+rows-counted held = saying-length (held .holds .saying) ∙ held .holds .counted
 
 -- at the start all rows are left
 pub filling-all : (s scratch : List ℕ) (count : ℕ) (table : List ℕ) → Filling s scratch count table table 0
-filling-all s scratch count table = record { within = omega arith; kept = refl; goes-on = λ elements rows t. refl }
+filling-all s scratch count table = record { within = omega arith; kept = refl; goes-on = λ edition held. refl }
 
 module _ {s scratch : List ℕ} {count : ℕ} {table₀ table : List ℕ} {j : ℕ} (filling : Filling s scratch count table₀ table j) where
   -- one row is put
@@ -94,38 +96,38 @@ module _ {s scratch : List ℕ} {count : ℕ} {table₀ table : List ℕ} {j : �
   filling-more {table'} below puts same = record {
     within = omega arith;
     kept = same ∙ filling .kept;
-    goes-on = λ elements rows t.
-        let f = rowNumbers elements in
-        let (row, there) = at-below rows j (omega (arith, t .counted)) in
+    goes-on = λ edition held.
+        let rows = rowsIn edition s in
+        let f = rowNumbers (held .elements) in
+        let (row, there) = at-below rows j (omega (arith, rows-counted held)) in
         let rest = forEach (j + 1) (drop (j + 1) rows) f in
         let split : forEach j (drop j rows) f ≡ f j row ++ rest = ap (λ (l : List Row). forEach j l f) (drop-there rows j row there) ∙ rw (add-one j) in
         let at : j * tableWidth + length (f j row) ≡ (j + 1) * tableWidth = omega arith in
-        filling .goes-on elements rows t ∙ ap (sets table (j * tableWidth)) split ∙ sets-append table (j * tableWidth) (f j row) rest
-        ∙ ap (λ (l : List ℕ). sets l (j * tableWidth + length (f j row)) rest) (sym (puts elements rows row t there))
+        filling .goes-on edition held ∙ ap (sets table (j * tableWidth)) split ∙ sets-append table (j * tableWidth) (f j row) rest
+        ∙ ap (λ (l : List ℕ). sets l (j * tableWidth + length (f j row)) rest) (sym (puts edition held row there))
         ∙ ap (λ (k : ℕ). sets table' k rest) at;
   }
 
   -- all are
   pub filling-none : count ≤ j → count * tableWidth ≤ length table₀ → Fills s scratch count table₀ table
   unfolding forEach
-  filling-none done room elements rows t =
+  filling-none done room edition held =
+      let elements = held .elements in
+      let rows = rowsIn edition s in
       let f = rowNumbers elements in
-      let none : drop j rows ≡ [] = drop-of-length-le rows {i = j} (omega (arith, t .counted)) in
-      let size : length (tableNumbers elements rows) ≡ count * tableWidth = table-length elements 0 rows ∙ ap (λ (k : ℕ). k * tableWidth) (t .counted) in
+      let none : drop j rows ≡ [] = drop-of-length-le rows {i = j} (omega (arith, rows-counted held)) in
+      let size : length (tableNumbers elements rows) ≡ count * tableWidth = table-length elements 0 rows ∙ ap (λ (k : ℕ). k * tableWidth) (rows-counted held) in
       let whole : 0 + length (tableNumbers elements rows) ≡ count * tableWidth = omega arith in
-      sym (filling .goes-on elements rows t ∙ ap (λ (l : List Row). sets table (j * tableWidth) (forEach j l f)) none)
+      sym (filling .goes-on edition held ∙ ap (λ (l : List Row). sets table (j * tableWidth) (forEach j l f)) none)
       ∙ sets-eq (tableNumbers elements rows) table₀ 0 (omega arith) ∙ ap (λ (k : ℕ). tableNumbers elements rows ++ drop k table₀) whole
 
 -- the table that is filled by the rows of a letter is the finished one
 module _ {edition : Edition} {s rows : List ℕ} {count : ℕ} (held : LetterRows edition s rows count) where
-  pub tabled : Tabled s rows count (held .elements) (rowsIn edition s)
-  tabled = record { ready = rows-tell held; counted = saying-length (held .holds .saying) ∙ held .holds .counted; written = held .holds .written }
-
   pub table-filled : {headers : ℕ} → letterIn edition s ≡ letter headers (held .elements) → (table after : List ℕ) → Fills s rows count table after → after ≡ tableOf edition s table
   table-filled e table after fills =
       let size : length (tableNumbers (held .elements) (rowsIn edition s)) ≡ count * tableWidth =
-      table-length (held .elements) 0 (rowsIn edition s) ∙ ap (λ (k : ℕ). k * tableWidth) (tabled .counted) in
-      fills (held .elements) (rowsIn edition s) tabled ∙ rw (e, size)
+      table-length (held .elements) 0 (rowsIn edition s) ∙ ap (λ (k : ℕ). k * tableWidth) (rows-counted held) in
+      fills edition held ∙ rw (e, size)
 
 -- "the last being the parent's row"
 parent-there : (elements : List Element) (n : ℕ) (rows : List Row) (rest : List ℕ) (j : ℕ) → j < length rows
@@ -193,15 +195,17 @@ module _ (elements : List Element) (table : List ℕ) (count row : ℕ) (low : r
   rows-children counted = ap (rowsWith table row 0) (sym counted) ∙ from-row 0 elements (omega arith)
 
 -- the children of a row, by the table that was filled
-pub finished-children : {s scratch : List ℕ} {count : ℕ} {elements : List Element} {rows : List Row} → Tabled s scratch count elements rows → (table after : List ℕ)
-    → Fills s scratch count table after → (row : ℕ) → row < noParent → rowsWith after row 0 count ≡ children elements row
-finished-children {count = count} {elements = elements} {rows = rows} t table after fills row low =
+pub finished-children : {edition : Edition} {s scratch : List ℕ} {count : ℕ} (held : LetterRows edition s scratch count) (table after : List ℕ)
+    → Fills s scratch count table after → (row : ℕ) → row < noParent → rowsWith after row 0 count ≡ children (held .elements) row
+finished-children {edition} {s} {scratch} {count} held table after fills row low =
+    let elements = held .elements in
+    let rows = rowsIn edition s in
     rows-children elements after count row low
     (λ j l.
     let z : 0 + j ≡ j = omega arith in
-    ap (λ (x : List ℕ). parentAt x j) (fills elements rows t) ∙ parent-there elements 0 rows (drop (count * tableWidth) table) j (omega (arith, t .counted))
+    ap (λ (x : List ℕ). parentAt x j) (fills edition held) ∙ parent-there elements 0 rows (drop (count * tableWidth) table) j (omega (arith, rows-counted held))
     ∙ ap (λ (k : ℕ). rowOrNone (parent elements k)) z)
-    (t .ready .counted)
+    (held .holds .counted)
 
 -- one row more is looked at
 pub rows-step : (table : List ℕ) (row j count : ℕ) → j < count

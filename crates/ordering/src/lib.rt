@@ -66,16 +66,6 @@ fn rank_of(kind: usize) -> usize
     NO_RANK
 }
 
-// One fewer, where there is one.
-fn one_fewer(left: usize) -> usize
-    ensures { λ r. ⌜ r ≡ left - 1 ⌝ }
-{
-    if left == 0 {
-        return 0;
-    }
-    left - 1
-}
-
 // Whether what row j lists can come: it lists nothing, or it has an identifier.
 fn can_come(rows: &[u32], j: usize, lists: usize) -> bool
     requires { ⌜ j * scratchWidth + scratchWidth ≤ length (now rows) ⌝ }
@@ -150,7 +140,7 @@ fn unit_step(
             Step::Goes(State {
                 rank: state.rank,
                 head: state.head,
-                left: one_fewer(state.left),
+                left: ranks::without(state.left, 1),
             })
         }
     }

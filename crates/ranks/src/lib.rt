@@ -140,7 +140,8 @@ pub fn may_stand(s: State, x: Sight) -> bool
     false
 }
 
-fn without(a: usize, b: usize) -> usize
+// So many fewer, and none where there are not so many.
+pub fn without(a: usize, b: usize) -> usize
     ensures { λ r. ⌜ r ≡ a - b ⌝ }
 {
     if a < b {

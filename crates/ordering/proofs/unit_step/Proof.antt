@@ -24,8 +24,8 @@ returns c elements ready aside =
     unit-other ready (start .args .u) (start .pre .1 .1) aside (stateOf (start .args .state)) (found .0 .0) (found .0 .1 .0)
     (subst (OwnerIs Layout elements (start .args .u)) (found .1) (c .before .before .before .before .before .owner-of .ensures elements ready)) (c .if1 .taken)
 
-one-fewer-requires : tie.Need-one-fewer-requires
-one-fewer-requires c κs = search needs
+without-requires : tie.Need-without-requires
+without-requires c κs = search needs
 
 returns-2 : tie.Need-returns-2
 returns-2 c elements ready aside =
@@ -38,7 +38,7 @@ returns-3 c elements ready aside =
     let start = c .before .before .before .before .before .before .before .before .before .before .before in
     let found = c .before .before .before .before .row .given in
     unit-own ready (start .args .u) (start .pre .1 .1) aside (stateOf (start .args .state)) (found .0 .0) (found .0 .1 .0)
-    (subst (OwnerIs Layout elements (start .args .u)) (found .1) (c .before .before .before .before .before .before .owner-of .ensures elements ready)) (c .one-fewer .result) (c .one-fewer .ensures) (c .before .if1 .left)
+    (subst (OwnerIs Layout elements (start .args .u)) (found .1) (c .before .before .before .before .before .before .owner-of .ensures elements ready)) (c .without .result) (c .without .ensures) (c .before .if1 .left)
 
 pub unit-step-spec : {M : Type 1} → statement M
 unit-step-spec =
@@ -48,6 +48,6 @@ unit-step-spec =
     enum-told
     enum-known-row
     returns
-    one-fewer-requires
+    without-requires
     returns-2
     returns-3)

@@ -10,7 +10,7 @@ use borrow.Author.Needs.{needs}
 use Rattle.parents.specs.Parent.{noParent}
 use Rattle.parents.proofs.Children.{children-few}
 use Rattle.answers.proofs.Judging.{accepted-judged}
-use Rattle.answers.proofs.Tabling.{tabled, table-filled, finished-children}
+use Rattle.answers.proofs.Tabling.{table-filled, finished-children}
 use Rattle.answers.proofs.Relating.{relates-16, relates-20, relates-25, relates-letter, renamed}
 use Rattle.answers.proofs.children.children_judged.Statement.{statement}
 use Rattle.answers.proofs.children.children_judged.Tie as tie
@@ -61,7 +61,7 @@ returns-3 c =
     let below : a .args .row < a .args .count = omega (arith, c .before .before .before .before .before .before .before .before .if2 .left) in
     let low : a .args .row < noParent = omega (arith, l .few) in
     let fills = c .before .before .before .before .before .before .fill .ensures in
-    let kids = finished-children (tabled (l .held)) (now (a .args .table)) _ fills (a .args .row) low in
+    let kids = finished-children (l .held) (now (a .args .table)) _ fills (a .args .row) low in
     let found = c .before .before .count-children .ensures ∙ ap length kids in
     renamed (c .refuse3 .ensures) (table-filled (l .held) (l .judged) (now (a .args .table)) _ fills) refl
     (relates-25 (a .args .edition) (now (a .args .stream)) (now (a .args .table)) (a .args .row) (a .args .room) (now (a .args .list)) _ _ (l .held .elements) (l .judged) (l .held .holds .counted) (omega arith) below _ found (c .before .if3 .taken))
@@ -84,7 +84,7 @@ cast-t25 c =
     let a = c .before .before .before .before .before .before .before .before .before .before .before .before .before .before .before .before .before .before .before .before in
     let l = accepted-judged (a .pre .0 .ended) (a .pre .1 .0) in
     let low : a .args .row < noParent = omega (arith, l .few, c .before .before .before .before .before .before .before .before .before .before .before .before .if2 .left) in
-    let kids = finished-children (tabled (l .held)) (now (a .args .table)) _ (c .before .before .before .before .before .before .before .before .before .before .fill .ensures) (a .args .row) low in
+    let kids = finished-children (l .held) (now (a .args .table)) _ (c .before .before .before .before .before .before .before .before .before .before .fill .ensures) (a .args .row) low in
     let found = c .before .before .before .before .before .before .count-children .ensures ∙ ap length kids in
     omega (arith, l .few, l .held .holds .counted, found, children-few (l .held .elements) (a .args .row))
 
@@ -101,7 +101,7 @@ returns-4 c =
     let below : a .args .row < a .args .count = omega (arith, c .before .before .before .before .before .before .before .before .before .before .before .before .if2 .left) in
     let low : a .args .row < noParent = omega (arith, l .few) in
     let fills = c .before .before .before .before .before .before .before .before .before .before .fill .ensures in
-    let kids = finished-children (tabled (l .held)) (now (a .args .table)) _ fills (a .args .row) low in
+    let kids = finished-children (l .held) (now (a .args .table)) _ fills (a .args .row) low in
     let found = c .before .before .before .before .before .before .count-children .ensures ∙ ap length kids in
     let put = c .before .before .put-children .ensures ∙ ap (λ (l : List ℕ). l ++ drop (length l) (now (a .args .list))) kids in
     renamed refl (table-filled (l .held) (l .judged) (now (a .args .table)) _ fills) put

@@ -8,6 +8,7 @@ use lib.Seq.{paste}
 use Rattle.rows.specs.Rows.{scratchWidth}
 use Rattle.elements.specs.ElementRows.{cells}
 use Rattle.pieces.proofs.Putting.{part-slice}
+use Rattle.letters.proofs.Telling.{rows-tell}
 use Rattle.parents.specs.Parent.{parent, rowOrNone}
 use Rattle.answers.specs.Table.{tableWidth}
 use Rattle.answers.proofs.Tabling.{scratch-slice, put-behind}
@@ -58,17 +59,17 @@ same-length : tie.Need-same-length
 same-length c = search needs
 
 returns : tie.Need-returns
-returns c elements rows row t there =
+returns c edition letter row there =
     let start = c .before .before .before .before .before .before .before .before .before .before .before in
     let a = start .args in
     let j = a .j in
-    let own = scratch-slice t j row (start .pre .1 .1 .0) there in
+    let own = scratch-slice letter j row (start .pre .1 .1 .0) there in
     let part = part-slice (j * scratchWidth) (j * scratchWidth + scratchWidth) (a .rows .now) (omega arith) in
     let put = c .before .before .copy-numbers .ensures ∙ ap (λ (l : List ℕ). paste (a .table .now) (j * tableWidth) l scratchWidth) (part ∙ own) in
-    let above = c .before .before .before .before .before .parent-of .ensures .is elements (t .ready) in
+    let above = c .before .before .before .before .before .parent-of .ensures .is (letter .elements) (rows-tell letter) in
     ap (λ (l : List ℕ). set l (j * tableWidth + scratchWidth) (c .before .before .before .before .before .parent-of .result)) put
     ∙ ap (λ (p : ℕ). set (paste (a .table .now) (j * tableWidth) (cells row) scratchWidth) (j * tableWidth + scratchWidth) p) above
-    ∙ put-behind (a .table .now) (j * tableWidth) (cells row) (rowOrNone (parent elements j)) refl (omega (arith, start .pre .1 .1 .0, start .pre .1 .1 .2))
+    ∙ put-behind (a .table .now) (j * tableWidth) (cells row) (rowOrNone (parent (letter .elements) j)) refl (omega (arith, start .pre .1 .1 .0, start .pre .1 .1 .2))
 
 pub put-row-spec : {M : Type 1} → statement M
 put-row-spec =
