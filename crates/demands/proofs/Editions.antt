@@ -52,7 +52,7 @@ use Rattle.answers.proofs.Relating.{relates-refused}
 use Rattle.answers.proofs.Showing.{shows-ruled}
 use Rattle.demands.specs.Refusals.{TopItem, topItems, saysIn, Refuses, too-many, unknown, no-profile, later-profile, misshapen, mistyped, misspelt, repeated, at-element}
 use Rattle.demands.specs.Editions.{isProtected, readAlike, agree, SameAnswers, SameLetterIn, Unnamed, PassedBefore, FillsNone, Editions}
-use Rattle.demands.proofs.Refusals.{accepted-elements, accepted-pass, by-refused}
+use Rattle.demands.proofs.Refusals.{unlisted, typed-stream, accepted-elements, accepted-pass, by-refused}
 use Rattle.demands.proofs.Telling.{both}
 use Rattle.demands.proofs.OneElement.{ordered-holds, ordered-untiled, tabled-ordered, unit-tabled, Alike, shapes-agree, refusals-agree, elements-agree}
 
@@ -484,16 +484,17 @@ module _ (s : List ℕ) (j : ℕ) (top : TopItem) (there : getElem? (topItems (t
       let refuses = at-element (record {
         item = top;
         there = there;
-        refuses = unknown (protected-unknown (top .type) is-protected);
+        refuses = unknown (unlisted (top .type) Of1988 (protected-unknown (top .type) is-protected));
         no-earlier = not-earlier few;
         all-before = before;
       }) in
-      refused-element Of1988 s at headers 10 j walked (by-refused Of1988 (treeOf s) 10 j refuses (judge Of1988 (treeOf s)) refl)
+      refused-element Of1988 s at headers 10 j walked (by-refused Of1988 (treeOf s) (typed-stream s) 10 j refuses (judge Of1988 (treeOf s)) refl)
 
   fills-none : (table : List ℕ) (l : Letter) → letterIn Of1988 s ≡ l → FillsNone s table
   fills-none table (letter headers elements) e =
       let found = letter-found Of1988 s headers elements e in
-      absurd (accepted-pass Of1988 (treeOf s) elements (found .judged) j top there 10 (unknown (protected-unknown (top .type) is-protected)))
+      absurd (accepted-pass Of1988 (treeOf s) (typed-stream s) elements (found .judged) j top there 10
+      (unknown (unlisted (top .type) Of1988 (protected-unknown (top .type) is-protected))))
   fills-none table (refusal number place headers) e = record {
     check = sym (checks-refused Of1988 s table number place headers e .tabled);
     list = λ side room. sym (lists-refused Of1988 side s table [] room number place headers e .tabled);
