@@ -1,5 +1,5 @@
 // The public questions, and nothing else. None has a `requires`: any caller may ask, of any octets, with any buffers. Those of the base are here,
-// those that were asked for later each in a file of their own.
+// those that were asked for later each in a file of their own. Crate `odif_c` has their names for C.
 pub use answers::Checked;
 pub use answers::Copied;
 pub use answers::Dated;
@@ -9,6 +9,7 @@ pub use answers::Listed;
 use answers::Question;
 pub use answers::Reason;
 pub use answers::Related;
+pub use answers::Shown;
 pub use answers::Written;
 pub use elements::Edition;
 use normal::Answer;
@@ -19,7 +20,6 @@ pub use reading::Side;
 ghost use mathlib.Core.Path.{_≡_};
 ghost use Rattle.answers.specs.Answers.{ruled, CheckOutcome, NormalOutcome, ListOutcome, fetched, whyNot, located, Stands, JoinedOutcome};
 
-mod arriving; // arriving.rt: a letter that arrives in blocks
 mod dating; // dating.rt: the date of the document
 mod family; // family.rt: the children of a row
 mod in_order; // in_order.rt: the order of a letter by an interchange class
@@ -133,8 +133,9 @@ pub fn why(edition: Edition, stream: &[u8], element: usize) -> Reason
     }
 }
 
-// Where the content of an element stands in the stream, with the number and place of a refusal.
-fn locate(edition: Edition, stream: &[u8], element: usize) -> Found
+// Where the content of an element stands in the stream, with the number and place of a refusal: `content` and `why` in numbers, for callers that
+// take no part of a slice.
+pub fn locate(edition: Edition, stream: &[u8], element: usize) -> Found
     ensures { λ r. ⌜ (r ≡ located edition (now (stream .entry)) element) × Stands edition (now (stream .entry)) element (r .first) (r .past) ⌝ }
 {
     let mut rows = [0u32; 0];
@@ -197,94 +198,4 @@ fn refused_by(edition: Edition, stream: &[u8]) -> Reason
         number: told.number,
         place: told.place,
     }
-}
-
-// The same questions for C, as include/odif.h declares them: a slice is a pointer and a length, and a null pointer with length 0 is fine. Each
-// asks of the edition of 1988, and its twin of that of 1993.
-#[no_mangle]
-pub extern "C" fn odif_check(stream: &[u8], table: &mut [u32]) -> Checked
-    ensures { λ r. ⌜ CheckOutcome Edition.Of1988 (now (stream .entry)) (now (table .entry)) r (now (table .exit)) ⌝ }
-{
-    check(Edition::Of1988, stream, table)
-}
-
-#[no_mangle]
-pub extern "C" fn odif_check_1993(stream: &[u8], table: &mut [u32]) -> Checked
-    ensures { λ r. ⌜ CheckOutcome Edition.Of1993 (now (stream .entry)) (now (table .entry)) r (now (table .exit)) ⌝ }
-{
-    check(Edition::Of1993, stream, table)
-}
-
-#[no_mangle]
-pub extern "C" fn odif_normal(stream: &[u8], out: &mut [u8]) -> Written
-    ensures { λ r. ⌜ NormalOutcome Edition.Of1988 (now (stream .entry)) (now (out .entry)) r (now (out .exit)) ⌝ }
-{
-    normal(Edition::Of1988, stream, out)
-}
-
-#[no_mangle]
-pub extern "C" fn odif_normal_1993(stream: &[u8], out: &mut [u8]) -> Written
-    ensures { λ r. ⌜ NormalOutcome Edition.Of1993 (now (stream .entry)) (now (out .entry)) r (now (out .exit)) ⌝ }
-{
-    normal(Edition::Of1993, stream, out)
-}
-
-#[no_mangle]
-pub extern "C" fn odif_layout(stream: &[u8], table: &mut [u32], list: &mut [Match]) -> Listed
-    ensures { λ r. ⌜ ListOutcome Edition.Of1988 Side.Layout (now (stream .entry)) (now (table .entry)) (now (list .entry)) r (now (table .exit))
-        (now (list .exit)) ⌝ }
-{
-    crate::list(Edition::Of1988, stream, Side::Layout, table, list)
-}
-
-#[no_mangle]
-pub extern "C" fn odif_layout_1993(stream: &[u8], table: &mut [u32], list: &mut [Match]) -> Listed
-    ensures { λ r. ⌜ ListOutcome Edition.Of1993 Side.Layout (now (stream .entry)) (now (table .entry)) (now (list .entry)) r (now (table .exit))
-        (now (list .exit)) ⌝ }
-{
-    crate::list(Edition::Of1993, stream, Side::Layout, table, list)
-}
-
-#[no_mangle]
-pub extern "C" fn odif_logical(stream: &[u8], table: &mut [u32], list: &mut [Match]) -> Listed
-    ensures { λ r. ⌜ ListOutcome Edition.Of1988 Side.Logical (now (stream .entry)) (now (table .entry)) (now (list .entry)) r (now (table .exit))
-        (now (list .exit)) ⌝ }
-{
-    crate::list(Edition::Of1988, stream, Side::Logical, table, list)
-}
-
-#[no_mangle]
-pub extern "C" fn odif_logical_1993(stream: &[u8], table: &mut [u32], list: &mut [Match]) -> Listed
-    ensures { λ r. ⌜ ListOutcome Edition.Of1993 Side.Logical (now (stream .entry)) (now (table .entry)) (now (list .entry)) r (now (table .exit))
-        (now (list .exit)) ⌝ }
-{
-    crate::list(Edition::Of1993, stream, Side::Logical, table, list)
-}
-
-#[no_mangle]
-pub extern "C" fn odif_content(stream: &[u8], element: u32) -> Found
-    ensures { λ r. ⌜ r ≡ located Edition.Of1988 (now (stream .entry)) element ⌝ }
-{
-    locate(Edition::Of1988, stream, element as usize)
-}
-
-#[no_mangle]
-pub extern "C" fn odif_content_1993(stream: &[u8], element: u32) -> Found
-    ensures { λ r. ⌜ r ≡ located Edition.Of1993 (now (stream .entry)) element ⌝ }
-{
-    locate(Edition::Of1993, stream, element as usize)
-}
-
-#[no_mangle]
-pub extern "C" fn odif_joined(stream: &[u8], element: u32, out: &mut [u8]) -> Copied
-    ensures { λ r. ⌜ JoinedOutcome Edition.Of1988 (now (stream .entry)) element (now (out .entry)) r (now (out .exit)) ⌝ }
-{
-    joined(Edition::Of1988, stream, element as usize, out)
-}
-
-#[no_mangle]
-pub extern "C" fn odif_joined_1993(stream: &[u8], element: u32, out: &mut [u8]) -> Copied
-    ensures { λ r. ⌜ JoinedOutcome Edition.Of1993 (now (stream .entry)) element (now (out .entry)) r (now (out .exit)) ⌝ }
-{
-    joined(Edition::Of1993, stream, element as usize, out)
 }

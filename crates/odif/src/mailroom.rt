@@ -43,17 +43,3 @@ pub fn normal_short(edition: Edition, stream: &[u8], out: &mut [u8]) -> Written
         },
     }
 }
-
-#[no_mangle]
-pub extern "C" fn odif_normal_short(stream: &[u8], out: &mut [u8]) -> Written
-    ensures { λ r. ⌜ ShortOutcome Edition.Of1988 (now (stream .entry)) (now (out .entry)) r (now (out .exit)) ⌝ }
-{
-    normal_short(Edition::Of1988, stream, out)
-}
-
-#[no_mangle]
-pub extern "C" fn odif_normal_short_1993(stream: &[u8], out: &mut [u8]) -> Written
-    ensures { λ r. ⌜ ShortOutcome Edition.Of1993 (now (stream .entry)) (now (out .entry)) r (now (out .exit)) ⌝ }
-{
-    normal_short(Edition::Of1993, stream, out)
-}
