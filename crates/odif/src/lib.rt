@@ -18,6 +18,9 @@ pub use order::Ordered;
 pub use reading::Match;
 pub use reading::Side;
 ghost use mathlib.Core.Path.{_≡_};
+ghost use Prim.Native.Nat.{_≤_};
+ghost use Rattle.octets.specs.Walk.{streamLimit};
+ghost use Rattle.answers.specs.Asking.{writtenAs};
 ghost use Rattle.answers.specs.Answers.{ruled, CheckOutcome, NormalOutcome, ListOutcome, fetched, whyNot, located, Stands, JoinedOutcome};
 
 mod dating; // dating.rt: the date of the document
@@ -62,25 +65,23 @@ pub fn check(edition: Edition, stream: &[u8], table: &mut [u32]) -> Checked
 pub fn normal(edition: Edition, stream: &[u8], out: &mut [u8]) -> Written
     ensures { λ r. ⌜ NormalOutcome edition (now (stream .entry)) (now (out .entry)) r (now (out .exit)) ⌝ }
 {
-    let mut rows = [0u32; 0];
-    let mut numbers = [0u32; 0];
-    let mut octets = [0u8; 0];
-    let ruled = scratch::ask(
-        edition,
-        stream,
-        Question::Rules,
-        &mut rows,
-        &mut numbers,
-        &mut octets,
-    );
-    if ruled.number != 0 {
+    let refused = refused_by(edition, stream);
+    if refused.number != 0 {
         return Written {
-            number: ruled.number,
-            place: ruled.place,
+            number: refused.number,
+            place: refused.place,
             length: 0,
         };
     }
-    match normal::write(stream, out) {
+    written_as(normal::write(stream, out))
+}
+
+// The writer's answer as it is told: 17, 18, or no refusal and a length that no stream passes.
+fn written_as(answer: Answer) -> Written
+    requires { ⌜ (writtenAs answer .number ≤ 18) × ((writtenAs answer .place ≤ 0) × (writtenAs answer .length ≤ streamLimit)) ⌝ }
+    ensures { λ r. ⌜ r ≡ writtenAs answer ⌝ }
+{
+    match answer {
         Answer::Written { length } => Written {
             number: 0,
             place: 0,
