@@ -134,9 +134,16 @@ pub fn why(edition: Edition, stream: &[u8], element: usize) -> Reason
     }
 }
 
-// Where the content of an element stands in the stream, with the number and place of a refusal: `content` and `why` in numbers, for callers that
+// The bounds of the content of a text unit in the stream, with the number and place of a refusal: `content` and `why` in numbers, for callers that
 // take no part of a slice.
-pub fn locate(edition: Edition, stream: &[u8], element: usize) -> Found
+pub fn bounds(edition: Edition, stream: &[u8], element: usize) -> Found
+    ensures { λ r. ⌜ r ≡ located edition (now (stream .entry)) element ⌝ }
+{
+    locate(edition, stream, element)
+}
+
+// Where the content of an element stands in the stream, with the number and place of a refusal.
+fn locate(edition: Edition, stream: &[u8], element: usize) -> Found
     ensures { λ r. ⌜ (r ≡ located edition (now (stream .entry)) element) × Stands edition (now (stream .entry)) element (r .first) (r .past) ⌝ }
 {
     let mut rows = [0u32; 0];

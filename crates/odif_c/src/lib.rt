@@ -84,14 +84,14 @@ pub extern "C" fn odif_logical_1993(stream: &[u8], table: &mut [u32], list: &mut
 pub extern "C" fn odif_content(stream: &[u8], element: u32) -> Found
     ensures { λ r. ⌜ r ≡ located Edition.Of1988 (now (stream .entry)) element ⌝ }
 {
-    odif::locate(Edition::Of1988, stream, element as usize)
+    odif::bounds(Edition::Of1988, stream, element as usize)
 }
 
 #[no_mangle]
 pub extern "C" fn odif_content_1993(stream: &[u8], element: u32) -> Found
     ensures { λ r. ⌜ r ≡ located Edition.Of1993 (now (stream .entry)) element ⌝ }
 {
-    odif::locate(Edition::Of1993, stream, element as usize)
+    odif::bounds(Edition::Of1993, stream, element as usize)
 }
 
 #[no_mangle]
