@@ -1,4 +1,4 @@
-//! Finds the proved library `libodif.a`: in `ODIF_LIB_DIR`, else where `rt staticlib odif` leaves it in this tree; and with
+//! Finds the proved library `libodif.a`: in `ODIF_LIB_DIR`, else where `packaging/archive odif` leaves it in this tree; and with
 //! the feature `pm1` the PM1 desk, `libpm1.a`, beside it.
 //!
 //! The archive is copied to cargo's own folder and linked from there. What cargo keeps of this script's words then names
@@ -29,7 +29,7 @@ fn link(library: &str, folder: &Path, out: &Path) {
         let archive = std::path::absolute(&archive).unwrap_or(archive);
         println!("cargo::error=the proved library {} cannot be taken: {error}", archive.display());
         println!(
-            "cargo::error=run `rt staticlib {library}` at the repository's root, or name its folder in ODIF_LIB_DIR"
+            "cargo::error=run `packaging/archive {library}` at the repository's root, or name its folder in ODIF_LIB_DIR"
         );
         return;
     }

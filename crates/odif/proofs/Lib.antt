@@ -1,4 +1,3 @@
--- Writing: the writer's answers in the question's words. Short: the mailroom's question. Exporting: the lists of both sides for C.
+-- Writing: the writer's answers in the question's words. Short: the mailroom's question.
 pub mod Writing
 pub mod Short
-pub mod Exporting

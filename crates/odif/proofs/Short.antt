@@ -1,5 +1,5 @@
 -- The mailroom's question, case by case: 1, the rules, and the answer of the crate that writes. Assumes nothing.
-use mathlib.Core.Path.{_≡_, refl, ap, sym, _∙_}
+use mathlib.Core.Path.{_≡_, ap}
 use mathlib.Core.Bool.{true, false}
 use mathlib.Core.List.{List}
 use Prim.Native.Nat.{ℕ, _<_, _≤_}
@@ -8,26 +8,23 @@ use lib.Dec.{eqb, leb, ltb}
 use lib.ListN.{length}
 use borrow.Author.Tests.{ne-eqb, leb-true, leb-false, lt-ltb, le-ltb}
 use borrow.Table.Steps.{cases}
-use Rattle.octets.specs.Walk.{streamLimit, deepest, run}
+use Rattle.octets.specs.Walk.{streamLimit}
 use Rattle.tree.specs.Tree.{treeOf}
-use Rattle.tree.specs.Accepts.{Whole}
-use Rattle.tree.proofs.Meaning.{means, whole-of}
+use Rattle.tree.proofs.Meaning.{means}
 use Rattle.normal.specs.declared.Answer.{Answer}
 use Rattle.normal.specs.Normal.{normalForm}
 use Rattle.normal.specs.Writes.{outputOf, answerShort}
 use Rattle.normal.specs.Short.{shortLimit}
 use Rattle.normal.proofs.Normals.{small}
 use Rattle.elements.specs.declared.Edition.{Edition}
-use Rattle.elements.specs.Judge.{Element}
-use Rattle.letters.specs.Letter.{Letter, letter, refusal, letterIn}
-use Rattle.answers.specs.declared.Reason.{Reason}
 use Rattle.answers.specs.declared.Told.{Told}
-use Rattle.answers.specs.Answers.{ruledBy, ruled}
+use Rattle.answers.specs.Answers.{ruled}
 use Rattle.answers.specs.Questions.{reasonTold}
 use Rattle.answers.specs.Short.{writtenShort, writtenShortOutput, ShortOutcome}
 use Rattle.answers.proofs.Small.{refusal-small}
 use Rattle.answers.proofs.Letters.{letter-found}
 use Rattle.answers.proofs.Judging.{accepts-walked}
+use Rattle.answers.proofs.Working.{IsLetter, IsRefused}
 use Rattle.answers.specs.Asking.{writtenAs}
 use Rattle.odif.proofs.Writing.{Fits}
 
@@ -36,39 +33,8 @@ module _ (edition : Edition) (s : List ℕ) where
   pub reason-told : {told : Told} → told ≡ reasonTold (ruled edition s) → record { number = told .number; place = told .place } ≡ ruled edition s
   reason-told e = ap (λ (t : Told). record { number = t .number; place = t .place }) e
 
-  -- and back
-  pub record Refused (number place : ℕ) : Type 0 where
-    pub headers : ℕ
-    pub judged : letterIn edition s ≡ refusal number place headers
-
-  pub record Passed : Type 0 where
-    pub headers : ℕ
-    pub elements : List Element
-    pub judged : letterIn edition s ≡ letter headers elements
-
-  refused-from : (l : Letter) → letterIn edition s ≡ l → (ruledBy l .number ≡ 0 → ⊥) → Refused (ruledBy l .number) (ruledBy l .place)
-  refused-from (refusal number place headers) e n = record { headers = headers; judged = e }
-  refused-from (letter headers elements) e n = absurd (n refl)
-
-  passed-from : (l : Letter) → letterIn edition s ≡ l → ruledBy l .number ≡ 0 → Passed
-  passed-from (refusal number place headers) e z = absurd (omega (arith, refusal-small edition s number place headers e .low))
-  passed-from (letter headers elements) e z = record { headers = headers; elements = elements; judged = e }
-
-  pub refused : (r : Reason) → r ≡ ruled edition s → (r .number ≡ 0 → ⊥) → Refused (r .number) (r .place)
-  unfolding ruled
-  refused r e n = rw e (refused-from (letterIn edition s) refl (λ z. n (ap (λ (x : Reason). x .number) e ∙ z)))
-
-  pub passed : (r : Reason) → r ≡ ruled edition s → r .number ≡ 0 → Passed
-  unfolding ruled
-  passed r e z = passed-from (letterIn edition s) refl (sym (ap (λ (x : Reason). x .number) e) ∙ z)
-
-  pub passed-whole : Passed → Whole (run deepest s 0 (length s) false .how)
-  passed-whole p =
-      let f = letter-found edition s (p .headers) (p .elements) (p .judged) in
-      whole-of s (f .at) (p .headers) (f .walked) .1
-
   -- a normal form is at most three times as long as its stream
-  form-fits : Passed → length s ≤ shortLimit → length (normalForm s) ≤ streamLimit
+  form-fits : IsLetter edition s → length s ≤ shortLimit → length (normalForm s) ≤ streamLimit
   form-fits p l =
       let f = letter-found edition s (p .headers) (p .elements) (p .judged) in
       let few = small (means s (treeOf s) (accepts-walked (f .walked)) .0) in
@@ -83,7 +49,7 @@ module _ (edition : Edition) (s : List ℕ) where
       within : ltb shortLimit (length s) ≡ false
       within = le-ltb shortLimit (length s) l
 
-      pub short-refused : (number place : ℕ) → Refused number place → ShortOutcome edition s out (record { number = number; place = place; length = 0 }) out
+      pub short-refused : (number place : ℕ) → IsRefused edition s number place → ShortOutcome edition s out (record { number = number; place = place; length = 0 }) out
       unfolding writtenShort writtenShortOutput
       short-refused number place r =
           let low = refusal-small edition s number place (r .headers) (r .judged) .low in
@@ -94,7 +60,7 @@ module _ (edition : Edition) (s : List ℕ) where
       abbrev expected : Answer
       expected = answerShort (normalForm s) out
 
-      pub short-letter : Passed → ShortOutcome edition s out (writtenAs expected) (outputOf expected (normalForm s) out) × Fits (writtenAs expected)
+      pub short-letter : IsLetter edition s → ShortOutcome edition s out (writtenAs expected) (outputOf expected (normalForm s) out) × Fits (writtenAs expected)
       unfolding writtenShort writtenShortOutput answerShort
       short-letter p =
           let form = normalForm s in
@@ -103,7 +69,7 @@ module _ (edition : Edition) (s : List ℕ) where
           cases (leb (length form) (length out))
           (λ room.
           let b : ltb (length out) (length form) ≡ false = le-ltb (length out) (length form) (leb-true _ _ room) in
-          (record { answered = rw (within, e, b, room); put = rw (within, e, b, room) }, rw room (record { low-number = omega arith; low-place = omega arith; short = fits })))
+          (record { answered = rw (within, e, b, room); put = rw (within, e, b, room) }, rw room (omega arith, (omega arith, fits))))
           (λ room.
           let b : ltb (length out) (length form) ≡ true = lt-ltb (length out) (length form) (leb-false _ _ room) in
-          (record { answered = rw (within, e, b, room); put = rw (within, e, b, room) }, rw room (record { low-number = omega arith; low-place = omega arith; short = omega arith })))
+          (record { answered = rw (within, e, b, room); put = rw (within, e, b, room) }, rw room (omega arith, (omega arith, omega arith))))

@@ -43,31 +43,3 @@ pub fn first_date(edition: Edition, stream: &[u8]) -> FirstDated
 {
     answers::date_of_first(edition, stream)
 }
-
-#[no_mangle]
-pub extern "C" fn odif_date(stream: &[u8]) -> Dated
-    ensures { λ r. ⌜ DateOutcome Edition.Of1988 (now (stream .entry)) r ⌝ }
-{
-    dated(Edition::Of1988, stream)
-}
-
-#[no_mangle]
-pub extern "C" fn odif_date_1993(stream: &[u8]) -> Dated
-    ensures { λ r. ⌜ DateOutcome Edition.Of1993 (now (stream .entry)) r ⌝ }
-{
-    dated(Edition::Of1993, stream)
-}
-
-#[no_mangle]
-pub extern "C" fn odif_first_date(stream: &[u8]) -> FirstDated
-    ensures { λ r. ⌜ FirstDateOutcome Edition.Of1988 (now (stream .entry)) r ⌝ }
-{
-    first_date(Edition::Of1988, stream)
-}
-
-#[no_mangle]
-pub extern "C" fn odif_first_date_1993(stream: &[u8]) -> FirstDated
-    ensures { λ r. ⌜ FirstDateOutcome Edition.Of1993 (now (stream .entry)) r ⌝ }
-{
-    first_date(Edition::Of1993, stream)
-}

@@ -1,5 +1,5 @@
 // The public questions, and nothing else. None has a `requires`: any caller may ask, of any octets, with any buffers. Those of the base are here,
-// those that were asked for later each in a file of their own.
+// those that were asked for later each in a file of their own. Crate `odif_c` has their names for C.
 pub use answers::Checked;
 pub use answers::Copied;
 pub use answers::Dated;
@@ -9,6 +9,7 @@ pub use answers::Listed;
 use answers::Question;
 pub use answers::Reason;
 pub use answers::Related;
+pub use answers::Shown;
 pub use answers::Written;
 pub use elements::Edition;
 use normal::Answer;
@@ -17,9 +18,11 @@ pub use order::Ordered;
 pub use reading::Match;
 pub use reading::Side;
 ghost use mathlib.Core.Path.{_≡_};
+ghost use Prim.Native.Nat.{_≤_};
+ghost use Rattle.octets.specs.Walk.{streamLimit};
+ghost use Rattle.answers.specs.Asking.{writtenAs};
 ghost use Rattle.answers.specs.Answers.{ruled, CheckOutcome, NormalOutcome, ListOutcome, PartOutcome, WhyOutcome, LocatedOutcome, Stands, JoinedOutcome};
 
-mod arriving; // arriving.rt: a letter that arrives in blocks
 mod dating; // dating.rt: the date of the document
 mod family; // family.rt: the children of a row
 mod in_order; // in_order.rt: the order of a letter by an interchange class
@@ -62,25 +65,23 @@ pub fn check(edition: Edition, stream: &[u8], table: &mut [u32]) -> Checked
 pub fn normal(edition: Edition, stream: &[u8], out: &mut [u8]) -> Written
     ensures { λ r. ⌜ NormalOutcome edition (now (stream .entry)) (now (out .entry)) r (now (out .exit)) ⌝ }
 {
-    let mut rows = [0u32; 0];
-    let mut numbers = [0u32; 0];
-    let mut octets = [0u8; 0];
-    let ruled = scratch::ask(
-        edition,
-        stream,
-        Question::Rules,
-        &mut rows,
-        &mut numbers,
-        &mut octets,
-    );
-    if ruled.number != 0 {
+    let refused = refused_by(edition, stream);
+    if refused.number != 0 {
         return Written {
-            number: ruled.number,
-            place: ruled.place,
+            number: refused.number,
+            place: refused.place,
             length: 0,
         };
     }
-    match normal::write(stream, out) {
+    written_as(normal::write(stream, out))
+}
+
+// The writer's answer as it is told: 17, 18, or no refusal and a length that no stream passes.
+fn written_as(answer: Answer) -> Written
+    requires { ⌜ (writtenAs answer .number ≤ 18) × ((writtenAs answer .place ≤ 0) × (writtenAs answer .length ≤ streamLimit)) ⌝ }
+    ensures { λ r. ⌜ r ≡ writtenAs answer ⌝ }
+{
+    match answer {
         Answer::Written { length } => Written {
             number: 0,
             place: 0,
@@ -131,6 +132,14 @@ pub fn why(edition: Edition, stream: &[u8], element: usize) -> Reason
         number: located.number,
         place: located.place,
     }
+}
+
+// The bounds of the content of a text unit in the stream, with the number and place of a refusal: `content` and `why` in numbers, for callers that
+// take no part of a slice.
+pub fn bounds(edition: Edition, stream: &[u8], element: usize) -> Found
+    ensures { λ r. ⌜ LocatedOutcome edition (now (stream .entry)) element r ⌝ }
+{
+    locate(edition, stream, element)
 }
 
 // Where the content of an element stands in the stream, with the number and place of a refusal.
@@ -197,94 +206,4 @@ fn refused_by(edition: Edition, stream: &[u8]) -> Reason
         number: told.number,
         place: told.place,
     }
-}
-
-// The same questions for C, as include/odif.h declares them: a slice is a pointer and a length, and a null pointer with length 0 is fine. Each
-// asks of the edition of 1988, and its twin of that of 1993.
-#[no_mangle]
-pub extern "C" fn odif_check(stream: &[u8], table: &mut [u32]) -> Checked
-    ensures { λ r. ⌜ CheckOutcome Edition.Of1988 (now (stream .entry)) (now (table .entry)) r (now (table .exit)) ⌝ }
-{
-    check(Edition::Of1988, stream, table)
-}
-
-#[no_mangle]
-pub extern "C" fn odif_check_1993(stream: &[u8], table: &mut [u32]) -> Checked
-    ensures { λ r. ⌜ CheckOutcome Edition.Of1993 (now (stream .entry)) (now (table .entry)) r (now (table .exit)) ⌝ }
-{
-    check(Edition::Of1993, stream, table)
-}
-
-#[no_mangle]
-pub extern "C" fn odif_normal(stream: &[u8], out: &mut [u8]) -> Written
-    ensures { λ r. ⌜ NormalOutcome Edition.Of1988 (now (stream .entry)) (now (out .entry)) r (now (out .exit)) ⌝ }
-{
-    normal(Edition::Of1988, stream, out)
-}
-
-#[no_mangle]
-pub extern "C" fn odif_normal_1993(stream: &[u8], out: &mut [u8]) -> Written
-    ensures { λ r. ⌜ NormalOutcome Edition.Of1993 (now (stream .entry)) (now (out .entry)) r (now (out .exit)) ⌝ }
-{
-    normal(Edition::Of1993, stream, out)
-}
-
-#[no_mangle]
-pub extern "C" fn odif_layout(stream: &[u8], table: &mut [u32], list: &mut [Match]) -> Listed
-    ensures { λ r. ⌜ ListOutcome Edition.Of1988 Side.Layout (now (stream .entry)) (now (table .entry)) (now (list .entry)) r (now (table .exit))
-        (now (list .exit)) ⌝ }
-{
-    crate::list(Edition::Of1988, stream, Side::Layout, table, list)
-}
-
-#[no_mangle]
-pub extern "C" fn odif_layout_1993(stream: &[u8], table: &mut [u32], list: &mut [Match]) -> Listed
-    ensures { λ r. ⌜ ListOutcome Edition.Of1993 Side.Layout (now (stream .entry)) (now (table .entry)) (now (list .entry)) r (now (table .exit))
-        (now (list .exit)) ⌝ }
-{
-    crate::list(Edition::Of1993, stream, Side::Layout, table, list)
-}
-
-#[no_mangle]
-pub extern "C" fn odif_logical(stream: &[u8], table: &mut [u32], list: &mut [Match]) -> Listed
-    ensures { λ r. ⌜ ListOutcome Edition.Of1988 Side.Logical (now (stream .entry)) (now (table .entry)) (now (list .entry)) r (now (table .exit))
-        (now (list .exit)) ⌝ }
-{
-    crate::list(Edition::Of1988, stream, Side::Logical, table, list)
-}
-
-#[no_mangle]
-pub extern "C" fn odif_logical_1993(stream: &[u8], table: &mut [u32], list: &mut [Match]) -> Listed
-    ensures { λ r. ⌜ ListOutcome Edition.Of1993 Side.Logical (now (stream .entry)) (now (table .entry)) (now (list .entry)) r (now (table .exit))
-        (now (list .exit)) ⌝ }
-{
-    crate::list(Edition::Of1993, stream, Side::Logical, table, list)
-}
-
-#[no_mangle]
-pub extern "C" fn odif_content(stream: &[u8], element: u32) -> Found
-    ensures { λ r. ⌜ LocatedOutcome Edition.Of1988 (now (stream .entry)) element r ⌝ }
-{
-    locate(Edition::Of1988, stream, element as usize)
-}
-
-#[no_mangle]
-pub extern "C" fn odif_content_1993(stream: &[u8], element: u32) -> Found
-    ensures { λ r. ⌜ LocatedOutcome Edition.Of1993 (now (stream .entry)) element r ⌝ }
-{
-    locate(Edition::Of1993, stream, element as usize)
-}
-
-#[no_mangle]
-pub extern "C" fn odif_joined(stream: &[u8], element: u32, out: &mut [u8]) -> Copied
-    ensures { λ r. ⌜ JoinedOutcome Edition.Of1988 (now (stream .entry)) element (now (out .entry)) r (now (out .exit)) ⌝ }
-{
-    joined(Edition::Of1988, stream, element as usize, out)
-}
-
-#[no_mangle]
-pub extern "C" fn odif_joined_1993(stream: &[u8], element: u32, out: &mut [u8]) -> Copied
-    ensures { λ r. ⌜ JoinedOutcome Edition.Of1993 (now (stream .entry)) element (now (out .entry)) r (now (out .exit)) ⌝ }
-{
-    joined(Edition::Of1993, stream, element as usize, out)
 }

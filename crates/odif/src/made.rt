@@ -10,11 +10,3 @@ pub fn make(buffer: &[u8], entries: &[u32], out: &mut [u8]) -> Written
 {
     making::make(buffer, entries, out)
 }
-
-// The header's `odif_make` hands its entries to this one as numbers.
-#[no_mangle]
-pub extern "C" fn odif_make_numbers(buffer: &[u8], entries: &[u32], out: &mut [u8]) -> Written
-    ensures { λ r. ⌜ MakeOutcome (now (buffer .entry)) (entriesOf (now (entries .entry))) (now (out .entry)) r (now (out .exit)) ⌝ }
-{
-    make(buffer, entries, out)
-}

@@ -2,7 +2,7 @@
 use super::Edition;
 use super::Written;
 use super::refused_by;
-use normal::Answer;
+use super::written_as;
 ghost use Rattle.answers.specs.Short.{ShortOutcome};
 
 // The most octets of a stream that the mailroom box asks about.
@@ -30,30 +30,5 @@ pub fn normal_short(edition: Edition, stream: &[u8], out: &mut [u8]) -> Written
             length: 0,
         };
     }
-    match normal::write_short(stream, out) {
-        Answer::Written { length } => Written {
-            number: 0,
-            place: 0,
-            length: length as u32,
-        },
-        Answer::Refused { number, place } => Written {
-            number: number as u32,
-            place: place as u32,
-            length: 0,
-        },
-    }
-}
-
-#[no_mangle]
-pub extern "C" fn odif_normal_short(stream: &[u8], out: &mut [u8]) -> Written
-    ensures { λ r. ⌜ ShortOutcome Edition.Of1988 (now (stream .entry)) (now (out .entry)) r (now (out .exit)) ⌝ }
-{
-    normal_short(Edition::Of1988, stream, out)
-}
-
-#[no_mangle]
-pub extern "C" fn odif_normal_short_1993(stream: &[u8], out: &mut [u8]) -> Written
-    ensures { λ r. ⌜ ShortOutcome Edition.Of1993 (now (stream .entry)) (now (out .entry)) r (now (out .exit)) ⌝ }
-{
-    normal_short(Edition::Of1993, stream, out)
+    written_as(normal::write_short(stream, out))
 }

@@ -1,7 +1,7 @@
 // The whole reading of a side in one call, with one judging: the table, a line for each match, and all texts one after another.
-pub use answers::Shown;
-use elements::Edition;
-use reading::Side;
+use super::Edition;
+use super::Shown;
+use super::Side;
 ghost use Rattle.answers.specs.Texts.{TextOutcome};
 
 // Puts the texts of the matches of a side to a lent output, one after another, with five numbers a line: element, portion place, unit, and where its text
@@ -22,57 +22,4 @@ pub fn text(
         return scratch::text_few(edition, stream, walked, side, table, lines, out);
     }
     scratch::text_many(edition, stream, walked, side, table, lines, out)
-}
-
-// The header's `odif_layout_text` and the like hand their lines to these as numbers.
-#[no_mangle]
-pub extern "C" fn odif_layout_text_numbers(
-    stream: &[u8],
-    table: &mut [u32],
-    lines: &mut [u32],
-    out: &mut [u8],
-) -> Shown
-    ensures { λ r. ⌜ TextOutcome Edition.Of1988 Side.Layout (now (stream .entry)) (now (table .entry)) (now (lines .entry)) (now (out .entry)) r
-        (now (table .exit)) (now (lines .exit)) (now (out .exit)) ⌝ }
-{
-    text(Edition::Of1988, stream, Side::Layout, table, lines, out)
-}
-
-#[no_mangle]
-pub extern "C" fn odif_logical_text_numbers(
-    stream: &[u8],
-    table: &mut [u32],
-    lines: &mut [u32],
-    out: &mut [u8],
-) -> Shown
-    ensures { λ r. ⌜ TextOutcome Edition.Of1988 Side.Logical (now (stream .entry)) (now (table .entry)) (now (lines .entry)) (now (out .entry)) r
-        (now (table .exit)) (now (lines .exit)) (now (out .exit)) ⌝ }
-{
-    text(Edition::Of1988, stream, Side::Logical, table, lines, out)
-}
-
-#[no_mangle]
-pub extern "C" fn odif_layout_text_numbers_1993(
-    stream: &[u8],
-    table: &mut [u32],
-    lines: &mut [u32],
-    out: &mut [u8],
-) -> Shown
-    ensures { λ r. ⌜ TextOutcome Edition.Of1993 Side.Layout (now (stream .entry)) (now (table .entry)) (now (lines .entry)) (now (out .entry)) r
-        (now (table .exit)) (now (lines .exit)) (now (out .exit)) ⌝ }
-{
-    text(Edition::Of1993, stream, Side::Layout, table, lines, out)
-}
-
-#[no_mangle]
-pub extern "C" fn odif_logical_text_numbers_1993(
-    stream: &[u8],
-    table: &mut [u32],
-    lines: &mut [u32],
-    out: &mut [u8],
-) -> Shown
-    ensures { λ r. ⌜ TextOutcome Edition.Of1993 Side.Logical (now (stream .entry)) (now (table .entry)) (now (lines .entry)) (now (out .entry)) r
-        (now (table .exit)) (now (lines .exit)) (now (out .exit)) ⌝ }
-{
-    text(Edition::Of1993, stream, Side::Logical, table, lines, out)
 }

@@ -2,12 +2,12 @@
 -- given. Assumes nothing.
 use mathlib.Core.Path.{ap, sym, _∙_, subst}
 use borrow.Author.Needs.{needs}
-use native.Mathlib.Omega.{arith}
 use denote.Ref.{now}
 use Rattle.normal.specs.declared.Answer.{Answer}
 use Rattle.answers.specs.Asking.{writtenAs}
-use Rattle.odif.proofs.Writing.{Fits}
-use Rattle.odif.proofs.Short.{Passed, refused, passed, passed-whole, short-over, short-refused, short-letter}
+use Rattle.answers.proofs.Working.{IsLetter}
+use Rattle.odif.proofs.Writing.{Fits, refused, passed, letter-whole}
+use Rattle.odif.proofs.Short.{short-over, short-refused, short-letter}
 use Rattle.odif.proofs.mailroom.normal_short.Statement.{statement}
 use Rattle.odif.proofs.mailroom.normal_short.Tie as tie
 
@@ -25,7 +25,7 @@ returns-2 c =
     (refused (a .edition) (now (a .stream)) (r .result) (r .ensures) (c .if2 .taken))
 
 -- the stream is a letter
-letter-by : (c : tie.Else2) → Passed (c .before .before .before .before .before .before .args .edition) (now (c .before .before .before .before .before .before .args .stream))
+letter-by : (c : tie.Else2) → let a = c .before .before .before .before .before .before .args in IsLetter (a .edition) (now (a .stream))
 letter-by c =
     let a = c .before .before .before .before .before .before .args in
     let r = c .before .before .refused-by in
@@ -34,72 +34,26 @@ letter-by c =
 write-short-requires : tie.Need-write-short-requires
 write-short-requires c κs =
     let a = c .before .before .before .before .before .before .before .args in
-    (c .before .before .before .before .if1 .left, passed-whole (a .edition) (now (a .stream)) (letter-by (c .before)))
+    (c .before .before .before .before .if1 .left, letter-whole (a .edition) (now (a .stream)) (letter-by (c .before)) .1)
 
-enum-known-length : tie.Need-enum-known-length
-enum-known-length c = search needs
-
-cast-t14 : tie.Need-cast-t14
-cast-t14 c =
-    let a = c .before .before .before .before .before .before .before .before .before .before .before .before .before .args in
-    let l = c .before .before .before .before .before .before .before .before .before .before .if1 .left in
-    let p = letter-by (c .before .before .before .before .before .before .before) in
-    let g = c .before .before .before .before .before .write-short .ensures in
-    let w = short-letter (a .edition) (now (a .stream)) (now (a .out)) l p in
-    let told = sym (c .before .length .given .1) ∙ g .answered in
-    let fits = subst (λ (x : Answer). Fits (writtenAs x)) (sym told) (w .1) in
-    omega arith
-
-enum-known-number : tie.Need-enum-known-number
-enum-known-number c = search needs
-
-cast-t15 : tie.Need-cast-t15
-cast-t15 c =
-    let a = c .before .before .before .before .before .before .before .before .before .before .before .before .before .args in
-    let l = c .before .before .before .before .before .before .before .before .before .before .if1 .left in
-    let p = letter-by (c .before .before .before .before .before .before .before) in
-    let g = c .before .before .before .before .before .write-short .ensures in
-    let w = short-letter (a .edition) (now (a .stream)) (now (a .out)) l p in
-    let told = sym (c .before .number .given .1) ∙ g .answered in
-    let fits = subst (λ (x : Answer). Fits (writtenAs x)) (sym told) (w .1) in
-    omega arith
-
-cast-t16 : tie.Need-cast-t16
-cast-t16 c =
-    let a = c .before .before .before .before .before .before .before .before .before .before .before .before .before .args in
-    let l = c .before .before .before .before .before .before .before .before .before .before .if1 .left in
-    let p = letter-by (c .before .before .before .before .before .before .before) in
-    let g = c .before .before .before .before .before .write-short .ensures in
-    let w = short-letter (a .edition) (now (a .stream)) (now (a .out)) l p in
-    let told = sym (c .before .number .given .1) ∙ g .answered in
-    let fits = subst (λ (x : Answer). Fits (writtenAs x)) (sym told) (w .1) in
-    omega arith
+written-as-requires : tie.Need-written-as-requires
+written-as-requires c κs =
+    let a = c .before .before .before .before .before .before .before .before .before .before .args in
+    let l = c .before .before .before .before .before .before .before .if1 .left in
+    let p = letter-by (c .before .before .before .before) in
+    subst (λ (x : Answer). Fits (writtenAs x)) (sym (c .before .before .write-short .ensures .answered)) (short-letter (a .edition) (now (a .stream)) (now (a .out)) l p .1)
 
 same-length : tie.Need-same-length
 same-length c = search needs
 
 returns-3 : tie.Need-returns-3
 returns-3 c =
-    let a = c .before .before .before .before .before .before .before .before .before .before .before .before .before .args in
-    let l = c .before .before .before .before .before .before .before .before .before .before .if1 .left in
-    let p = letter-by (c .before .before .before .before .before .before .before) in
-    let g = c .before .before .before .before .before .write-short .ensures in
-    let w = short-letter (a .edition) (now (a .stream)) (now (a .out)) l p in
-    let told = sym (c .before .length .given .1) ∙ g .answered in
-    record { answered = ap writtenAs told ∙ w .0 .answered; put = g .output ∙ w .0 .put }
-
-same-length-2 : tie.Need-same-length-2
-same-length-2 c = search needs
-
-returns-4 : tie.Need-returns-4
-returns-4 c =
-    let a = c .before .before .before .before .before .before .before .before .before .before .before .before .before .args in
-    let l = c .before .before .before .before .before .before .before .before .before .before .if1 .left in
-    let p = letter-by (c .before .before .before .before .before .before .before) in
-    let g = c .before .before .before .before .before .write-short .ensures in
-    let w = short-letter (a .edition) (now (a .stream)) (now (a .out)) l p in
-    let told = sym (c .before .number .given .1) ∙ g .answered in
-    record { answered = ap writtenAs told ∙ w .0 .answered; put = g .output ∙ w .0 .put }
+    let a = c .before .before .before .before .before .before .before .before .before .before .before .args in
+    let l = c .before .before .before .before .before .before .before .before .if1 .left in
+    let p = letter-by (c .before .before .before .before .before) in
+    let g = c .before .before .before .write-short .ensures in
+    let w = short-letter (a .edition) (now (a .stream)) (now (a .out)) l p .0 in
+    record { answered = c .written-as .ensures ∙ ap writtenAs (g .answered) ∙ w .answered; put = g .output ∙ w .put }
 
 pub normal-short-spec : {M : Type 1} → statement M
 normal-short-spec =
@@ -109,12 +63,6 @@ normal-short-spec =
     refused-by-requires
     returns-2
     write-short-requires
-    enum-known-length
-    cast-t14
-    enum-known-number
-    cast-t15
-    cast-t16
+    written-as-requires
     same-length
-    returns-3
-    same-length-2
-    returns-4)
+    returns-3)

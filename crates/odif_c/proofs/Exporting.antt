@@ -49,9 +49,9 @@ use Rattle.answers.specs.Answers.{ListOutcome}
 use Rattle.answers.proofs.Listed as L
 use Rattle.answers.proofs.Listed.Laws as L′
 use Rattle.scratch.proofs.Filling.{R, record-ty, mach}
 use Rattle.odif.proofs.list as list
 use Rattle.odif.proofs.list.Symbol.{name as #odif·list}
-use Rattle.odif.proofs.odif_layout as layout
+use Rattle.odif_c.proofs.odif_layout as layout
 
 -- the MIR, with a number j that tells the edition and k that tells the side
 abbrev locals : List Local
@@ -108,9 +108,6 @@ module _ {M : Type 1} (𝓤 : URA M) (H : Heap 𝓤) (A : Atoms 𝓤) (W : Given
 
   abbrev Own₀ : Fml
   Own₀ = ShrSlice (named 0) κ₀ u8 .own x₀ (s₀ ∷ [])
-
-  abbrev Own₁₂ : Fml
-  Own₁₂ = owns (MutSlice (named 1) κ₁ u32 ∷ MutSlice (named 2) κ₂ R ∷ []) (x₁, (x₂, tt)) (s₁ ∷ [], (s₂ ∷ [], tt))
 
   abbrev OwnAll : Fml
   OwnAll = owns (E.the-row ∷ ShrSlice (named 0) κ₀ u8 ∷ S.the-row ∷ MutSlice (named 1) κ₁ u32 ∷ MutSlice (named 2) κ₂ R ∷ []) (edition, (x₀, (side, (x₁, (x₂, tt))))) (d ∷ [], (s₀ ∷ [], (v ∷ [], (s₁ ∷ [], (s₂ ∷ [], tt)))))

@@ -1,7 +1,7 @@
 // A letter that arrives in blocks, for callers that can't hold it: the block engine's three questions, with rules 1 to 8.
-pub use engine::Blocks;
-pub use engine::Taken;
-pub use engine::Walked;
+use engine::Blocks;
+use engine::Taken;
+use engine::Walked;
 ghost use mathlib.Core.Path.{_≡_};
 ghost use Rattle.engine.specs.Stored.{Starts, Takes, closedOf};
 

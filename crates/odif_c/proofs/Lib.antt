@@ -1,0 +1,2 @@
+-- Exporting: the lists of both sides, by both editions.
+pub mod Exporting
