@@ -12,6 +12,7 @@ import letter
 
 VERDICTS = "none", "essential", "non-essential", "outside", "not fixed"
 IDENTIFIER_FIRST, IDENTIFIER_PAST = 4, 5
+PAGE_WIDTH = 2
 Page = letter.answer("Page", "element", "verdict")
 Listed = letter.answer("Listed", "number", "place", "elements", "pages")
 
@@ -19,15 +20,15 @@ Listed = letter.answer("Listed", "number", "place", "elements", "pages")
 def desk():
     """The library of the desk, with what its function takes and returns."""
     pm1 = ctypes.CDLL(os.environ.get("PM1_LIBRARY") or ctypes.util.find_library("pm1") or "libpm1.so")
-    pm1.pm1_pages.restype = Listed
-    pm1.pm1_pages.argtypes = [ctypes.c_char_p, ctypes.c_size_t] + 2 * [ctypes.c_void_p, ctypes.c_size_t]
+    pm1.pm1_pages_numbers.restype = Listed
+    pm1.pm1_pages_numbers.argtypes = [ctypes.c_char_p, ctypes.c_size_t] + 2 * [ctypes.c_void_p, ctypes.c_size_t]
     return pm1
 
 
 def pages(odif, pm1, stream):
     """The identifier and the verdict of each page, in stream order."""
     table, found = (ctypes.c_uint32 * (letter.ROW_WIDTH * letter.MOST_ELEMENTS))(), (Page * letter.MOST_ELEMENTS)()
-    listed = pm1.pm1_pages(stream, len(stream), table, len(table), found, len(found))
+    listed = pm1.pm1_pages_numbers(stream, len(stream), table, len(table), found, PAGE_WIDTH * len(found))
     if listed.number:
         raise letter.Refused(odif, listed.number, listed.place)
     for page in found[: listed.pages]:

@@ -4,7 +4,7 @@
    Link with target/staticlib/libpm1.a, and with libodif.a beside it, in either order, if the questions of odif.h are
    asked too: each archive shows the names of its own header alone. Installed, `pkg-config --libs pm1` names both. What odif.h says of its functions holds for these:
    no state, nothing allocated, any octets whatever, and what is lent is valid, aligned and apart. On the stack they
-   take 32 KiB besides what odif_check takes.
+   take no more than ODIF_STACK, and of a small stream no less than of a large one.
 
    A page is a layout object, kind 2, or a layout class, kind 1, with object type 2. Its dimensions are the item A4 among
    the direct items of its 31, and that holds two items 80: horizontal and vertical, integers of one to four octets in
@@ -46,12 +46,29 @@ typedef struct {
 
 #define PM1_LIST_TOO_SHORT 30 /* the refusal of a list that is shorter than the pages */
 
-/* Fills the table as odif_check does, and the list with a record for each page and page class, in stream order. Records
-   past the pages keep what they had. A list of as many records as there are elements never meets 30. */
-pm1_listed pm1_pages(const uint8_t *ODIF_APART stream, size_t stream_len, uint32_t *ODIF_APART table, size_t table_len,
-                     pm1_page *ODIF_APART list, size_t list_len);
-pm1_listed pm1_pages_1993(const uint8_t *ODIF_APART stream, size_t stream_len, uint32_t *ODIF_APART table,
-                          size_t table_len, pm1_page *ODIF_APART list, size_t list_len);
+/* Fills the table as odif_check does, and the list with a record for each page and page class, in stream order. list_len
+   counts numbers, two a record in the order of pm1_page, and an incomplete last record is not used; records past the
+   pages keep what they had. A list of as many records as there are elements never meets 30. */
+pm1_listed pm1_pages_numbers(const uint8_t *ODIF_APART stream, size_t stream_len,
+                             uint32_t *ODIF_APART table, size_t table_len,
+                             uint32_t *ODIF_APART list, size_t list_len);
+
+/* The same question by the edition of 1993. */
+pm1_listed pm1_pages_numbers_1993(const uint8_t *ODIF_APART stream, size_t stream_len,
+                                  uint32_t *ODIF_APART table, size_t table_len,
+                                  uint32_t *ODIF_APART list, size_t list_len);
+
+/* Both with so many records. */
+ODIF_INLINE pm1_listed pm1_pages(const uint8_t *ODIF_APART stream, size_t stream_len,
+                                 uint32_t *ODIF_APART table, size_t table_len,
+                                 pm1_page *ODIF_APART list, size_t list_len) {
+    return pm1_pages_numbers(stream, stream_len, table, table_len, (uint32_t *)list, 2 * list_len);
+}
+ODIF_INLINE pm1_listed pm1_pages_1993(const uint8_t *ODIF_APART stream, size_t stream_len,
+                                      uint32_t *ODIF_APART table, size_t table_len,
+                                      pm1_page *ODIF_APART list, size_t list_len) {
+    return pm1_pages_numbers_1993(stream, stream_len, table, table_len, (uint32_t *)list, 2 * list_len);
+}
 
 /* What odif_identity is to libodif: the SHA-256 of the proved archive libpm1.a. It is C and no part of that archive: an
    installed library has it, and pm1_identity.c stands beside this header. */

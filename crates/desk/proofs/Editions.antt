@@ -27,9 +27,8 @@ use Rattle.demands.proofs.Accepted.{check-high}
 use Rattle.demands.proofs.OneElement.{shapes-agree}
 use Rattle.demands.proofs.Editions.{editions}
 use Rattle.dimensions.specs.Dimensions.{verdictOf}
-use Rattle.pm1.specs.declared.Page.{Page}
-use Rattle.pm1.specs.Pages.{isPage, pageOf, pagesIn}
-use Rattle.pm1.specs.Answers.{listTooShort, pagedAfter, paged, pagedTable, pagedList}
+use Rattle.pm1.specs.Pages.{Page, isPage, pageOf, pagesIn}
+use Rattle.pm1.specs.Answers.{listTooShort, pagesLent, pagedAfter, paged, pagedTable, pagedList}
 use Rattle.desk.specs.Promises.{SamePages, DeskEditions}
 
 -- the table is left as the check leaves it
@@ -78,17 +77,17 @@ module _ (s : List ℕ) (agreed : agree (treeOf s) ≡ true) where
   unfolding paged
   answers-alike table room = ap₂ (λ (c : Checked) (n : ℕ). pagedAfter c n room) (editions .alike s agreed .check table) (ap length pages-alike)
 
-  lists-alike : (table : List ℕ) (list : List Page) → pagedList Of1993 s table list ≡ pagedList Of1988 s table list
+  lists-alike : (table list : List ℕ) → pagedList Of1993 s table list ≡ pagedList Of1988 s table list
   unfolding pagedList
-  lists-alike table list = rw (answers-alike table (length list), pages-alike)
+  lists-alike table list = rw (answers-alike table (pagesLent list), pages-alike)
 
 pub pm1-editions : DeskEditions
 pm1-editions =
     record {
       alike = λ s agreed table list.
           record {
-            pages = answers-alike s agreed table (length list);
-            pages-table = table-is Of1993 s table (length list) ∙ editions .alike s agreed .check-table table ∙ sym (table-is Of1988 s table (length list));
+            pages = answers-alike s agreed table (pagesLent list);
+            pages-table = table-is Of1993 s table (pagesLent list) ∙ editions .alike s agreed .check-table table ∙ sym (table-is Of1988 s table (pagesLent list));
             pages-list = lists-alike s agreed table list;
           };
       no-row = λ s j item there protected table room. table-is Of1988 s table room ∙ editions .no-row s j item there protected table .check;

@@ -1,14 +1,12 @@
 -- What is promised of the PM1 desk holds: the pages are listed for each element of the tree, and the tree alone decides. Assumes nothing.
 use mathlib.Core.Path.{_≡_, refl, ap, sym, _∙_, subst}
 use mathlib.Core.Logic.{_↔_}
-use mathlib.Core.Bool.{Bool, true, false, cond}
+use mathlib.Core.Bool.{Bool, true}
 use mathlib.Core.List.{List, [], _∷_, map, List·Memᴰ}
 use mathlib.Core.Option.{some}
 use Prim.Native.Nat.{ℕ, zero, suc, _+_, _≤_, _<_}
 use native.Mathlib.Omega.{arith}
-use lib.Dec.{eqb}
 use lib.ListN.{length, getElem?, length-map}
-use borrow.Author.Tests.{ne-eqb}
 use Rattle.tree.specs.Tree.{Tree, treeOf}
 use Rattle.normal.specs.Normal.{normalForm}
 use Rattle.elements.specs.declared.Edition.{Edition}
@@ -23,12 +21,10 @@ use Rattle.demands.specs.Demands.{IsAccepted}
 use Rattle.demands.proofs.Refusals.{accepted-elements}
 use Rattle.demands.proofs.Demand2.{normal-tree}
 use Rattle.dimensions.specs.Dimensions.{verdictOf}
-use Rattle.pm1.specs.declared.Page.{Page}
-use Rattle.pm1.specs.declared.Paged.{Paged}
-use Rattle.pm1.specs.Pages.{isPage, pageOf, pagesOf, pagesIn}
-use Rattle.pm1.specs.Answers.{paged, pagedList, PagesOutcome}
-use Rattle.pm1.proofs.Records.{only-few}
+use Rattle.pm1.specs.Pages.{Page, isPage, pageOf, pagesOf, pagesIn}
+use Rattle.pm1.proofs.Putting.{only-few}
 use Rattle.desk.specs.Promises.{OfPage, Desk}
+use Rattle.desk.proofs.Refusals.{told, refused-alike, counts, untouched, table-untouched, table-finished}
 
 abbrev Before : Page → Page → Type 0
 Before p q = p .element < q .element
@@ -96,16 +92,15 @@ module _ (edition : Edition) where
       let size : length (a .elements) ≡ length (topItems (treeOf s)) = ap length (all-said s a) ∙ length-map (topItems (treeOf s)) (saysIn edition) in
       omega arith
 
-  untouched : {s table after : List ℕ} {list listAfter : List Page} {a : Paged} → PagesOutcome edition s table list a after listAfter
-      → (a .number ≡ 0 → ⊥) → listAfter ≡ list
-  unfolding pagedList
-  untouched {s} {table} {after} {list} {listAfter} {a} o refused =
-      let n : eqb (paged edition s table (length list) .number) 0 ≡ false = ap (λ (x : Paged). eqb (x .number) 0) (sym (o .answered)) ∙ ne-eqb (a .number) 0 refused in
-      o .filled ∙ rw n
-
   pub pm1-desk : Desk edition
   pm1-desk =
       record {
+        told = told edition;
+        refused-alike = refused-alike edition;
+        counts = counts edition;
+        untouched = untouched edition;
+        table-untouched = table-untouched edition;
+        table-finished = table-finished edition;
         exactly = λ s p. (out s p, into s p);
         in-order = sorted;
         once = λ s. sorted-once Before (λ p l. omega arith) (pagesIn edition s) (sorted s);
@@ -114,5 +109,4 @@ module _ (edition : Edition) where
         same-tree = λ s r e. ap (pagesOf edition) e;
         normal = λ s a. ap (pagesOf edition) (normal-tree edition s (a .headers) (a .elements) (a .judged));
         determined = λ x y. (x .answered ∙ sym (y .answered), x .tabled ∙ sym (y .tabled), x .filled ∙ sym (y .filled));
-        untouched = untouched;
       }

@@ -2,54 +2,49 @@
 use mathlib.Core.Path.{_≡_, refl, ap, sym, _∙_, subst}
 use mathlib.Core.Bool.{Bool, true, false, cond, not, _&&_, _||_}
 use mathlib.Core.List.{List}
-use Prim.Native.Nat.{ℕ, _+_, _≤_}
+use Prim.Native.Nat.{ℕ, _≤_}
 use native.Mathlib.Omega.{arith}
 use lib.Dec.{eqb}
-use borrow.Author.Tests.{eq-eqb, ne-eqb}
+use borrow.Author.Tests.{ne-eqb}
 use Rattle.tree.specs.Tree.{Tree, empty, leaf, branch}
 use Rattle.runs.specs.declared.Run.{Run}
 use Rattle.runs.specs.Runs.{treeIn}
 use Rattle.contents.specs.Search.{is, amount, firstRun}
-use Rattle.contents.specs.First.{Lacks}
+use Rattle.contents.specs.declared.Part.{Part}
+use Rattle.contents.specs.declared.PartFound.{PartFound}
+use Rattle.contents.specs.First.{IsFirst, Lacks}
+use Rattle.contents.specs.Opening.{FoundIn}
 use Rattle.measures.specs.declared.Integer.{Integer}
 use Rattle.measures.specs.Integers.{integerOf}
 use Rattle.measures.specs.Verdicts.{none, essential, nonEssential, outside, notFixed, within, essentialPairs, nonEssentialPairs, underOne, verdictOfSizes, verdictOfTwo}
-use Rattle.dimensions.specs.declared.RunFound.{RunFound}
 use Rattle.dimensions.specs.Dimensions.{verdictOfItems, verdictOfBody, verdictOf}
-use Rattle.dimensions.specs.Finds.{FindsAt, Finds}
 
--- what `find` gave, once its case is known
-pub found : (s : List ℕ) (r : Run) (octet : ℕ) {x y : RunFound} → Finds s r octet x → x ≡ y → Finds s r octet y
-found s r octet f e = subst (Finds s r octet) e f
+-- what was found, once its case is known
+pub found : (s : List ℕ) (r : Run) (octet : ℕ) {x y : PartFound} → FoundIn s r octet x → x ≡ y → FoundIn s r octet y
+found s r octet f e = subst (FoundIn s r octet) e f
 
-module _ {s : List ℕ} {r : Run} where
-  pub no-a4 : Lacks s r 0xA4 → none ≡ verdictOfBody (treeIn s r)
+module _ (s : List ℕ) (r : Run) {n : ℕ} (counted : n ≡ amount 0xA4 (treeIn s r)) where
+  pub no-a4 : n ≡ 0 → none ≡ verdictOfBody (treeIn s r)
   unfolding verdictOfBody
-  no-a4 l = rw (l .amount-is)
+  no-a4 zero = let e : amount 0xA4 (treeIn s r) ≡ 0 = sym counted ∙ zero in rw e
 
-  module _ {inner rest : Run} (f : FindsAt s r 0xA4 inner rest) where
-    pub second-a4 : {inner₂ rest₂ : Run} → FindsAt s rest 0xA4 inner₂ rest₂ → notFixed ≡ verdictOfBody (treeIn s r)
-    unfolding verdictOfBody
-    second-a4 {inner₂} {rest₂} g =
-        let a = f .amounts in
-        let b = g .amounts in
-        let n = amount 0xA4 (treeIn s r) in
-        let not-none : eqb (amount 0xA4 (treeIn s r)) 0 ≡ false = ne-eqb n 0 (λ z. omega arith) in
-        let not-one : eqb (amount 0xA4 (treeIn s r)) 1 ≡ false = ne-eqb n 1 (λ z. omega arith) in
-        rw (not-none, not-one)
+  pub second-a4 : (n ≡ 0 → ⊥) → (n ≡ 1 → ⊥) → notFixed ≡ verdictOfBody (treeIn s r)
+  unfolding verdictOfBody
+  second-a4 some more =
+      let not-none : eqb (amount 0xA4 (treeIn s r)) 0 ≡ false = ne-eqb (amount 0xA4 (treeIn s r)) 0 (λ z. some (counted ∙ z)) in
+      let not-one : eqb (amount 0xA4 (treeIn s r)) 1 ≡ false = ne-eqb (amount 0xA4 (treeIn s r)) 1 (λ z. more (counted ∙ z)) in
+      rw (not-none, not-one)
 
-    pub one-a4 : Lacks s rest 0xA4 → verdictOfItems (treeIn s inner) ≡ verdictOfBody (treeIn s r)
-    unfolding verdictOfBody
-    one-a4 l =
-        let one : amount 0xA4 (treeIn s r) ≡ 1 = f .amounts ∙ ap (λ (k : ℕ). 1 + k) (l .amount-is) in
-        rw (one, f .tree refl)
+  pub one-a4 : n ≡ 1 → (list : Run) → treeIn s list ≡ firstRun 0xA4 (treeIn s r) → verdictOfItems (treeIn s list) ≡ verdictOfBody (treeIn s r)
+  unfolding verdictOfBody
+  one-a4 one list inside = let e : amount 0xA4 (treeIn s r) ≡ 1 = sym counted ∙ one in rw (e, inside)
 
 -- a page without a descriptor has no dimensions
 pub no-descriptor : {s : List ℕ} {r : Run} → Lacks s r 0x31 → none ≡ verdictOf (treeIn s r)
 unfolding verdictOfBody amount
 no-descriptor l = sym (ap verdictOfBody (l .tree))
 
-pub descriptor : {s : List ℕ} {r inner rest : Run} → FindsAt s r 0x31 inner rest → verdictOfBody (treeIn s inner) ≡ verdictOf (treeIn s r)
+pub descriptor : {s : List ℕ} {r : Run} {p : Part} → IsFirst s r 0x31 p → verdictOfBody (treeIn s (p .inner)) ≡ verdictOf (treeIn s r)
 descriptor f = sym (ap verdictOfBody (f .tree refl))
 
 -- ---- every verdict is 4 at most

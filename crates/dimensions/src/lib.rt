@@ -1,11 +1,11 @@
 // The dimensions of a page: the A4 in its descriptor body, the numbers in that, and the verdict on them.
-use runs::Met;
+use contents::PartFound;
+use contents::Sought;
 use runs::Run;
 ghost use mathlib.Core.Path.{_≡_};
 ghost use Prim.Native.Nat.{_≤_};
 ghost use Rattle.runs.specs.Runs.{treeIn, Fine};
 ghost use Rattle.dimensions.specs.Dimensions.{verdictOfItems, verdictOfBody, verdictOf};
-ghost use Rattle.dimensions.specs.Finds.{Finds};
 
 // The octets of the items on the way to the numbers.
 const DESCRIPTOR: usize = 0x31;
@@ -13,37 +13,6 @@ const DESCRIPTOR: usize = 0x31;
 const DIMENSIONS: usize = 0xA4;
 
 const FIXED: usize = 0x80;
-
-// The run inside the first item with an octet, and the rest of the run; or there is no such item.
-pub enum RunFound {
-    At { inner: Run, rest: Run },
-    Missing,
-}
-
-// Looks for the first item of a run with an octet.
-fn find(s: &[u8], r: Run, sought: usize) -> RunFound
-    requires { ⌜ Fine (now s) r ⌝ }
-    ensures { λ found. ⌜ Finds (now (s .entry)) r sought found ⌝ }
-{
-    let mut cur = r;
-    loop {
-        match runs::meet(s, cur) {
-            Met::End => return RunFound::Missing,
-            Met::Item {
-                code,
-                first: _,
-                past: _,
-                inner,
-                rest,
-            } => {
-                if code == sought {
-                    return RunFound::At { inner, rest };
-                }
-                cur = rest;
-            }
-        }
-    }
-}
 
 // The verdict on what an A4 holds: two items 80, and nothing else.
 fn verdict_of_items(s: &[u8], r: Run) -> usize
@@ -71,20 +40,26 @@ fn verdict_of_items(s: &[u8], r: Run) -> usize
     measures::verdict_of_two(h, v)
 }
 
-// The verdict on a descriptor body: a second A4 is looked for after the first.
+// The verdict on a descriptor body. One pass counts the A4 and hands out the run inside the first, as it does of an element's portions.
 fn verdict_of_body(s: &[u8], r: Run) -> usize
     requires { ⌜ Fine (now s) r ⌝ }
     ensures { λ n. ⌜ n ≡ verdictOfBody (treeIn (now (s .entry)) r) ⌝ }
 {
-    match find(s, r, DIMENSIONS) {
-        RunFound::Missing => measures::NONE,
-        RunFound::At { inner, rest } => {
-            match find(s, rest, DIMENSIONS) {
-                RunFound::At { inner: _, rest: _ } => measures::NOT_FIXED,
-                RunFound::Missing => verdict_of_items(s, inner),
-            }
-        }
+    let sought = Sought {
+        identifier: 0,
+        logical: 0,
+        portions: DIMENSIONS,
+        never: 0,
+        neither: 0,
+    };
+    let g = contents::gather(s, r, sought);
+    if g.lists == 0 {
+        return measures::NONE;
     }
+    if g.lists != 1 {
+        return measures::NOT_FIXED;
+    }
+    verdict_of_items(s, g.list)
 }
 
 // The verdict on an element, by the run of its items.
@@ -92,8 +67,8 @@ pub fn verdict_of(s: &[u8], r: Run) -> usize
     requires { ⌜ Fine (now s) r ⌝ }
     ensures { λ n. ⌜ (n ≡ verdictOf (treeIn (now (s .entry)) r)) × (n ≤ 4) ⌝ }
 {
-    match find(s, r, DESCRIPTOR) {
-        RunFound::Missing => measures::NONE,
-        RunFound::At { inner, rest: _ } => verdict_of_body(s, inner),
+    match contents::first_with(s, r, DESCRIPTOR) {
+        PartFound::Missing => measures::NONE,
+        PartFound::At(p) => verdict_of_body(s, p.inner),
     }
 }

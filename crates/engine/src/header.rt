@@ -1,6 +1,7 @@
 // A header that is cut: its octets are kept until it has come, and then it is read as the walk reads it (`headers::read_head`).
 use super::Blocks;
 use super::ends;
+use super::numbers;
 use super::wide;
 use headers::Head;
 use octets::DEEPEST;
@@ -146,16 +147,6 @@ fn is_whole(octets: &[u8; 8], have: usize, left: usize) -> bool
     w <= have
 }
 
-// The octets of the run from a place to its limit.
-fn left_of(limit: usize, at: usize) -> usize
-    ensures { λ r. ⌜ r ≡ limit - at ⌝ }
-{
-    if limit < at {
-        return 0;
-    }
-    limit - at
-}
-
 // One octet more of a header, which has been counted.
 pub fn header_octet(mut b: Blocks, octet: u8) -> Blocks
     requires { ⌜ (b .number ≡ 0) × (b .level ≤ 16) × (b .have ≤ 7) × (b .headers ≤ 1048576) × (b .total ≤ 1048576) × (b .at ≤ 1048576) ⌝ }
@@ -167,7 +158,7 @@ pub fn header_octet(mut b: Blocks, octet: u8) -> Blocks
     b.have = b.have + 1;
     let ends = b.ends;
     let limit = ends::limit_at(&ends, b.level, b.total);
-    let left = left_of(limit, b.at);
+    let left = numbers::without(limit, b.at);
     let octets = b.begun;
     if !is_whole(&octets, n + 1, left) {
         return b;

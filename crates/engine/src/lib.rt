@@ -13,6 +13,7 @@ use octets::STREAM_LIMIT;
 
 mod ends; // ends.rt: the open items
 mod header; // header.rt: a header that is cut, octet by octet
+mod numbers; // numbers.rt: two numbers
 mod skim; // skim.rt: the headers that lie in a block
 mod turn; // turn.rt: what the skimming leaves
 

@@ -2,6 +2,7 @@
 use super::Blocks;
 use super::Moved;
 use super::ends;
+use super::numbers;
 use headers::Head;
 use headers::Header;
 use octets::DEEPEST;
@@ -88,16 +89,6 @@ fn go_on(ends: &[u32; 16], seat: Seat, level: usize, i: usize, headers: u32) -> 
     going(level, i, stop, marked, headers)
 }
 
-// One open item less.
-fn outside(level: usize) -> usize
-    ensures { λ r. ⌜ r ≡ level - 1 ⌝ }
-{
-    if level == 0 {
-        return 0;
-    }
-    level - 1
-}
-
 // What the header at i of a block does, up to the next header. An item that is primitive, or in which nothing stands, leaves nothing open.
 fn skim_one(ends: &mut [u32; 16], s: Skim, seat: Seat, block: &[u8], head: Head) -> Skim
     requires { ⌜ Reads seat (now ends) s (now block) × (head ≡ headAt (now block) (s .i) (s .stop) (s .marked) (16 - s .level)) ⌝ }
@@ -119,7 +110,13 @@ fn skim_one(ends: &mut [u32; 16], s: Skim, seat: Seat, block: &[u8], head: Head)
         }
         Head::ClosingMark => {
             let next = s.i + 2;
-            going(outside(s.level), next, next, s.marked, s.headers)
+            going(
+                numbers::without(s.level, 1),
+                next,
+                next,
+                s.marked,
+                s.headers,
+            )
         }
         Head::Refusal { number, place } => finding(
             s,
@@ -164,21 +161,12 @@ fn is_ready(b: Blocks) -> bool
     b.at == b.taken
 }
 
-fn smaller(a: usize, b: usize) -> usize
-    ensures { λ r. ⌜ r ≡ min a b ⌝ }
-{
-    if a < b {
-        return a;
-    }
-    b
-}
-
 // The state in which the skimming of a block leaves the engine.
 fn left(b: Blocks, ends: [u32; 16], s: Skim, seat: Seat) -> Moved
     requires { ⌜ (seat .from ≤ s .i) × (seat .from ≤ seat .size) × (seat .base + (s .i - seat .from) ≤ 4294967295) ⌝ }
     ensures { λ r. ⌜ (r .state ≡ leftBy seat (b .begun) ends s) × (r .to ≡ min (s .i) (seat .size)) ⌝ }
 {
-    let to = smaller(s.i, seat.size);
+    let to = numbers::smaller(s.i, seat.size);
     let begun = b.begun;
     Moved {
         state: Blocks {

@@ -2,21 +2,13 @@
 use super::Blocks;
 use super::Moved;
 use super::header;
+use super::numbers;
 ghost use mathlib.Core.Path.{_≡_};
 ghost use Prim.Native.Nat.{_+_, _-_, _<_, _≤_};
 ghost use lib.ListN.{length};
 ghost use Rattle.blocks.specs.Engine.{arrive, step};
 ghost use Rattle.engine.specs.Stored.{standingOf, stateOf};
 ghost use Rattle.engine.specs.Skimming.{opens, Fine, FineIfReading, Turns};
-
-fn smaller(a: usize, b: usize) -> usize
-    ensures { λ r. ⌜ (r ≤ a) × (r ≤ b) × ((0 < a) → (0 < b) → 0 < r) ⌝ }
-{
-    if a < b {
-        return a;
-    }
-    b
-}
 
 // After a finding the octets are counted.
 fn counted(mut b: Blocks, n: usize, i: usize) -> Blocks
@@ -37,7 +29,7 @@ fn passed(mut b: Blocks, n: usize, i: usize) -> Moved
           standing = arrive (b .taken + (r .to - i)) (b .headers) (opens b) (b .at);
         }) ⌝ }
 {
-    let k = smaller(b.at - b.taken, n - i);
+    let k = numbers::smaller(b.at - b.taken, n - i);
     b.taken = b.taken + k;
     Moved {
         state: header::arrived(b),

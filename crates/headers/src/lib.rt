@@ -1,7 +1,7 @@
 // X.209 at one position: what reading there yields, a header, a closing mark or a refusal by one of 2 to 8.
 ghost use mathlib.Core.Path.{_≡_};
 ghost use mathlib.Core.Bool.{true, false};
-ghost use Prim.Native.Nat.{_+_, _<_, _≤_, min};
+ghost use Prim.Native.Nat.{_+_, _<_, _≤_, _^_, min};
 ghost use lib.ListN.{length, take, drop};
 ghost use Rattle.headers.specs.Head.{numberBits, formAllowed, typeField, misfits, bigEndian, definiteAt, indefiniteAt, longAt, lengthAt, closingAt};
 ghost use Rattle.headers.specs.Head.{headAt};
@@ -49,9 +49,9 @@ fn wide(x: u8) -> usize
 
 // The number that the k octets from `from` are, most significant first. They are gathered with shifts and sums, as not every machine
 // that runs this multiplies.
-fn big_endian(s: &[u8], from: usize, k: usize) -> usize
+pub fn big_endian(s: &[u8], from: usize, k: usize) -> usize
     requires { ⌜ (from + k ≤ length (now s)) × (k ≤ 4) ⌝ }
-    ensures { λ r. ⌜ r ≡ bigEndian (take k (drop from (now (s .entry)))) ⌝ }
+    ensures { λ r. ⌜ (r ≡ bigEndian (take k (drop from (now (s .entry))))) × (r < 256 ^ k) ⌝ }
 {
     let mut n: usize = 0;
     let mut i: usize = 0;

@@ -1,5 +1,5 @@
 -- What is printed is the output of the text that was read, whatever its blocks were, and of all that follows a line that cannot be read: by what
--- `hex` promises of any cutting. Assumes nothing.
+-- `lister_hex` promises of any cutting. Assumes nothing.
 use mathlib.Core.Path.{_≡_, refl, sym, ap, subst, _∙_}
 use mathlib.Core.Bool.{Bool, true, false, true≢false}
 use mathlib.Core.List.{List, [], _∷_, _++_, flatten, append-nil}
@@ -10,14 +10,14 @@ use lib.IntN.{ℤ, pos, negsuc}
 use lib.Signed.{ltZ, nonNeg}
 use borrow.Author.Tests.{ltb-true}
 use Rattle.io.specs.Counts.{clamped}
-use Rattle.hex.specs.declared.State.{State}
-use Rattle.hex.specs.declared.State.the-variants.{Stopped}
-use Rattle.hex.specs.Lines.{inputLimit, TextMeaning, reads}
-use Rattle.hex.specs.Lines as hex
-use Rattle.hex.specs.Blocks.{Standing, standing, started, fed, finished}
-use Rattle.hex.specs.Promise.{Answers}
-use Rattle.hex.proofs.Blocks.{fed-join, fed-stopped, fed-flatten}
-use Rattle.hex.proofs.Promise.{any-cutting}
+use Rattle.lister_hex.specs.declared.State.{State}
+use Rattle.lister_hex.specs.declared.State.the-variants.{Stopped}
+use Rattle.lister_hex.specs.Lines.{inputLimit, TextMeaning, reads}
+use Rattle.lister_hex.specs.Lines as hex
+use Rattle.lister_hex.specs.Blocks.{Standing, standing, started, fed, finished}
+use Rattle.lister_hex.specs.Promise.{Answers}
+use Rattle.lister_hex.proofs.Blocks.{fed-join, fed-stopped, fed-flatten}
+use Rattle.lister_hex.proofs.Promise.{any-cutting}
 use Rattle.hexlister.specs.Output.{streamLines, outcomeLines}
 use Rattle.hexlister.specs.declared.Turn.{Turn}
 use Rattle.hexlister.specs.declared.Turn.the-variants.{More, Over, Broken}

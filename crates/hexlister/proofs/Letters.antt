@@ -11,7 +11,7 @@ use lib.ListN.{length, take, getD, getElem?, length-replicate, length-append, dr
 use lib.Seq.{take-append-seam}
 use borrow.Author.Tests.{ltb-false, eq-eqb, ne-eqb}
 use borrow.Table.Steps.{cases}
-use Rattle.text.specs.Lines.{element, refused}
+use Rattle.lister_text.specs.Lines.{element, refused}
 use Rattle.rows.specs.Columns.{wholeColumn}
 use Rattle.answers.specs.Table.{tableWidth, tableNumbers}
 use Rattle.answers.proofs.Tabling.{cell-there, table-length}

@@ -7,8 +7,8 @@ use mathlib.Core.Path.{_≡_, refl, sym, ap, subst, _∙_}
 use mathlib.Core.List.{List, [], _∷_, _++_, append-assoc, append-nil, flatten}
 use lib.ListN.{length, take, drop, getD, set, length-append}
 use lib.Seq.{sets, sets-eq, length-sets, length-take-le, take-append-seam}
-use Rattle.text.specs.Lines.{WritesLine}
-use Rattle.text.proofs.Stores.{sets-join, sets-next}
+use Rattle.lister_text.specs.Lines.{WritesLine}
+use Rattle.lister_text.proofs.Stores.{sets-join, sets-next}
 use Rattle.reading.specs.declared.Match.{Match}
 use Rattle.reading.specs.declared.Side.{Side}
 use Rattle.hexlister.specs.Output.{matchLine, matchLines}

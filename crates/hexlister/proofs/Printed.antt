@@ -2,12 +2,12 @@
 use mathlib.Core.Path.{_≡_, refl}
 use mathlib.Core.Bool.{xor}
 use mathlib.Core.List.{flatten}
-use Rattle.text.specs.Ascii.{ascii}
-use Rattle.text.specs.Decimal.{decimalIn, decimal}
-use Rattle.text.specs.Lines.{spaced}
-use Rattle.text.specs.Printed.{printed}
-use Rattle.hex.specs.Lines.{digitValue, pairs, lines, readsFrom}
-use Rattle.hex.specs.Examples.{input}
+use Rattle.lister_text.specs.Ascii.{ascii}
+use Rattle.lister_text.specs.Decimal.{decimalIn, decimal}
+use Rattle.lister_text.specs.Lines.{spaced}
+use Rattle.lister_text.specs.Printed.{printed}
+use Rattle.lister_hex.specs.Lines.{digitValue, pairs, lines, readsFrom}
+use Rattle.lister_hex.specs.Examples.{input}
 use Rattle.headers.specs.Head.{permits, formAllowed, bigEndianFrom, misfits, definiteAt, indefiniteAt, longAt, byFirst, lengthAt, itemAt, closingAt, headAt}
 use Rattle.octets.specs.Walk.{runFor, run, walkOf}
 use Rattle.names.specs.Names.{isDigit, grouped, isIdentifier, allDigits, isPortion, same}

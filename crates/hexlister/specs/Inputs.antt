@@ -10,13 +10,13 @@ use lib.Dec.{eqb}
 use lib.IntN.{ℤ}
 use lib.Signed.{nonNeg}
 use Rattle.io.specs.Counts.{clamped}
-use Rattle.text.specs.Lines.{unreadable}
-use Rattle.hex.specs.declared.State.{State}
-use Rattle.hex.specs.declared.State.the-variants.{Pairs, Half, Stopped}
-use Rattle.hex.specs.declared.Read.{Read}
-use Rattle.hex.specs.declared.Read.the-variants.{Stream, Unreadable}
-use Rattle.hex.specs.Lines.{inputLimit}
-use Rattle.hex.specs.Blocks.{standing, started, fed, finished}
+use Rattle.lister_text.specs.Lines.{unreadable}
+use Rattle.lister_hex.specs.declared.State.{State}
+use Rattle.lister_hex.specs.declared.State.the-variants.{Pairs, Half, Stopped}
+use Rattle.lister_hex.specs.declared.Read.{Read}
+use Rattle.lister_hex.specs.declared.Read.the-variants.{Stream, Unreadable}
+use Rattle.lister_hex.specs.Lines.{inputLimit}
+use Rattle.lister_hex.specs.Blocks.{standing, started, fed, finished}
 use Rattle.hexlister.specs.declared.Input.{Input}
 use Rattle.hexlister.specs.declared.Input.the-variants.{Ended, Failed}
 use Rattle.hexlister.specs.declared.Turn.{Turn}

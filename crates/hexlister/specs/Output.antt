@@ -5,10 +5,10 @@ use mathlib.Core.Bool.{cond}
 use mathlib.Core.List.{List, [], _∷_, _++_, flatten, map}
 use lib.Dec.{eqb}
 use lib.ListN.{replicate}
-use Rattle.text.specs.Lines.{accepted, element, layout, logical, refused, unreadable}
-use Rattle.hex.specs.Lines.{TextMeaning, reads}
-use Rattle.hex.specs.Lines as hex
-use Rattle.hex.specs.Blocks.{lastLine}
+use Rattle.lister_text.specs.Lines.{accepted, element, layout, logical, refused, unreadable}
+use Rattle.lister_hex.specs.Lines.{TextMeaning, reads}
+use Rattle.lister_hex.specs.Lines as hex
+use Rattle.lister_hex.specs.Blocks.{lastLine}
 use Rattle.answers.specs.Table.{tableWidth}
 use Rattle.elements.specs.declared.Row.{Row}
 use Rattle.elements.specs.declared.Edition.the-variants.{Of1988}

@@ -4,7 +4,7 @@ use mathlib.Core.Path.{_≡_}
 use mathlib.Core.List.{List, [], _++_}
 use lib.ListN.{length, getD}
 use lib.Seq.{sets}
-use Rattle.text.specs.Lines.{element}
+use Rattle.lister_text.specs.Lines.{element}
 use Rattle.rows.specs.Columns.{wholeColumn}
 use Rattle.answers.specs.Table.{tableWidth}
 use Rattle.hexlister.specs.Output.{rowsLent, recordsLent}

@@ -4,11 +4,11 @@
 // adds nothing, and hands on where reading stands after some bytes. `page::put_output` makes of that the whole output, which is written at once.
 mod page;
 
-use hex::INPUT_LIMIT;
-use hex::State;
 use libc::STDERR_FILENO;
 use libc::STDIN_FILENO;
 use libc::STDOUT_FILENO;
+use lister_hex::INPUT_LIMIT;
+use lister_hex::State;
 use page::PAGE_ROOM;
 ghost use mathlib.Core.Path.{_≡_};
 ghost use Rattle.hexlister.specs.Inputs.{isStopped, over, TakesIn, HeardIn};
@@ -60,7 +60,7 @@ fn take_in(state: State, got: isize, block: &[u8], octets: &mut [u8; INPUT_LIMIT
         return Turn::Broken;
     }
     let n = io::count(got, block);
-    let next = hex::feed(state, &block[..n], octets);
+    let next = lister_hex::feed(state, &block[..n], octets);
     if is_over(n, next) {
         return Turn::Over(next);
     }
@@ -73,7 +73,7 @@ fn read_input(octets: &mut [u8; INPUT_LIMIT]) -> Input
     ensures { λ r. ⌜ HeardIn (now (octets .entry)) r (now (octets .exit)) ⌝ }
 {
     let mut block = io::buffer();
-    let mut state = hex::start();
+    let mut state = lister_hex::start();
     let mut turns = u64::MAX;
     while 0 < turns {
         turns -= 1;

@@ -1,26 +1,26 @@
 // The lister's whole output, put line by line on a page that has room for the longest.
 use answers::TABLE_WIDTH;
-use hex::INPUT_LIMIT;
-use hex::Read;
-use hex::State;
+use lister_hex::INPUT_LIMIT;
+use lister_hex::Read;
+use lister_hex::State;
 use odif::Checked;
 use odif::Edition;
 use odif::Listed;
 use reading::Match;
 use reading::Side;
 use rows::WHOLE;
-use text::LINE_ROOM;
+use lister_text::LINE_ROOM;
 ghost use mathlib.Core.Path.{_≡_};
 ghost use Prim.Native.Nat.{_+_, _*_, _<_, _≤_};
 ghost use lib.ListN.{length, take};
-ghost use Rattle.text.specs.Lines.{accepted, refused, unreadable, WritesLine};
+ghost use Rattle.lister_text.specs.Lines.{accepted, refused, unreadable, WritesLine};
 ghost use Rattle.answers.specs.Table.{tableWidth};
 ghost use Rattle.answers.specs.Answers.{checked, matchesIn, CheckOutcome, ListOutcome};
 ghost use Rattle.hexlister.specs.Output.{rowsLent, recordsLent, tableRoom, lentTable, lentList, matchLine, matchLines, sideLines, acceptedLines};
 ghost use Rattle.hexlister.specs.Output.{streamLines};
 ghost use Rattle.hexlister.specs.Pages.{lineRoom, elementsRoom, sideRoom, pageRoom, PutsOnPage, rowLine, rowLines};
 ghost use Rattle.hexlister.specs.Inputs.{readLines};
-ghost use Rattle.hex.specs.Blocks.{finished};
+ghost use Rattle.lister_hex.specs.Blocks.{finished};
 
 // What is lent to the questions.
 const ROWS: usize = 1024;
@@ -72,7 +72,7 @@ fn put_element(page: &mut [u8], at: usize, table: &[u32], number: usize) -> usiz
     let past = table[row + WHOLE + 1];
     let kind = table[row];
     let mut line = [0u8; LINE_ROOM];
-    let n = text::put_element(&mut line, number as u32, first, past, kind);
+    let n = lister_text::put_element(&mut line, number as u32, first, past, kind);
     append(page, at, &line[..n])
 }
 
@@ -98,11 +98,11 @@ fn put_match(page: &mut [u8], at: usize, side: Side, m: Match) -> usize
     let mut line = [0u8; LINE_ROOM];
     match side {
         Side::Layout => {
-            let n = text::put_layout(&mut line, m.element, m.portion, m.unit);
+            let n = lister_text::put_layout(&mut line, m.element, m.portion, m.unit);
             append(page, at, &line[..n])
         }
         Side::Logical => {
-            let n = text::put_logical(&mut line, m.element, m.portion, m.unit);
+            let n = lister_text::put_logical(&mut line, m.element, m.portion, m.unit);
             append(page, at, &line[..n])
         }
     }
@@ -157,7 +157,7 @@ fn put_accepted(page: &mut [u8], elements: u32, headers: u32) -> usize
     ensures { λ r. ⌜ PutsOnPage (accepted elements headers) (now (page .entry)) 0 r (now (page .exit)) lineRoom ⌝ }
 {
     let mut line = [0u8; LINE_ROOM];
-    let n = text::put_accepted(&mut line, elements, headers);
+    let n = lister_text::put_accepted(&mut line, elements, headers);
     append(page, 0, &line[..n])
 }
 
@@ -167,7 +167,7 @@ fn put_refused(page: &mut [u8], number: u32, place: u32) -> usize
     ensures { λ r. ⌜ PutsOnPage (refused number place) (now (page .entry)) 0 r (now (page .exit)) lineRoom ⌝ }
 {
     let mut line = [0u8; LINE_ROOM];
-    let n = text::put_refused(&mut line, number, place);
+    let n = lister_text::put_refused(&mut line, number, place);
     append(page, 0, &line[..n])
 }
 
@@ -177,7 +177,7 @@ fn put_unreadable(page: &mut [u8], number: u64) -> usize
     ensures { λ r. ⌜ PutsOnPage (unreadable number) (now (page .entry)) 0 r (now (page .exit)) lineRoom ⌝ }
 {
     let mut line = [0u8; LINE_ROOM];
-    let n = text::put_unreadable(&mut line, number);
+    let n = lister_text::put_unreadable(&mut line, number);
     append(page, 0, &line[..n])
 }
 
@@ -209,8 +209,8 @@ fn put_stream(page: &mut [u8], stream: &[u8]) -> usize
 pub fn put_output(page: &mut [u8; PAGE_ROOM], state: State, octets: &[u8; INPUT_LIMIT]) -> usize
     ensures { λ r. ⌜ WritesLine (readLines (finished state) (now (octets .entry))) (now (page .entry)) r (now (page .exit)) ⌝ }
 {
-    match hex::finish(state) {
-        Read::Stream { length } => put_stream(page, hex::part(octets, length)),
+    match lister_hex::finish(state) {
+        Read::Stream { length } => put_stream(page, lister_hex::part(octets, length)),
         Read::Unreadable { line } => put_unreadable(page, line),
     }
 }

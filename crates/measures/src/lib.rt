@@ -1,9 +1,7 @@
 // The two numbers of a page, and what they are to PM1: X.209 integers, and the verdict on them by T.502's table 10.
 ghost use mathlib.Core.Path.{_≡_};
 ghost use mathlib.Core.List.{[], _∷_};
-ghost use Prim.Native.Nat.{_<_, _≤_, _^_};
-ghost use lib.ListN.{length};
-ghost use Rattle.headers.specs.Head.{bigEndian};
+ghost use Prim.Native.Nat.{_≤_, _^_};
 ghost use Rattle.measures.specs.Integers.{isInteger, integerOf};
 ghost use Rattle.measures.specs.Verdicts.{pair, notOver, within, essentialPairs, nonEssentialPairs, verdictOfSizes, underOne, verdictOfTwo};
 
@@ -52,20 +50,6 @@ fn is_integer(v: &[u8]) -> bool
     nine != 511
 }
 
-// The number that octets are, most significant first.
-fn big_endian(v: &[u8]) -> usize
-    requires { ⌜ length (now v) ≤ 4 ⌝ }
-    ensures { λ r. ⌜ (r ≡ bigEndian (now (v .entry))) × (r < 256 ^ length (now (v .entry))) ⌝ }
-{
-    let mut n: usize = 0;
-    let mut i: usize = 0;
-    while i < v.len() {
-        n = n * 256 + wide(v[i]);
-        i += 1;
-    }
-    n
-}
-
 // How many numbers so many octets have.
 fn power(n: usize) -> usize
     requires { ⌜ (1 ≤ n) × (n ≤ 4) ⌝ }
@@ -90,7 +74,7 @@ pub fn integer_of(v: &[u8]) -> Integer
             distance: 0,
         };
     }
-    let n = big_endian(v);
+    let n = headers::big_endian(v, 0, v.len());
     if wide(v[0]) < 0x80 {
         return Integer {
             valid: true,

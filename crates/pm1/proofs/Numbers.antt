@@ -23,9 +23,8 @@ use Rattle.answers.proofs.Tabling.{cell-there}
 use Rattle.demands.specs.Refusals.{TopItem, topItems, saysIn}
 use Rattle.demands.proofs.Telling.{Proper, no-more, more}
 use Rattle.dimensions.specs.Dimensions.{verdictOf}
-use Rattle.pm1.specs.declared.Page.{Page}
-use Rattle.pm1.specs.Pages.{isPage, pageOf, pagesIn}
-use Rattle.pm1.specs.Flat.{kindAt, objectAt, pageAt, pagesAt}
+use Rattle.pm1.specs.Pages.{Page, isPage, pageOf, pagesIn}
+use Rattle.pm1.specs.ByTable.{kindAt, objectAt, pageAt, pagesAt}
 use Rattle.demands.proofs.Accepted.{Accepted, items-proper, finished}
 
 module _ (edition : Edition) (s table : List ℕ) where

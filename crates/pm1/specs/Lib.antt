@@ -1,3 +1,3 @@
 pub mod Pages
 pub mod Answers
-pub mod Flat
+pub mod ByTable

@@ -10,7 +10,11 @@ use Rattle.elements.specs.declared.Edition.{Edition}
 use Rattle.reading.specs.Match.{forEach, only}
 use Rattle.demands.specs.Refusals.{TopItem, topItems, saysIn}
 use Rattle.dimensions.specs.Dimensions.{verdictOf}
-use Rattle.pm1.specs.declared.Page.{Page}
+
+-- a record of the list: a row of the table, and the verdict on it
+pub record Page : Type 0 where
+  pub element : ℕ
+  pub verdict : ℕ
 
 -- a page class or a page: kind 1 or 2, object type 2
 abbrev pub isPage : (kind object : ℕ) → Bool
@@ -26,3 +30,12 @@ pagesOf edition tree = forEach 0 (topItems tree) (pageOf edition)
 
 abbrev pub pagesIn : Edition → (s : List ℕ) → List Page
 pagesIn edition s = pagesOf edition (treeOf s)
+
+-- the list is lent as numbers, two a record
+abbrev pub pageWidth : ℕ
+pageWidth = 2
+
+-- the numbers of records, one record after another
+unfoldable pub pageNumbers : List Page → List ℕ
+pageNumbers [] = []
+pageNumbers (p ∷ ps) = p .element ∷ p .verdict ∷ pageNumbers ps

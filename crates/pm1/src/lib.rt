@@ -5,14 +5,15 @@ pub use odif::Edition;
 use runs::Met;
 use runs::Run;
 ghost use mathlib.Core.Path.{_≡_};
-ghost use mathlib.Core.List.{_++_};
+ghost use mathlib.Core.List.{[], _∷_};
 ghost use Prim.Native.Nat.{_+_, _*_, _<_, _≤_};
-ghost use lib.ListN.{length, set, drop};
+ghost use lib.ListN.{length};
+ghost use lib.Seq.{sets};
 ghost use Rattle.runs.specs.Runs.{treeIn, Fine};
 ghost use Rattle.answers.specs.Table.{tableWidth};
-ghost use Rattle.pm1.specs.Pages.{isPage};
+ghost use Rattle.pm1.specs.Pages.{isPage, pageWidth, pageNumbers};
 ghost use Rattle.pm1.specs.Answers.{PagesOutcome};
-ghost use Rattle.pm1.specs.Flat.{kindAt, objectAt, pageAt, pagesBy, recordAt, records, Puts, Ready, ListsFlat};
+ghost use Rattle.pm1.specs.ByTable.{kindAt, objectAt, pageAt, pagesBy, pagesAmong, Puts, Ready};
 
 const LIST_TOO_SHORT: u32 = 30;
 
@@ -24,12 +25,8 @@ const LAYOUT_CLASS: u32 = 1;
 
 const LAYOUT_OBJECT: u32 = 2;
 
-// One record of the list: a row of the table, and the verdict on it.
-#[repr(C)]
-pub struct Page {
-    pub element: u32,
-    pub verdict: u32,
-}
+// The numbers of a record of the list: a row of the table, and the verdict on it.
+const PAGE_WIDTH: usize = 2;
 
 // What the question answers. Number 0 is answered.
 #[repr(C)]
@@ -56,47 +53,65 @@ fn is_page(table: &[u32], j: usize) -> bool
     kind == LAYOUT_OBJECT
 }
 
-// Puts one record in its place.
-fn put_page(flat: &mut [u32], k: usize, element: usize, verdict: usize)
-    requires { ⌜ (2 * k + 2 ≤ length (now flat)) × (element < 4096) × (verdict ≤ 4) ⌝ }
-    ensures { λ _. ⌜ now (flat .exit) ≡ set (set (now (flat .entry)) (2 * k) element) (2 * k + 1) verdict ⌝ }
+// How many of the first rows of a finished table are pages and page classes.
+fn count_pages(table: &[u32], elements: usize) -> usize
+    requires { ⌜ (elements ≤ 4096) × (elements * tableWidth ≤ length (now table)) ⌝ }
+    ensures { λ r. ⌜ (r ≡ pagesAmong (now (table .entry)) 0 elements) × (r ≤ elements) ⌝ }
 {
-    flat[2 * k] = element as u32;
-    flat[2 * k + 1] = verdict as u32;
+    let mut j: usize = 0;
+    let mut count: usize = 0;
+    while j < elements {
+        let page = is_page(table, j);
+        j += 1;
+        if page {
+            count += 1;
+        }
+    }
+    count
 }
 
-// Puts the record of an element, if it is a page.
+// Puts the two numbers of record k in their place.
+fn put_page(list: &mut [u32], k: usize, element: usize, verdict: usize)
+    requires { ⌜ (pageWidth * k + pageWidth ≤ length (now list)) × (element < 4096) × (verdict ≤ 4) ⌝ }
+    ensures { λ _. ⌜ now (list .exit) ≡ sets (now (list .entry)) (pageWidth * k) (element ∷ verdict ∷ []) ⌝ }
+{
+    let at = PAGE_WIDTH * k;
+    list[at] = element as u32;
+    list[at + 1] = verdict as u32;
+}
+
+// Puts the record of an element after so many, if it is a page, and says how many there are then.
 fn put_element(
     stream: &[u8],
     inner: Run,
     table: &[u32],
     element: usize,
-    flat: &mut [u32],
+    list: &mut [u32],
     count: usize,
 ) -> usize
-    requires { ⌜ Fine (now stream) inner × (element < 4096) ⌝ }
-    requires { ⌜ (element * tableWidth + tableWidth ≤ length (now table)) × (2 * count + 2 ≤ length (now flat)) ⌝ }
-    ensures { λ r. ⌜ Puts (now (flat .entry)) count (pageAt (now (table .entry)) element (treeIn (now (stream .entry)) inner)) (now (flat .exit)) r ⌝ }
+    requires { ⌜ Fine (now stream) inner × (element < 4096) × (element * tableWidth + tableWidth ≤ length (now table)) ⌝ }
+    requires { ⌜ pageWidth * (count + length (pageAt (now table) element (treeIn (now stream) inner))) ≤ length (now list) ⌝ }
+    ensures { λ r. ⌜ Puts (now (list .entry)) count (pageAt (now (table .entry)) element (treeIn (now (stream .entry)) inner)) (now (list .exit)) r ⌝ }
 {
     if !is_page(table, element) {
         return count;
     }
     let verdict = dimensions::verdict_of(stream, inner);
-    put_page(flat, count, element, verdict);
+    put_page(list, count, element, verdict);
     count + 1
 }
 
-// Puts the records of all pages, by the finished table of a stream that was walked.
-fn put_pages(stream: &[u8], table: &[u32], flat: &mut [u32]) -> usize
-    requires { ⌜ Ready (now stream) (now table) (now flat) ⌝ }
-    ensures { λ r. ⌜ (records (now (flat .exit)) r ≡ pagesBy (now (stream .entry)) (now (table .entry))) × (r ≤ 4096) × (2 * r ≤ length (now (flat .exit))) ⌝ }
+// Puts the records of all pages, by the finished table of a stream that was walked, to a list that has room for them.
+fn put_pages(stream: &[u8], table: &[u32], list: &mut [u32])
+    requires { ⌜ Ready (now stream) (now table) (now list) ⌝ }
+    ensures { λ _. ⌜ now (list .exit) ≡ sets (now (list .entry)) 0 (pageNumbers (pagesBy (now (stream .entry)) (now (table .entry)))) ⌝ }
 {
     let mut left = runs::whole_stream(stream);
     let mut element: usize = 0;
     let mut count: usize = 0;
     loop {
         match runs::meet(stream, left) {
-            Met::End => return count,
+            Met::End => return,
             Met::Item {
                 code: _,
                 first: _,
@@ -104,7 +119,7 @@ fn put_pages(stream: &[u8], table: &[u32], flat: &mut [u32]) -> usize
                 inner,
                 rest,
             } => {
-                count = put_element(stream, inner, table, element, flat, count);
+                count = put_element(stream, inner, table, element, list, count);
                 element += 1;
                 left = rest;
             }
@@ -124,80 +139,42 @@ fn refuse(number: u32, place: u32, elements: u32) -> Paged
     }
 }
 
-// The question with its list as numbers, two a record, for a list with room for so many records: the check, then the pages, then 30.
-fn pages_flat(
-    edition: Edition,
-    stream: &[u8],
-    room: usize,
-    table: &mut [u32],
-    flat: &mut [u32],
-) -> Paged
-    requires { ⌜ 8192 ≤ length (now flat) ⌝ }
-    ensures { λ r. ⌜ ListsFlat edition (now (stream .entry)) (now (table .entry)) room r (now (table .exit)) (now (flat .exit)) ⌝ }
+// Lists the pages of a letter with the verdict on each, two numbers a page, and fills the element table as the check does. A partner who accepts
+// only PM1 asks this. The pages are counted by the table before any is put: nothing is written to a list that is too short.
+pub fn pages(edition: Edition, stream: &[u8], table: &mut [u32], list: &mut [u32]) -> Paged
+    ensures { λ r. ⌜ PagesOutcome edition (now (stream .entry)) (now (table .entry)) (now (list .entry)) r (now (table .exit)) (now (list .exit)) ⌝ }
 {
     let checked = odif::check(edition, stream, table);
     if checked.number != 0 {
         return refuse(checked.number, checked.place, 0);
     }
-    let pages = put_pages(stream, table, flat);
-    if room < pages {
+    let count = count_pages(table, checked.elements as usize);
+    if list.len() / PAGE_WIDTH < count {
         return refuse(LIST_TOO_SHORT, 0, checked.elements);
     }
+    put_pages(stream, table, list);
     Paged {
         number: 0,
         place: 0,
         elements: checked.elements,
-        pages: pages as u32,
+        pages: count as u32,
     }
 }
 
-// The record k of a list of numbers, two a record.
-fn record_at(flat: &[u32], k: usize) -> Page
-    requires { ⌜ 2 * k + 1 < length (now flat) ⌝ }
-    ensures { λ r. ⌜ r ≡ recordAt (now (flat .entry)) k ⌝ }
-{
-    let at = 2 * k;
-    Page {
-        element: flat[at],
-        verdict: flat[at + 1],
-    }
-}
-
-// Fills the list that is lent with the first records; those past them keep theirs.
-fn fill(flat: &[u32], count: usize, list: &mut [Page])
-    requires { ⌜ (2 * count ≤ length (now flat)) × (count ≤ length (now list)) ⌝ }
-    ensures { λ _. ⌜ now (list .exit) ≡ records (now (flat .entry)) count ++ drop count (now (list .entry)) ⌝ }
-{
-    let mut k: usize = 0;
-    while k < count {
-        let p = record_at(flat, k);
-        list[k] = p;
-        k += 1;
-    }
-}
-
-// Lists the pages of a letter with the verdict on each, and fills the element table as the check does. A partner who accepts only PM1 asks this;
-// nothing is written to a list that is too short. There are never more pages than elements, so numbers for as many records are enough.
-pub fn pages(edition: Edition, stream: &[u8], table: &mut [u32], list: &mut [Page]) -> Paged
-    ensures { λ r. ⌜ PagesOutcome edition (now (stream .entry)) (now (table .entry)) (now (list .entry)) r (now (table .exit)) (now (list .exit)) ⌝ }
-{
-    let mut flat = [0u32; 8192];
-    let answer = pages_flat(edition, stream, list.len(), table, &mut flat);
-    let count = answer.pages as usize;
-    fill(&flat, count, list);
-    answer
-}
-
-// The same for C, as include/pm1.h declares it: of the edition of 1988, and its twin of that of 1993.
+// The header's `pm1_pages` and its twin of 1993 hand their list to these as numbers.
 #[no_mangle]
-pub extern "C" fn pm1_pages(stream: &[u8], table: &mut [u32], list: &mut [Page]) -> Paged
+pub extern "C" fn pm1_pages_numbers(stream: &[u8], table: &mut [u32], list: &mut [u32]) -> Paged
     ensures { λ r. ⌜ PagesOutcome Edition.Of1988 (now (stream .entry)) (now (table .entry)) (now (list .entry)) r (now (table .exit)) (now (list .exit)) ⌝ }
 {
     pages(Edition::Of1988, stream, table, list)
 }
 
 #[no_mangle]
-pub extern "C" fn pm1_pages_1993(stream: &[u8], table: &mut [u32], list: &mut [Page]) -> Paged
+pub extern "C" fn pm1_pages_numbers_1993(
+    stream: &[u8],
+    table: &mut [u32],
+    list: &mut [u32],
+) -> Paged
     ensures { λ r. ⌜ PagesOutcome Edition.Of1993 (now (stream .entry)) (now (table .entry)) (now (list .entry)) r (now (table .exit)) (now (list .exit)) ⌝ }
 {
     pages(Edition::Of1993, stream, table, list)

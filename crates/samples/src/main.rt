@@ -1,9 +1,9 @@
 // Runs the checked examples of document 01, the worked examples of X.209 and those of the edition of 1993, the streams of vectors/, and prints
 // what comes out: octets, then for each stream the check's number, place and header count, a normal form, or - where it is refused, and of a
 // text unit its number and its joined content.
-use hex::INPUT_LIMIT;
-use hex::Read;
 use libc::STDOUT_FILENO;
+use lister_hex::INPUT_LIMIT;
+use lister_hex::Read;
 use odif::Edition;
 ghost use Prim.Native.Nat.{_<_};
 
@@ -57,7 +57,7 @@ fn print_normal(stream: &[u8]) {
     let mut form = [0u8; INPUT_LIMIT];
     let answer = odif::normal(Edition::Of1988, stream, &mut form);
     if answer.number == 0 {
-        print_pairs(hex::part(&form, answer.length as usize));
+        print_pairs(lister_hex::part(&form, answer.length as usize));
     } else {
         io::write_all(STDOUT_FILENO, b"-");
     }
@@ -71,7 +71,7 @@ fn print_joined(edition: Edition, stream: &[u8], element: usize) {
         if answer.length != 0 {
             io::write_all(STDOUT_FILENO, b" ");
         }
-        print_pairs(hex::part(&out, answer.length as usize));
+        print_pairs(lister_hex::part(&out, answer.length as usize));
     } else {
         io::write_all(STDOUT_FILENO, b"-");
     }
@@ -104,9 +104,9 @@ fn print_between() {
 
 // Reads three parts of one line of pairs.
 fn read(before: &[u8], pairs: &[u8], after: &[u8], octets: &mut [u8; INPUT_LIMIT]) -> usize {
-    let opened = hex::feed(hex::start(), before, octets);
-    let inside = hex::feed(opened, pairs, octets);
-    match hex::finish(hex::feed(inside, after, octets)) {
+    let opened = lister_hex::feed(lister_hex::start(), before, octets);
+    let inside = lister_hex::feed(opened, pairs, octets);
+    match lister_hex::finish(lister_hex::feed(inside, after, octets)) {
         Read::Stream { length } => length,
         Read::Unreadable { line: _ } => 0,
     }
@@ -116,19 +116,19 @@ fn read(before: &[u8], pairs: &[u8], after: &[u8], octets: &mut [u8; INPUT_LIMIT
 fn check_in(before: &[u8], pairs: &[u8], after: &[u8]) {
     let mut octets = [0u8; INPUT_LIMIT];
     let length = read(before, pairs, after, &mut octets);
-    print_check(Edition::Of1988, hex::part(&octets, length));
+    print_check(Edition::Of1988, lister_hex::part(&octets, length));
 }
 
 fn normal_in(before: &[u8], pairs: &[u8], after: &[u8]) {
     let mut octets = [0u8; INPUT_LIMIT];
     let length = read(before, pairs, after, &mut octets);
-    print_normal(hex::part(&octets, length));
+    print_normal(lister_hex::part(&octets, length));
 }
 
 fn joined_in(pairs: &[u8], element: usize) {
     let mut octets = [0u8; INPUT_LIMIT];
     let length = read(b"", pairs, b"", &mut octets);
-    print_joined(Edition::Of1988, hex::part(&octets, length), element);
+    print_joined(Edition::Of1988, lister_hex::part(&octets, length), element);
 }
 
 // A stream. Of its elements the one after the profile is asked for its content: no example has a text unit elsewhere.
@@ -160,7 +160,7 @@ fn print_both(pairs: &[u8], stream: &[u8]) {
 fn both(pairs: &[u8]) {
     let mut octets = [0u8; INPUT_LIMIT];
     let length = read(b"", pairs, b"", &mut octets);
-    print_both(pairs, hex::part(&octets, length));
+    print_both(pairs, lister_hex::part(&octets, length));
 }
 
 // An item, alone, in a definite profile that begins with the pairs before it, and in an indefinite one.

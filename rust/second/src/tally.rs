@@ -36,7 +36,7 @@ pub enum Question {
     OrderA,
     /// `odif_order_b`
     OrderB,
-    /// `pm1_pages`
+    /// `pm1_pages_numbers`
     Pages,
 }
 

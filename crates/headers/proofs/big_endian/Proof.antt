@@ -63,7 +63,7 @@ loop-again c =
 returns : tie.Need-returns Inv-loop μ-loop
 returns c =
     let e : c .before .loop .i ≡ c .before .before .before .args .k = omega arith in
-    rw (← e) (c .before .loop .inv .1)
+    (rw (← e) (c .before .loop .inv .1), rw (← e) (c .before .loop .inv .2))
 
 pub big-endian-spec : {M : Type 1} → statement M
 big-endian-spec =

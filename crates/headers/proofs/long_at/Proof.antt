@@ -34,7 +34,7 @@ unfolding longAt
 returns-2 c =
     let a = c .before .before .before .before .args in
     let h : a .from + 1 + a .k ≤ a .limit = omega arith in
-    simp (le-leb _ _ h, c .definite-at .ensures, c .before .big-endian .ensures)
+    simp (le-leb _ _ h, c .definite-at .ensures, c .before .big-endian .ensures .0)
 
 pub long-at-spec : {M : Type 1} → statement M
 long-at-spec =

@@ -1,10 +1,13 @@
 -- `measures::integer_of` meets its contract: no integer, one that is not under 0, and one that is. Assumes nothing.
 use mathlib.Core.Path.{_≡_, refl, sym, ap, _∙_}
 use mathlib.Core.Bool.{Bool, true, false}
+use mathlib.Core.List.{List}
 use native.Mathlib.Omega.{arith}
 use borrow.Author.Tests.{le-leb, lt-leb, eq-eqb, ne-eqb, not-true, not-false}
 use Prim.Native.Nat.{ℕ, _≤_, _<_}
-use lib.ListN.{length, getD}
+use lib.ListN.{length, getD, take, drop}
+use lib.Seq.{take-length}
+use Rattle.headers.specs.Head.{bigEndian}
 use Rattle.measures.specs.Integers.{isInteger}
 use Rattle.measures.proofs.Octets.{octets-bounded, no-integer, not-under, under-zero}
 use borrow.Author.Needs.{needs}
@@ -12,10 +15,13 @@ use Rattle.measures.proofs.integer_of.Statement.{statement}
 use Rattle.measures.proofs.integer_of.Tie as tie
 use Rattle.measures.proofs.integer_of.Reads as reads
 use Rattle.measures.proofs.integer_of.Lts as lts
-use Rattle.measures.proofs.big_endian.Reads as big-endian-reads
 use Rattle.measures.proofs.is_integer.Reads as is-integer-reads
 use Rattle.measures.proofs.power.Reads as power-reads
 use Rattle.measures.proofs.wide.Reads as wide-reads
+
+-- all octets are those of the whole
+whole : (v : List ℕ) → bigEndian (take (length v) (drop 0 v)) ≡ bigEndian v
+whole v = ap bigEndian (take-length v)
 
 is-integer-requires : tie.Need-is-integer-requires
 is-integer-requires c κs = search needs
@@ -28,7 +34,7 @@ returns c =
 big-endian-requires : tie.Need-big-endian-requires
 big-endian-requires c κs =
     let v = c .before .before .before .args .v .now in
-    octets-bounded v (sym (c .before .is-integer .ensures) ∙ not-false _ (c .if1 .left)) .1
+    (omega arith, octets-bounded v (sym (c .before .is-integer .ensures) ∙ not-false _ (c .if1 .left)) .1)
 
 shared-slice-read-wide : tie.Need-shared-slice-read-wide
 shared-slice-read-wide c =
@@ -42,7 +48,7 @@ returns-2 : tie.Need-returns-2
 returns-2 c =
     let v = c .before .before .before .before .before .before .before .args .v .now in
     let e : isInteger v ≡ true = sym (c .before .before .before .before .before .is-integer .ensures) ∙ not-false _ (c .before .before .before .before .if1 .left) in
-    not-under v e _ (c .before .before .before .big-endian .ensures .0) (omega (arith, c .before .wide .ensures))
+    not-under v e _ (c .before .before .before .big-endian .ensures .0 ∙ whole v) (omega (arith, c .before .wide .ensures))
 
 power-requires : tie.Need-power-requires
 power-requires c κs =
@@ -58,7 +64,7 @@ returns-3 : tie.Need-returns-3
 returns-3 c =
     let v = c .before .before .before .before .before .before .before .before .args .v .now in
     let e : isInteger v ≡ true = sym (c .before .before .before .before .before .before .is-integer .ensures) ∙ not-false _ (c .before .before .before .before .before .if1 .left) in
-    under-zero v e _ (c .before .before .before .before .big-endian .ensures .0) (omega (arith, c .before .before .wide .ensures)) _ (c .power .ensures)
+    under-zero v e _ (c .before .before .before .before .big-endian .ensures .0 ∙ whole v) (omega (arith, c .before .before .wide .ensures)) _ (c .power .ensures)
 
 pub integer-of-spec : {M : Type 1} → statement M
 integer-of-spec =

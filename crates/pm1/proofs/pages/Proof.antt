@@ -1,26 +1,60 @@
--- `pm1::pages` meets its contract: the walk of its MIR (proofs/Filling), with its callees' contracts. Assumes nothing.
-use lib.Dec.{lit<}
-use contract.Running.{givenOf, tables, tablesOf}
-use denote.Triple.Spec.{tripleOf}
-use denote.Triple.Table.{entered, cited}
-use Rattle.pm1.proofs.fill.Symbol as fill-def
-use Rattle.pm1.proofs.fill.Symbol.{name as #pm1·fill}
-use Rattle.pm1.proofs.fill.Met as fill-thm
-use Rattle.pm1.proofs.pages_flat.Symbol as flat-def
-use Rattle.pm1.proofs.pages_flat.Symbol.{name as #pm1·pages-flat}
-use Rattle.pm1.proofs.pages_flat.Met as flat-thm
-use Rattle.pm1.proofs.Filling.{Flat, Fill, meets}
-use Rattle.pm1.proofs.pages.Key.{name as #pm1·pages}
-use Rattle.pm1.proofs.pages as pages
-use Rattle.pm1.proofs.pages.Statement as stated
-use Rattle.pm1.proofs.pages.Code as code
+-- `pm1::pages` meets its contract: what the check answers, and how many pages there are, decide. Assumes nothing.
+use native.Mathlib.Omega.{arith}
+use borrow.Author.Needs.{needs}
+use Rattle.pm1.proofs.Outcomes.{pages-refused, countable, pages-30, ready, pages-all}
+use Rattle.pm1.proofs.pages.Statement.{statement}
+use Rattle.pm1.proofs.pages.Tie as tie
 
-pub pages-spec : {M : Type 1} → stated.statement M
-unfolding code.routine tablesOf
-pages-spec 𝓤 H 𝓜 𝓖 𝓡 =
-    entered 𝓤 H (tripleOf 𝓤 H (𝓖 .A) pages.signature (pages.spec 𝓤 H (𝓖 .A) (𝓜 .mem) (𝓡 .run)))
-    (tables 𝓤 H 𝓜 𝓡 code.env .C) (tables 𝓤 H 𝓜 𝓡 code.env .Λ) #pm1·pages code.function (code.unfolded 𝓤 H 𝓜 𝓡)
-    (meets 𝓤 H (𝓖 .A) (givenOf 𝓤 H 𝓜 𝓖) (𝓜 .mem) (𝓡 .run) (tablesOf 𝓤 H 𝓜 (tables 𝓤 H 𝓜 𝓡 code.env))
-    (cited 𝓤 H (Flat 𝓤 H (𝓖 .A) (𝓜 .mem) (𝓡 .run)) 𝓜 𝓡 code.env #pm1·pages-flat flat-def.routine code.calls-pm1·pages-flat (flat-thm.met 𝓤 H 𝓜 𝓖 𝓡))
-    (cited 𝓤 H (Fill 𝓤 H (𝓖 .A) (𝓜 .mem) (𝓡 .run)) 𝓜 𝓡 code.env #pm1·fill fill-def.routine code.calls-pm1·fill (fill-thm.met 𝓤 H 𝓜 𝓖 𝓡))
-    (lit< tt, lit< tt))
+returns : tie.Need-returns
+returns c =
+    let list = c .before .before .before .before .before .before .before .before .before .before .args .list .now in
+    rw (c .refuse .ensures) (pages-refused (c .before .before .before .before .before .check .ensures) list (c .before .if1 .taken))
+
+count-pages-requires : tie.Need-count-pages-requires
+count-pages-requires c κs =
+    let list = c .before .before .before .before .before .before .before .before .before .before .before .args .list .now in
+    let check = c .before .before .before .before .before .before .check in
+    countable (check .ensures) list (c .before .before .if1 .left) (check .kept .1 .1 .0)
+
+returns-2 : tie.Need-returns-2
+returns-2 c =
+    let list = c .before .before .before .before .before .before .before .before .before .before .before .before .before .before .args .list .now in
+    rw (c .refuse2 .ensures) (pages-30 (c .before .before .before .before .before .before .before .before .before .check .ensures) list (c .before .before .before .before .before .if1 .left) (c .before .before .count-pages .ensures .0) (c .before .if2 .taken))
+
+put-pages-requires : tie.Need-put-pages-requires
+put-pages-requires c κs =
+    let list = c .before .before .before .before .before .before .before .before .before .before .before .before .before .before .before .args .list .now in
+    let check = c .before .before .before .before .before .before .before .before .before .before .check in
+    ready (check .ensures) list (c .before .before .before .before .before .before .if1 .left) (c .before .before .before .count-pages .ensures .0) (c .before .before .if2 .left) (check .kept .1 .1 .0)
+
+cast-t19 : tie.Need-cast-t19
+cast-t19 c =
+    let list = c .before .before .before .before .before .before .before .before .before .before .before .before .before .before .before .before .before .before .args .list .now in
+    let check = c .before .before .before .before .before .before .before .before .before .before .before .before .before .check in
+    let few = countable (check .ensures) list (c .before .before .before .before .before .before .before .before .before .if1 .left) (check .kept .1 .1 .0) in
+    omega (arith, few, c .before .before .before .before .before .before .count-pages .ensures .1)
+
+returns-3 : tie.Need-returns-3
+returns-3 c =
+    let list = c .before .before .before .before .before .before .before .before .before .before .before .before .before .before .before .before .before .before .args .list .now in
+    let check = c .before .before .before .before .before .before .before .before .before .before .before .before .before .check .ensures in
+    pages-all check list (c .before .before .before .before .before .before .before .before .before .if1 .left) (c .before .before .before .before .before .before .count-pages .ensures .0) (c .before .before .before .before .before .if2 .left) (c .before .before .put-pages .ensures)
+
+pub pages-spec : {M : Type 1} → statement M
+pages-spec =
+    tie.close
+    (tie.spec
+    (λ c κs. search needs)
+    (λ c κs. search needs)
+    (λ c. search needs)
+    returns
+    (λ c. search needs)
+    count-pages-requires
+    (λ c κs. search needs)
+    (λ c. search needs)
+    returns-2
+    put-pages-requires
+    cast-t19
+    (λ c. search needs)
+    (λ c. search needs)
+    returns-3)

@@ -1,27 +1,19 @@
 -- `pm1::put_pages` meets its contract: each element that is met puts its record, if it is a page. The measure is what is left of the run. Assumes
 -- nothing.
-use mathlib.Core.Path.{_≡_, refl, sym, ap, _∙_}
-use mathlib.Core.Bool.{Bool, true, false}
 use native.Mathlib.Omega.{arith}
 use borrow.Author.Needs.{needs}
 use Prim.Native.Nat.{_-_}
-use lib.ListN.{length}
 use Rattle.runs.specs.Runs.{Meeting}
 use Rattle.contents.proofs.Firsts.{met}
 use Rattle.pm1.proofs.Going.{Going, going-all, element-low, element-row, record-room, going-more, going-none}
 use Rattle.pm1.proofs.put_pages.Statement.{statement}
 use Rattle.pm1.proofs.put_pages.Tie as tie
-use Rattle.pm1.proofs.put_pages.Reads as reads
-use Rattle.pm1.proofs.put_pages.Lts as lts
-use Rattle.pm1.proofs.put_element.Reads as put-element-reads
-use Rattle.runs.proofs.meet.Reads as meet-reads
-use Rattle.runs.proofs.whole_stream.Reads as whole-stream-reads
 
 abbrev Inv-loop : tie.InvT-loop
-Inv-loop stream table flat₀ left₀ element₀ count₀ flat left element count = Going stream table flat₀ flat left element count
+Inv-loop stream table list₀ left₀ element₀ count₀ list left element count = Going stream table list₀ list left element count
 
 abbrev μ-loop : tie.MeasureT-loop
-μ-loop stream table flat₀ left₀ element₀ count₀ flat left element count = left .limit - left .at
+μ-loop stream table list₀ left₀ element₀ count₀ list left element count = left .limit - left .at
 
 -- the element that is met
 meeting : (c : tie.After-known-told Inv-loop μ-loop) →
@@ -29,19 +21,13 @@ meeting : (c : tie.After-known-told Inv-loop μ-loop) →
     Meeting (c .before .before .before .before .before .before .before .before .before .args .stream .now) (c .before .before .before .before .loop .left) (g .0) (g .1 .0) (g .1 .1 .0) (g .1 .1 .1 .0) (g .1 .1 .1 .1 .0)
 meeting c = met (c .before .before .before .before .before .before .before .before .before .args .stream .now) (c .before .before .before .before .loop .left) (c .before .before .before .meet .ensures) (c .before .inner .given .1)
 
-whole-stream-requires : tie.Need-whole-stream-requires Inv-loop μ-loop
-whole-stream-requires c κs = search needs
-
 loop-holds : tie.Need-loop-holds Inv-loop μ-loop
 loop-holds c =
     let a = c .before .before .before .before .args in
-    rw (c .whole-stream .ensures) (going-all (a .stream .now) (a .table .now) (a .flat .now) (c .before .before .before .before .pre))
+    rw (c .whole-stream .ensures) (going-all (a .stream .now) (a .table .now) (a .list .now) (c .before .before .before .before .pre))
 
 meet-requires : tie.Need-meet-requires Inv-loop μ-loop
 meet-requires c κs = c .loop .inv .fine
-
-enum-told : tie.Need-enum-told Inv-loop μ-loop
-enum-told c = search needs
 
 same-length : tie.Need-same-length Inv-loop μ-loop
 same-length c = c .before .before .before .loop .inv .kept
@@ -52,15 +38,12 @@ returns c =
     let l = c .before .before .before .loop in
     going-none (start .pre) (l .inv) (met (start .args .stream .now) (l .left) (c .before .before .meet .ensures) (c .enum-told .given .1))
 
-enum-known-inner : tie.Need-enum-known-inner Inv-loop μ-loop
-enum-known-inner c = search needs
-
 put-element-requires : tie.Need-put-element-requires Inv-loop μ-loop
 put-element-requires c κs =
     let start = c .before .before .before .before .before .before .before .before .before .before in
     let l = c .before .before .before .before .before .loop in
     let m = meeting (c .before) in
-    ((m .inner-fine, element-low (start .pre) (l .inv) m), (element-row (start .pre) (l .inv) m, record-room (start .pre) (l .inv) m))
+    ((m .inner-fine, element-low (start .pre) (l .inv) m, element-row (start .pre) (l .inv) m), record-room (start .pre) (l .inv) m)
 
 add-element : tie.Need-add-element Inv-loop μ-loop
 add-element c =
@@ -81,13 +64,13 @@ put-pages-spec =
     (tie.spec
     Inv-loop
     μ-loop
-    whole-stream-requires
+    (λ c κs. search needs)
     loop-holds
     meet-requires
-    enum-told
+    (λ c. search needs)
     same-length
     returns
-    enum-known-inner
+    (λ c. search needs)
     put-element-requires
     add-element
     loop-less

@@ -1,7 +1,12 @@
 //! The PM1 desk: the functions and structs of `include/pm1.h`, on slices.
 
+use std::slice;
+
 use super::twins;
 use crate::edition::Edition;
+
+/// The numbers of a [`Page`].
+pub const PAGE_WIDTH: usize = 2;
 
 /// One record of a list of pages.
 #[repr(C)]
@@ -29,8 +34,8 @@ pub struct Listed {
 
 #[rustfmt::skip]
 twins! {
-    pm1_pages pm1_pages_1993(
-        stream: *const u8, stream_len: usize, table: *mut u32, table_len: usize, list: *mut Page, list_len: usize
+    pm1_pages_numbers pm1_pages_numbers_1993(
+        stream: *const u8, stream_len: usize, table: *mut u32, table_len: usize, list: *mut u32, list_len: usize
     ) -> Listed;
 }
 
@@ -41,9 +46,16 @@ pub fn pages(stream: &[u8], table: &mut [u32], list: &mut [Page]) -> Listed {
 
 /// The same as [`pages`], by an edition.
 pub fn pages_in(edition: Edition, stream: &[u8], table: &mut [u32], list: &mut [Page]) -> Listed {
+    // SAFETY: a page is its two numbers and nothing else, in their order, and any numbers are a page.
+    let numbers = unsafe { slice::from_raw_parts_mut(list.as_mut_ptr().cast(), PAGE_WIDTH * list.len()) };
+    pages_numbers_in(edition, stream, table, numbers)
+}
+
+/// The same as [`pages_in`], with the list as numbers, those of a [`Page`] each; an incomplete last record is not used.
+pub fn pages_numbers_in(edition: Edition, stream: &[u8], table: &mut [u32], list: &mut [u32]) -> Listed {
     let ask = match edition {
-        Edition::Of1988 => pm1_pages,
-        Edition::Of1993 => pm1_pages_1993,
+        Edition::Of1988 => pm1_pages_numbers,
+        Edition::Of1993 => pm1_pages_numbers_1993,
     };
     // SAFETY: each pointer and its length come from one slice, which is lent for the call alone; the library writes inside
     // these slices only, and keeps no pointer. Any numbers are valid in them.

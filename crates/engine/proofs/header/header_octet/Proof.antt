@@ -25,8 +25,8 @@ add-b c = search needs
 limit-at-requires : tie.Need-limit-at-requires
 limit-at-requires c κs = search needs
 
-left-of-requires : tie.Need-left-of-requires
-left-of-requires c κs = search needs
+without-requires : tie.Need-without-requires
+without-requires c κs = search needs
 
 add-is-whole : tie.Need-add-is-whole
 add-is-whole c = search needs
@@ -50,7 +50,7 @@ returns c =
     let eight : length (b .begun) ≡ 8 = omega (arith, i .good, length-map (b .begun) (λ v. v)) in
     let same = length-set (b .begun) (b .have) x in
     let w = c .before .is-whole .ensures in
-    let left = c .before .before .before .before .left-of in
+    let left = c .before .before .before .before .without in
     let limit = c .before .before .before .before .before .limit-at in
     let e : left .result ≡ limitOf (b .total) (opens b) - b .at = left .ensures ∙ rw (limit .ensures .0) in
     let no = not-true (c .before .is-whole .result) (c .if1 .taken) in
@@ -86,7 +86,7 @@ decided-requires c κs =
     let eight : length (b .begun) ≡ 8 = omega (arith, i .good, length-map (b .begun) (λ v. v)) in
     let same = length-set (b .begun) (b .have) x in
     let l = c .before .before .before .before .before .before .before .before .before .limit-at in
-    let left = c .before .before .before .before .before .before .before .before .left-of in
+    let left = c .before .before .before .before .before .before .before .before .without in
     let octets = set (b .begun) (b .have) x in
     let marked = c .before .before .marked-at .result in
     let e : c .read-head .result ≡ headAt octets 0 (l .result - b .at) marked (16 - b .level) = c .read-head .ensures ∙ rw (have, left .ensures) in (
@@ -108,7 +108,7 @@ returns-2 c =
     let eight : length (b .begun) ≡ 8 = omega (arith, i .good, length-map (b .begun) (λ v. v)) in
     let same = length-set (b .begun) (b .have) x in
     let w = c .before .before .before .before .before .before .is-whole .ensures in
-    let left = c .before .before .before .before .before .before .before .before .before .left-of in
+    let left = c .before .before .before .before .before .before .before .before .before .without in
     let limit = c .before .before .before .before .before .before .before .before .before .before .limit-at in
     let e : left .result ≡ limitOf (b .total) (opens b) - b .at = left .ensures ∙ rw (limit .ensures .0) in
     let yes = not-false (c .before .before .before .before .before .before .is-whole .result) (c .before .before .before .before .before .if1 .left) in
@@ -126,7 +126,7 @@ header-octet-spec =
     element-write-b
     add-b
     limit-at-requires
-    left-of-requires
+    without-requires
     add-is-whole
     is-whole-requires
     returns

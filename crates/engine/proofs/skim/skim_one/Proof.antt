@@ -18,7 +18,6 @@ use Rattle.engine.proofs.skim.skim_one.Lts as lts
 use Rattle.engine.proofs.ends.end_of.Reads as end-of-reads
 use Rattle.engine.proofs.skim.finding.Reads as finding-reads
 use Rattle.engine.proofs.skim.going.Reads as going-reads
-use Rattle.engine.proofs.skim.outside.Reads as outside-reads
 
 enum-known-head : tie.Need-enum-known-head
 enum-known-head c = search needs
@@ -114,8 +113,8 @@ enum-told c = search needs
 add-next : tie.Need-add-next
 add-next c = search needs
 
-outside-requires : tie.Need-outside-requires
-outside-requires c κs = search needs
+without-requires : tie.Need-without-requires
+without-requires c κs = search needs
 
 going-requires-4 : tie.Need-going-requires-4
 going-requires-4 c κs = search needs
@@ -160,7 +159,7 @@ returns-4 c =
     let p = c .before .before .before .before .before .before .pre in
     let g = c .before .before .before .enum-told .given in
     let w = looked (a .seat) (a .s) (a .ends .now) (a .block .now) (p .0) (a .head) ClosingMark (p .1) (g .1) in
-    subst (λ (r : Skim). Skims (a .seat) (a .s) (a .ends .now) (a .block .now) r (a .ends .now)) (sym (c .going4 .ensures ∙ rw (c .before .outside .ensures))) (skims-mark (a .seat) (a .s) (a .ends .now) (a .block .now) (p .0) (w .0))
+    subst (λ (r : Skim). Skims (a .seat) (a .s) (a .ends .now) (a .block .now) r (a .ends .now)) (sym (c .going4 .ensures ∙ rw (c .before .without .ensures))) (skims-mark (a .seat) (a .s) (a .ends .now) (a .block .now) (p .0) (w .0))
 
 returns-5 : tie.Need-returns-5
 returns-5 c =
@@ -191,7 +190,7 @@ skim-one-spec =
     going-requires-3
     enum-told
     add-next
-    outside-requires
+    without-requires
     going-requires-4
     enum-known-head-2
     cast-finding

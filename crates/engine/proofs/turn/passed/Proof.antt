@@ -9,7 +9,6 @@ use Rattle.engine.proofs.turn.passed.Tie as tie
 use Rattle.engine.proofs.turn.passed.Reads as reads
 use Rattle.engine.proofs.turn.passed.Lts as lts
 use Rattle.engine.proofs.header.arrived.Reads as arrived-reads
-use Rattle.engine.proofs.turn.smaller.Reads as smaller-reads
 
 sub-smaller : tie.Need-sub-smaller
 sub-smaller c = search needs
@@ -36,7 +35,7 @@ returns c =
     let b = a .b in
     let k = c .before .before .smaller .result in
     let m = c .before .before .smaller .ensures in
-    let some = m .2 (omega arith) (omega arith) in
+    let some : 0 < k = omega arith in
     let e : a .i + k - a .i ≡ k = omega arith in
     let w = c .arrived .ensures in
     let f = s .pre .0 in

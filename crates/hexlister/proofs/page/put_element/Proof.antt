@@ -1,4 +1,4 @@
--- `page::put_element` meets its contract: the line is made by `text::put_element` of three numbers of the row, and put on the page as the front of its array. Assumes nothing.
+-- `page::put_element` meets its contract: the line is made by `lister_text::put_element` of three numbers of the row, and put on the page as the front of its array. Assumes nothing.
 use Rattle.hexlister.proofs.Pages.{puts-line}
 use borrow.Author.Needs.{needs}
 use Rattle.hexlister.proofs.page.put_element.Statement.{statement}

@@ -1,8 +1,8 @@
 -- `page::put_output` meets its contract: by what reading ends as, the stream at the array's front is told, or the line. Assumes nothing.
 use native.Mathlib.Omega.{arith}
 use mathlib.Core.Path.{_≡_, sym, ap, _∙_}
-use Rattle.hex.specs.declared.Read.the-variants.{Stream, Unreadable}
-use Rattle.hex.specs.Blocks.{finished}
+use Rattle.lister_hex.specs.declared.Read.the-variants.{Stream, Unreadable}
+use Rattle.lister_hex.specs.Blocks.{finished}
 use Rattle.hexlister.specs.Output.{streamLines}
 use Rattle.hexlister.proofs.Pages.{puts-as, puts-written}
 use borrow.Author.Needs.{needs}
