@@ -36,7 +36,7 @@ loaded  := $(if $(filter-out %-linux,$(TARGET)),,libodif.so libpm1.so)
 .PHONY: all lib portable install install-lib uninstall clean FORCE
 all: lib $(if $(TARGET),,$(out)/odif)
 lib: $(addprefix $(out)/,$(archives) $(loaded) odif.pc pm1.pc odif.3 pm1.3)
-portable: $(addprefix $(out)/,$(archives))
+portable: $(if $(TARGET),$(addprefix $(out)/,$(archives)))
 	@[ -n '$(TARGET)' ] || { echo 'make: say for which machine, TARGET=NAME; portable/build --list has them' >&2; exit 2; }
 
 # asked each time, since only packaging/archive knows whether an archive is of these sources; it leaves one that is as it stands

@@ -92,11 +92,11 @@ def archive(kit, target, library, objects, out):
     kit.run('llvm-ar', 'rcsD', out / f'lib{library}.a', *objects)
 
 
-def build(target, out, optimise='-O3', edit=lambda text: text):
+def build(target, out, optimise='-O3', edit=lambda text: text, libraries=tuple(BESIDE)):
     """The libraries for a machine, in a folder."""
     out.mkdir(parents=True, exist_ok=True)
     kit = Kit()
-    for library in BESIDE:
+    for library in libraries:
         with tempfile.TemporaryDirectory() as folder:
             room = pathlib.Path(folder)
             objects = objects_of(kit, target, library, optimise, room, edit)

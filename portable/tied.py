@@ -88,3 +88,23 @@ def refuses(room):
         if part not in sentence:
             raise Failed(f'it says {sentence!r}, and not {part!r}')
     return f'{len(said)} sentences'
+
+
+# The numbers that a question may give, as the header says, and no other.
+JUDGED = [*range(16)]
+NUMBERS = {
+    'check': [*JUDGED, 16], 'list': [*JUDGED, 16, 19], 'text': [*JUDGED, 16, 19, 22], 'normal': [*JUDGED, 17, 18], 'normal_short': [*JUDGED, 18],
+    'content': [*JUDGED, 20, 21], 'joined': [*JUDGED, 20, 22], 'children': [*JUDGED, 16, 20, 25], 'order': [*JUDGED, 26], 'date': [*JUDGED, 23, 24],
+    'first_date': [*range(9), 10, 11, 23, 24], 'make': [0, 9, 14, 15, 17, 18, 27], 'pages': [*JUDGED, 16, 30], 'blocks_start': [0, 1], 'blocks_take': [0, 28],
+    'blocks_close': [*range(9), 29],
+}
+
+
+def every_number(room):
+    """Over the corpus each question gives every number that the header says it may give, and no other."""
+    lines = dict(line.split(':') for line in room.asked(room.folder / 'own', 'numbers').splitlines()[1:])
+    met = {question: [int(number) for number in numbers.split()] for question, numbers in lines.items()}
+    for question, numbers in NUMBERS.items():
+        if met.get(question) != numbers:
+            raise Failed(f'{question} gave {met.get(question)}, and not {numbers}')
+    return f'{sum(map(len, NUMBERS.values()))} of {len(NUMBERS)} questions'

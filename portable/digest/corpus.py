@@ -4,6 +4,7 @@ samples, letters at the limits, letters made at random, and damaged ones.
 
 usage: corpus.py COUNT     with so many damaged letters
        corpus.py small     letters that take the most stack, of small streams; large: of any"""
+import itertools
 import pathlib
 import random
 import re
@@ -173,6 +174,33 @@ def many_names():
         yield profile() + b''.join(item(0xA8, item(0x45, b'%d' % name)) for name in range(1000, 1000 + count))
 
 
+def bucket(name, buckets):
+    """The bucket of a name in the library's index (crates/names)."""
+    found = 0
+    for octet in name:
+        found += octet
+        found = (found << 6) + found + (found >> 9) & 0xFFFFFFFF
+    return found & buckets - 1
+
+
+def colliding(buckets, count):
+    """Names that fall into one bucket: a chain has eight rows, and then all rows stand in order."""
+    names = (b'1 %d' % number for number in range(9_000_000))
+    return list(itertools.islice((name for name in names if bucket(name, buckets) == 0), count))
+
+
+def many_in_a_bucket():
+    """Objects whose names collide, with units whose names collide, in the small scratch and in the large one; one twice; in order and backwards."""
+    for buckets, count, others in (1024, 40, 20), (8192, 20, 500):
+        names = colliding(buckets, count)
+        for chosen in names, names[::-1], names[:8], names[:9], [*names, names[3]]:
+            things = [thing(0xA2, name, [b'0', b'1'], 4) for name in chosen]
+            units = [unit(name, name, tag=rng.choice([0x40, 0x84])) for name in chosen]
+            plain = [thing(0xA1, b'2 %d' % number, [b'0'], 4) + unit(b'2 %d 0' % number, b'x') for number in range(others)]
+            yield b''.join([profile(), *things, *plain, *(unit(name + b' 0', b'y') for name in chosen)])
+            yield b''.join([profile(), *things[:3], *units, *plain])
+
+
 def at_random(count):
     """Letters of both editions, some in disorder, some with an element twice."""
     for _ in range(count):
@@ -236,7 +264,7 @@ def main(word):
         streams = [*for_stack(word == 'large'), *printed()]
     else:
         bases = [*printed(), *small()]
-        streams = [*bases, *many_elements(), *many_octets(), *many_names(), *at_random(1500)]
+        streams = [*bases, *many_elements(), *many_octets(), *many_names(), *many_in_a_bucket(), *at_random(1500)]
         streams += damaged(int(word), [s for s in [*bases, *streams[-300:]] if len(s) > 1])
     sys.stdout.buffer.write(b''.join(struct.pack('<I', len(s)) + s for s in streams))
 
