@@ -4,7 +4,7 @@
    Link with target/staticlib/libpm1.a, and with libodif.a beside it, in either order, if the questions of odif.h are
    asked too: each archive shows the names of its own header alone. Installed, `pkg-config --libs pm1` names both. What odif.h says of its functions holds for these:
    no state, nothing allocated, any octets whatever, and what is lent is valid, aligned and apart. On the stack they
-   take up to 288 KiB, of small streams too.
+   take 32 KiB besides what odif_check takes.
 
    A page is a layout object, kind 2, or a layout class, kind 1, with object type 2. Its dimensions are the item A4 among
    the direct items of its 31, and that holds two items 80: horizontal and vertical, integers of one to four octets in

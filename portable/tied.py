@@ -24,10 +24,10 @@ def same_archive(room):
     run('rt', 'staticlib', 'tiny', cwd=top)
     plain = archive.read_bytes()
     archive.unlink()
-    run(top / 'portable/capture', 'tiny')
-    if archive.read_bytes() != plain:
+    run(top / 'portable/capture', 'tiny', 'small')
+    if archive.with_name('libsmall.a').read_bytes() != plain:
         raise Failed('it is another archive')
-    if not (top / 'target/staticlib/tiny.bc').stat().st_size:
+    if not (top / 'target/staticlib/small.bc').stat().st_size:
         raise Failed('there is no module')
     return 'octet for octet'
 
@@ -40,9 +40,10 @@ def same_object(room, library):
         if not (TOP / f'target/staticlib/{library}.{kept}').exists():
             raise Failed(f'target/staticlib/{library}.{kept} is not there: packaging/archive {library} makes it')
     shutil.copy(TOP / f'target/staticlib/{library}.bc', out / 'module.bc')
+    member = run(room.kit.tool('llvm-ar'), 't', TOP / f'target/staticlib/lib{library}.a').decode().strip()
     run(room.kit.tool('llvm-ar'), 'x', TOP / f'target/staticlib/lib{library}.a', cwd=out)
     run(room.kit.tool('clang'), *(TOP / f'target/staticlib/{library}.words').read_text('utf-8').split('\n')[:-1], cwd=out)
-    if (out / 'module.o').read_bytes() != (out / f'{library}.o').read_bytes():
+    if (out / 'module.o').read_bytes() != (out / member).read_bytes():
         raise Failed('it is another object')
     return 'octet for octet'
 

@@ -201,6 +201,44 @@ def many_in_a_bucket():
             yield b''.join([profile(), *things[:3], *units, *plain])
 
 
+def many_dates():
+    """Profiles with none, one or more dates in each A0 of each A3; one that is constructed; days that are and are not, spelt well and badly."""
+    day, other = item(0x80, b'1988-06-05'), item(0x80, b'1999-12-31 ')
+    for a, b, c in itertools.product([b'', day, item(0x81, b'x') + other, day + other, item(0xA0, day)], repeat=3):
+        yield item(0xA0, item(0xA3, item(0xA0, a) + item(0xA1) + item(0xA0, b)) + item(0xA3, item(0xA0, c), MARKED) + item(0xA4))
+    days = [f'{year:04}-{month:02}-{last:02}' for year in (0, 1, 1900, 1988, 2000, 9999) for month in range(14) for last in (0, 1, 28, 29, 30, 31, 32)]
+    badly = ['1988-6-05', '1988/06-05', '1988-06/05', '19:8-06-05', '1988-0:-05', '1988-06-0/', '1988-06-0', '']
+    for spelt in days + badly:
+        yield item(0xA0, item(0xA3, item(0xA0, item(0x80, spelt.encode()))))
+
+
+def shortest():
+    """No octet, every octet alone, and every octet in a profile, with a length or without."""
+    yield b''
+    for octet in range(256):
+        yield bytes([octet])
+        yield bytes([0xA0, 4, octet, 2, 0, 0])
+        yield bytes([0xA0, 0x80, octet, 0x80, 0, 0, 0, 0])
+
+
+def type_fields():
+    """Numbers of types in several octets, at each bound, in items of each form; spelt with too few and too many octets."""
+    fields = ['1E', '1F', '7F', '8100', '817F', 'FF7F', '808000', '818000', '8001', 'FF', '']
+    for first, field, rest in itertools.product([0x1F, 0x3F, 0x5F, 0x9F, 0xBF], fields, ['00', '80', '800000', '0101', '810101', '85']):
+        one = bytes([first]) + octets(field + rest)
+        yield item(0xA0, one)
+        yield item(0xA0, one + b'\5\0' * 5, MARKED)
+        yield one
+
+
+def portion_numbers():
+    """Portion numbers as long as they may be, and longer; of one tag, twice and all apart."""
+    for size in 15, 16, 17:
+        yield profile() + thing(0xA2, b'1 0', [b'1' * size], 4) + unit(b'1 0 ' + b'1' * size, b'x')
+    for names in [b'0', b'64', b'128'], [b'0', b'64', b'0'], [b'7', b'71', b'135'], [b'0', b'00', b'64', b'64']:
+        yield profile() + thing(0xA2, b'1 0', names, 4) + b''.join(unit(b'1 0 ' + name, name) for name in names)
+
+
 def at_random(count):
     """Letters of both editions, some in disorder, some with an element twice."""
     for _ in range(count):
@@ -264,7 +302,7 @@ def main(word):
         streams = [*for_stack(word == 'large'), *printed()]
     else:
         bases = [*printed(), *small()]
-        streams = [*bases, *many_elements(), *many_octets(), *many_names(), *many_in_a_bucket(), *at_random(1500)]
+        streams = [*bases, *many_elements(), *many_octets(), *many_names(), *many_in_a_bucket(), *many_dates(), *shortest(), *type_fields(), *portion_numbers(), *at_random(1200)]
         streams += damaged(int(word), [s for s in [*bases, *streams[-300:]] if len(s) > 1])
     sys.stdout.buffer.write(b''.join(struct.pack('<I', len(s)) + s for s in streams))
 

@@ -238,24 +238,30 @@ static void remade(Stream s, size_t rows) {
     entries[6 * many - 5] = entries[1];
     made(s, 6 * many, MADE);
 }
-/* Of a stream that is names of four octets in a row: as many entries as a letter may have, more, and texts that are too long for one. */
-static void made_with(Stream s, size_t count, size_t room) {
+/* Of a stream that is names of four octets in a row: as many entries as a letter may have, and more; a name as long as it may be, and longer;
+   texts that make a letter just as long as it may be, and longer. */
+static uint32_t made_with(Stream s, size_t count, size_t room) {
     odif_written a;
     fill_octets(room + 8);
     ASK(ASK_MAKE, a, odif_make_numbers(s.at, s.length, many, count, out, room));
     ANSWER(a);
     octets(out, room + 8);
+    return a.length;
 }
 static void made_of_names(Stream s) {
-    uint32_t *x = many;
+    uint32_t *x = many, *last = many + 6 * 126;
     for (uint32_t at = 0; at < NAMES_OCTETS; at += 4, x += 6) {
         x[0] = x[2] = x[4] = at;
         x[1] = at + 4; x[3] = at + 1; x[5] = at + 3;
     }
     for (size_t count = ODIF_MOST_ENTRIES - 1; count < ODIF_MOST_ENTRIES + 2; count++) made_with(s, 6 * count, ODIF_STREAM_LIMIT);
-    for (x = many; x < many + sizeof many / sizeof *many; x += 6) x[4] = 0, x[5] = NAMES_OCTETS;
-    made_with(s, 6 * 126, ODIF_STREAM_LIMIT);
-    made_with(s, 6 * 128, ODIF_STREAM_LIMIT);
+    for (many[1] = 61; many[1] < 65; many[1]++) made_with(s, 6 * 2, MADE);
+    many[1] = 4;
+    for (x = many; x <= last; x += 6) x[4] = 0, x[5] = NAMES_OCTETS;
+    last[5] = 1000;
+    last[5] += ODIF_STREAM_LIMIT - made_with(s, 6 * 127, ODIF_STREAM_LIMIT);
+    for (last[5] -= 2; made_with(s, 6 * 127, ODIF_STREAM_LIMIT) != 0; last[5]++) { }
+    made_with(s, 6 * 127, ODIF_STREAM_LIMIT + 8);
 }
 static void orders_and_dates(Stream s) {
     odif_ordered o;
