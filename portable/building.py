@@ -85,11 +85,13 @@ def names_of(library):
 
 
 def archive(kit, target, library, objects, out):
+    """The archive of these objects. Its members have no folder in their names, so that it is the same wherever it is made."""
+    room, members = objects[0].parent, [one.name for one in objects]
     if target.name.endswith('-msvc'):
-        kit.run('llvm-lib', '/nologo', f'/out:{out}/{library}.lib', *objects)
+        kit.run('llvm-lib', '/nologo', f'/out:{out.resolve()}/{library}.lib', *members, cwd=room)
         return
     (out / f'lib{library}.a').unlink(missing_ok=True)
-    kit.run('llvm-ar', 'rcsD', out / f'lib{library}.a', *objects)
+    kit.run('llvm-ar', 'rcsD', out.resolve() / f'lib{library}.a', *members, cwd=room)
 
 
 def build(target, out, optimise='-O3', edit=lambda text: text, libraries=tuple(BESIDE)):

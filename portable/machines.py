@@ -83,6 +83,12 @@ class Room:
     def wine_words(self, program):
         return shutil.which('wine64') or '/usr/lib/wine/wine64', program
 
+    def close(self):
+        """Ends wine's server of this folder, which stays for a while after the last program."""
+        if (self.folder / 'wine').exists():
+            server = shutil.which('wineserver') or '/usr/lib/wine/wineserver'
+            subprocess.run([server, '-k', '-w'], env=self.wine_env(), stderr=subprocess.DEVNULL, check=False)
+
     def on_wine(self, program):
         """What the digest program prints under wine."""
         return self.asked(*self.wine_words(program), env=self.wine_env(), stderr=subprocess.DEVNULL)

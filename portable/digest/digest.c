@@ -1,6 +1,6 @@
 /* Asks every question of every stream of a corpus, with buffers that are enough, exact, and one short, and makes one digest of
    all answers and of all that is lent, with what lies behind it. It uses nothing of a C library; hosted.c and bare.c hand it the
-   corpus. It multiplies nowhere, so that a count of products is that of the library alone. */
+   corpus. What it multiplies itself falls between two questions, and is no question's product. */
 #include "pm1.h"
 #include "digest.h"
 

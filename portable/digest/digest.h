@@ -8,7 +8,7 @@ enum {
 };
 #define QUESTION_NAMES { "check", "list", "text", "normal", "normal_short", "content", "joined", "children", "order", \
     "date", "first_date", "make", "pages", "blocks_start", "blocks_take", "blocks_close" }
-enum { NUMBERS = 32 }; /* refusal numbers, and one for any other */
+enum { NUMBERS = 64 }; /* refusal numbers, and one for any other */
 
 extern uint32_t met[QUESTIONS][NUMBERS]; /* how often a question gave a number */
 extern uint32_t asked[QUESTIONS];
