@@ -76,6 +76,13 @@ class Room:
                      out / 'libpm1.a', out / 'libodif.a', '-o', out / 'digest.wasm')
         return out / 'digest.wasm'
 
+    def windows(self, out):
+        """The digest program for Windows. Microsoft's name of the routine that touches the stack is another than MinGW's."""
+        sources, compiler = [DIGEST / 'digest.c', DIGEST / 'hosted.c'], 'x86_64-w64-mingw32-gcc'
+        if (out / 'libodif.a').exists():
+            return self.hosted(compiler, out, out / 'digest.exe')
+        return self.compiled(compiler, sources, [out / 'pm1.lib', out / 'odif.lib'], out / 'digest.exe', '-Wl,--defsym,__chkstk=___chkstk_ms')
+
     def wine_env(self):
         """wine makes itself a folder the first time."""
         return dict(os.environ, WINEDEBUG='-all', WINEPREFIX=str(self.folder / 'wine'), DISPLAY='')
@@ -105,8 +112,8 @@ class Room:
         target, out = TARGETS[name], self.built(name)
         if target.tested == 'here':
             return self.asked(self.hosted('gcc', out, out / 'digest'))
-        if target.tested == 'wine':
-            return self.on_wine(self.hosted('x86_64-w64-mingw32-gcc', out, out / 'digest.exe'))
+        if target.tested.startswith('wine'):
+            return self.on_wine(self.windows(out))
         if target.tested == 'node':
             return run('node', DIGEST / 'wasm.mjs', self.wasm(target, out), self.corpus).decode()
         if target.compiler:

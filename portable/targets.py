@@ -21,14 +21,15 @@ def bare(name, words, machine, **more):
     return target(name, f'--target={words}', 'qemu, no C library', 'qemu-user', probes=False, machine=machine, **more)
 
 
+WINDOWS = 'gcc-mingw-w64-x86-64-win32 wine64'
 TARGETS = {row.name: row for row in [
     target('x86_64-linux', '--target=x86_64-unknown-linux-gnu -march=x86-64 -fPIC', 'here', 'gcc'),
     linux('aarch64', 'aarch64-unknown-linux-gnu', 'aarch64-linux-gnu', 'arm64'),
     linux('riscv64', 'riscv64-unknown-linux-gnu -march=rv64gc -mabi=lp64d', 'riscv64-linux-gnu', 'riscv64'),
     linux('s390x', 's390x-unknown-linux-gnu -march=z13', 's390x-linux-gnu', 's390x'),
     linux('arm', 'armv7-unknown-linux-gnueabihf', 'arm-linux-gnueabihf', 'armhf', name='armv7', bits=32, probes=False),
-    target('x86_64-windows', '--target=x86_64-w64-windows-gnu -march=x86-64', 'wine', 'gcc-mingw-w64-x86-64-win32 wine64', probes=False),
-    target('x86_64-msvc', '--target=x86_64-pc-windows-msvc -march=x86-64', probes=False),
+    target('x86_64-windows', '--target=x86_64-w64-windows-gnu -march=x86-64', 'wine', WINDOWS, probes=False),
+    target('x86_64-msvc', '--target=x86_64-pc-windows-msvc -march=x86-64', 'wine, linked by MinGW', WINDOWS, probes=False),
     target('aarch64-windows', '--target=aarch64-w64-windows-gnu', probes=False),
     target('aarch64-macos', '--target=arm64-apple-macos11 -fPIC'),
     target('wasm32', '--target=wasm32-unknown-unknown -mbulk-memory', 'node', 'nodejs', bits=32, probes=False),
@@ -47,6 +48,6 @@ def listed():
     """A line for each target: how it is tested, and what that needs."""
     for row in TARGETS.values():
         how = f'tested: {row.tested}' if row.tested else 'compiled, not run'
-        yield f'{row.name:16} {how:28} {" ".join(row.needs)}'.rstrip()
+        yield f'{row.name:16} {how:30} {" ".join(row.needs)}'.rstrip()
     for name, why in REFUSED.items():
         yield f'{name:16} refused: {why}'

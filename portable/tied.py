@@ -66,8 +66,8 @@ def raised(act, *words):
 
 
 def refuses(room):
-    """Each is refused with a sentence of its own: another kit, a kit without its clang, a machine that is not to be had, a module that is not free of the
-    machine, one with two target lines, an exported function of another form, a header that names other functions than the module has."""
+    """Each is refused with a sentence of its own: another kit, a kit without its clang, a machine that is not to be had (by the header too), a module that
+    is not free of the machine, one with two target lines, an exported function of another form, a header that names other functions than the module."""
     other = room.folder / 'other'
     (other / 'bin').mkdir(parents=True)
     (other / 'bin/rt').write_text('#!/bin/sh\necho rattle-kit-0\n', 'utf-8')
@@ -80,6 +80,8 @@ def refuses(room):
         (sentence_of(HERE / 'capture', 'odif', env=path), 'has no on/'),
         (sentence_of(HERE / 'build', 'i386-linux', other / 'out'), 'multiple of 4'),
         (sentence_of(HERE / 'build', 'pdp11', other / 'out'), 'no target pdp11'),
+        (sentence_of(room.kit.tool('clang'), '--target=i386-unknown-linux-gnu', '--no-default-config', '-fsyntax-only', '-nostdinc', f'-I{HERE}/include',
+                     '-x', 'c', TOP / 'include/odif.h'), 'no libodif for i386'),
         (raised(retarget.for_machine, module + '%1 = ptrtoint ptr %0 to i64\n', module, True), 'not free of the machine'),
         (raised(retarget.for_machine, module + module, module, True), '2 pairs'),
         (raised(retarget.entry_of, export, 64), 'gives back i128'),
