@@ -4,6 +4,8 @@
 #   make install PREFIX=/usr DESTDIR=stage    headers, archives, shared libraries, odif.pc, pm1.pc, command, manual pages, completions
 #   make install-lib                          the same without the command: it needs rt, for the proved library, and a C compiler alone
 #   make uninstall                            take away what install put there
+#   make portable TARGET=aarch64-linux        the libraries for another machine, under target/portable; `portable/build --list` has the machines
+#   make install-lib TARGET=aarch64-linux CC=aarch64-linux-gnu-gcc    the same installed, on Linux with shared libraries, which CC makes
 #
 # The command needs cargo and the crates that it uses besides; where they are Debian's, rust/packages makes them ready first. `make` installs no
 # packages. An installed archive is the proved one with a small member of C beside it (odif_sentence, pm1_identity), and a shared library is made
@@ -21,16 +23,21 @@ series  := $(shell echo $(version) | cut -d. -f1,2)
 proved  := target/staticlib/libodif.a
 # the PM1 desk
 desk    := target/staticlib/libpm1.a
-out     := target/install
+out     := target/$(if $(TARGET),portable/$(TARGET),install)
 to      := $(DESTDIR)$(PREFIX)
 # where bash, zsh and fish look for them
 completions := $(addprefix $(to)/share/,bash-completion/completions zsh/site-functions fish/vendor_completions.d)
 shared  := -shared -Wl,-z,defs -Wl,-z,text -Wl,-z,relro -Wl,-z,now
 sha256   = $(shell sha256sum $(1) | cut -d' ' -f1)
+# what is made for a machine: Microsoft's linker has archives by another name, and shared libraries are made for Linux
+archives := $(if $(filter %-msvc,$(TARGET)),odif.lib pm1.lib,libodif.a libpm1.a)
+loaded  := $(if $(filter-out %-linux,$(TARGET)),,libodif.so libpm1.so)
 
-.PHONY: all lib install install-lib uninstall clean FORCE
-all: lib $(out)/odif
-lib: $(addprefix $(out)/,libodif.a libpm1.a libodif.so libpm1.so odif.pc pm1.pc odif.3 pm1.3)
+.PHONY: all lib portable install install-lib uninstall clean FORCE
+all: lib $(if $(TARGET),,$(out)/odif)
+lib: $(addprefix $(out)/,$(archives) $(loaded) odif.pc pm1.pc odif.3 pm1.3)
+portable: $(if $(TARGET),$(addprefix $(out)/,$(archives)))
+	@[ -n '$(TARGET)' ] || { echo 'make: say for which machine, TARGET=NAME; portable/build --list has them' >&2; exit 2; }
 
 # asked each time, since only packaging/archive knows whether an archive is of these sources; it leaves one that is as it stands
 $(proved) $(desk): target/staticlib/lib%.a: FORCE
@@ -39,6 +46,13 @@ $(proved) $(desk): target/staticlib/lib%.a: FORCE
 $(out):
 	mkdir -p $@
 
+ifdef TARGET
+$(addprefix $(out)/,$(archives)) &: $(proved) $(desk) $(wildcard portable/*.py portable/build portable/*.c include/*) | $(out)
+	portable/build $(TARGET) $(out)
+
+$(out)/libodif.so $(out)/libpm1.so: $(out)/lib%.so: $(out)/lib%.a
+	$(CC) $(shared) -Wl,-soname,lib$*.so.$(series) -Wl,--whole-archive $< -Wl,--no-whole-archive -o $@
+else
 $(out)/odif_sentence.o: include/odif_sentence.c include/odif.h $(proved) | $(out)
 	$(CC) $(CFLAGS) -fPIC -Iinclude -DODIF_ARCHIVE_SHA256='"$(call sha256,$(proved))"' -c $< -o $@
 
@@ -58,6 +72,7 @@ $(out)/libodif.so: $(proved) $(out)/odif_sentence.o
 
 $(out)/libpm1.so: $(desk) $(out)/pm1_identity.o
 	$(CC) $(shared) -Wl,-soname,libpm1.so.$(series) $(out)/pm1_identity.o -Wl,--whole-archive $(desk) -Wl,--no-whole-archive -o $@
+endif
 
 # PREFIX may differ from the last time, so these are made anew each time
 $(out)/odif.pc $(out)/pm1.pc: $(out)/%.pc: packaging/%.pc.in FORCE | $(out)
@@ -77,26 +92,39 @@ install-lib: lib
 	$(INSTALL) -d $(to)/include $(to)/lib/pkgconfig $(to)/share/man/man3
 	for name in odif pm1; do \
 	    $(INSTALL) -m 644 include/$$name.h $(to)/include/$$name.h && \
-	    $(INSTALL) -m 644 $(out)/lib$$name.a $(to)/lib/lib$$name.a && \
-	    $(INSTALL) -m 755 $(out)/lib$$name.so $(to)/lib/lib$$name.so.$(version) && \
-	    ln -sf lib$$name.so.$(version) $(to)/lib/lib$$name.so.$(series) && \
-	    ln -sf lib$$name.so.$(series) $(to)/lib/lib$$name.so && \
 	    $(INSTALL) -m 644 $(out)/$$name.pc $(to)/lib/pkgconfig/$$name.pc && \
 	    $(INSTALL) -m 644 $(out)/$$name.3 $(to)/share/man/man3/$$name.3 || exit 1; \
 	done
+	$(INSTALL) -m 644 $(addprefix $(out)/,$(archives)) $(to)/lib
+	for file in $(loaded); do \
+	    $(INSTALL) -m 755 $(out)/$$file $(to)/lib/$$file.$(version) && \
+	    ln -sf $$file.$(version) $(to)/lib/$$file.$(series) && \
+	    ln -sf $$file.$(series) $(to)/lib/$$file || exit 1; \
+	done
+ifeq ($(TARGET),x86_64-windows)
+	$(INSTALL) -d $(to)/bin
+	$(INSTALL) -m 755 $(out)/odif.dll $(out)/pm1.dll $(to)/bin
+	$(INSTALL) -m 644 $(out)/libodif.dll.a $(out)/libpm1.dll.a $(to)/lib
+endif
+ifeq ($(TARGET),wasm32)
+	$(INSTALL) -m 644 $(out)/odif.wasm $(out)/odif.mjs $(to)/lib
+endif
 
 install: all install-lib
+ifndef TARGET
 	$(INSTALL) -d $(to)/bin $(to)/share/man/man1 $(completions)
 	$(INSTALL) -m 755 -s $(out)/odif $(to)/bin/odif
 	$(INSTALL) -m 644 $(out)/odif.1 $(to)/share/man/man1/odif.1
 	$(INSTALL) -m 644 $(out)/odif.bash $(word 1,$(completions))/odif
 	$(INSTALL) -m 644 $(out)/odif.zsh $(word 2,$(completions))/_odif
 	$(INSTALL) -m 644 $(out)/odif.fish $(word 3,$(completions))/odif.fish
+endif
 
 uninstall:
 	for name in odif pm1; do \
 	    rm -f $(to)/include/$$name.h $(to)/lib/lib$$name.a $(to)/lib/lib$$name.so $(to)/lib/lib$$name.so.$(series) \
-	        $(to)/lib/lib$$name.so.$(version) $(to)/lib/pkgconfig/$$name.pc $(to)/share/man/man3/$$name.3; \
+	        $(to)/lib/lib$$name.so.$(version) $(to)/lib/pkgconfig/$$name.pc $(to)/share/man/man3/$$name.3 \
+	        $(to)/lib/$$name.lib $(to)/lib/lib$$name.dll.a $(to)/bin/$$name.dll $(to)/lib/$$name.wasm $(to)/lib/$$name.mjs; \
 	done
 	rm -f $(to)/bin/odif $(to)/share/man/man1/odif.1 \
 	    $(word 1,$(completions))/odif $(word 2,$(completions))/_odif $(word 3,$(completions))/odif.fish

@@ -5,6 +5,10 @@
 #include <stdexcept>
 #include <string>
 #include <vector>
+#ifdef _WIN32
+#include <fcntl.h>
+#include <io.h>
+#endif
 #include "odif.h"
 
 using Octets = std::vector<std::uint8_t>;
@@ -35,6 +39,10 @@ struct Text {
 };
 
 int main() {
+#ifdef _WIN32 // octets, and not lines
+    _setmode(_fileno(stdin), _O_BINARY);
+    _setmode(_fileno(stdout), _O_BINARY);
+#endif
     Octets stream(ODIF_STREAM_LIMIT + 1);
     stream.resize(std::fread(stream.data(), 1, stream.size(), stdin));
     if (std::ferror(stdin)) {

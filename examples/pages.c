@@ -1,6 +1,10 @@
 /* Lists the pages of a letter with what the PM1 desk says of each: pages < FILE. It ends with status 1 if the letter is
    refused or a page is not within PM1, and with 2 if it cannot be read. */
 #include <stdio.h>
+#ifdef _WIN32
+#include <fcntl.h>
+#include <io.h>
+#endif
 #include "pm1.h"
 
 static const char *const verdicts[] = {"none", "essential", "non-essential", "outside", "not fixed"};
@@ -10,6 +14,9 @@ static pm1_page list[ODIF_MOST_ELEMENTS];
 
 int main(void) {
     int outside = 0;
+#ifdef _WIN32 /* octets, and not lines */
+    _setmode(_fileno(stdin), _O_BINARY);
+#endif
     size_t numbers = sizeof table / sizeof *table, length = fread(stream, 1, sizeof stream, stdin);
     if (ferror(stdin)) return perror("pages"), 2;
     pm1_listed found = pm1_pages(stream, length, table, numbers, list, ODIF_MOST_ELEMENTS);

@@ -1,8 +1,14 @@
 /* odif.h: a reader of ODIF letters (CCITT T.415, ISO 8613-5, of 1988 and of 1993), proved to its contracts.
 
-   Link with target/staticlib/libodif.a: an ELF archive for Linux on x86-64, and for no other machine. The functions
-   keep no state, allocate nothing and may be called from any number of threads at once. They take any octets whatever
-   and read no octet outside the stream that is lent.
+   Link with target/staticlib/libodif.a, the proved archive, for Linux on x86-64. `portable/build TARGET FOLDER` makes
+   libraries for other machines of the module that this archive is compiled from: Linux on ARM, RISC-V and s390x, Windows,
+   macOS, WebAssembly, and boxes with no system; `portable/build --list` has them. The proof is of the language's machine,
+   and Rattle vouches for x86-64. The others are compiled from the same module and tested to answer alike; they rest
+   besides on LLVM's back end for that machine, on the step that fits the module to it and on the C functions over it
+   (docs/MACHINES.md says which are run and which are compiled alone). There is none for i386.
+
+   The functions keep no state, allocate nothing and may be called from any number of threads at once. They take any
+   octets whatever and read no octet outside the stream that is lent.
 
    What is lent is valid for the length that comes with it, aligned as its type asks, and no two lent parts overlap.
    The proof rests on that, and nothing checks it: odif_normal with the stream itself as its output answers 0 with
@@ -18,8 +24,9 @@
    question takes up to 40 KiB of it, the two lists up to 88 KiB and the two whole readings up to 120 KiB; of any other
    up to 256 KiB, the lists up to 304 KiB and the whole readings up to 336 KiB. It clears 31 kB of that for a small
    stream and 246 kB for any other, the lists and the whole readings somewhat more. Mind it where threads are started
-   with small stacks: 128 KiB are enough for small streams alone. Whether a stream is small can be asked with less than
-   2 KiB: one of which odif_blocks_close counts up to 512 headers has no more elements than that, and is small.
+   with small stacks, and on a box where nothing stops a stack that runs over: 128 KiB are enough for small streams
+   alone. Whether a stream is small can be asked with less than 2 KiB: one of which odif_blocks_close counts up to 512
+   headers has no more elements than that, and is small.
 
    A question reads by the edition of 1988, and its twin with _1993 at its end by that of 1993. The octet rules are the
    same. In 1993 a text unit may have no content, or content in tiles, and there are four elements more, the protected
@@ -87,6 +94,10 @@
    from 0001 on. What follows them is not judged. */
 #ifndef ODIF_H
 #define ODIF_H
+
+#if defined __i386__ || defined _M_IX86
+#error "there is no libodif for i386: in a struct a number of 64 bits stands at a multiple of 4 octets there, and of 8 in the library"
+#endif
 
 #include <stddef.h>
 #include <stdint.h>

@@ -1,0 +1,11 @@
+/* Memory for a caller of odif.wasm: nothing in the library allocates, so whoever loads it lends from one room of fixed size, which is large enough for
+   every question about the largest stream. */
+#include <stddef.h>
+#include <stdint.h>
+
+#define SIZE (4u << 20)
+
+static uint32_t space[SIZE / 4];
+
+uint32_t *room(void) { return space; }
+size_t room_size(void) { return SIZE; }
