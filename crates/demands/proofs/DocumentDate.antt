@@ -1,53 +1,51 @@
 -- What is promised of the document's date: of a letter it is the date in its profile, by the laws of crates dates and calendar; and that depends on
 -- the tree alone, which the normal form keeps. Assumes nothing.
-use mathlib.Core.Path.{_≡_, refl, ap, sym, _∙_, subst}
+use mathlib.Core.Path.{_≡_, refl, ap, ap₂, sym, _∙_, subst}
 use mathlib.Core.Logic.{_↔_, _⊎_, inl, inr}
 use mathlib.Core.Bool.{Bool, true, false, cond, true≢false}
-use mathlib.Core.List.{List, [], _∷_, map}
+use mathlib.Core.List.{List, [], _∷_, _++_, map}
 use Prim.Native.Nat.{ℕ, _<_, _≤_}
 use native.Mathlib.Omega.{arith}
 use lib.Dec.{eqb}
 use lib.ListN.{length}
-use lib.Seq.{slice}
+use lib.Seq.{slice, slice-empty}
 use borrow.Author.Tests.{eq-eqb, ne-eqb, eqb-true, eqb-false}
 use borrow.Table.Steps.{cases}
+use Rattle.laws.proofs.Tests.{cond-holds}
 use Rattle.headers.specs.Head.{isIn, constructed as isConstructed}
 use Rattle.octets.specs.Walk.{Items, noItems, item, streamLimit}
 use Rattle.tree.specs.Tree.{Tree, plain, treeOf}
+use Rattle.runs.proofs.Laws.{stream-fine}
 use Rattle.normal.specs.Normal.{normalForm}
 use Rattle.calendar.specs.declared.Day.{Day}
 use Rattle.calendar.specs.Calendar.{noDay, namesDay, dayAt}
 use Rattle.calendar.specs.Named.{Names}
 use Rattle.calendar.proofs.Named.{names, named}
 use Rattle.contents.specs.declared.Span.{Span}
-use Rattle.contents.specs.Search.{firstRun, itemsIn}
+use Rattle.contents.specs.Search.{firstRun, itemsIn, noSpan}
 use Rattle.contents.proofs.Firsts.{run-here, run-after}
 use Rattle.dates.specs.Dates.{Date, DateItem, inPrimitive, inConstructed, noDateBy, dateFrom as datedValue, theDate, datesIn, dateIn}
-use Rattle.dates.specs.Places.{Place, bounds, noBounds, inEachAt}
+use Rattle.dates.specs.Places.{Place, bounds, noBounds, zeroAt, zerosAt, inEachAt}
 use Rattle.dates.specs.Finding.{placesFrom, readAt}
 use Rattle.dates.proofs.Trees.{dates-places}
 use Rattle.dates.proofs.Real.{date-is-real, real-is-date, else-empty}
 use Rattle.elements.specs.declared.Edition.{Edition}
 use Rattle.elements.specs.Judge.{profileOctet}
 use Rattle.letters.specs.Letter.{refusal, itemsOfStream, letterIn}
+use Rattle.letters.proofs.Nested.{Nested}
 use Rattle.answers.specs.declared.Reason.{Reason}
 use Rattle.answers.specs.declared.Dated.{Dated}
 use Rattle.answers.specs.Answers.{ruled}
-use Rattle.answers.specs.Dates.{DateAnswer, noDate, dateAfter, profileIn, dateOf, datePlaces, soleSpan, dateSpan, datedAt, dated, DateOutcome}
+use Rattle.answers.specs.Dates.{DateAnswer, noDate, dateAfter, profileIn, dateOf, datePlaces, soleSpan, dateSpan, datedAt, dated, Bounds}
 use Rattle.answers.specs.Dating.{refusedDated}
+use Rattle.answers.proofs.Letters.{letter-found}
 use Rattle.answers.proofs.Small.{refusal-small}
-use Rattle.answers.proofs.Working.{ruled-letter, ruled-refused, is-refused}
+use Rattle.answers.proofs.Working.{ruled-letter, ruled-refused, is-letter, is-refused}
 use Rattle.answers.proofs.Dating.{refused-told}
 use Rattle.demands.specs.Demands.{Answered, IsAccepted}
 use Rattle.demands.specs.DocumentDate.{dateItems, IsDate, DateOfLetter, DocumentDate}
+use Rattle.demands.proofs.Locating.{stream-nested}
 use Rattle.demands.proofs.Demand2.{normal-accepted, normal-tree}
-
--- two outcomes that the contract allows are equal, and so are two parts
-pub date-determined : {edition : Edition} {s : List ℕ} {a b : Dated} → DateOutcome edition s a → DateOutcome edition s b → a ≡ b
-date-determined x y = x .answered ∙ sym (y .answered)
-
-pub date-part-determined : (edition : Edition) (s p q : List ℕ) → p ≡ dateOf edition s .part → q ≡ dateOf edition s .part → p ≡ q
-date-part-determined edition s p q x y = x ∙ sym y
 
 -- ---- 23 and 24, of the items on the path
 
@@ -55,8 +53,8 @@ value-24 : (value : List ℕ) (b : Bool) → namesDay value ≡ b → (datedValu
 unfolding datedValue
 value-24 value true e =
     let z : datedValue value .number ≡ 0 = rw e in
-    (λ p. absurd (omega arith), λ noItems. absurd (noItems (dayAt value) (names value e)))
-value-24 value false e = (λ p d n. true≢false (sym (named value d n .0) ∙ e), λ noItems. rw e)
+    (λ p. absurd (omega arith), λ unnamed. absurd (unnamed (dayAt value) (names value e)))
+value-24 value false e = (λ p d n. true≢false (sym (named value d n .0) ∙ e), λ unnamed. rw e)
 
 value-not-23 : (value : List ℕ) (b : Bool) → namesDay value ≡ b → datedValue value .number ≡ 23 → ⊥
 unfolding datedValue
@@ -79,7 +77,7 @@ NotOne items = (value : List ℕ) → items ≡ inPrimitive value ∷ [] → ⊥
 items-23 : (items : List DateItem) → (theDate items .number ≡ 23) ↔ NotOne items
 unfolding theDate
 items-23 [] = (λ _ value e. none-there value e, λ _. refl)
-items-23 (inPrimitive value ∷ []) = (λ p _ _. value-not-23 value (namesDay value) refl p, λ noItems. absurd (noItems value refl))
+items-23 (inPrimitive value ∷ []) = (λ p _ _. value-not-23 value (namesDay value) refl p, λ other. absurd (other value refl))
 items-23 (inConstructed ∷ []) = (λ _ value e. other-form value e, λ _. refl)
 items-23 (one ∷ other ∷ more) = (λ _ value e. other-first value e, λ _. refl)
 
@@ -200,6 +198,53 @@ run-items octet s k (item at type first past inside after) =
     (λ e.
     rw e (run-after octet type (slice first past s) (plain s inside) (plain s after) (isConstructed type) (eqb-false type octet e) ∙ run-items octet s k after))
 
+-- the places on the path lie where the values of the items do
+abbrev PlaceIn : (to : ℕ) → Place → Type 0
+PlaceIn to (bounds first past) = (first ≤ past) × (past ≤ to)
+PlaceIn to noBounds = Unit {0}
+
+abbrev AllIn : (to : ℕ) → List Place → Type 0
+AllIn to [] = Unit {0}
+AllIn to (p ∷ ps) = PlaceIn to p × AllIn to ps
+
+both-in : (to : ℕ) (ps qs : List Place) → AllIn to ps → AllIn to qs → AllIn to (ps ++ qs)
+both-in to [] qs a b = b
+both-in to (p ∷ ps) qs a b = (a .0, both-in to ps qs (a .1) b)
+
+module _ (from to : ℕ) where
+  zero-in : (octet first past : ℕ) → first ≤ past → past ≤ to → AllIn to (zeroAt octet first past)
+  zero-in octet first past order inside =
+      cond-holds (AllIn to) (eqb octet 0x80) (λ _. ((order, inside), tt)) (λ _. cond-holds (AllIn to) (eqb octet 0xA0) (λ _. (tt, tt)) (λ _. tt))
+
+  zeros-in : (i : Items) → Nested from to i → AllIn to (zerosAt i)
+  unfolding zerosAt
+  zeros-in noItems w = tt
+  zeros-in (item at octet first past inside after) w =
+      both-in to (zeroAt octet first past) (zerosAt after) (zero-in octet first past (w .1) (w .2)) (zeros-in after (w .4))
+
+  each-in : (octet : ℕ) (list : Items → List Place) → ((i : Items) → Nested from to i → AllIn to (list i)) → (i : Items) → Nested from to i
+      → AllIn to (inEachAt octet list i)
+  unfolding inEachAt
+  each-in octet list all noItems w = tt
+  each-in octet list all (item at type first past inside after) w =
+      both-in to (cond (eqb type octet) (list inside) []) (inEachAt octet list after)
+      (cond-holds (AllIn to) (eqb type octet) (λ _. all inside (w .3)) (λ _. tt)) (each-in octet list all after (w .4))
+
+  path-in : (i : Items) → Nested from to i → AllIn to (inEachAt 0xA3 (inEachAt 0xA0 zerosAt) i)
+  path-in = each-in 0xA3 (inEachAt 0xA0 zerosAt) (each-in 0xA0 zerosAt zeros-in)
+
+  dates-in : (i : Items) → Nested from to i → AllIn to (datePlaces i)
+  unfolding itemsIn
+  dates-in noItems w = path-in noItems w
+  dates-in (item at type first past inside after) w =
+      cases (eqb type profileOctet) (λ t. rw t (path-in inside (w .3))) (λ t. rw t (dates-in after (w .4)))
+
+sole-in : (to : ℕ) (places : List Place) → AllIn to places → (soleSpan places .first ≤ soleSpan places .past) × (soleSpan places .past ≤ to)
+sole-in to [] a = (omega arith, omega arith)
+sole-in to (bounds first past ∷ []) a = a .0
+sole-in to (noBounds ∷ []) a = (omega arith, omega arith)
+sole-in to (one ∷ other ∷ more) a = (omega arith, omega arith)
+
 -- one primitive item is one place, and its value stands there
 sole-place : (s value : List ℕ) (places : List Place) → map (readAt s) places ≡ inPrimitive value ∷ []
     → (places ≡ bounds (soleSpan places .first) (soleSpan places .past) ∷ []) × (slice (soleSpan places .first) (soleSpan places .past) s ≡ value)
@@ -208,28 +253,71 @@ sole-place s value (bounds first past ∷ []) e = let v : slice first past s ≡
 sole-place s value (noBounds ∷ []) e = absurd (other-form value e)
 sole-place s value (one ∷ other ∷ more) e = absurd (other-first value e)
 
-module _ (edition : Edition) (s : List ℕ) where
-  numbers-are : dated edition s ≡ datedAt (dateOf edition s) (dateSpan (dateOf edition s) (datePlaces (itemsOfStream s)))
-  unfolding dated
-  numbers-are = refl
+-- whatever some elements of a stream are, and whatever the rules say of them
+module _ (s : List ℕ) (elements : Items) (r : Reason) where
+  abbrev answer : DateAnswer
+  answer = dateAfter r (dateIn (profileIn (plain s elements)))
 
-  stands : IsAccepted edition s → dateOf edition s .number ≡ 0
-      → (datePlaces (itemsOfStream s) ≡ bounds (dated edition s .first) (dated edition s .past) ∷ [])
-      × (slice (dated edition s .first) (dated edition s .past) s ≡ dateOf edition s .part)
+  abbrev span : Span
+  span = dateSpan answer (datePlaces elements)
+
+  -- there is no date where the rules refuse
+  rules-pass : answer .number ≡ 0 → r .number ≡ 0
+  rules-pass zero =
+      cases (eqb (r .number) 0)
+      (λ t. eqb-true (r .number) 0 t)
+      (λ t. let e : answer .number ≡ r .number = rw t in sym e ∙ zero)
+
+  span-is : answer .number ≡ 0 → span ≡ soleSpan (datePlaces elements)
+  span-is zero = rw (eq-eqb (answer .number) 0 zero)
+
+  pub sole-stands : answer .number ≡ 0 → (datePlaces elements ≡ bounds (span .first) (span .past) ∷ []) × (slice (span .first) (span .past) s ≡ answer .part)
   unfolding inEachAt placesFrom
-  stands a zero =
-      let t = profileIn (treeOf s) in
-      let n : dateIn t .number ≡ 0 = sym (ap (λ (x : DateAnswer). x .number) (letter-date edition s a)) ∙ zero in
-      let v : dateOf edition s .part ≡ dateIn t .value = ap (λ (x : DateAnswer). x .part) (letter-date edition s a) in
-      let places = datePlaces (itemsOfStream s) in
-      let inside = itemsIn profileOctet (itemsOfStream s) in
+  sole-stands zero =
+      let t = profileIn (plain s elements) in
+      let by = date-by r (rules-pass zero) (dateIn t) in
+      let n : dateIn t .number ≡ 0 = sym (ap (λ (x : DateAnswer). x .number) by) ∙ zero in
+      let v : answer .part ≡ dateIn t .value = ap (λ (x : DateAnswer). x .part) by in
+      let places = datePlaces elements in
       let read : map (readAt s) places ≡ inPrimitive (dateIn t .value) ∷ [] =
-      dates-places s inside ∙ ap datesIn (sym (run-items profileOctet s refl (itemsOfStream s))) ∙ date-is-real t n .item in
+      dates-places s (itemsIn profileOctet elements) ∙ ap datesIn (sym (run-items profileOctet s refl elements)) ∙ date-is-real t n .item in
       let p = sole-place s (dateIn t .value) places read in
-      let span : dateSpan (dateOf edition s) places ≡ soleSpan places = rw (eq-eqb (dateOf edition s .number) 0 zero) in
-      let f : dated edition s .first ≡ soleSpan places .first = ap (λ (d : Dated). d .first) numbers-are ∙ ap (λ (x : Span). x .first) span in
-      let l : dated edition s .past ≡ soleSpan places .past = ap (λ (d : Dated). d .past) numbers-are ∙ ap (λ (x : Span). x .past) span in
-      (p .0 ∙ rw (f, l), rw (f, l) (p .1) ∙ sym v)
+      let f : span .first ≡ soleSpan places .first = ap (λ (x : Span). x .first) (span-is zero) in
+      let l : span .past ≡ soleSpan places .past = ap (λ (x : Span). x .past) (span-is zero) in
+      (p .0 ∙ ap₂ (λ (x y : ℕ). bounds x y ∷ []) (sym f) (sym l), ap₂ (λ (x y : ℕ). slice x y s) f l ∙ p .1 ∙ sym v)
+
+  -- if their values lie in the stream, so do the bounds
+  pub bounds-stand : (r .number ≡ 0 → (to : ℕ) × (to ≤ length s) × Nested 0 to elements) → Bounds s (answer .part) (span .first) (span .past)
+  bounds-stand nested =
+      cases (eqb (answer .number) 0)
+      (λ t.
+      let zero = eqb-true (answer .number) 0 t in
+      let (to, within, values) = nested (rules-pass zero) in
+      let places = datePlaces elements in
+      let (order, inside) = sole-in to places (dates-in 0 to elements values) in
+      let f : span .first ≡ soleSpan places .first = ap (λ (x : Span). x .first) (span-is zero) in
+      let l : span .past ≡ soleSpan places .past = ap (λ (x : Span). x .past) (span-is zero) in
+      record { part = sole-stands zero .1; order = omega (arith, f, l); inside = omega (arith, l) })
+      (λ t.
+      let nothing : answer .part ≡ [] = ap (λ (x : DateAnswer). x .part) (after-empty r (profileIn (plain s elements)) (eqb-false (answer .number) 0 t)) in
+      let nowhere : span ≡ noSpan = rw t in
+      let f : span .first ≡ 0 = ap (λ (x : Span). x .first) nowhere in
+      let l : span .past ≡ 0 = ap (λ (x : Span). x .past) nowhere in
+      record { part = ap₂ (λ (x y : ℕ). slice x y s) f l ∙ slice-empty 0 s ∙ sym nothing; order = omega (arith, f, l); inside = omega (arith, l) })
+
+module _ (edition : Edition) (s : List ℕ) where
+  stands-there : dateOf edition s .number ≡ 0 → (datePlaces (itemsOfStream s) ≡ bounds (dated edition s .first) (dated edition s .past) ∷ [])
+      × (slice (dated edition s .first) (dated edition s .past) s ≡ dateOf edition s .part)
+  unfolding dateOf dated
+  stands-there zero = sole-stands s (itemsOfStream s) (ruled edition s) zero
+
+  stands : Bounds s (dateOf edition s .part) (dated edition s .first) (dated edition s .past)
+  unfolding dateOf dated
+  stands =
+      bounds-stand s (itemsOfStream s) (ruled edition s) (λ zero.
+      let l = is-letter edition s zero in
+      let f = letter-found edition s (l .headers) (l .elements) (l .judged) in
+      (length s, omega arith, stream-nested s (stream-fine s (f .at) (l .headers) (f .walked))))
 
   -- the normal form has the same tree
   normal : IsAccepted edition s → length (normalForm s) ≤ streamLimit → dateOf edition (normalForm s) ≡ dateOf edition s
@@ -284,12 +372,13 @@ document-date edition =
     record {
       told = told edition;
       refused-empty = refused-empty edition;
+      stands = stands edition;
       refused-alike = refused-alike edition;
       of-letter = λ s a. record {
         shown = λ value d. (shown-is edition s a value d, shown-if edition s a value d);
         none-23 = none-23 edition s a;
         none-24 = none-24 edition s a;
-        stands = stands edition s a;
+        stands = stands-there edition s;
         normal = normal edition s a;
       };
     }

@@ -37,7 +37,7 @@ use Rattle.answers.specs.Answers.{fetchedBy, allOf, matchesBy, matchesIn}
 use Rattle.answers.specs.Answers.{checked, checkedTable, written, writtenOutput, listed, listedTable, listedList, fetched, located, joinedIn, copied, copiedOutput, ruled}
 use Rattle.answers.specs.Related.{related, relatedTable, relatedList}
 use Rattle.texts.specs.Texts.{textsOf, Line, lineOf, linesFrom}
-use Rattle.answers.specs.Texts.{textIn, textsIn, linesIn, shown, shownLines, shownOutput}
+use Rattle.answers.specs.Texts.{textIn, textsIn, linesIn, shown, shownTable, shownLines, shownOutput}
 use Rattle.answers.specs.Short.{writtenShort, writtenShortOutput}
 use Rattle.order.specs.declared.Class.{Class}
 use Rattle.order.specs.declared.Ordered.{Ordered}
@@ -49,9 +49,10 @@ use Rattle.answers.proofs.Checks.{checks-refused}
 use Rattle.answers.proofs.Listing.{lists-refused}
 use Rattle.answers.proofs.Fetching.{fetches-refused}
 use Rattle.answers.proofs.Relating.{relates-refused}
+use Rattle.answers.proofs.Showing.{shows-ruled}
 use Rattle.demands.specs.Refusals.{TopItem, topItems, saysIn, Refuses, too-many, unknown, no-profile, later-profile, misshapen, mistyped, misspelt, repeated, at-element}
-use Rattle.demands.specs.Editions.{isProtected, readAlike, agree, SameAnswers, SameLetterIn, Unnamed, PassedBefore, Editions}
-use Rattle.demands.proofs.Refusals.{accepted-elements, accepted-pass, by-refused}
+use Rattle.demands.specs.Editions.{isProtected, readAlike, agree, SameAnswers, SameLetterIn, Unnamed, PassedBefore, FillsNone, Editions}
+use Rattle.demands.proofs.Refusals.{unlisted, typed-stream, accepted-elements, accepted-pass, by-refused}
 use Rattle.demands.proofs.Telling.{both}
 use Rattle.demands.proofs.OneElement.{ordered-holds, ordered-untiled, tabled-ordered, unit-tabled, Alike, shapes-agree, refusals-agree, elements-agree}
 
@@ -297,6 +298,15 @@ module _ (s : List ℕ) (same : letterIn Of1993 s ≡ letterIn Of1988 s) where
   unfolding linesIn
   lines-alike side = some-lines 0 (matchesIn Of1993 side s) ∙ ap (λ (l : Letter). linesFrom (textIn Of1988 s) 0 (matchesBy side l)) same
 
+  text-table-by : (l : Letter) → letterIn Of1988 s ≡ l → (side : Side) (table : List ℕ) (room : ℕ) (out : List ℕ)
+      → shownTable Of1993 side s table room out ≡ shownTable Of1988 side s table room out
+  unfolding listed shown shownTable
+  text-table-by (letter headers elements) e side table room out =
+      let rows = contained s headers elements e .rows in
+      rw (same, rows, texts-alike side)
+  text-table-by (refusal number place headers) e side table room out =
+      sym (shows-ruled Of1993 side s table [] room out number place headers (same ∙ e) .tabled) ∙ shows-ruled Of1988 side s table [] room out number place headers e .tabled
+
   same-answers : SameAnswers s
   unfolding checked written writtenOutput writtenShort writtenShortOutput listed listedList fetched joinedIn copied copiedOutput related relatedList shown shownLines shownOutput ruled dateOf dated
   same-answers =
@@ -319,6 +329,7 @@ module _ (s : List ℕ) (same : letterIn Of1993 s ≡ letterIn Of1988 s) where
         children-table = tables .children-table;
         children-rows = λ table row list. rw same;
         text = λ side table room out. rw (same, texts-alike side);
+        text-table = text-table-by (letterIn Of1988 s) refl;
         text-lines = λ side table lines out. rw (same, texts-alike side, lines-alike side);
         text-output = λ side table room out. rw (same, texts-alike side);
         date = rw same;
@@ -473,21 +484,23 @@ module _ (s : List ℕ) (j : ℕ) (top : TopItem) (there : getElem? (topItems (t
       let refuses = at-element (record {
         item = top;
         there = there;
-        refuses = unknown (protected-unknown (top .type) is-protected);
+        refuses = unknown (unlisted (top .type) Of1988 (protected-unknown (top .type) is-protected));
         no-earlier = not-earlier few;
         all-before = before;
       }) in
-      refused-element Of1988 s at headers 10 j walked (by-refused Of1988 (treeOf s) 10 j refuses (judge Of1988 (treeOf s)) refl)
+      refused-element Of1988 s at headers 10 j walked (by-refused Of1988 (treeOf s) (typed-stream s) 10 j refuses (judge Of1988 (treeOf s)) refl)
 
-  fills-none : (table : List ℕ) (l : Letter) → letterIn Of1988 s ≡ l
-      → (checkedTable Of1988 s table ≡ table) × ((side : Side) (room : ℕ) → listedTable Of1988 side s table room ≡ table)
+  fills-none : (table : List ℕ) (l : Letter) → letterIn Of1988 s ≡ l → FillsNone s table
   fills-none table (letter headers elements) e =
       let found = letter-found Of1988 s headers elements e in
-      absurd (accepted-pass Of1988 (treeOf s) elements (found .judged) j top there 10 (unknown (protected-unknown (top .type) is-protected)))
-  fills-none table (refusal number place headers) e = (
-    sym (checks-refused Of1988 s table number place headers e .tabled),
-    λ side room. sym (lists-refused Of1988 side s table [] room number place headers e .tabled),
-  )
+      absurd (accepted-pass Of1988 (treeOf s) (typed-stream s) elements (found .judged) j top there 10
+      (unknown (unlisted (top .type) Of1988 (protected-unknown (top .type) is-protected))))
+  fills-none table (refusal number place headers) e = record {
+    check = sym (checks-refused Of1988 s table number place headers e .tabled);
+    list = λ side room. sym (lists-refused Of1988 side s table [] room number place headers e .tabled);
+    children = λ row room. sym (relates-refused Of1988 s table row room [] number place headers e .tabled);
+    text = λ side room out. sym (shows-ruled Of1988 side s table [] room out number place headers e .tabled);
+  }
 
 pub editions : Editions
 editions = record {

@@ -1,6 +1,6 @@
 -- What is promised of the date by the first element alone: that element is read alike whatever follows it, by the laws of crate fronts, and the walk of
 -- a whole letter begins with it. Assumes nothing.
-use mathlib.Core.Path.{_≡_, refl, ap, sym, _∙_}
+use mathlib.Core.Path.{_≡_, refl, ap, sym, _∙_, subst}
 use mathlib.Core.Bool.{Bool, true, false, cond, not, xor}
 use mathlib.Core.List.{List, [], _∷_, _++_}
 use Prim.Native.Nat.{ℕ, zero, suc, _<_, _≤_}
@@ -8,12 +8,13 @@ use native.Mathlib.Omega.{arith}
 use lib.Dec.{leb, ltb}
 use lib.ListN.{length, take, length-append}
 use lib.Seq.{take-append-le}
-use borrow.Author.Tests.{eq-eqb, leb-true, leb-false, le-ltb}
+use borrow.Author.Tests.{eq-eqb, le-leb, leb-true, leb-false, le-ltb}
 use borrow.Table.Steps.{cases}
 use Rattle.laws.proofs.Tests.{cond-holds}
 use Rattle.headers.specs.Head.{isIn, constructed, typeField}
 use Rattle.octets.specs.Walk.{Items, noItems, item, End, ends, stops, Walked, ended, streamLimit, deepest, run}
 use Rattle.octets.proofs.Walks.{run-step}
+use Rattle.octets.proofs.RulesHold.{derives}
 use Rattle.tree.specs.Tree.{Tree, empty, leaf, branch, plain, treeOf}
 use Rattle.runs.proofs.Laws.{stream-fine, stream-within}
 use Rattle.contents.specs.Search.{is, itemsIn}
@@ -25,23 +26,20 @@ use Rattle.elements.specs.declared.Edition.{Edition}
 use Rattle.elements.specs.Shape.{shapeOf}
 use Rattle.elements.specs.Judge.{profileOctet, firstOf, placeRules}
 use Rattle.letters.specs.Letter.{itemsOfStream}
+use Rattle.letters.proofs.Nested.{Nested, stays}
 use Rattle.answers.specs.declared.Reason.{Reason}
 use Rattle.answers.specs.declared.FirstDated.{FirstDated}
 use Rattle.answers.specs.Answers.{ruled}
-use Rattle.answers.specs.Dates.{DateAnswer, dateAfter, profileIn, dateOf, datePlaces, dateSpan, datedAt, dated}
+use Rattle.answers.specs.Dates.{DateAnswer, dateAfter, profileIn, dateOf, datePlaces, dateSpan, datedAt, dated, Bounds}
 use Rattle.answers.specs.Dating.{refusedDated}
-use Rattle.answers.specs.FirstDates.{firstTree, firstRule, ruledAlone, firstRuled, firstDateOf, withUnread, firstDated, FirstDateOutcome}
+use Rattle.answers.specs.FirstDates.{firstTree, firstRule, ruledAlone, firstRuled, firstDateOf, withUnread, firstDated}
 use Rattle.answers.proofs.Letters.{letter-found}
 use Rattle.answers.proofs.Working.{ruled-letter}
 use Rattle.answers.proofs.Dating.{FirstPasses, first-let, letter-first, passed-profile, met-some}
 use Rattle.answers.proofs.FirstDating.{rule-formed}
 use Rattle.demands.specs.Demands.{IsAccepted}
 use Rattle.demands.specs.FirstDate.{WholeIn, firstNumbersGiven, FirstDate}
-use Rattle.demands.proofs.DocumentDate.{Given, by-rules, a-date, no-one, no-day, after-given, after-empty, numbers-empty, run-items}
-
--- two outcomes that the contract allows are equal
-pub first-date-determined : {edition : Edition} {s : List ℕ} {a b : FirstDated} → FirstDateOutcome edition s a → FirstDateOutcome edition s b → a ≡ b
-first-date-determined x y = x .answered ∙ sym (y .answered)
+use Rattle.demands.proofs.DocumentDate.{Given, by-rules, a-date, no-one, no-day, after-given, after-empty, numbers-empty, run-items, bounds-stand}
 
 -- ---- what follows the first element does not change it
 
@@ -201,6 +199,36 @@ module _ (edition : Edition) where
       absurd (omega arith))
       (λ b. leb-false (length s) 0 b)
 
+  -- the values of a first element that is whole lie before its end
+  alone-nested : (s : List ℕ) (how : End) → walkFirst s .how ≡ how → ruledAlone edition (firstTree s) how .number ≡ 0
+      → (to : ℕ) × (to ≤ length s) × Nested 0 to (walkFirst s .items)
+  alone-nested s (stops number place) e passed = absurd (omega (arith, first-stops s number place (stops-some s number place e) e .0))
+  alone-nested s (ends next) e passed =
+      cases (leb (length s) 0)
+      (λ b.
+      let l = leb-true (length s) 0 b in
+      let nothing : walkFirst s .items ≡ noItems = ap (λ (v : Walked). v .items) (first-none s (omega arith)) in
+      (0, omega arith, rw nothing tt))
+      (λ b.
+      let l = leb-false (length s) 0 b in
+      let walk = run-front deepest s 0 (length s) next l e s refl next (omega arith) in
+      let rest : run deepest s next next false ≡ ended next = run-step deepest s next next false (omega arith) ∙ rw (le-leb next next (omega arith)) in
+      let own = one-item deepest s 0 (length s) next l e in
+      let whole : run deepest s 0 next false .how ≡ ends next = ap (λ (v : Walked). v .how) walk ∙ rw (own .is, rest) in
+      let same : run deepest s 0 next false .items ≡ walkFirst s .items = ap (λ (v : Walked). v .items) walk ∙ rw (own .is, rest) in
+      let values = stays (derives deepest s 0 next false (omega arith)) next whole .nested in
+      (next, one-within deepest s 0 (length s) next l e (omega arith) .1, subst (Nested 0 next) same values))
+
+  first-nested : (s : List ℕ) → firstRuled edition s .number ≡ 0 → (to : ℕ) × (to ≤ length s) × Nested 0 to (walkFirst s .items)
+  unfolding firstRuled
+  first-nested s =
+      cond-holds (λ (r : Reason). r .number ≡ 0 → (to : ℕ) × (to ≤ length s) × Nested 0 to (walkFirst s .items)) (ltb streamLimit (length s))
+      (λ _ z. absurd (omega arith)) (λ _. alone-nested s (walkFirst s .how) refl)
+
+  stands : (s : List ℕ) → Bounds s (firstDateOf edition s .part) (firstDated edition s .first) (firstDated edition s .past)
+  unfolding firstDated firstDateOf
+  stands s = bounds-stand s (walkFirst s .items) (firstRuled edition s) (first-nested s)
+
   alone-given : (s : List ℕ) (how : End) → walkFirst s .how ≡ how → Rules (length s) (ruledAlone edition (firstTree s) how)
   alone-given s (stops number place) e =
       let k = first-stops s number place (stops-some s number place e) e in
@@ -234,5 +262,6 @@ first-date edition =
       front = front edition;
       one-of = λ s. given edition s .0;
       inside = λ s. given edition s .1;
+      stands = stands edition;
       refused-empty = refused-empty edition;
     }

@@ -40,13 +40,17 @@ contents-inside edition s to (item at code first past inside after) w zero row e
     subst (λ (r : Row). Within 0 to (r .content)) own (bounds-at-within 0 to (contentOctet (shape .contents) (plain s inside)) inside (w .3))
 contents-inside edition s to (item at code first past inside after) w (suc j) row e = contents-inside edition s to after (w .4) j row e
 
--- the content fields of a row lie in the stream
-content-inside : (edition : Edition) (s : List ℕ) → Fine s (wholeStream s) → (j : ℕ) (row : Row) → getElem? (rowsIn edition s) j ≡ some row
-    → Within 0 (length s) (row .content)
-content-inside edition s fine =
+-- all values of a stream that is whole lie in it
+pub stream-nested : (s : List ℕ) → Fine s (wholeStream s) → Nested 0 (length s) (itemsOfStream s)
+stream-nested s fine =
     let r = wholeStream s in
     let e = ends-at-limit 0 (length s) (run deepest s 0 (length s) false .how) (ends-right _ s 0 (length s) false (omega arith)) (fine .whole) in
-    contents-inside edition s (length s) (itemsOfStream s) (stays (derives (r .room) s (r .at) (r .limit) (r .marked) (fine .order)) (length s) e .nested)
+    stays (derives (r .room) s (r .at) (r .limit) (r .marked) (fine .order)) (length s) e .nested
+
+-- so do the content fields of a row
+content-inside : (edition : Edition) (s : List ℕ) → Fine s (wholeStream s) → (j : ℕ) (row : Row) → getElem? (rowsIn edition s) j ≡ some row
+    → Within 0 (length s) (row .content)
+content-inside edition s fine = contents-inside edition s (length s) (itemsOfStream s) (stream-nested s fine)
 
 in-stream : (n : ℕ) (pair : Span) → Within 0 n pair → (pair .first ≤ pair .past) × (pair .past ≤ n)
 in-stream n pair (not-there e) = rw e (omega arith, omega arith)

@@ -142,6 +142,7 @@ mailroom edition = record {
   too-long = over edition;
   counts = λ s out. counts-by edition s out (shortLetter edition s);
   untouched = λ s out n. rw (ne-eqb (writtenShort edition s out .number) 0 n);
+  refused-alike = λ s out number place headers l e. rw (le-ltb shortLimit (length s) l, e);
   never-longer = no-longer edition;
   same = λ s out o l. let e = same edition s out o l in (e, rw e);
   room-enough = enough edition;

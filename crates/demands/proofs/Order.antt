@@ -18,7 +18,7 @@ use Rattle.order.specs.declared.Fault.{Fault}
 use Rattle.order.specs.declared.Fault.the-variants.{Nowhere, At}
 use Rattle.order.specs.declared.Ordered.{Ordered}
 use Rattle.order.specs.Fault.{faultOf}
-use Rattle.order.specs.Question.{verdict, outOfOrder, octetAt, OrderIs}
+use Rattle.order.specs.Question.{verdict, outOfOrder, octetAt, OrderIs, by-rule}
 use Rattle.order.specs.Computed.{byFound, byLetter, orderIn}
 use Rattle.order.specs.Streams.{Stream, asked, profile, streams}
 use Rattle.order.proofs.Letters.{answered, computed-is, is-computed}
@@ -32,6 +32,7 @@ module _ (edition : Edition) (class : Class) (s : List ℕ) where
   record Known (r : Ordered) : Type 0 where
     told : (r .number ≤ 15) ⊎ (r .number ≡ outOfOrder)
     inside : r .place ≤ length s
+    at-start : r .number ≡ 0 → r .place ≡ 0
     accepted : (r .number ≡ 0) ⊎ (r .number ≡ outOfOrder) → IsAccepted edition s
 
   octet-inside : (elements : List Element) (n : ℕ) → octetAt s elements n ≤ length s
@@ -40,15 +41,30 @@ module _ (edition : Edition) (class : Class) (s : List ℕ) where
   known-found : (headers : ℕ) (elements : List Element) → letterIn edition s ≡ letter headers elements → (f : Fault)
       → Known (byFound s elements f)
   known-found headers elements e Nowhere =
-      record { told = inl (omega arith); inside = omega arith; accepted = λ z. record { headers = headers; elements = elements; judged = e } }
+      record {
+        told = inl (omega arith);
+        inside = omega arith;
+        at-start = λ _. refl;
+        accepted = λ z. record { headers = headers; elements = elements; judged = e };
+      }
   known-found headers elements e (At n) =
-      record { told = inr refl; inside = octet-inside elements n; accepted = λ z. record { headers = headers; elements = elements; judged = e } }
+      record {
+        told = inr refl;
+        inside = octet-inside elements n;
+        at-start = λ z. let k : _≡_ {A = ℕ} 26 0 = z in absurd (omega arith);
+        accepted = λ z. record { headers = headers; elements = elements; judged = e };
+      }
 
   known : (l : Letter) → letterIn edition s ≡ l → Known (byLetter class s l)
   known (letter headers elements) e = known-found headers elements e (faultOf class elements)
   known (refusal number place headers) e =
       let small = refusal-small edition s number place headers e in
-      record { told = inl (small .high); inside = small .inside; accepted = λ z. absurd (none (small .low, small .high) z) }
+      record {
+        told = inl (small .high);
+        inside = small .inside;
+        at-start = λ z. absurd (omega (arith, small .low));
+        accepted = λ z. absurd (none (small .low, small .high) z);
+      }
     where
       none : (1 ≤ number) × (number ≤ 15) → (number ≡ 0) ⊎ (number ≡ outOfOrder) → ⊥
       none (low, high) (inl z) = omega arith
@@ -63,6 +79,8 @@ module _ (edition : Edition) (class : Class) (s : List ℕ) where
     answered = answered edition class s;
     told = λ r o. known-of r o .told;
     inside = λ r o. known-of r o .inside;
+    at-start = λ place o. known-of (verdict 0 place) o .at-start refl;
+    refused-alike = λ number place headers e r o. answered edition class s .one r (verdict number place) o (by-rule e);
     in-order = λ place o. known-of (verdict 0 place) o .accepted (inl refl);
     out-of-order = λ place o. known-of (verdict outOfOrder place) o .accepted (inr refl);
   }

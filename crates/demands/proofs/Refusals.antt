@@ -1,12 +1,12 @@
 -- A stream is refused by the first of 1 to 15 whose condition holds: of one element the first of its rules that refuses counts, and the
 -- judge goes over the elements in order. So it finds a refusal of the first element that has one, and there is only one such refusal.
--- Assumes nothing.
+-- The judge tests for 10 by the octet of a shape, which is 0 where no shape is found: no item of a stream has the octet 0. Assumes nothing.
 use mathlib.Core.Path.{_≡_, refl, ap, sym, _∙_, subst}
 use mathlib.Core.Logic.{_↔_}
-use mathlib.Core.Bool.{Bool, true, false, not, xor, true≢false, false≢true}
+use mathlib.Core.Bool.{Bool, true, false, cond, not, xor, true≢false, false≢true}
 use mathlib.Core.List.{List, [], _∷_, _++_, map, map-append}
 use mathlib.Core.Option.{some}
-use Prim.Native.Nat.{ℕ, zero, suc, _<_, _≤_}
+use Prim.Native.Nat.{ℕ, zero, suc, _+_, _<_, _≤_}
 use native.Mathlib.Omega.{arith}
 use lib.Dec.{eqb, leb}
 use lib.ListN.{length, take, drop, getElem?, length-map}
@@ -17,15 +17,16 @@ use Rattle.octets.specs.Walk.{count, streamLimit, deepest, End, ends, stops, Wa
 use Rattle.octets.specs.Rules.{Runs}
 use Rattle.octets.proofs.RulesHold.{derived, derives}
 use Rattle.tree.specs.Tree.{Tree, empty, leaf, branch, treeOf}
-use Rattle.contents.specs.Search.{is}
+use Rattle.contents.specs.Search.{is, amount}
 use Rattle.elements.specs.declared.Edition.{Edition}
-use Rattle.elements.specs.Shape.{shapeOf}
+use Rattle.elements.specs.Shape.{Shape, Shapes, shapesOf, shapeIn, shapeOf}
 use Rattle.elements.specs.Judge.{typeOctet, typesOf, valueAt, Element, asTabled, typeFits, namesFit, mostElements, profileOctet, twice, Rule, _when_, firstOf, refusalOf, Judged, accepted, refused, judgeOne, judgeFrom, judge}
 use Rattle.elements.specs.ElementRows.{placeOf}
+use Rattle.elements.proofs.Zero.{none-zero}
 use Rattle.letters.specs.Letter.{refusal, itemsOfStream, afterWalk, byWalk, letterIn}
 use Rattle.judging.proofs.Lists.{below-length}
 use Rattle.answers.proofs.Letters.{refused-walk, refused-element}
-use Rattle.demands.specs.Refusals.{TopItem, topItems, saysIn, Refuses, too-many, unknown, no-profile, later-profile, misshapen, mistyped, misspelt, repeated, RefusedAt, RefusedBy, no-element, at-element, RefusedWith, too-long, at-fault, by-element}
+use Rattle.demands.specs.Refusals.{TopItem, topItems, contentsIn, saysIn, Refuses, too-many, unknown, no-profile, later-profile, misshapen, mistyped, misspelt, repeated, RefusedAt, RefusedBy, no-element, at-element, RefusedWith, too-long, at-fault, by-element}
 
 -- a rule of a list refuses
 data Fires : List Rule → ℕ → Type 0 where
@@ -77,6 +78,46 @@ xor-true true false e = refl
 xor-true false true e = refl
 xor-true false false e = absurd (false≢true e)
 
+-- the octet of the shape that is found for a type field is that field's, if some shape has it
+module _ (type : List ℕ) where
+  listed-by : (shapes : Shapes) → is (shapeIn shapes type .octet) type ≡ false → (k : ℕ) (shape : Shape) → getElem? shapes k ≡ some shape
+      → is (shape .octet) type ≡ false
+  listed-by [] e k shape there = let z : _≡_ {A = ℕ} 0 1 = cc in absurd (omega arith)
+  listed-by (first ∷ more) e zero shape there =
+      let same : first ≡ shape = cc in
+      cases (is (first .octet) type)
+      (λ t.
+      let found : shapeIn (first ∷ more) type ≡ first = rw t in
+      absurd (true≢false (sym (ap (λ (x : Shape). is (x .octet) type) found ∙ t) ∙ e)))
+      (λ t. subst (λ (x : Shape). is (x .octet) type ≡ false) same t)
+  listed-by (first ∷ more) e (suc k) shape there =
+      cases (is (first .octet) type)
+      (λ t.
+      let found : shapeIn (first ∷ more) type ≡ first = rw t in
+      absurd (true≢false (sym (ap (λ (x : Shape). is (x .octet) type) found ∙ t) ∙ e)))
+      (λ t.
+      let found : shapeIn (first ∷ more) type ≡ shapeIn more type = rw t in
+      listed-by more (sym (ap (λ (x : Shape). is (x .octet) type) found) ∙ e) k shape there)
+
+  -- if none has it, the field is not 0
+  unlisted-by : (shapes : Shapes) → is 0 type ≡ false → ((k : ℕ) (shape : Shape) → getElem? shapes k ≡ some shape → is (shape .octet) type ≡ false)
+      → is (shapeIn shapes type .octet) type ≡ false
+  unlisted-by [] other without = other
+  unlisted-by (first ∷ more) other without =
+      let t = without zero first refl in
+      let found : shapeIn (first ∷ more) type ≡ shapeIn more type = rw t in
+      ap (λ (x : Shape). is (x .octet) type) found ∙ unlisted-by more other (λ k shape there. without (suc k) shape there)
+
+  pub unlisted : (edition : Edition) → is (shapeOf edition type .octet) type ≡ false → (k : ℕ) (shape : Shape) → getElem? (shapesOf edition) k ≡ some shape
+      → is (shape .octet) type ≡ false
+  unfolding shapeOf
+  unlisted edition e = listed-by (shapesOf edition) e
+
+  not-found : (edition : Edition) → is 0 type ≡ false → ((k : ℕ) (shape : Shape) → getElem? (shapesOf edition) k ≡ some shape → is (shape .octet) type ≡ false)
+      → is (shapeOf edition type .octet) type ≡ false
+  unfolding shapeOf
+  not-found edition other without = unlisted-by (shapesOf edition) other without
+
 module _ (edition : Edition) (before : List TopItem) (item : TopItem) where
   abbrev done : List Element
   done = map (saysIn edition) before
@@ -106,7 +147,7 @@ module _ (edition : Edition) (before : List TopItem) (item : TopItem) where
 
   fires-refuses : (n : ℕ) → Fires rules n → Refuses edition before item n
   fires-refuses n (here t) = too-many (let l = leb-true mostElements (length done) t in omega (arith, counted))
-  fires-refuses n (later (here t)) = unknown (not-true _ t)
+  fires-refuses n (later (here t)) = unknown (unlisted (item .type) edition (not-true _ t))
   fires-refuses n (later (later (here t))) = no-or-later t
   fires-refuses n (later (later (later (here t)))) = misshapen (not-true _ t)
   fires-refuses n (later (later (later (later (here t))))) = mistyped (not-true _ t)
@@ -114,21 +155,21 @@ module _ (edition : Edition) (before : List TopItem) (item : TopItem) where
   fires-refuses n (later (later (later (later (later (later (here t))))))) = repeated t
   fires-refuses n (later (later (later (later (later (later (later f))))))) = absurd (no-rule [] refl n f)
 
-  refuses-fires : (n : ℕ) → Refuses edition before item n → Fires rules n
+  refuses-fires : is 0 (item .type) ≡ false → (n : ℕ) → Refuses edition before item n → Fires rules n
   unfolding xor
-  refuses-fires n (too-many l) = here (le-leb mostElements (length done) (omega (arith, counted)))
-  refuses-fires n (unknown e) = later (here (ap not e))
-  refuses-fires n (no-profile z e) =
+  refuses-fires other n (too-many l) = here (le-leb mostElements (length done) (omega (arith, counted)))
+  refuses-fires other n (unknown e) = later (here (ap not (not-found (item .type) edition other e)))
+  refuses-fires other n (no-profile z e) =
       let f : xor (eqb (length done) 0) (is profileOctet (item .type)) ≡ true = rw (eq-eqb (length done) 0 (counted ∙ z), e) in
       later (later (here f))
-  refuses-fires n (later-profile l e) =
+  refuses-fires other n (later-profile l e) =
       let nonzero : length done ≡ 0 → ⊥ = λ z. omega (arith, counted) in
       let f : xor (eqb (length done) 0) (is profileOctet (item .type)) ≡ true = rw (ne-eqb (length done) 0 nonzero, e) in
       later (later (here f))
-  refuses-fires n (misshapen e) = later (later (later (here (ap not e))))
-  refuses-fires n (mistyped e) = later (later (later (later (here (ap not e)))))
-  refuses-fires n (misspelt e) = later (later (later (later (later (here (ap not e))))))
-  refuses-fires n (repeated t) = later (later (later (later (later (later (here t))))))
+  refuses-fires other n (misshapen e) = later (later (later (here (ap not e))))
+  refuses-fires other n (mistyped e) = later (later (later (later (here (ap not e)))))
+  refuses-fires other n (misspelt e) = later (later (later (later (later (here (ap not e))))))
+  refuses-fires other n (repeated t) = later (later (later (later (later (later (here t))))))
 
   abbrev number : ℕ
   number = refusalOf edition done (item .type) (item .run)
@@ -137,21 +178,21 @@ module _ (edition : Edition) (before : List TopItem) (item : TopItem) where
   unfolding refusalOf
   number-is = first-is 0 rules (omega arith, (omega arith, (omega arith, (omega arith, (omega arith, (omega arith, (omega arith, tt)))))))
 
-  -- no rule refuses the element
+  -- no rule of the judge refuses the element
   abbrev Passes : Type 0
-  Passes = (n : ℕ) → Refuses edition before item n → ⊥
+  Passes = (n : ℕ) → Fires rules n → ⊥
 
   -- a rule does, and none before it
   abbrev First : ℕ → Type 0
-  First m = Refuses edition before item m × ((n : ℕ) → n < m → Refuses edition before item n → ⊥)
+  First m = Fires rules m × ((n : ℕ) → n < m → Fires rules n → ⊥)
 
   passes-by : {m : ℕ} → FirstIs rules m → m ≡ 0 → Passes
-  passes-by (none-fires never) z n r = never n (refuses-fires n r)
-  passes-by (first-fires above f earlier) z n r = omega arith
+  passes-by (none-fires never) z n f = never n f
+  passes-by (first-fires above f earlier) z n g = omega arith
 
   first-by : {m : ℕ} → FirstIs rules m → (m ≡ 0 → ⊥) → First m
   first-by (none-fires never) nonzero = absurd (nonzero refl)
-  first-by {m} (first-fires above f earlier) nonzero = (fires-refuses m f, λ n l r. earlier n l (refuses-fires n r))
+  first-by (first-fires above f earlier) nonzero = (f, earlier)
 
 -- what stands at k of a list
 module _ {A : Type 0} where
@@ -183,10 +224,18 @@ module _ (edition : Edition) (items : List TopItem) where
   abbrev PassBefore : ℕ → Type 0
   PassBefore k = (i : ℕ) (other : TopItem) → i < k → getElem? items i ≡ some other → Passes edition (take i items) other
 
+  -- a rule of the judge refuses element j, none before it does, and all before j pass
+  record FiredAt (number j : ℕ) : Type 0 where
+    item : TopItem
+    there : getElem? items j ≡ some item
+    fires : Fires (rules edition (take j items) item) number
+    no-earlier : (n : ℕ) → n < number → Fires (rules edition (take j items) item) n → ⊥
+    all-before : PassBefore j
+
   -- what the judge says of the elements
   abbrev Describes : Judged → Type 0
   Describes (accepted elements) = (elements ≡ map (saysIn edition) items) × PassBefore (length items)
-  Describes (refused number j) = RefusedAt edition items number j
+  Describes (refused number j) = FiredAt number j
 
   one-more : (k : ℕ) (item : TopItem) → getElem? items k ≡ some item → PassBefore k → Passes edition (take k items) item → PassBefore (suc k)
   one-more k item there earlier passes i other l at =
@@ -216,7 +265,7 @@ module _ (edition : Edition) (items : List TopItem) where
       (λ t.
       let first = first-by edition before item is (eqb-false _ 0 t) in
       let at : length (done edition before item) ≡ k = counted edition before item ∙ o .counted in
-      rw (t, at) (record { item = item; there = o .there; refuses = first .0; no-earlier = first .1; all-before = earlier }))
+      rw (t, at) (record { item = item; there = o .there; fires = first .0; no-earlier = first .1; all-before = earlier }))
 
   describes-from : (k : ℕ) (t : Tree) → drop k items ≡ topItems t → PassBefore k → Describes (judgeFrom edition (map (saysIn edition) (take k items)) t)
   unfolding judgeFrom
@@ -245,22 +294,63 @@ module _ (edition : Edition) (items : List TopItem) where
       let not-above : m < n → ⊥ = λ l. a .no-earlier m l (subst (λ (x : TopItem). Refuses edition (take j items) x m) (sym q) (b .refuses)) in
       omega arith
 
+-- no item of a tree has the octet 0
+abbrev Typed : Tree → Type 0
+Typed t = (i : ℕ) (item : TopItem) → getElem? (topItems t) i ≡ some item → is 0 (item .type) ≡ false
+
+typed-first : (type : List ℕ) (run : Tree) (n : ℕ) → cond (is 0 type) 1 0 + n ≡ 0 → (item : TopItem) → record { type = type; run = run } ≡ item
+    → is 0 (item .type) ≡ false
+typed-first type run n e item same =
+    subst (λ (x : TopItem). is 0 (x .type) ≡ false) same
+    (cases (is 0 type) (λ t. let one : cond (is 0 type) 1 0 + n ≡ 1 + n = rw t in absurd (omega (arith, sym one ∙ e))) (λ t. t))
+
+typed-by : (t : Tree) → amount 0 t ≡ 0 → Typed t
+unfolding amount
+typed-by empty e i item there = let z : _≡_ {A = ℕ} 0 1 = cc in absurd (omega arith)
+typed-by (leaf type value after) e zero item there =
+    let same : record { type = type; run = empty } ≡ item = cc in typed-first type empty (amount 0 after) e item same
+typed-by (leaf type value after) e (suc i) item there = typed-by after (omega arith) i item there
+typed-by (branch type inside after) e zero item there =
+    let same : record { type = type; run = inside } ≡ item = cc in typed-first type inside (amount 0 after) e item same
+typed-by (branch type inside after) e (suc i) item there = typed-by after (omega arith) i item there
+
+pub typed-stream : (s : List ℕ) → Typed (treeOf s)
+typed-stream s = typed-by (treeOf s) (none-zero (derives deepest s 0 (length s) false (omega arith)) 0 refl)
+
 module _ (edition : Edition) where
+  -- a rule of the judge refuses a tree
+  data Fired (t : Tree) : (number j : ℕ) → Type 0 where
+    no-items : t ≡ empty → Fired t 11 0
+    at-item : {number j : ℕ} → FiredAt edition (topItems t) number j → Fired t number j
+
+  -- and then it is refused as is said
+  refused-from : (t : Tree) → Typed t → {n j : ℕ} → Fired t n j → RefusedBy edition t n j
+  refused-from t typed (no-items e) = no-element e
+  refused-from t typed {n} {j} (at-item f) =
+      let items = topItems t in
+      at-element (record {
+        item = f .item;
+        there = f .there;
+        refuses = fires-refuses edition (take j items) (f .item) n (f .fires);
+        no-earlier = λ m l r. f .no-earlier m l (refuses-fires edition (take j items) (f .item) (typed j (f .item) (f .there)) m r);
+        all-before = λ i other l at m r. f .all-before i other l at m (refuses-fires edition (take i items) other (typed i other at) m r);
+      })
+
   -- what the judge says of a tree
   abbrev Tells : Tree → Judged → Type 0
   Tells t (accepted elements) = (elements ≡ map (saysIn edition) (topItems t)) × PassBefore edition (topItems t) (length (topItems t)) × (t ≡ empty → ⊥)
-  Tells t (refused number j) = RefusedBy edition t number j
+  Tells t (refused number j) = Fired t number j
 
   from-items : (t : Tree) → (t ≡ empty → ⊥) → (j : Judged) → Describes edition (topItems t) j → Tells t j
   from-items t items-there (accepted elements) (e, all) = (e, all, items-there)
-  from-items t items-there (refused number j) at = at-element at
+  from-items t items-there (refused number j) at = at-item at
 
   from-first : (t : Tree) → Describes edition (topItems t) (judgeFrom edition [] t)
   from-first t = describes-from edition (topItems t) 0 t refl (λ i other l at. absurd (omega arith))
 
   judge-tells : (t : Tree) → Tells t (judge edition t)
   unfolding judge
-  judge-tells empty = no-element refl
+  judge-tells empty = no-items refl
   judge-tells (leaf type value after) =
       let t = leaf type value after in from-items t (λ e. let z : _≡_ {A = ℕ} 0 1 = cc in omega arith) (judgeFrom edition [] t) (from-first t)
   judge-tells (branch type inside after) =
@@ -280,27 +370,41 @@ module _ (edition : Edition) where
       let p : j ≡ k = same-place edition (topItems t) a b in
       (same-number edition (topItems t) (subst (RefusedAt edition (topItems t) n) p a) b, p)
 
-  not-both : (t : Tree) (elements : List Element) → Tells t (accepted elements) → (n j : ℕ) → RefusedBy edition t n j → ⊥
-  not-both t elements (e, all, items-there) n j (no-element f) = items-there f
-  not-both t elements (e, all, items-there) n j (at-element a) =
-      all j (a .item) (below-length (topItems t) j (a .item) (a .there)) (a .there) n (a .refuses)
+  not-both : (t : Tree) → Typed t → (elements : List Element) → Tells t (accepted elements) → (n j : ℕ) → RefusedBy edition t n j → ⊥
+  not-both t typed elements (e, all, items-there) n j (no-element f) = items-there f
+  not-both t typed elements (e, all, items-there) n j (at-element a) =
+      all j (a .item) (below-length (topItems t) j (a .item) (a .there)) (a .there) n
+      (refuses-fires edition (take j (topItems t)) (a .item) (typed j (a .item) (a .there)) n (a .refuses))
 
   -- what the elements of an accepted tree say
   pub accepted-elements : (t : Tree) (elements : List Element) → judge edition t ≡ accepted elements → elements ≡ map (saysIn edition) (topItems t)
   accepted-elements t elements e = subst (Tells t) e (judge-tells t) .0
 
-  -- and no rule refuses one of them
-  pub accepted-pass : (t : Tree) (elements : List Element) → judge edition t ≡ accepted elements → (i : ℕ) (item : TopItem)
+  -- no rule refuses one of them
+  fires-none : (t : Tree) (elements : List Element) → judge edition t ≡ accepted elements → (i : ℕ) (item : TopItem)
+      → getElem? (topItems t) i ≡ some item → Passes edition (take i (topItems t)) item
+  fires-none t elements e i item there = subst (Tells t) e (judge-tells t) .1 i item (below-length (topItems t) i item there) there
+
+  pub accepted-pass : (t : Tree) → Typed t → (elements : List Element) → judge edition t ≡ accepted elements → (i : ℕ) (item : TopItem)
       → getElem? (topItems t) i ≡ some item → (n : ℕ) → Refuses edition (take i (topItems t)) item n → ⊥
-  accepted-pass t elements e i item there = subst (Tells t) e (judge-tells t) .1 i item (below-length (topItems t) i item there) there
+  accepted-pass t typed elements e i item there n r =
+      fires-none t elements e i item there n (refuses-fires edition (take i (topItems t)) item (typed i item there) n r)
 
-  refused-by : (t : Tree) (n j : ℕ) → judge edition t ≡ refused n j → RefusedBy edition t n j
-  refused-by t n j e = subst (Tells t) e (judge-tells t)
+  -- their contents are as tabled
+  pub accepted-tabled : (t : Tree) (elements : List Element) → judge edition t ≡ accepted elements → (i : ℕ) (item : TopItem)
+      → getElem? (topItems t) i ≡ some item → asTabled (contentsIn edition item) (item .run) ≡ true
+  accepted-tabled t elements e i item there =
+      cases (asTabled (contentsIn edition item) (item .run))
+      (λ b. b)
+      (λ b. absurd (fires-none t elements e i item there 12 (later (later (later (here (ap not b)))))))
 
-  pub by-refused : (t : Tree) (n j : ℕ) → RefusedBy edition t n j → (found : Judged) → judge edition t ≡ found → found ≡ refused n j
-  by-refused t n j r (accepted elements) e = absurd (not-both t elements (subst (Tells t) e (judge-tells t)) n j r)
-  by-refused t n j r (refused m k) e =
-      let (p, q) = only-one t m k n j (subst (Tells t) e (judge-tells t)) r in rw (p, q)
+  refused-by : (t : Tree) → Typed t → (n j : ℕ) → judge edition t ≡ refused n j → RefusedBy edition t n j
+  refused-by t typed n j e = refused-from t typed (subst (Tells t) e (judge-tells t))
+
+  pub by-refused : (t : Tree) → Typed t → (n j : ℕ) → RefusedBy edition t n j → (found : Judged) → judge edition t ≡ found → found ≡ refused n j
+  by-refused t typed n j r (accepted elements) e = absurd (not-both t typed elements (subst (Tells t) e (judge-tells t)) n j r)
+  by-refused t typed n j r (refused m k) e =
+      let (p, q) = only-one t m k n j (refused-by t typed m k e) r in rw (p, q)
 
 -- the stream
 module _ (edition : Edition) (s : List ℕ) where
@@ -328,7 +432,7 @@ module _ (edition : Edition) (s : List ℕ) where
       (count items, refused-walk edition s number place (count items) e)
   is-refused (by-element {number} {j} {end} {items} l runs r) =
       let e : walkOf s ≡ Ended end (count items) = walked-within l ∙ ap answer (sym (derived runs)) in
-      (count items, refused-element edition s end (count items) number j e (by-refused edition (treeOf s) number j r (judge edition (treeOf s)) refl))
+      (count items, refused-element edition s end (count items) number j e (by-refused edition (treeOf s) (typed-stream s) number j r (judge edition (treeOf s)) refl))
 
   -- the other way: by how the walk ended, and by what the judge says
   judged-refused : (number place headers count : ℕ) → length s ≤ streamLimit → (end : ℕ) → top .how ≡ ends end → (found : Judged)
@@ -338,7 +442,7 @@ module _ (edition : Edition) (s : List ℕ) where
       let p : n ≡ number = cc in
       let q : placeOf k (itemsOfStream s) ≡ place = cc in
       let r : RefusedWith edition s n (placeOf k (itemsOfStream s)) =
-      by-element l (subst (Runs s deepest 0 (length s) false (top .items)) h rules-hold) (refused-by edition (treeOf s) n k j) in
+      by-element l (subst (Runs s deepest 0 (length s) false (top .items)) h rules-hold) (refused-by edition (treeOf s) (typed-stream s) n k j) in
       subst (RefusedWith edition s number) q (subst (λ (m : ℕ). RefusedWith edition s m (placeOf k (itemsOfStream s))) p r)
 
   walked-refused : (number place headers : ℕ) → length s ≤ streamLimit → (how : End) → top .how ≡ how

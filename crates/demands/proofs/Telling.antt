@@ -34,10 +34,10 @@ use Rattle.elements.specs.Judge.{contentIn, contentOf, piecesAlone, sealOctet, 
 use Rattle.elements.specs.WellMade.{Formed}
 use Rattle.elements.proofs.Made.{formed as holders-formed}
 use Rattle.letters.proofs.Nested.{past-between, stays}
-use Rattle.demands.specs.Refusals.{TopItem, topItems, contentsIn, saysIn, misshapen}
+use Rattle.demands.specs.Refusals.{TopItem, topItems, contentsIn, saysIn}
 use Rattle.demands.specs.Demands.{itemCount, TellsValue, TellsContent, portionItems, CodesAlone, RowTells}
 use Rattle.demands.proofs.Alone.{Alone}
-use Rattle.demands.proofs.Refusals.{accepted-elements, accepted-pass}
+use Rattle.demands.proofs.Refusals.{accepted-elements, accepted-tabled}
 
 -- the count of the items is that of the tree
 pub count-tree : {s : List ℕ} {room at limit : ℕ} {marked : Bool} {i : Items} {e : End} → Runs s room at limit marked i e → count i ≡ itemCount (plain s i)
@@ -378,12 +378,6 @@ module _ (edition : Edition) (s : List ℕ) {i : Items} (p : Proper s deepest i)
   pub rows-counted : length (rowsOf edition s i) ≡ length elements
   rows-counted = rows-count edition s p ∙ tops-counted
 
-  as-tabled : (j : ℕ) (top : TopItem) → getElem? (topItems (plain s i)) j ≡ some top → asTabled (contentsIn edition top) (top .run) ≡ true
-  as-tabled j top there =
-      cases (asTabled (contentsIn edition top) (top .run))
-      (λ t. t)
-      (λ t. absurd (accepted-pass edition (plain s i) elements judged j top there 12 (misshapen t)))
-
   pub rows-tell : Alone s (length s) i → (j : ℕ) (row : Row) (top : TopItem) (element : Element) → getElem? (rowsOf edition s i) j ≡ some row
       → getElem? (topItems (plain s i)) j ≡ some top → getElem? elements j ≡ some element → RowTells edition s row top element
   rows-tell a j row top element e there f =
@@ -392,7 +386,7 @@ module _ (edition : Edition) (s : List ℕ) {i : Items} (p : Proper s deepest i)
       sym (said-at edition (topItems (plain s i)) j top there)
       ∙ ap (λ (es : List Element). getElem? es j) (sym (accepted-elements edition (plain s i) elements judged)) ∙ f in
       let x : saysIn edition top ≡ element = cc in
-      let tabled = subst (λ (y : TopItem). asTabled (contentsIn edition y) (y .run) ≡ true) (sym (o .item-is)) (as-tabled j top there) in
+      let tabled = subst (λ (y : TopItem). asTabled (contentsIn edition y) (y .run) ≡ true) (sym (o .item-is)) (accepted-tabled edition (plain s i) elements judged j top there) in
       let told = row-tells edition s (o .code) (o .first) (o .past) (o .inside) (o .inside-proper) (o .whole) (tabled-portions _ _ tabled) in
       let at-item = subst (λ (y : TopItem). RowTells edition s (rowOf (shapeAt edition s (o .code)) s (o .first) (o .past) (o .inside)) y (saysIn edition y)) (o .item-is) told in
       subst (λ (r : Row). RowTells edition s r top element) (o .row-is)

@@ -17,7 +17,8 @@ use Rattle.rows.specs.Rows.{nameSpaceOf}
 use Rattle.contents.specs.Search.{absent, octets, amount, firstValue, firstRun, boundsOf, itemsIn as insideOf, inOrder}
 use Rattle.pieces.specs.Pieces.{onlyPieces, joined}
 use Rattle.portions.specs.Portions.{allPortions, values, wellSpelt, among, repeats}
-use Rattle.elements.specs.declared.Edition.the-variants.{Of1988}
+use Rattle.elements.specs.declared.Edition.{Edition}
+use Rattle.elements.specs.declared.Edition.the-variants.{Of1988, Of1993}
 use Rattle.elements.specs.Shape.{shapeOf}
 use Rattle.elements.specs.Judge.{Content, single, inPieces, contentOf, joinedContent, Element, bodyOf, elementOf, itemsInOrder, asTabled, namesFit, clash, twice, refusalOf, judgeOne, judgeFrom, judge}
 use Rattle.elements.specs.declared.Row.{Row}
@@ -31,7 +32,7 @@ use Rattle.answers.specs.declared.Checked.{Checked}
 use Rattle.answers.specs.declared.Written.{Written}
 use Rattle.answers.specs.declared.Listed.{Listed}
 use Rattle.answers.specs.declared.Copied.{Copied}
-use Rattle.answers.specs.Answers.{onto, checked, CheckOutcome, written, writtenOutput, NormalOutcome, listed, listedList, ListOutcome, fetched, joinedIn, copied, copiedOutput, JoinedOutcome}
+use Rattle.answers.specs.Answers.{onto, checked, CheckOutcome, written, writtenOutput, NormalOutcome, listed, listedList, ListOutcome, fetched, PartOutcome, joinedIn, copied, copiedOutput, JoinedOutcome}
 use Rattle.demands.specs.Demands.{itemCount}
 use Rattle.demands.proofs.Demand1.{demand1}
 use Rattle.demands.proofs.Telling.{count-tree}
@@ -53,20 +54,20 @@ abbrev Joiner : Type 0
 Joiner = (s : List ℕ) (asked : ℕ) (out : List ℕ) → Copied × List ℕ
 
 -- programs that meet the contracts
-abbrev pub Checks : Checker → Type 0
-Checks f = (s table : List ℕ) → CheckOutcome Of1988 s table (f s table .0) (f s table .1)
+abbrev pub Checks : Edition → Checker → Type 0
+Checks edition f = (s table : List ℕ) → CheckOutcome edition s table (f s table .0) (f s table .1)
 
-abbrev pub Writes : Writer → Type 0
-Writes f = (s out : List ℕ) → NormalOutcome Of1988 s out (f s out .0) (f s out .1)
+abbrev pub Writes : Edition → Writer → Type 0
+Writes edition f = (s out : List ℕ) → NormalOutcome edition s out (f s out .0) (f s out .1)
 
-abbrev pub Lists : Lister → Type 0
-Lists f = (side : Side) (s table : List ℕ) (list : List Match) → ListOutcome Of1988 side s table list (f side s table list .0) (f side s table list .1) (f side s table list .2)
+abbrev pub Lists : Edition → Lister → Type 0
+Lists edition f = (side : Side) (s table : List ℕ) (list : List Match) → ListOutcome edition side s table list (f side s table list .0) (f side s table list .1) (f side s table list .2)
 
-abbrev pub FetchesParts : Fetcher → Type 0
-FetchesParts f = (s : List ℕ) (asked : ℕ) → f s asked ≡ fetched Of1988 s asked .part
+abbrev pub FetchesParts : Edition → Fetcher → Type 0
+FetchesParts edition f = (s : List ℕ) (asked : ℕ) → PartOutcome edition s asked (f s asked)
 
-abbrev pub Joins : Joiner → Type 0
-Joins f = (s : List ℕ) (asked : ℕ) (out : List ℕ) → JoinedOutcome Of1988 s asked out (f s asked out .0) (f s asked out .1)
+abbrev pub Joins : Edition → Joiner → Type 0
+Joins edition f = (s : List ℕ) (asked : ℕ) (out : List ℕ) → JoinedOutcome edition s asked out (f s asked out .0) (f s asked out .1)
 
 -- a table of three rows
 abbrev table : List ℕ
@@ -123,41 +124,50 @@ firstElement (m ∷ ms) = m .element
 abbrev noMatch : Match
 noMatch = record { element = 9; portion = 9; unit = 9 }
 
-accepts-profile : checked Of1988 profile table ≡ record { number = 0; place = 0; headers = 1; elements = 1 }
+accepts-profile : (edition : Edition) → checked edition profile table ≡ record { number = 0; place = 0; headers = 1; elements = 1 }
 unfolding permits formAllowed bigEndianFrom misfits definiteAt indefiniteAt longAt byFirst lengthAt itemAt closingAt headAt runFor run walkOf amount firstValue firstRun allPortions values wellSpelt repeats shapeOf bodyOf contentOf elementOf itemsInOrder asTabled namesFit clash twice refusalOf judgeOne judgeFrom judge placeOf letterIn checked xor
-accepts-profile = refl
+accepts-profile Of1988 = refl
+accepts-profile Of1993 = refl
 
-refuses-nothing : checked Of1988 [] table .number ≡ 11
+refuses-nothing : (edition : Edition) → checked edition [] table .number ≡ 11
 unfolding runFor run walkOf judge placeOf letterIn checked
-refuses-nothing = refl
+refuses-nothing Of1988 = refl
+refuses-nothing Of1993 = refl
 
-two-headers : checked Of1988 two table .headers ≡ 2
+two-headers : (edition : Edition) → checked edition two table .headers ≡ 2
 unfolding permits formAllowed bigEndianFrom misfits definiteAt indefiniteAt longAt byFirst lengthAt itemAt closingAt headAt runFor run walkOf amount firstValue firstRun allPortions values wellSpelt repeats shapeOf bodyOf contentOf elementOf itemsInOrder asTabled namesFit clash twice refusalOf judgeOne judgeFrom judge placeOf letterIn checked xor
-two-headers = refl
+two-headers Of1988 = refl
+two-headers Of1993 = refl
 
-one-header : checked Of1988 marked table .headers ≡ 1
+one-header : (edition : Edition) → checked edition marked table .headers ≡ 1
 unfolding permits formAllowed bigEndianFrom misfits definiteAt indefiniteAt longAt byFirst lengthAt itemAt closingAt headAt runFor run walkOf amount firstValue firstRun allPortions values wellSpelt repeats shapeOf bodyOf contentOf elementOf itemsInOrder asTabled namesFit clash twice refusalOf judgeOne judgeFrom judge placeOf letterIn checked xor
-one-header = refl
+one-header Of1988 = refl
+one-header Of1993 = refl
 
-shorter-form : (written Of1988 marked nines .number ≡ 0) × (writtenOutput Of1988 marked nines ≡ 0xA0 ∷ 0x00 ∷ 9 ∷ 9 ∷ [])
+shorter-form : (edition : Edition) → (written edition marked nines .number ≡ 0) × (writtenOutput edition marked nines ≡ 0xA0 ∷ 0x00 ∷ 9 ∷ 9 ∷ [])
 unfolding permits formAllowed bigEndianFrom misfits definiteAt indefiniteAt longAt byFirst lengthAt itemAt closingAt headAt runFor run walkOf amount firstValue firstRun allPortions values wellSpelt repeats shapeOf bodyOf contentOf elementOf itemsInOrder asTabled namesFit clash twice refusalOf judgeOne judgeFrom judge placeOf letterIn numberOctets normalOf written writtenOutput xor
-shorter-form = (refl, refl)
+shorter-form Of1988 = (refl, refl)
+shorter-form Of1993 = (refl, refl)
 
-one-match : listedList Of1988 Layout printed table (noMatch ∷ []) ≡ record { element = 1; portion = 0; unit = 2 } ∷ []
+one-match : (edition : Edition) → listedList edition Layout printed table (noMatch ∷ []) ≡ record { element = 1; portion = 0; unit = 2 } ∷ []
 unfolding permits formAllowed bigEndianFrom misfits definiteAt indefiniteAt longAt byFirst lengthAt itemAt closingAt headAt runFor run walkOf amount firstValue firstRun inOrder allPortions values wellSpelt among repeats isDigit grouped isIdentifier allDigits isPortion same nameSpaceOf shapeOf bodyOf contentOf elementOf itemsInOrder asTabled namesFit clash twice refusalOf judgeOne judgeFrom judge placeOf letterIn joins forEach portionMatches elementMatches matches listed listedList xor
-one-match = refl
+one-match Of1988 = refl
+one-match Of1993 = refl
 
-some-content : fetched Of1988 printed 2 .part ≡ 0x48 ∷ 0x69 ∷ []
+some-content : (edition : Edition) → fetched edition printed 2 .part ≡ 0x48 ∷ 0x69 ∷ []
 unfolding permits formAllowed bigEndianFrom misfits definiteAt indefiniteAt longAt byFirst lengthAt itemAt closingAt headAt runFor run walkOf amount firstValue firstRun inOrder allPortions values wellSpelt among repeats isDigit grouped isIdentifier allDigits isPortion same nameSpaceOf shapeOf bodyOf contentOf elementOf itemsInOrder asTabled namesFit clash twice refusalOf judgeOne judgeFrom judge placeOf letterIn fetched xor
-some-content = refl
+some-content Of1988 = refl
+some-content Of1993 = refl
 
-pieced-letter : letterIn Of1988 pieced ≡ letter 5 piecedElements
+pieced-letter : (edition : Edition) → letterIn edition pieced ≡ letter 5 piecedElements
 unfolding permits formAllowed bigEndianFrom misfits definiteAt indefiniteAt longAt byFirst lengthAt itemAt closingAt headAt runFor run walkOf amount firstValue firstRun inOrder allPortions values wellSpelt among repeats isDigit grouped isIdentifier allDigits isPortion same nameSpaceOf onlyPieces shapeOf bodyOf contentOf elementOf itemsInOrder asTabled namesFit clash twice refusalOf judgeOne judgeFrom judge placeOf letterIn xor
-pieced-letter = refl
+pieced-letter Of1988 = refl
+pieced-letter Of1993 = refl
 
-joined-pieces : (copied Of1988 pieced 1 nines .number ≡ 0) × (copiedOutput Of1988 pieced 1 nines ≡ 0x48 ∷ 0x69 ∷ 9 ∷ 9 ∷ [])
+joined-pieces : (edition : Edition) → (copied edition pieced 1 nines .number ≡ 0) × (copiedOutput edition pieced 1 nines ≡ 0x48 ∷ 0x69 ∷ 9 ∷ 9 ∷ [])
 unfolding permits formAllowed bigEndianFrom misfits definiteAt indefiniteAt longAt byFirst lengthAt itemAt closingAt headAt runFor run walkOf amount firstValue firstRun inOrder allPortions values wellSpelt among repeats isDigit grouped isIdentifier allDigits isPortion same nameSpaceOf shapeOf bodyOf contentOf elementOf itemsInOrder asTabled namesFit clash twice refusalOf judgeOne judgeFrom judge placeOf letterIn onlyPieces joined joinedIn copied copiedOutput xor
-joined-pieces = (refl, refl)
+joined-pieces Of1988 = (refl, refl)
+joined-pieces Of1993 = (refl, refl)
 
 -- the row of its text unit, whose content fields give the value of the 24
 abbrev piecedRow : Row
@@ -171,75 +181,76 @@ piecedRow = record {
   content = record { first = 6; past = 12 };
 }
 
-row-of-pieces : getElem? (rowsIn Of1988 pieced) 1 ≡ some piecedRow
+row-of-pieces : (edition : Edition) → getElem? (rowsIn edition pieced) 1 ≡ some piecedRow
 unfolding permits formAllowed bigEndianFrom misfits definiteAt indefiniteAt longAt byFirst lengthAt itemAt closingAt headAt runFor run walkOf amount firstValue firstRun inOrder allPortions values wellSpelt among repeats isDigit grouped isIdentifier allDigits isPortion same nameSpaceOf shapeOf bodyOf contentOf elementOf itemsInOrder asTabled namesFit clash twice refusalOf judgeOne judgeFrom judge placeOf letterIn onlyPieces bodyIn contentOctet boundsOf insideOf rowOf rowsOf xor
-row-of-pieces = refl
+row-of-pieces Of1988 = refl
+row-of-pieces Of1993 = refl
 
 -- no checker refuses every stream,
-pub refuses-all : (f : Checker) → Checks f → ((s rows : List ℕ) → f s rows .0 .number ≡ 0 → ⊥) → ⊥
-refuses-all f meets wrong =
-    wrong profile table (ap (λ (a : Checked). a .number) (meets profile table .answered ∙ accepts-profile))
+pub refuses-all : (edition : Edition) (f : Checker) → Checks edition f → ((s rows : List ℕ) → f s rows .0 .number ≡ 0 → ⊥) → ⊥
+refuses-all edition f meets wrong =
+    wrong profile table (ap (λ (a : Checked). a .number) (meets profile table .answered ∙ accepts-profile edition))
 
 -- or gives one fixed answer;
-pub fixed-answer : (f : Checker) → Checks f → (fixed : Checked) → ((s rows : List ℕ) → f s rows .0 ≡ fixed) → ⊥
-fixed-answer f meets fixed wrong =
-    let a : fixed .number ≡ 0 = ap (λ (x : Checked). x .number) (sym (wrong profile table) ∙ meets profile table .answered ∙ accepts-profile) in
-    let b : fixed .number ≡ 11 = ap (λ (x : Checked). x .number) (sym (wrong [] table) ∙ meets [] table .answered) ∙ refuses-nothing in
+pub fixed-answer : (edition : Edition) (f : Checker) → Checks edition f → (fixed : Checked) → ((s rows : List ℕ) → f s rows .0 ≡ fixed) → ⊥
+fixed-answer edition f meets fixed wrong =
+    let a : fixed .number ≡ 0 = ap (λ (x : Checked). x .number) (sym (wrong profile table) ∙ meets profile table .answered ∙ accepts-profile edition) in
+    let b : fixed .number ≡ 11 = ap (λ (x : Checked). x .number) (sym (wrong [] table) ∙ meets [] table .answered) ∙ refuses-nothing edition in
     omega arith
 
 -- none makes a header count up: a count that on one stream within the limit is not that of the tree's items breaks the contract,
-pub made-up-headers : (f : Checker) → Checks f → (s rows : List ℕ) → length s ≤ streamLimit → (f s rows .0 .headers ≡ itemCount (treeOf s) → ⊥) → ⊥
-made-up-headers f meets s rows within wrong =
-    wrong (ap (λ (x : Checked). x .headers) (meets s rows .answered) ∙ demand1 Of1988 .headers s rows within
+pub made-up-headers : (edition : Edition) (f : Checker) → Checks edition f → (s rows : List ℕ) → length s ≤ streamLimit → (f s rows .0 .headers ≡ itemCount (treeOf s) → ⊥) → ⊥
+made-up-headers edition f meets s rows within wrong =
+    wrong (ap (λ (x : Checked). x .headers) (meets s rows .answered) ∙ demand1 edition .headers s rows within
     ∙ count-tree (derives deepest s 0 (length s) false (omega arith)))
 
 -- and so does one that is told from the stream's length;
-pub headers-by-length : (f : Checker) → Checks f → (made-up : ℕ → ℕ) → ((s rows : List ℕ) → f s rows .0 .headers ≡ made-up (length s)) → ⊥
-headers-by-length f meets made-up wrong =
-    let a : made-up 4 ≡ 1 = sym (wrong marked table) ∙ ap (λ (x : Checked). x .headers) (meets marked table .answered) ∙ one-header in
-    let b : made-up 4 ≡ 2 = sym (wrong two table) ∙ ap (λ (x : Checked). x .headers) (meets two table .answered) ∙ two-headers in
+pub headers-by-length : (edition : Edition) (f : Checker) → Checks edition f → (made-up : ℕ → ℕ) → ((s rows : List ℕ) → f s rows .0 .headers ≡ made-up (length s)) → ⊥
+headers-by-length edition f meets made-up wrong =
+    let a : made-up 4 ≡ 1 = sym (wrong marked table) ∙ ap (λ (x : Checked). x .headers) (meets marked table .answered) ∙ one-header edition in
+    let b : made-up 4 ≡ 2 = sym (wrong two table) ∙ ap (λ (x : Checked). x .headers) (meets two table .answered) ∙ two-headers edition in
     omega arith
 
 -- no lister writes nothing;
-pub lists-nothing : (f : Lister) → Lists f → ((side : Side) (s rows : List ℕ) (list : List Match) → f side s rows list .2 ≡ list) → ⊥
-lists-nothing f meets wrong =
+pub lists-nothing : (edition : Edition) (f : Lister) → Lists edition f → ((side : Side) (s rows : List ℕ) (list : List Match) → f side s rows list .2 ≡ list) → ⊥
+lists-nothing edition f meets wrong =
     let z : _≡_ {A = ℕ} 9 1 =
-    ap firstElement (sym (wrong Layout printed table (noMatch ∷ [])) ∙ meets Layout printed table (noMatch ∷ []) .filled ∙ one-match) in
+    ap firstElement (sym (wrong Layout printed table (noMatch ∷ [])) ∙ meets Layout printed table (noMatch ∷ []) .filled ∙ one-match edition) in
     omega arith
 
 -- no fetch always hands back an empty part;
-pub fetches-nothing : (f : Fetcher) → FetchesParts f → ((s : List ℕ) (asked : ℕ) → f s asked ≡ []) → ⊥
-fetches-nothing f meets wrong =
-    let z : _≡_ {A = ℕ} 0 2 = ap length (sym (wrong printed 2) ∙ meets printed 2 ∙ some-content) in
+pub fetches-nothing : (edition : Edition) (f : Fetcher) → FetchesParts edition f → ((s : List ℕ) (asked : ℕ) → f s asked ≡ []) → ⊥
+fetches-nothing edition f meets wrong =
+    let z : _≡_ {A = ℕ} 0 2 = ap length (sym (wrong printed 2) ∙ meets printed 2 ∙ some-content edition) in
     omega arith
 
 -- no writer copies its input wherever it writes;
-pub copies-input : (f : Writer) → Writes f → ((s out : List ℕ) → f s out .0 .number ≡ 0 → f s out .1 ≡ onto s out) → ⊥
-copies-input f meets wrong =
+pub copies-input : (edition : Edition) (f : Writer) → Writes edition f → ((s out : List ℕ) → f s out .0 .number ≡ 0 → f s out .1 ≡ onto s out) → ⊥
+copies-input edition f meets wrong =
     let m = meets marked nines in
-    let w : f marked nines .0 .number ≡ 0 = ap (λ (a : Written). a .number) (m .answered) ∙ shorter-form .0 in
-    let z : _≡_ {A = ℕ} 0x80 0 = ap (λ (octets : List ℕ). getD octets 1 0) (sym (wrong marked nines w) ∙ m .put ∙ shorter-form .1) in
+    let w : f marked nines .0 .number ≡ 0 = ap (λ (a : Written). a .number) (m .answered) ∙ shorter-form edition .0 in
+    let z : _≡_ {A = ℕ} 0x80 0 = ap (λ (octets : List ℕ). getD octets 1 0) (sym (wrong marked nines w) ∙ m .put ∙ shorter-form edition .1) in
     omega arith
 
 -- no joiner gives the first piece alone;
-pub joins-first : (f : Joiner) → Joins f
-    → ((s : List ℕ) (asked : ℕ) (out : List ℕ) (headers : ℕ) (elements : List Element) (element : Element) → letterIn Of1988 s ≡ letter headers elements
+pub joins-first : (edition : Edition) (f : Joiner) → Joins edition f
+    → ((s : List ℕ) (asked : ℕ) (out : List ℕ) (headers : ℕ) (elements : List Element) (element : Element) → letterIn edition s ≡ letter headers elements
     → getElem? elements asked ≡ some element → f s asked out .0 .number ≡ 0 → f s asked out .1 ≡ onto (firstPiece (element .content)) out) → ⊥
-joins-first f meets wrong =
+joins-first edition f meets wrong =
     let m = meets pieced 1 nines in
-    let w : f pieced 1 nines .0 .number ≡ 0 = ap (λ (a : Copied). a .number) (m .answered) ∙ joined-pieces .0 in
+    let w : f pieced 1 nines .0 .number ≡ 0 = ap (λ (a : Copied). a .number) (m .answered) ∙ joined-pieces edition .0 in
     let z : _≡_ {A = ℕ} 9 0x69 =
-    ap (λ (octets : List ℕ). getD octets 1 0) (sym (wrong pieced 1 nines 5 piecedElements unit pieced-letter refl w) ∙ m .put ∙ joined-pieces .1) in
+    ap (λ (octets : List ℕ). getD octets 1 0) (sym (wrong pieced 1 nines 5 piecedElements unit (pieced-letter edition) refl w) ∙ m .put ∙ joined-pieces edition .1) in
     omega arith
 
 -- and none copies what the row bounds, the pieces with their headers.
-pub joins-headers : (f : Joiner) → Joins f
-    → ((s : List ℕ) (asked : ℕ) (out : List ℕ) (row : Row) → getElem? (rowsIn Of1988 s) asked ≡ some row → f s asked out .0 .number ≡ 0
+pub joins-headers : (edition : Edition) (f : Joiner) → Joins edition f
+    → ((s : List ℕ) (asked : ℕ) (out : List ℕ) (row : Row) → getElem? (rowsIn edition s) asked ≡ some row → f s asked out .0 .number ≡ 0
     → f s asked out .1 ≡ onto (bytesIn s (row .content)) out) → ⊥
-joins-headers f meets wrong =
+joins-headers edition f meets wrong =
     let m = meets pieced 1 nines in
-    let w : f pieced 1 nines .0 .number ≡ 0 = ap (λ (a : Copied). a .number) (m .answered) ∙ joined-pieces .0 in
-    let z : _≡_ {A = ℕ} 0x04 0x48 = ap (λ (octets : List ℕ). getD octets 0 0) (sym (wrong pieced 1 nines piecedRow row-of-pieces w) ∙ m .put ∙ joined-pieces .1) in
+    let w : f pieced 1 nines .0 .number ≡ 0 = ap (λ (a : Copied). a .number) (m .answered) ∙ joined-pieces edition .0 in
+    let z : _≡_ {A = ℕ} 0x04 0x48 = ap (λ (octets : List ℕ). getD octets 0 0) (sym (wrong pieced 1 nines piecedRow (row-of-pieces edition) w) ∙ m .put ∙ joined-pieces edition .1) in
     omega arith
 
 -- what the elements of the printed letter say
@@ -257,16 +268,18 @@ printedElements =
     }
     ∷ []
 
-printed-letter : letterIn Of1988 printed ≡ letter 11 printedElements
+printed-letter : (edition : Edition) → letterIn edition printed ≡ letter 11 printedElements
 unfolding permits formAllowed bigEndianFrom misfits definiteAt indefiniteAt longAt byFirst lengthAt itemAt closingAt headAt runFor run walkOf amount firstValue firstRun inOrder allPortions values wellSpelt among repeats isDigit grouped isIdentifier allDigits isPortion same nameSpaceOf shapeOf bodyOf contentOf elementOf itemsInOrder asTabled namesFit clash twice refusalOf judgeOne judgeFrom judge placeOf letterIn onlyPieces xor
-printed-letter = refl
+printed-letter Of1988 = refl
+printed-letter Of1993 = refl
 
-no-room : listed Of1988 Layout printed table 0 .number ≡ 19
+no-room : (edition : Edition) → listed edition Layout printed table 0 .number ≡ 19
 unfolding permits formAllowed bigEndianFrom misfits definiteAt indefiniteAt longAt byFirst lengthAt itemAt closingAt headAt runFor run walkOf amount firstValue firstRun inOrder allPortions values wellSpelt among repeats isDigit grouped isIdentifier allDigits isPortion same nameSpaceOf shapeOf bodyOf contentOf elementOf itemsInOrder asTabled namesFit clash twice refusalOf judgeOne judgeFrom judge placeOf letterIn joins forEach portionMatches elementMatches matches listed xor
-no-room = refl
+no-room Of1988 = refl
+no-room Of1993 = refl
 
 -- And no promise of a list with one record fewer than there are text units could be kept: the printed letter has one unit and one match.
-pub one-record-fewer : ((s : List ℕ) (headers : ℕ) (elements : List Element) → letterIn Of1988 s ≡ letter headers elements → (side : Side) (rows : List ℕ) (room : ℕ)
-    → units elements ≤ suc room → listed Of1988 side s rows room .number ≡ 19 → ⊥) → ⊥
+pub one-record-fewer : (edition : Edition) → ((s : List ℕ) (headers : ℕ) (elements : List Element) → letterIn edition s ≡ letter headers elements → (side : Side) (rows : List ℕ) (room : ℕ)
+    → units elements ≤ suc room → listed edition side s rows room .number ≡ 19 → ⊥) → ⊥
 unfolding units
-one-record-fewer promise = promise printed 11 printedElements printed-letter Layout table 0 (omega arith) no-room
+one-record-fewer edition promise = promise printed 11 printedElements (printed-letter edition) Layout table 0 (omega arith) (no-room edition)

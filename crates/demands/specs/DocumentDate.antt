@@ -16,7 +16,7 @@ use Rattle.dates.specs.Dates.{DateItem, inPrimitive, datesIn}
 use Rattle.dates.specs.Places.{bounds}
 use Rattle.elements.specs.declared.Edition.{Edition}
 use Rattle.letters.specs.Letter.{refusal, itemsOfStream, letterIn}
-use Rattle.answers.specs.Dates.{profileIn, dateOf, datePlaces, dated}
+use Rattle.answers.specs.Dates.{profileIn, dateOf, datePlaces, dated, Bounds}
 use Rattle.answers.specs.Dating.{refusedDated}
 use Rattle.demands.specs.Demands.{Answered, IsAccepted}
 
@@ -51,6 +51,8 @@ pub record DocumentDate (edition : Edition) : Type 0 where
   -- "every refusal gives an empty part and 0 for year, month and day"; the bounds are 0 too
   pub refused-empty : (s : List ℕ) → (dated edition s .number ≡ 0 → ⊥)
       → (dateOf edition s .part ≡ []) × (dated edition s ≡ refusedDated (dated edition s .number) (dated edition s .place))
+  -- the bounds that are answered lie in the stream, and the part stands between them
+  pub stands : (s : List ℕ) → Bounds s (dateOf edition s .part) (dated edition s .first) (dated edition s .past)
   -- what rules 1 to 15 refuse is refused by that number at that place
   pub refused-alike : (s : List ℕ) (number place headers : ℕ) → letterIn edition s ≡ refusal number place headers
       → dated edition s ≡ refusedDated number place

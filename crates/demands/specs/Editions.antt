@@ -22,7 +22,7 @@ use Rattle.reading.specs.Match.{IsMatch}
 use Rattle.answers.specs.Answers.{checked, checkedTable, written, writtenOutput, listed, listedTable, matchesIn, listedList, fetched, located}
 use Rattle.answers.specs.Answers.{copied, copiedOutput}
 use Rattle.answers.specs.Related.{related, relatedTable, relatedList}
-use Rattle.answers.specs.Texts.{shown, shownLines, shownOutput}
+use Rattle.answers.specs.Texts.{shown, shownTable, shownLines, shownOutput}
 use Rattle.answers.specs.Short.{writtenShort, writtenShortOutput}
 use Rattle.order.specs.declared.Class.{Class}
 use Rattle.order.specs.declared.Ordered.{Ordered}
@@ -62,6 +62,7 @@ pub record SameAnswers (s : List ℕ) : Type 0 where
   pub children-table : (table : List ℕ) (row room : ℕ) → relatedTable Of1993 s table row room ≡ relatedTable Of1988 s table row room
   pub children-rows : (table : List ℕ) (row : ℕ) (list : List ℕ) → relatedList Of1993 s table row list ≡ relatedList Of1988 s table row list
   pub text : (side : Side) (table : List ℕ) (room : ℕ) (out : List ℕ) → shown Of1993 side s table room out ≡ shown Of1988 side s table room out
+  pub text-table : (side : Side) (table : List ℕ) (room : ℕ) (out : List ℕ) → shownTable Of1993 side s table room out ≡ shownTable Of1988 side s table room out
   pub text-lines : (side : Side) (table lines out : List ℕ) → shownLines Of1993 side s table lines out ≡ shownLines Of1988 side s table lines out
   pub text-output : (side : Side) (table : List ℕ) (room : ℕ) (out : List ℕ)
       → shownOutput Of1993 side s table room out ≡ shownOutput Of1988 side s table room out
@@ -87,6 +88,13 @@ abbrev pub PassedBefore : (s : List ℕ) (j : ℕ) → Type 0
 PassedBefore s j =
     (i : ℕ) (item : TopItem) → i < j → getElem? (topItems (treeOf s)) i ≡ some item → (n : ℕ) → Refuses Of1988 (take i (topItems (treeOf s))) item n → ⊥
 
+-- each question that fills a table leaves it as it was; the desk's is in crate desk
+pub record FillsNone (s table : List ℕ) : Type 0 where
+  pub check : checkedTable Of1988 s table ≡ table
+  pub list : (side : Side) (room : ℕ) → listedTable Of1988 side s table room ≡ table
+  pub children : (row room : ℕ) → relatedTable Of1988 s table row room ≡ table
+  pub text : (side : Side) (room : ℕ) (out : List ℕ) → shownTable Of1988 side s table room out ≡ table
+
 pub record Editions : Type 0 where
   -- the shapes of 1993 contain those of 1988
   pub contained : (s : List ℕ) (headers : ℕ) (elements : List Element) → letterIn Of1988 s ≡ letter headers elements → SameLetterIn s headers elements
@@ -105,4 +113,4 @@ pub record Editions : Type 0 where
       → isProtected (item .type) ≡ true → PassedBefore s j → j < mostElements → letterIn Of1988 s ≡ refusal 10 (placeOf j (itemsOfStream s)) headers
   -- "never a wrong row": a stream with a protected part fills no table
   pub no-row : (s : List ℕ) (j : ℕ) (item : TopItem) → getElem? (topItems (treeOf s)) j ≡ some item → isProtected (item .type) ≡ true
-      → (table : List ℕ) → (checkedTable Of1988 s table ≡ table) × ((side : Side) (room : ℕ) → listedTable Of1988 side s table room ≡ table)
+      → (table : List ℕ) → FillsNone s table

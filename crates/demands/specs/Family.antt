@@ -1,7 +1,7 @@
 -- What is promised of parents and children (W-204): "Whose page is this block on?" Of every letter, in an edition. Definitions only: assumes nothing.
 use mathlib.Core.Path.{_≡_}
 use mathlib.Core.Logic.{_↔_}
-use mathlib.Core.List.{List}
+use mathlib.Core.List.{List, [], _∷_}
 use mathlib.Core.Option.{none, some}
 use Prim.Native.Nat.{ℕ, suc, _<_, _≤_}
 use lib.ListN.{length, getElem?}
@@ -15,6 +15,7 @@ use Rattle.answers.specs.declared.Related.{Related}
 use Rattle.answers.specs.Table.{rowsLent, parentAt}
 use Rattle.answers.specs.Answers.{elementsIn, onto, tableOf}
 use Rattle.answers.specs.Related.{unrelated, related, relatedTable, relatedList}
+use Rattle.demands.specs.Demands.{Answered}
 
 -- a row stands somewhere in a list
 abbrev pub Among : (row : ℕ) → List ℕ → Type 0
@@ -55,6 +56,20 @@ pub record FamilyOf (edition : Edition) (s : List ℕ) (elements : List Element)
 
 -- of every stream
 pub record Family (edition : Edition) : Type 0 where
+  -- what it may give, and where
+  pub told : (s table : List ℕ) (row room : ℕ)
+      → Answered s (16 ∷ 20 ∷ 25 ∷ []) (related edition s table row room .number) (related edition s table row room .place)
+  -- a refusal lists no rows, and but for 25 it has no element count
+  pub counts : (s table : List ℕ) (row room : ℕ) → (related edition s table row room .number ≡ 0 → ⊥) → (related edition s table row room .children ≡ 0)
+      × ((related edition s table row room .number ≡ 25 → ⊥) → related edition s table row room .elements ≡ 0)
+  -- "list untouched"; the table is untouched too, but that 25 leaves it finished
+  pub untouched : (s table : List ℕ) (row : ℕ) (list : List ℕ) → (related edition s table row (length list) .number ≡ 0 → ⊥)
+      → relatedList edition s table row list ≡ list
+  pub table-untouched : (s table : List ℕ) (row room : ℕ) → (related edition s table row room .number ≡ 0 → ⊥)
+      → (related edition s table row room .number ≡ 25 → ⊥) → relatedTable edition s table row room ≡ table
+  pub table-finished : (s table : List ℕ) (row room : ℕ) → related edition s table row room .number ≡ 25
+      → relatedTable edition s table row room ≡ tableOf edition s table
   pub of-letter : (s : List ℕ) (headers : ℕ) (elements : List Element) → letterIn edition s ≡ letter headers elements → FamilyOf edition s elements
+  -- what rules 1 to 15 refuse is refused by that number at that place
   pub of-refusal : (s : List ℕ) (number place headers : ℕ) → letterIn edition s ≡ refusal number place headers → (table : List ℕ) (row : ℕ) (list : List ℕ)
       → Tells edition s table row list (unrelated number place 0) table list

@@ -9,7 +9,7 @@ use Rattle.headers.specs.Head.{isIn}
 use Rattle.octets.specs.Walk.{ends, streamLimit}
 use Rattle.fronts.specs.First.{walkFirst}
 use Rattle.elements.specs.declared.Edition.{Edition}
-use Rattle.answers.specs.Dates.{dated}
+use Rattle.answers.specs.Dates.{dated, Bounds}
 use Rattle.answers.specs.Dating.{refusedDated}
 use Rattle.answers.specs.FirstDates.{firstDateOf, withUnread, firstDated}
 use Rattle.demands.specs.Demands.{IsAccepted}
@@ -37,6 +37,8 @@ pub record FirstDate (edition : Edition) : Type 0 where
   -- what it may give, and where
   pub one-of : (s : List ℕ) → isIn (firstDated edition s .number) firstNumbersGiven ≡ true
   pub inside : (s : List ℕ) → firstDated edition s .place ≤ length s
+  -- the bounds that are answered lie in the stream, and the part stands between them
+  pub stands : (s : List ℕ) → Bounds s (firstDateOf edition s .part) (firstDated edition s .first) (firstDated edition s .past)
   -- a refusal gives an empty part and 0 for all but its number and place
   pub refused-empty : (s : List ℕ) → (firstDated edition s .number ≡ 0 → ⊥) → (firstDateOf edition s .part ≡ [])
       × (firstDated edition s ≡ withUnread (refusedDated (firstDated edition s .number) (firstDated edition s .place)))

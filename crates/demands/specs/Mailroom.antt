@@ -8,6 +8,7 @@ use lib.ListN.{length}
 use Rattle.normal.specs.Normal.{Octets, normalForm}
 use Rattle.normal.specs.Short.{shortLimit}
 use Rattle.elements.specs.declared.Edition.{Edition}
+use Rattle.letters.specs.Letter.{refusal, letterIn}
 use Rattle.answers.specs.Answers.{written, writtenOutput}
 use Rattle.answers.specs.Short.{writtenShort, writtenShortOutput}
 use Rattle.demands.specs.Demands.{Answered, IsAccepted}
@@ -19,6 +20,9 @@ pub record Mailroom (edition : Edition) : Type 0 where
   -- a refusal gives length 0 and leaves the output as it was
   pub counts : (s out : List ℕ) → (writtenShort edition s out .number ≡ 0 → ⊥) → writtenShort edition s out .length ≡ 0
   pub untouched : (s out : List ℕ) → (writtenShort edition s out .number ≡ 0 → ⊥) → writtenShortOutput edition s out ≡ out
+  -- what rules 1 to 15 refuse is refused by that number at that place
+  pub refused-alike : (s out : List ℕ) (number place headers : ℕ) → length s ≤ shortLimit → letterIn edition s ≡ refusal number place headers
+      → writtenShort edition s out ≡ record { number = number; place = place; length = 0 }
   -- "there the normal form is never longer than its input"
   pub never-longer : (s : List ℕ) → IsAccepted edition s → Octets s → length s ≤ shortLimit → length (normalForm s) ≤ length s
   -- "so 17 can't arise": the normal form question answers the same, and leaves the same in the output

@@ -8,6 +8,7 @@ use mathlib.Core.List.{List}
 use lib.ListN.{length}
 use Rattle.elements.specs.declared.Edition.{Edition}
 use Rattle.elements.specs.declared.Edition.the-variants.{Of1988}
+use Rattle.letters.specs.Letter.{refusal, letterIn}
 use Rattle.order.specs.declared.Class.{Class}
 use Rattle.order.specs.declared.Class.the-variants.{A, B}
 use Rattle.order.specs.declared.Ordered.{Ordered}
@@ -20,6 +21,10 @@ pub record BesideRules (edition : Edition) (class : Class) (s : List ℕ) : Type
   -- 0, one of 1 to 15, or 26; and a place in the stream, or its length
   pub told : (r : Ordered) → OrderIs edition class s r → (r .number ≤ 15) ⊎ (r .number ≡ outOfOrder)
   pub inside : (r : Ordered) → OrderIs edition class s r → r .place ≤ length s
+  pub at-start : (place : ℕ) → OrderIs edition class s (verdict 0 place) → place ≡ 0
+  -- what rules 1 to 15 refuse is refused by that number at that place
+  pub refused-alike : (number place headers : ℕ) → letterIn edition s ≡ refusal number place headers
+      → (r : Ordered) → OrderIs edition class s r → r ≡ verdict number place
   -- 0 and 26 are answered of what the rules accept, and of nothing else
   pub in-order : (place : ℕ) → OrderIs edition class s (verdict 0 place) → IsAccepted edition s
   pub out-of-order : (place : ℕ) → OrderIs edition class s (verdict outOfOrder place) → IsAccepted edition s

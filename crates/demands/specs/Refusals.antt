@@ -13,7 +13,7 @@ use Rattle.octets.specs.Rules.{Runs}
 use Rattle.tree.specs.Tree.{Tree, empty, leaf, branch, treeOf}
 use Rattle.contents.specs.Search.{is}
 use Rattle.elements.specs.declared.Edition.{Edition}
-use Rattle.elements.specs.Shape.{Contents, shapeOf}
+use Rattle.elements.specs.Shape.{Contents, Shape, shapesOf, shapeOf}
 use Rattle.elements.specs.Judge.{typeOctet, typesOf, valueAt, Element, elementOf, asTabled, typeFits, namesFit, mostElements, profileOctet, twice}
 use Rattle.elements.specs.ElementRows.{placeOf}
 use Rattle.letters.specs.Letter.{itemsOfStream}
@@ -39,8 +39,9 @@ saysIn edition item = elementOf (shapeOf edition (item .type)) (item .run)
 pub data Refuses (edition : Edition) (before : List TopItem) (item : TopItem) : (number : ℕ) → Type 0 where
   -- "4,097th element"
   too-many : mostElements ≤ length before → Refuses edition before item 9
-  -- "octet not in the element table"
-  unknown : is (shapeOf edition (item .type) .octet) (item .type) ≡ false → Refuses edition before item 10
+  -- "octet not in the element table": it is that of no shape of the edition
+  unknown : ((k : ℕ) (shape : Shape) → getElem? (shapesOf edition) k ≡ some shape → is (shape .octet) (item .type) ≡ false)
+      → Refuses edition before item 10
   -- "first is no profile"
   no-profile : length before ≡ 0 → is profileOctet (item .type) ≡ false → Refuses edition before item 11
   -- "a later one is"

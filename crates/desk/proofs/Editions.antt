@@ -91,5 +91,5 @@ pm1-editions =
             pages-table = table-is Of1993 s table (length list) ∙ editions .alike s agreed .check-table table ∙ sym (table-is Of1988 s table (length list));
             pages-list = lists-alike s agreed table list;
           };
-      no-row = λ s j item there protected table room. table-is Of1988 s table room ∙ editions .no-row s j item there protected table .0;
+      no-row = λ s j item there protected table room. table-is Of1988 s table room ∙ editions .no-row s j item there protected table .check;
     }

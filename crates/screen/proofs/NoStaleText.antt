@@ -1,5 +1,6 @@
 -- No stale text: the contract says what the lines and the output are, and a line and its text are parts of these. Assumes nothing.
 use mathlib.Core.Path.{_≡_, refl, ap, sym, _∙_, subst}
+use mathlib.Core.Logic.{_⊎_, inl, inr}
 use mathlib.Core.Bool.{true, false, cond, true≢false}
 use mathlib.Core.List.{List, [], _∷_, _++_, append-assoc, List·Memᴰ, List·Memᴰ·head, List·Memᴰ·tail}
 use mathlib.Core.Option.{some}
@@ -10,6 +11,8 @@ use lib.ListN.{length, take, drop, getElem?, length-append}
 use lib.Seq.{slice, take-at, drop-at}
 use borrow.Author.Tests.{eqb-true, eq-eqb, ne-eqb, le-ltb, ltb-false}
 use borrow.Table.Steps.{cases}
+use Rattle.laws.proofs.Tests.{cond-holds}
+use Rattle.headers.specs.Head.{isIn}
 use Rattle.tree.specs.Tree.{treeOf}
 use Rattle.runs.proofs.Laws.{stream-fine}
 use Rattle.elements.specs.declared.Edition.{Edition}
@@ -25,12 +28,14 @@ use Rattle.texts.proofs.Fits.{texts-fit}
 use Rattle.answers.specs.declared.Listed.{Listed}
 use Rattle.answers.specs.declared.Shown.{Shown}
 use Rattle.answers.specs.Table.{tooFewRows}
-use Rattle.answers.specs.Answers.{onto, listed, matchesIn}
-use Rattle.answers.specs.Texts.{textIn, textsIn, linesIn, linesLent, shownFrom, shown, shownLines, shownOutput, TextOutcome}
+use Rattle.answers.specs.Answers.{onto, tableOf, listed, matchesIn}
+use Rattle.answers.specs.Texts.{textIn, textsIn, linesIn, linesLent, unshown, shownFrom, shown, shownTable, shownLines, shownOutput, TextOutcome}
 use Rattle.answers.proofs.Letters.{letter-found}
 use Rattle.answers.proofs.Small.{refusal-small}
 use Rattle.answers.proofs.Showing.{text-content, shows-ruled}
-use Rattle.screen.specs.NoStaleText.{ShowsMatch, OnScreen, NoStaleText}
+use Rattle.demands.specs.Demands.{Answered}
+use Rattle.demands.proofs.Demand1.{told-own, told-zero, demand1}
+use Rattle.screen.specs.NoStaleText.{ShowsMatch, OnScreen, Untouched, NoStaleText}
 use Rattle.screen.proofs.Places.{part-of, TextAt, text-at}
 
 -- what stands at a place is a member
@@ -48,20 +53,67 @@ lines-long edition s first (m ∷ ms) = let l = lines-long edition s (lineOf (te
 -- a reading that was answered: the list was, and all texts fit
 record Fitting (r : Listed) (texts out : List ℕ) : Type 0 where
   list-answered : r .number ≡ 0
-  told : shownFrom r texts out ≡ record { number = 0; place = 0; elements = r .elements; lines = r .matches; length = length texts }
+  told : shownFrom r (length texts) (length out) ≡ record { number = 0; place = 0; elements = r .elements; lines = r .matches; length = length texts }
   fits : length texts ≤ length out
 
-fitting : (r : Listed) (texts out : List ℕ) → shownFrom r texts out .number ≡ 0 → Fitting r texts out
+fitting : (r : Listed) (texts out : List ℕ) → shownFrom r (length texts) (length out) .number ≡ 0 → Fitting r texts out
 fitting r texts out zero-number =
     cases (eqb (r .number) 0)
     (λ t.
     cases (ltb (length out) (length texts))
-    (λ u. let n : shownFrom r texts out .number ≡ 22 = rw (t, u) in absurd (omega arith))
+    (λ u. let n : shownFrom r (length texts) (length out) .number ≡ 22 = rw (t, u) in absurd (omega arith))
     (λ u. record { list-answered = eqb-true (r .number) 0 t; told = rw (t, u); fits = ltb-false (length out) (length texts) u }))
     (λ t.
-    let n : shownFrom r texts out .number ≡ r .number = rw t in
+    let n : shownFrom r (length texts) (length out) .number ≡ r .number = rw t in
     let z : eqb (r .number) 0 ≡ true = eq-eqb (r .number) 0 (sym n ∙ zero-number) in
     absurd (true≢false (sym z ∙ t)))
+
+-- ---- what may be answered, and what a refusal counts
+
+-- the reading's own refusals
+abbrev own : List ℕ
+own = 16 ∷ 19 ∷ 22 ∷ []
+
+own-too : (n : ℕ) → isIn n (16 ∷ 19 ∷ []) ≡ true → isIn n own ≡ true
+own-too n i =
+    cases (eqb n 16)
+    (λ t. rw t)
+    (λ t. cases (eqb n 19) (λ u. rw (t, u)) (λ u. let none-of : isIn n (16 ∷ 19 ∷ []) ≡ false = rw (t, u) in absurd (true≢false (sym i ∙ none-of))))
+
+wider-told : {s : List ℕ} {number place : ℕ} → Answered s (16 ∷ 19 ∷ []) number place → Answered s own number place
+wider-told {number = number} a = record { one-of = one (a .one-of); inside = a .inside; at-start = a .at-start }
+  where
+    one : (number ≤ 15) ⊎ (isIn number (16 ∷ 19 ∷ []) ≡ true) → (number ≤ 15) ⊎ (isIn number own ≡ true)
+    one (inl l) = inl l
+    one (inr i) = inr (own-too number i)
+
+abbrev Counts : Shown → Type 0
+Counts a = (a .number ≡ 0 → ⊥) → (a .lines ≡ 0) × (a .length ≡ 0) × ((a .number ≡ 19 → ⊥) → a .elements ≡ 0)
+
+module _ (edition : Edition) (side : Side) (s table : List ℕ) (room : ℕ) where
+  abbrev list : Listed
+  list = listed edition side s table room
+
+  told-from : (needed lent : ℕ) → Answered s own (shownFrom list needed lent .number) (shownFrom list needed lent .place)
+  told-from needed lent =
+      let P : Shown → Type 0 = λ a. Answered s own (a .number) (a .place) in
+      cond-holds P (eqb (list .number) 0)
+      (λ _. cond-holds P (ltb lent needed) (λ _. told-own s own 22 refl) (λ _. told-zero s own))
+      (λ _. wider-told (demand1 edition .list-told side s table room))
+
+  counts-from : (needed lent : ℕ) → Counts (shownFrom list needed lent)
+  counts-from needed lent =
+      cond-holds Counts (eqb (list .number) 0)
+      (λ _. cond-holds Counts (ltb lent needed) (λ _ _. (refl, refl, λ _. refl)) (λ _ n. absurd (n refl)))
+      (λ _ n. (refl, refl, λ m. demand1 edition .list-counts side s table room n .1 m))
+
+  told-shown : (out : List ℕ) → Answered s own (shown edition side s table room out .number) (shown edition side s table room out .place)
+  unfolding shown
+  told-shown out = told-from (length (textsIn edition side s)) (length out)
+
+  counts-shown : (out : List ℕ) → Counts (shown edition side s table room out)
+  unfolding shown
+  counts-shown out = counts-from (length (textsIn edition side s)) (length out)
 
 module _ (edition : Edition) (side : Side) (s : List ℕ) where
   -- of a letter
@@ -121,13 +173,30 @@ module _ (edition : Edition) (side : Side) (s : List ℕ) where
 
   module _ (table lines out : List ℕ) (answer : Shown) (tableAfter linesAfter outAfter : List ℕ)
       (outcome : TextOutcome edition side s table lines out answer tableAfter linesAfter outAfter) where
-    -- a refusal leaves lines and output as they were
-    refused : (answer .number ≡ 0 → ⊥) → (linesAfter ≡ lines) × (outAfter ≡ out)
-    unfolding shownLines shownOutput
+    abbrev own-answer : Shown
+    own-answer = shown edition side s table (linesLent lines) out
+
+    -- a refusal leaves all as it was, but for 19
+    refused : (answer .number ≡ 0 → ⊥) → Untouched table lines out answer tableAfter linesAfter outAfter
+    unfolding shownTable shownLines shownOutput
     refused some-number =
-        let a = outcome .answered in
-        let t : eqb (shown edition side s table (linesLent lines) out .number) 0 ≡ false = ne-eqb _ 0 (λ z. some-number (ap (λ (r : Shown). r .number) a ∙ z)) in
-        (outcome .filled ∙ rw t, outcome .put ∙ rw t)
+        let n : answer .number ≡ own-answer .number = ap (λ (r : Shown). r .number) (outcome .answered) in
+        let t : eqb (own-answer .number) 0 ≡ false = ne-eqb (own-answer .number) 0 (λ z. some-number (n ∙ z)) in
+        let (no-lines, no-octets, no-elements) = subst Counts (sym (outcome .answered)) (counts-shown edition side s table (linesLent lines) out) some-number in
+        record {
+          no-lines = no-lines;
+          no-octets = no-octets;
+          lines-kept = outcome .filled ∙ rw t;
+          output-kept = outcome .put ∙ rw t;
+          no-elements = no-elements;
+          table-kept = λ other.
+              let u : eqb (own-answer .number) 19 ≡ false = ne-eqb (own-answer .number) 19 (λ z. other (n ∙ z)) in
+              outcome .tabled ∙ rw (t, u);
+        }
+
+    finished : answer .number ≡ 19 → tableAfter ≡ tableOf edition s table
+    unfolding shownTable
+    finished e = let n : own-answer .number ≡ 19 = sym (ap (λ (r : Shown). r .number) (outcome .answered)) ∙ e in outcome .tabled ∙ rw n
 
     module _ (zero-number : answer .number ≡ 0) where
       abbrev texts : List ℕ
@@ -226,7 +295,7 @@ module _ (edition : Edition) (side : Side) (s : List ℕ) where
       }
       shows-by (refusal number place headers) e =
           let small = refusal-small edition s number place headers e in
-          let ruled = ap (λ (r : Shown). r .number) (shows-ruled edition side s table [] (linesLent lines) out number place headers (λ z. omega (arith, small .low)) e .answered) in
+          let ruled = ap (λ (r : Shown). r .number) (shows-ruled edition side s table [] (linesLent lines) out number place headers e .answered) in
           absurd (omega (arith, small .low, is-zero, ruled))
 
 pub no-stale-text : (edition : Edition) (side : Side) → NoStaleText edition side
@@ -239,7 +308,10 @@ no-stale-text edition side = record {
     octets-are edition side s table lines out answer tableAfter linesAfter outAfter outcome zero-number
         ∙ sym (octets-are edition side s t l o other ta la oa other-outcome other-zero),
   );
+  told = told-shown edition side;
   refused = λ s table lines out answer tableAfter linesAfter outAfter outcome some-number.
       refused edition side s table lines out answer tableAfter linesAfter outAfter outcome some-number;
+  finished = λ s table lines out answer tableAfter linesAfter outAfter outcome e. finished edition side s table lines out answer tableAfter linesAfter outAfter outcome e;
+  refused-alike = λ s table room out number place headers e. sym (shows-ruled edition side s table [] room out number place headers e .answered);
   stream-enough = λ s table room out enough. stream-enough edition side s table room out enough;
 }

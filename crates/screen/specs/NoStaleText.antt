@@ -2,21 +2,22 @@
 -- shown is the text of this letter: line by line in reading order, each line under its own block, and nothing else. The question is our own, the
 -- viewer's (answers, specs/Texts). Definitions only: assumes nothing.
 use mathlib.Core.Path.{_≡_}
-use mathlib.Core.List.{List}
+use mathlib.Core.List.{List, [], _∷_}
 use mathlib.Core.Option.{some}
 use Prim.Native.Nat.{ℕ, _+_, _*_, _≤_}
 use lib.ListN.{length, take, drop, getElem?}
 use lib.Seq.{slice}
 use Rattle.elements.specs.declared.Edition.{Edition}
 use Rattle.elements.specs.Judge.{joinedContent, Element}
-use Rattle.letters.specs.Letter.{letter, letterIn}
+use Rattle.letters.specs.Letter.{letter, refusal, letterIn}
 use Rattle.reading.specs.declared.Match.{Match}
 use Rattle.reading.specs.declared.Side.{Side}
 use Rattle.reading.specs.Match.{IsMatch}
 use Rattle.texts.specs.Texts.{Line, lineWidth, lineCells}
 use Rattle.answers.specs.declared.Shown.{Shown}
-use Rattle.answers.specs.Answers.{matchesIn}
-use Rattle.answers.specs.Texts.{linesLent, textsIn, shown, TextOutcome}
+use Rattle.answers.specs.Answers.{tableOf, matchesIn}
+use Rattle.answers.specs.Texts.{linesLent, textsIn, unshown, shown, TextOutcome}
+use Rattle.demands.specs.Demands.{Answered}
 
 -- line k shows the match m: its five numbers stand in the lent lines, m is a match of this letter, and the octets from first to past of the output are the
 -- content of m's own text unit
@@ -47,6 +48,15 @@ pub record OnScreen (edition : Edition) (side : Side) (s lines out : List ℕ) (
   pub past-octets : drop (answer .length) outAfter ≡ drop (answer .length) out
   pub past-lines : drop (lineWidth * answer .lines) linesAfter ≡ drop (lineWidth * answer .lines) lines
 
+-- after a refusal
+pub record Untouched (table lines out : List ℕ) (answer : Shown) (tableAfter linesAfter outAfter : List ℕ) : Type 0 where
+  pub no-lines : answer .lines ≡ 0
+  pub no-octets : answer .length ≡ 0
+  pub lines-kept : linesAfter ≡ lines
+  pub output-kept : outAfter ≡ out
+  pub no-elements : (answer .number ≡ 19 → ⊥) → answer .elements ≡ 0
+  pub table-kept : (answer .number ≡ 19 → ⊥) → tableAfter ≡ table
+
 -- what any program does that meets the contract of the question
 pub record NoStaleText (edition : Edition) (side : Side) : Type 0 where
   pub shows : (s table lines out : List ℕ) (answer : Shown) (tableAfter linesAfter outAfter : List ℕ)
@@ -58,9 +68,17 @@ pub record NoStaleText (edition : Edition) (side : Side) : Type 0 where
       → TextOutcome edition side s table lines out answer tableAfter linesAfter outAfter → answer .number ≡ 0
       → TextOutcome edition side s other-table other-lines other-out other other-tableAfter other-linesAfter other-outAfter → other .number ≡ 0
       → (answer .length ≡ other .length) × (take (answer .length) outAfter ≡ take (other .length) other-outAfter)
-  -- a refusal leaves lines and output as they were
+  -- what it may give, and where
+  pub told : (s table : List ℕ) (room : ℕ) (out : List ℕ)
+      → Answered s (16 ∷ 19 ∷ 22 ∷ []) (shown edition side s table room out .number) (shown edition side s table room out .place)
+  -- a refusal leaves all that was lent as it was, and has no counts; but 19 leaves the finished table and keeps the element count
   pub refused : (s table lines out : List ℕ) (answer : Shown) (tableAfter linesAfter outAfter : List ℕ)
       → TextOutcome edition side s table lines out answer tableAfter linesAfter outAfter → (answer .number ≡ 0 → ⊥)
-      → (linesAfter ≡ lines) × (outAfter ≡ out)
+      → Untouched table lines out answer tableAfter linesAfter outAfter
+  pub finished : (s table lines out : List ℕ) (answer : Shown) (tableAfter linesAfter outAfter : List ℕ)
+      → TextOutcome edition side s table lines out answer tableAfter linesAfter outAfter → answer .number ≡ 19 → tableAfter ≡ tableOf edition s table
+  -- what rules 1 to 15 refuse is refused by that number at that place
+  pub refused-alike : (s table : List ℕ) (room : ℕ) (out : List ℕ) (number place headers : ℕ) → letterIn edition s ≡ refusal number place headers
+      → shown edition side s table room out ≡ unshown number place 0
   -- so that a caller knows what to lend: an output as long as the stream is never too short
   pub stream-enough : (s table : List ℕ) (room : ℕ) (out : List ℕ) → length s ≤ length out → shown edition side s table room out .number ≡ 22 → ⊥

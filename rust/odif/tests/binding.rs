@@ -138,7 +138,7 @@ fn the_question_behind_text() {
     assert_eq!(counts(shown), [0, 0, 3, 1, 2]);
     assert_eq!(lines, [raw::Line { element: 1, portion: 0, unit: 2, first: 0, past: 2 }, raw::Line::default()]);
     assert_eq!((&out, table[0]), (b"Hi..", 0));
-    for (rows, records, octets, wanted) in [(2, 1, 2, [16, 0]), (3, 0, 2, [19, 3]), (3, 1, 1, [22, 3])] {
+    for (rows, records, octets, wanted) in [(2, 1, 2, [16, 0]), (3, 0, 2, [19, 3]), (3, 1, 1, [22, 0])] {
         let (mut table, mut lines, mut out) = ([9; 3 * odif::ROW_WIDTH], [raw::Line::default(); 1], *b"..");
         let table = &mut table[..rows * odif::ROW_WIDTH];
         let shown = raw::layout_text(LETTER, table, &mut lines[..records], &mut out[..octets]);

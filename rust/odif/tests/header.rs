@@ -57,7 +57,7 @@ normal 0 23 0 23
 layout text 0 0 3 1 2: 1 0 2 0 2 Hi..
 logical text 0 0 3 0 0
 too few lines 19 0 3 0 0
-too short a text 22 0 3 0 0
+too short a text 22 0 0 0 0
 text 1993 0 4 0 0 4 0
 children 0 0 4 2: 1 3
 none 20 0 0 0
