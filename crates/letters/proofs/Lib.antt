@@ -1,5 +1,5 @@
 -- Grow: one row more in the scratch. State: the state of the judge. Meetings: what is inside a primitive item. Nested, Apart, Table: the table.
--- Standing: where element j stands. Fetching: where its content does.
+-- Standing: where element j stands. Fetching: where its content does. Telling: the rows of a letter tell of its elements.
 pub mod Grow
 pub mod State
 pub mod Meetings

@@ -1,5 +1,6 @@
--- Letter: a stream by rules 1 to 15, and what is promised of its table. For the code alone, Scratch: what the judge gives; Lent: what it
--- is lent; Numbers: that a row can be kept; Content: where the content of one element stands. Apart: elements beside one another.
+-- Letter: a stream by rules 1 to 15, and what is promised of its table. For the code alone, Scratch: what the judge gives, the rows of
+-- a letter; Telling: what these tell of its elements; Lent: what the judge is lent; Numbers: that a row can be kept; Content: where the content of one
+-- element stands. Apart: elements beside one another.
 pub mod Letter
 pub mod Scratch
 pub mod Lent

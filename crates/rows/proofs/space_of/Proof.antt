@@ -1,4 +1,4 @@
--- `index::space_of` meets its contract: the code's table is the definition's, and past it both give 0. Assumes nothing.
+-- `rows::space_of` meets its contract: the code's table is the definition's, and past it both give 0. Assumes nothing.
 use mathlib.Core.Path.{refl, sym}
 use native.Mathlib.Omega.{arith}
 use lib.ListN.{List·getD-eq-default}

@@ -1,4 +1,4 @@
--- `index::find` meets its contract. The loop's invariant: the row at hand is of the bucket, and no row from there on has what is asked.
+-- `rows::chains::find` meets its contract. The loop's invariant: the row at hand is of the bucket, and no row from there on has what is asked.
 -- The measure is the link, which falls with each turn. Assumes nothing.
 use mathlib.Core.Path.{ap, _∙_}
 use Prim.Native.Nat.{_-_, _<_}

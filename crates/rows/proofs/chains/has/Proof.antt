@@ -1,4 +1,4 @@
--- `index::has` meets its contract: it makes the two tests in order, on what the row has. Assumes nothing.
+-- `rows::chains::has` meets its contract: it makes the two tests in order, on what the row has. Assumes nothing.
 use mathlib.Core.Path.{_≡_, sym, ap, _∙_}
 use mathlib.Core.Bool.{true}
 use native.Mathlib.Omega.{arith}

@@ -1,4 +1,4 @@
--- `index::insert` meets its contract: its two stores are those by which an index takes a row more. Assumes nothing.
+-- `rows::chains::insert` meets its contract: its two stores are those by which an index takes a row more. Assumes nothing.
 use mathlib.Core.Path.{refl, ap, _∙_}
 use Prim.Native.Nat.{_<_}
 use native.Mathlib.Omega.{arith}

@@ -1,4 +1,4 @@
--- `ordered::chained_of` meets its contract: it is read off the mark. Assumes nothing.
+-- `rows::lookup::chained_of` meets its contract: it is read off the mark. Assumes nothing.
 use mathlib.Core.Path.{sym, ap, _∙_}
 use Prim.Native.Nat.{ℕ, _-_}
 use Rattle.rows.proofs.Filing.{chained-all, chained-some}

@@ -1,4 +1,4 @@
--- `ordered::find` meets its contract: where no row is in order and the bucket is empty there is none, and `find_any` has the rest.
+-- `rows::lookup::find` meets its contract: where no row is in order and the bucket is empty there is none, and `find_any` has the rest.
 -- Assumes nothing.
 use mathlib.Core.Path.{refl, ap, _∙_}
 use Prim.Native.Nat.{_<_}

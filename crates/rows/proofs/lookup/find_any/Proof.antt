@@ -1,4 +1,4 @@
--- `ordered::find_any` meets its contract: rows in order are later than those in chains, so they are searched first. Assumes nothing.
+-- `rows::lookup::find_any` meets its contract: rows in order are later than those in chains, so they are searched first. Assumes nothing.
 use mathlib.Core.Path.{subst}
 use Rattle.names.specs.Asked.{spelling}
 use Rattle.rows.specs.Lookup.{Ordered, FindsFrom}

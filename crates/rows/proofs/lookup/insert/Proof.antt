@@ -1,4 +1,4 @@
--- `ordered::insert` meets its contract: a row with no value there is in no chain, the first row of a bucket is a chain of one, and
+-- `rows::lookup::insert` meets its contract: a row with no value there is in no chain, the first row of a bucket is a chain of one, and
 -- `insert_any` has the rest. Assumes nothing.
 use mathlib.Core.Path.{refl}
 use Prim.Native.Nat.{_<_}

@@ -1,4 +1,4 @@
--- `ordered::insert_any` meets its contract: a row more in order, a row more in a chain, or the first row in order. Assumes nothing.
+-- `rows::lookup::insert_any` meets its contract: a row more in order, a row more in a chain, or the first row in order. Assumes nothing.
 use mathlib.Core.Path.{refl}
 use Prim.Native.Nat.{_<_}
 use native.Mathlib.Omega.{arith}

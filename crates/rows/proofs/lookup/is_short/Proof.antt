@@ -1,4 +1,4 @@
--- `ordered::is_short` meets its contract. The loop's invariant: what is left may have `left` - 1 rows. The measure is `left`. Assumes nothing.
+-- `rows::lookup::is_short` meets its contract. The loop's invariant: what is left may have `left` - 1 rows. The measure is `left`. Assumes nothing.
 use mathlib.Core.Path.{_≡_, subst}
 use mathlib.Core.Bool.{false≢true}
 use lib.ListN.{getD}

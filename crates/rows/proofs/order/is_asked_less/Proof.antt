@@ -1,4 +1,4 @@
--- `ordered::order::is_asked_less` meets its contract: a joined name is compared with its first part, unless that part is a front of the other.
+-- `rows::order::is_asked_less` meets its contract: a joined name is compared with its first part, unless that part is a front of the other.
 -- Assumes nothing.
 use mathlib.Core.Path.{_≡_, sym, _∙_}
 use mathlib.Core.Bool.{cond}

@@ -1,4 +1,4 @@
--- `ordered::order::is_before` meets its contract: the name spaces decide, or, if they are the same, the names. Assumes nothing.
+-- `rows::order::is_before` meets its contract: the name spaces decide, or, if they are the same, the names. Assumes nothing.
 use mathlib.Core.Path.{_≡_, sym, ap, _∙_}
 use mathlib.Core.Bool.{true}
 use native.Mathlib.Omega.{arith}

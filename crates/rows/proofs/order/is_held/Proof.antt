@@ -1,4 +1,4 @@
--- `ordered::order::is_held` meets its contract: the three tests in order, on what the row has. Assumes nothing.
+-- `rows::order::is_held` meets its contract: the three tests in order, on what the row has. Assumes nothing.
 use mathlib.Core.Path.{_≡_, sym, ap, _∙_}
 use mathlib.Core.Bool.{true, and-false}
 use Prim.Native.Nat.{_<_, _≤_}

@@ -1,4 +1,4 @@
--- `ordered::order::is_less` meets its contract. The loop's invariant: the whole is in the order that what is left is.
+-- `rows::order::is_less` meets its contract. The loop's invariant: the whole is in the order that what is left is.
 -- Assumes nothing.
 use mathlib.Core.Path.{_≡_, refl, sym, _∙_}
 use mathlib.Core.Bool.{cond}

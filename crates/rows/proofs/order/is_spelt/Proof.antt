@@ -1,4 +1,4 @@
--- `ordered::order::is_spelt` meets its contract: a joined name is as long as its parts and the space, and is compared part by part.
+-- `rows::order::is_spelt` meets its contract: a joined name is as long as its parts and the space, and is compared part by part.
 -- Assumes nothing.
 use mathlib.Core.Path.{_≡_, sym, _∙_}
 use mathlib.Core.Bool.{_&&_}

@@ -1,4 +1,4 @@
--- `ordered::places::find_in_order` meets its contract: a row with the name stands right before the place found, or there is none. Assumes nothing.
+-- `rows::places::find_in_order` meets its contract: a row with the name stands right before the place found, or there is none. Assumes nothing.
 use Prim.Native.Nat.{_<_}
 use native.Mathlib.Omega.{arith}
 use Rattle.rows.proofs.Finding.{held-true, held-false, none-before, last-below, last-found, none-found}

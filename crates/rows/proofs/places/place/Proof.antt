@@ -1,4 +1,4 @@
--- `ordered::places::place` meets its contract. The loop's invariant: what stands before `low` does not come after what is asked for, what stands
+-- `rows::places::place` meets its contract. The loop's invariant: what stands before `low` does not come after what is asked for, what stands
 -- from `high` on does. The measure is how many stand between. Assumes nothing.
 use mathlib.Core.Bool.{true, false}
 use Rattle.rows.specs.Order.{less}

@@ -1,4 +1,4 @@
--- `ordered::places::put_in_order` meets its contract: the row goes to the place of its key, once there is room. Assumes nothing.
+-- `rows::places::put_in_order` meets its contract: the row goes to the place of its key, once there is room. Assumes nothing.
 use mathlib.Core.Path.{_≡_, ap, _∙_, subst}
 use mathlib.Core.List.{List, _∷_}
 use Prim.Native.Nat.{ℕ}

@@ -1,4 +1,4 @@
--- `ordered::places::shift` meets its contract. The loop's invariant: what stood from i to n stands one place further. Assumes nothing.
+-- `rows::places::shift` meets its contract. The loop's invariant: what stood from i to n stands one place further. Assumes nothing.
 use mathlib.Core.Path.{_≡_, subst}
 use Prim.Native.Nat.{ℕ, _-_, _≤_}
 use native.Mathlib.Omega.{arith}
