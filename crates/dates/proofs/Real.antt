@@ -1,6 +1,5 @@
 -- A date that is answered is a day that exists, spelt in the document's own octets (`date-is-real`, `real-is-date`); every other answer is
--- 23 or 24 and nothing else (`else-empty`); its numbers are small (`found-small`); and the tree alone decides it (`determined`,
--- `same-answer`). Assumes nothing.
+-- 23 or 24 and nothing else (`else-empty`); its numbers are small (`found-small`); and the tree alone decides it (`determined`). Assumes nothing.
 use mathlib.Core.Path.{_≡_, refl, ap, sym, _∙_, subst}
 use mathlib.Core.Logic.{_⊎_, inl, inr}
 use mathlib.Core.Bool.{Bool, true, false}

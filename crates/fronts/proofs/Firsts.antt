@@ -1,5 +1,4 @@
--- The first item of a stream: what `meet` tells of it (`first-met`), and that it is not refused where the whole stream was walked
--- (`whole-passes`); and how it is refused (`first-stops`, `first-none`). Assumes nothing.
+-- The first item of a stream: what `meet` tells of it (`first-met`), and how it is refused (`first-stops`, `first-none`). Assumes nothing.
 use mathlib.Core.Path.{_≡_, ap, sym, _∙_, subst}
 use mathlib.Core.List.{List}
 use mathlib.Core.Bool.{false}
