@@ -26,68 +26,60 @@ bodyOf (unit needed tiled) run = firstRun 0x31 run
 bodyOf style run = run
 bodyOf (protected enciphered) run = empty
 
--- "at most one 41 (its identifier)", "at most one 40 (layout identifier)", "exactly one 45"
+-- what is looked for in an element: of each item its octet, if there is one to be looked for
+pub record Looks : Type 0 where
+  -- "at most one 41 (its identifier)", "at most one 40 (layout identifier)", "exactly one 45"
+  pub identifier : Option ℕ
+  -- "41 required in the 31" of a class; "exactly one 45"
+  pub needed : Bool
+  -- "at most one 84 (logical identifier)"
+  pub logical : Option ℕ
+  -- "at most one A1 (portions, ..)"
+  pub portions : Option ℕ
+  -- "no 61 and no 81", "no 60 and no A4", "In a style: no 65"
+  pub barred : List ℕ
+  -- the item with the object type, and how many types there are
+  pub typed : Option ℕ
+  pub types : ℕ
+  -- the items that may hold content; "Enciphered information is an octet string whose bounds go in the content fields" (W-213)
+  pub holders : List ContentItem
+
+-- a row of document 01's table each
+abbrev pub looksOf : Contents → Looks
+looksOf profile = record { identifier = none; needed = false; logical = none; portions = none; barred = []; typed = none; types = 0; holders = [] }
+looksOf (described needed types) =
+    record { identifier = some 0x41; needed = needed; logical = none; portions = some 0xA1; barred = 0x61 ∷ 0x81 ∷ []; typed = some 0x02; types = types; holders = [] }
+looksOf (unit needed tiled) =
+    let holders = cond tiled octetStringOrTiles octetString in
+    record { identifier = some 0x40; needed = false; logical = some 0x84; portions = none; barred = 0x60 ∷ 0xA4 ∷ []; typed = none; types = 0; holders = holders }
+looksOf style = record { identifier = some 0x45; needed = true; logical = none; portions = none; barred = 0x65 ∷ []; typed = none; types = 0; holders = [] }
+looksOf (protected enciphered) =
+    let holders = cond enciphered octetString [] in
+    record { identifier = none; needed = false; logical = none; portions = none; barred = []; typed = none; types = 0; holders = holders }
+
 abbrev pub identifierOctet : Contents → Option ℕ
-identifierOctet profile = none
-identifierOctet (described needed types) = some 0x41
-identifierOctet (unit needed tiled) = some 0x40
-identifierOctet style = some 0x45
-identifierOctet (protected enciphered) = none
+identifierOctet contents = looksOf contents .identifier
 
--- "41 required in the 31" of a class; "exactly one 45"
 abbrev pub identifierNeeded : Contents → Bool
-identifierNeeded profile = false
-identifierNeeded (described needed types) = needed
-identifierNeeded (unit needed tiled) = false
-identifierNeeded style = true
-identifierNeeded (protected enciphered) = false
+identifierNeeded contents = looksOf contents .needed
 
--- "at most one 84 (logical identifier)"
 abbrev pub logicalOctet : Contents → Option ℕ
-logicalOctet profile = none
-logicalOctet (described needed types) = none
-logicalOctet (unit needed tiled) = some 0x84
-logicalOctet style = none
-logicalOctet (protected enciphered) = none
+logicalOctet contents = looksOf contents .logical
 
--- "at most one A1 (portions, ..)"
 abbrev pub portionsOctet : Contents → Option ℕ
-portionsOctet profile = none
-portionsOctet (described needed types) = some 0xA1
-portionsOctet (unit needed tiled) = none
-portionsOctet style = none
-portionsOctet (protected enciphered) = none
+portionsOctet contents = looksOf contents .portions
 
--- "no 61 and no 81", "no 60 and no A4", "In a style: no 65"
 abbrev pub barred : Contents → List ℕ
-barred profile = []
-barred (described needed types) = 0x61 ∷ 0x81 ∷ []
-barred (unit needed tiled) = 0x60 ∷ 0xA4 ∷ []
-barred style = 0x65 ∷ []
-barred (protected enciphered) = []
+barred contents = looksOf contents .barred
 
--- the item with the object type, and how many types there are
 abbrev pub typeOctet : Contents → Option ℕ
-typeOctet profile = none
-typeOctet (described needed types) = some 0x02
-typeOctet (unit needed tiled) = none
-typeOctet style = none
-typeOctet (protected enciphered) = none
+typeOctet contents = looksOf contents .typed
 
 abbrev pub typesOf : Contents → ℕ
-typesOf profile = 0
-typesOf (described needed types) = types
-typesOf (unit needed tiled) = 0
-typesOf style = 0
-typesOf (protected enciphered) = 0
+typesOf contents = looksOf contents .types
 
--- the items that may hold content; "Enciphered information is an octet string whose bounds go in the content fields" (W-213)
 abbrev pub holdersOf : Contents → List ContentItem
-holdersOf profile = []
-holdersOf (described needed types) = []
-holdersOf (unit needed tiled) = cond tiled octetStringOrTiles octetString
-holdersOf style = []
-holdersOf (protected enciphered) = cond enciphered octetString []
+holdersOf contents = looksOf contents .holders
 
 -- the item that holds the bit string of a sealed profile in pieces, 23; it is no content
 abbrev pub sealOctet : Contents → Option ℕ
