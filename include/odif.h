@@ -488,8 +488,8 @@ const char *odif_sentence(uint32_t number);
 const char *odif_version(void);
 
 /* The SHA-256 of the proved archive that an installed library is made of, as 64 hexadecimal digits; an empty string where
-   odif_sentence.c was compiled without being told it. The archive is reproducible: `packaging/archive odif` of one state of the
-   sources gives one archive, octet for octet, in any folder. */
+   odif_sentence.c was compiled without being told it. The archive is reproducible: `packaging/archive odif` of one
+   state of the sources gave one archive, octet for octet, in every folder in which it was run. */
 const char *odif_identity(void);
 
 #ifdef __cplusplus

@@ -200,7 +200,7 @@ fn report(total: &mut Tally, whole: bool) {
     }
     println!("how often the library gave each number:");
     for line in (0..=LAST_NUMBER).collect::<Vec<_>>().chunks(7) {
-        let counts = line.iter().map(|&number| format!("{number:3}: {:9}", total.met[number]));
+        let counts = line.iter().map(|&number| format!("{number:3}: {:9}", total.met(number)));
         println!(" {}", counts.collect::<String>());
     }
     println!("{} passed, {} failed", total.passed, total.failed);

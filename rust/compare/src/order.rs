@@ -40,8 +40,9 @@ pub fn hold_seeded(seed: u64, number: u64, holder: &mut Holder) {
     holder.tally.streams += 1;
     for edition in Edition::ALL {
         let reading = Reading::by(crate::editions::to_reader(edition), &stream);
-        second::order::hold(edition, &stream, &reading, &origin, &mut holder.tally);
         let (reading, origin, tally) = (&reading, &origin, &mut holder.tally);
-        second::pages::hold(&mut One { edition, stream: &stream, reading, origin, tally }, &mut rng);
+        let mut one = One { edition, stream: &stream, reading, origin, tally };
+        second::order::hold(&mut one);
+        second::pages::hold(&mut one, &mut rng);
     }
 }

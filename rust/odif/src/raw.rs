@@ -173,48 +173,99 @@ pub struct Line {
 
 const _: () = assert!(size_of::<Line>() == LINE_WIDTH * size_of::<u32>() && align_of::<Line>() == align_of::<u32>());
 
-/// Declares the questions of the C header, each by its name of 1988 and by that of 1993.
+/// Writes the questions of the C header, each with its name of 1988 and that of 1993: declares both, and makes of them a
+/// function by the edition of 1988 and one by any edition. Behind the stream comes the number of a row, in brackets, if the
+/// question has one, and then what is lent to be filled.
 macro_rules! twins {
-    ($($of_1988:ident $of_1993:ident($($name:ident: $lent:ty),*) -> $answer:ty;)*) => {
+    ($(
+        $(#[doc = $what:literal])+
+        $visible:vis $name:ident $name_in:ident =
+            $of_1988:ident $of_1993:ident $([$number:ident])? ($($lent:ident: $unit:ty),*) -> $answer:ty;
+    )*) => {
         unsafe extern "C" {
             $(
-                fn $of_1988($($name: $lent),*) -> $answer;
-                fn $of_1993($($name: $lent),*) -> $answer;
+                fn $of_1988(stream: *const u8, _: usize, $($number: u32,)? $($lent: *mut $unit, _: usize),*) -> $answer;
+                fn $of_1993(stream: *const u8, _: usize, $($number: u32,)? $($lent: *mut $unit, _: usize),*) -> $answer;
             )*
         }
+        $(
+            $(#[doc = $what])+
+            $visible fn $name(stream: &[u8], $($number: u32,)? $($lent: &mut [$unit]),*) -> $answer {
+                $name_in(Edition::Of1988, stream, $($number,)? $($lent),*)
+            }
+
+            #[doc = concat!("[`", stringify!($name), "`] by an edition.")]
+            $visible fn $name_in(
+                edition: Edition, stream: &[u8], $($number: u32,)? $($lent: &mut [$unit]),*
+            ) -> $answer {
+                let ask = match edition {
+                    Edition::Of1988 => $of_1988,
+                    Edition::Of1993 => $of_1993,
+                };
+                // SAFETY: each pointer and its length come from one slice, which is lent for the call alone; the library reads
+                // and writes inside the slices only, and keeps no pointer. Any octets and numbers are valid to it.
+                unsafe { ask(stream.as_ptr(), stream.len(), $($number,)? $($lent.as_mut_ptr(), $lent.len()),*) }
+            }
+        )*
     };
 }
 
 use twins;
 
-#[rustfmt::skip]
 twins! {
-    odif_check odif_check_1993(stream: *const u8, stream_len: usize, table: *mut u32, table_len: usize) -> Checked;
-    odif_normal odif_normal_1993(stream: *const u8, stream_len: usize, out: *mut u8, out_len: usize) -> Written;
-    odif_normal_short odif_normal_short_1993(stream: *const u8, stream_len: usize, out: *mut u8, out_len: usize) -> Written;
-    odif_layout odif_layout_1993(
-        stream: *const u8, stream_len: usize, table: *mut u32, table_len: usize, list: *mut Match, list_len: usize
-    ) -> Listed;
-    odif_logical odif_logical_1993(
-        stream: *const u8, stream_len: usize, table: *mut u32, table_len: usize, list: *mut Match, list_len: usize
-    ) -> Listed;
-    odif_content odif_content_1993(stream: *const u8, stream_len: usize, element: u32) -> Found;
-    odif_joined odif_joined_1993(
-        stream: *const u8, stream_len: usize, element: u32, out: *mut u8, out_len: usize
-    ) -> Copied;
-    odif_children odif_children_1993(
-        stream: *const u8, stream_len: usize, row: u32, table: *mut u32, table_len: usize, list: *mut u32, list_len: usize
-    ) -> Related;
-    odif_layout_text_numbers odif_layout_text_numbers_1993(
-        stream: *const u8, stream_len: usize, table: *mut u32, table_len: usize, lines: *mut u32, lines_len: usize,
-        out: *mut u8, out_len: usize
-    ) -> Shown;
-    odif_logical_text_numbers odif_logical_text_numbers_1993(
-        stream: *const u8, stream_len: usize, table: *mut u32, table_len: usize, lines: *mut u32, lines_len: usize,
-        out: *mut u8, out_len: usize
-    ) -> Shown;
-    odif_date odif_date_1993(stream: *const u8, stream_len: usize) -> Dated;
-    odif_first_date odif_first_date_1993(stream: *const u8, stream_len: usize) -> FirstDated;
+    /// Checks a stream and fills the table.
+    pub check check_in = odif_check odif_check_1993(table: u32) -> Checked;
+    /// Writes the normal form.
+    pub normal normal_in = odif_normal odif_normal_1993(out: u8) -> Written;
+    /// Writes the normal form of a stream of at most 65,535 octets, which is never longer than the stream.
+    pub normal_short normal_short_in = odif_normal_short odif_normal_short_1993(out: u8) -> Written;
+    /// Fills the table and the reading list of the layout side.
+    pub layout layout_in = odif_layout odif_layout_1993(table: u32, list: Match) -> Listed;
+    /// Fills the table and the reading list of the logical side.
+    pub logical logical_in = odif_logical odif_logical_1993(table: u32, list: Match) -> Listed;
+    /// Finds the content of a text unit, if it is one part of the stream.
+    pub content content_in = odif_content odif_content_1993[element]() -> Found;
+    /// Copies the content of a text unit, its pieces joined in order.
+    pub joined joined_in = odif_joined odif_joined_1993[element](out: u8) -> Copied;
+    /// Fills the table and the list of the children of a row.
+    pub children children_in = odif_children odif_children_1993[row](table: u32, list: u32) -> Related;
+    /// Finds the date of the document.
+    pub date date_in = odif_date odif_date_1993() -> Dated;
+    /// Finds the date of the document by the first element alone. The front of a stream is enough, if that is whole in it.
+    pub first_date first_date_in = odif_first_date odif_first_date_1993() -> FirstDated;
+    /// [`layout_text`] with the lines as numbers, those of a [`Line`] each; an incomplete last line is not used.
+    pub layout_text_numbers layout_text_numbers_in =
+        odif_layout_text_numbers odif_layout_text_numbers_1993(table: u32, lines: u32, out: u8) -> Shown;
+    /// [`logical_text`] with the lines as numbers, those of a [`Line`] each; an incomplete last line is not used.
+    pub logical_text_numbers logical_text_numbers_in =
+        odif_logical_text_numbers odif_logical_text_numbers_1993(table: u32, lines: u32, out: u8) -> Shown;
+}
+
+/// Fills the table, and puts the text of the layout side into the output and its lines: of each match of the list, in that
+/// order, the joined content of its unit. An output as long as the stream is always enough.
+pub fn layout_text(stream: &[u8], table: &mut [u32], lines: &mut [Line], out: &mut [u8]) -> Shown {
+    layout_text_numbers(stream, table, numbers_of(lines), out)
+}
+
+/// Fills the table, and puts the text of the logical side into the output and its lines, as [`layout_text`] does.
+pub fn logical_text(stream: &[u8], table: &mut [u32], lines: &mut [Line], out: &mut [u8]) -> Shown {
+    logical_text_numbers(stream, table, numbers_of(lines), out)
+}
+
+/// [`layout_text`] by an edition.
+pub fn layout_text_in(edition: Edition, stream: &[u8], table: &mut [u32], lines: &mut [Line], out: &mut [u8]) -> Shown {
+    layout_text_numbers_in(edition, stream, table, numbers_of(lines), out)
+}
+
+/// [`logical_text`] by an edition.
+pub fn logical_text_in(
+    edition: Edition,
+    stream: &[u8],
+    table: &mut [u32],
+    lines: &mut [Line],
+    out: &mut [u8],
+) -> Shown {
+    logical_text_numbers_in(edition, stream, table, numbers_of(lines), out)
 }
 
 unsafe extern "C" {
@@ -228,216 +279,12 @@ unsafe extern "C" {
     ) -> Written;
 }
 
-// SAFETY, for each call below: a pointer and a length come from one slice, which is lent for the call alone; the
-// library reads and writes inside the slices only, and keeps no pointer. Any octets and numbers are valid to it.
-
-/// Checks a stream and fills the table.
-pub fn check(stream: &[u8], table: &mut [u32]) -> Checked {
-    check_in(Edition::Of1988, stream, table)
-}
-
-/// Writes the normal form.
-pub fn normal(stream: &[u8], out: &mut [u8]) -> Written {
-    normal_in(Edition::Of1988, stream, out)
-}
-
-/// Fills the table and the reading list of the layout side.
-pub fn layout(stream: &[u8], table: &mut [u32], list: &mut [Match]) -> Listed {
-    layout_in(Edition::Of1988, stream, table, list)
-}
-
-/// Fills the table and the reading list of the logical side.
-pub fn logical(stream: &[u8], table: &mut [u32], list: &mut [Match]) -> Listed {
-    logical_in(Edition::Of1988, stream, table, list)
-}
-
-/// Writes the normal form of a stream of at most 65,535 octets, which is never longer than the stream.
-pub fn normal_short(stream: &[u8], out: &mut [u8]) -> Written {
-    normal_short_in(Edition::Of1988, stream, out)
-}
-
-/// Finds the content of a text unit, if it is one part of the stream.
-pub fn content(stream: &[u8], element: u32) -> Found {
-    content_in(Edition::Of1988, stream, element)
-}
-
-/// Copies the content of a text unit, its pieces joined in order.
-pub fn joined(stream: &[u8], element: u32, out: &mut [u8]) -> Copied {
-    joined_in(Edition::Of1988, stream, element, out)
-}
-
-/// The same as [`check`], by an edition.
-pub fn check_in(edition: Edition, stream: &[u8], table: &mut [u32]) -> Checked {
-    let ask = match edition {
-        Edition::Of1988 => odif_check,
-        Edition::Of1993 => odif_check_1993,
-    };
-    unsafe { ask(stream.as_ptr(), stream.len(), table.as_mut_ptr(), table.len()) }
-}
-
-/// The same as [`normal`], by an edition.
-pub fn normal_in(edition: Edition, stream: &[u8], out: &mut [u8]) -> Written {
-    let ask = match edition {
-        Edition::Of1988 => odif_normal,
-        Edition::Of1993 => odif_normal_1993,
-    };
-    unsafe { ask(stream.as_ptr(), stream.len(), out.as_mut_ptr(), out.len()) }
-}
-
-/// The same as [`layout`], by an edition.
-pub fn layout_in(edition: Edition, stream: &[u8], table: &mut [u32], list: &mut [Match]) -> Listed {
-    let ask = match edition {
-        Edition::Of1988 => odif_layout,
-        Edition::Of1993 => odif_layout_1993,
-    };
-    unsafe { ask(stream.as_ptr(), stream.len(), table.as_mut_ptr(), table.len(), list.as_mut_ptr(), list.len()) }
-}
-
-/// The same as [`logical`], by an edition.
-pub fn logical_in(edition: Edition, stream: &[u8], table: &mut [u32], list: &mut [Match]) -> Listed {
-    let ask = match edition {
-        Edition::Of1988 => odif_logical,
-        Edition::Of1993 => odif_logical_1993,
-    };
-    unsafe { ask(stream.as_ptr(), stream.len(), table.as_mut_ptr(), table.len(), list.as_mut_ptr(), list.len()) }
-}
-
-/// The same as [`normal_short`], by an edition.
-pub fn normal_short_in(edition: Edition, stream: &[u8], out: &mut [u8]) -> Written {
-    let ask = match edition {
-        Edition::Of1988 => odif_normal_short,
-        Edition::Of1993 => odif_normal_short_1993,
-    };
-    unsafe { ask(stream.as_ptr(), stream.len(), out.as_mut_ptr(), out.len()) }
-}
-
-/// The same as [`content`], by an edition.
-pub fn content_in(edition: Edition, stream: &[u8], element: u32) -> Found {
-    let ask = match edition {
-        Edition::Of1988 => odif_content,
-        Edition::Of1993 => odif_content_1993,
-    };
-    unsafe { ask(stream.as_ptr(), stream.len(), element) }
-}
-
-/// The same as [`joined`], by an edition.
-pub fn joined_in(edition: Edition, stream: &[u8], element: u32, out: &mut [u8]) -> Copied {
-    let ask = match edition {
-        Edition::Of1988 => odif_joined,
-        Edition::Of1993 => odif_joined_1993,
-    };
-    unsafe { ask(stream.as_ptr(), stream.len(), element, out.as_mut_ptr(), out.len()) }
-}
-
-/// Finds the date of the document.
-pub fn date(stream: &[u8]) -> Dated {
-    date_in(Edition::Of1988, stream)
-}
-
-/// Finds the date of the document by the first element alone. The front of a stream is enough, if that is whole in it.
-pub fn first_date(stream: &[u8]) -> FirstDated {
-    first_date_in(Edition::Of1988, stream)
-}
-
-/// The same as [`date`], by an edition.
-pub fn date_in(edition: Edition, stream: &[u8]) -> Dated {
-    let ask = match edition {
-        Edition::Of1988 => odif_date,
-        Edition::Of1993 => odif_date_1993,
-    };
-    unsafe { ask(stream.as_ptr(), stream.len()) }
-}
-
-/// The same as [`first_date`], by an edition.
-pub fn first_date_in(edition: Edition, stream: &[u8]) -> FirstDated {
-    let ask = match edition {
-        Edition::Of1988 => odif_first_date,
-        Edition::Of1993 => odif_first_date_1993,
-    };
-    unsafe { ask(stream.as_ptr(), stream.len()) }
-}
-
 /// Makes a letter of entries, six numbers each: first and past in the buffer of its identifier, its portion and its text.
 pub fn make(buffer: &[u8], entries: &[u32], out: &mut [u8]) -> Written {
+    // SAFETY: as of the questions.
     unsafe {
         odif_make_numbers(buffer.as_ptr(), buffer.len(), entries.as_ptr(), entries.len(), out.as_mut_ptr(), out.len())
     }
-}
-
-/// Fills the table and the list of the children of a row.
-pub fn children(stream: &[u8], row: u32, table: &mut [u32], list: &mut [u32]) -> Related {
-    children_in(Edition::Of1988, stream, row, table, list)
-}
-
-/// The same as [`children`], by an edition.
-pub fn children_in(edition: Edition, stream: &[u8], row: u32, table: &mut [u32], list: &mut [u32]) -> Related {
-    let ask = match edition {
-        Edition::Of1988 => odif_children,
-        Edition::Of1993 => odif_children_1993,
-    };
-    let (numbers, most) = (table.as_mut_ptr(), table.len());
-    unsafe { ask(stream.as_ptr(), stream.len(), row, numbers, most, list.as_mut_ptr(), list.len()) }
-}
-
-/// Fills the table, and puts the text of the layout side into the output and its lines: of each match of the list, in that
-/// order, the joined content of its unit. An output as long as the stream is always enough.
-pub fn layout_text(stream: &[u8], table: &mut [u32], lines: &mut [Line], out: &mut [u8]) -> Shown {
-    layout_text_in(Edition::Of1988, stream, table, lines, out)
-}
-
-/// The same of the logical side.
-pub fn logical_text(stream: &[u8], table: &mut [u32], lines: &mut [Line], out: &mut [u8]) -> Shown {
-    logical_text_in(Edition::Of1988, stream, table, lines, out)
-}
-
-/// The same as [`layout_text`], by an edition.
-pub fn layout_text_in(edition: Edition, stream: &[u8], table: &mut [u32], lines: &mut [Line], out: &mut [u8]) -> Shown {
-    layout_text_numbers_in(edition, stream, table, numbers_of(lines), out)
-}
-
-/// The same as [`logical_text`], by an edition.
-pub fn logical_text_in(
-    edition: Edition,
-    stream: &[u8],
-    table: &mut [u32],
-    lines: &mut [Line],
-    out: &mut [u8],
-) -> Shown {
-    logical_text_numbers_in(edition, stream, table, numbers_of(lines), out)
-}
-
-/// The same as [`layout_text_in`], with the lines as numbers, those of a [`Line`] each; an incomplete last line is not used.
-pub fn layout_text_numbers_in(
-    edition: Edition,
-    stream: &[u8],
-    table: &mut [u32],
-    lines: &mut [u32],
-    out: &mut [u8],
-) -> Shown {
-    let ask = match edition {
-        Edition::Of1988 => odif_layout_text_numbers,
-        Edition::Of1993 => odif_layout_text_numbers_1993,
-    };
-    let (rows, row_numbers) = (table.as_mut_ptr(), table.len());
-    let (records, line_numbers) = (lines.as_mut_ptr(), lines.len());
-    unsafe { ask(stream.as_ptr(), stream.len(), rows, row_numbers, records, line_numbers, out.as_mut_ptr(), out.len()) }
-}
-
-/// The same as [`logical_text_in`], with the lines as numbers.
-pub fn logical_text_numbers_in(
-    edition: Edition,
-    stream: &[u8],
-    table: &mut [u32],
-    lines: &mut [u32],
-    out: &mut [u8],
-) -> Shown {
-    let ask = match edition {
-        Edition::Of1988 => odif_logical_text_numbers,
-        Edition::Of1993 => odif_logical_text_numbers_1993,
-    };
-    let (rows, row_numbers) = (table.as_mut_ptr(), table.len());
-    let (records, line_numbers) = (lines.as_mut_ptr(), lines.len());
-    unsafe { ask(stream.as_ptr(), stream.len(), rows, row_numbers, records, line_numbers, out.as_mut_ptr(), out.len()) }
 }
 
 /// The numbers of a [`Line`].

@@ -5,8 +5,9 @@ use odif::{Edition, raw};
 use reader::Reading;
 
 use crate::editions::to_reader;
+use crate::one::One;
 use crate::rng::Rng;
-use crate::tally::{Origin, Tally, hex};
+use crate::tally::Question;
 
 fn numbers(date: raw::Dated) -> [u32; 7] {
     [date.number, date.place, date.first, date.past, date.year, date.month, date.day]
@@ -17,24 +18,31 @@ fn wanted(date: reader::Dated) -> [u32; 7] {
 }
 
 /// Puts both questions to the library and to the reader.
-pub fn hold(edition: Edition, stream: &[u8], reading: &Reading<'_>, origin: &Origin, tally: &mut Tally, rng: &mut Rng) {
-    let date = raw::date_in(edition, stream);
-    let first = raw::first_date_in(edition, stream);
-    tally.meet(date.number);
-    tally.meet(first.date.number);
-    let mut expect = |holds: bool, what: &str, tell: &dyn Fn() -> String| {
-        tally.expect(holds, || format!("{origin}: {what}: {}\n  {}", tell(), hex(stream)));
-    };
-    let theirs = wanted(reading.date());
-    expect(numbers(date) == theirs, "the date", &|| format!("{date:?}, not {theirs:?}"));
-    let theirs = wanted(reader::first_date(to_reader(edition), stream));
-    expect(numbers(first.date) == theirs, "the first date", &|| format!("{first:?}, not {theirs:?}"));
-    expect(first.unread == 1, "the note of the first date", &|| format!("{first:?}"));
+pub fn hold(one: &mut One<'_>, rng: &mut Rng) {
+    let date = raw::date_in(one.edition, one.stream);
+    let first = raw::first_date_in(one.edition, one.stream);
+    one.meet(Question::Date, date.number);
+    one.meet(Question::FirstDate, first.date.number);
+    let theirs = wanted(one.reading.date());
+    one.expect(numbers(date) == theirs, "the date", || format!("{date:?}, not {theirs:?}"));
+    let theirs = wanted(reader::first_date(to_reader(one.edition), one.stream));
+    one.expect(numbers(first.date) == theirs, "the first date", || format!("{first:?}, not {theirs:?}"));
+    one.expect(first.unread == 1, "the note of the first date", || format!("{first:?}"));
     let empty = numbers(date)[2..] == [0; 5];
-    expect((date.number != 0) == empty, "a refused date is empty", &|| format!("{date:?}"));
-    if reading.refusal().is_none() {
-        expect(first.date == date, "the first date of a letter", &|| format!("{first:?}, not {date:?}"));
-        let letter = odif::Letter::read_in(edition, stream).ok().map(|letter| letter.date());
+    one.expect((date.number != 0) == empty, "a refused date is empty", || format!("{date:?}"));
+    if one.reading.refusal().is_none() {
+        one.expect(first.date == date, "the first date of a letter", || format!("{first:?}, not {date:?}"));
+        one.date_of_crate(date);
+    }
+    if let Some(end) = whole_first_element(one.stream, one.reading) {
+        one.first_date_of_fronts(first, end, rng);
+    }
+}
+
+impl One<'_> {
+    /// The crate's letter has the date that the library gives.
+    fn date_of_crate(&mut self, date: raw::Dated) {
+        let letter = odif::Letter::read_in(self.edition, self.stream).ok().map(|letter| letter.date());
         let same = letter.as_ref().is_some_and(|found| match found {
             Ok(found) => {
                 date.number == 0
@@ -44,16 +52,18 @@ pub fn hold(edition: Edition, stream: &[u8], reading: &Reading<'_>, origin: &Ori
             }
             Err(refusal) => (refusal.number(), refusal.place) == (date.number, 0),
         });
-        expect(same, "the crate's date", &|| format!("{letter:?}, not {date:?}"));
+        self.expect(same, "the crate's date", || format!("{letter:?}, not {date:?}"));
     }
-    if let Some(end) = whole_first_element(stream, reading) {
+
+    /// Nothing past the first element, which ends here, has a word in the first date.
+    fn first_date_of_fronts(&mut self, first: raw::FirstDated, end: usize, rng: &mut Rng) {
         // Rule 1 looks at the whole length.
         let room = (odif::STREAM_LIMIT - end).min(8);
-        let damaged = [&stream[..end], &rng.number().to_le_bytes()[..rng.below(room + 1)]].concat();
-        let other = raw::first_date_in(edition, &damaged);
-        expect(other == first, "the first date with another remainder", &|| format!("{other:?}, not {first:?}"));
-        let front = raw::first_date_in(edition, &stream[..end]);
-        expect(front == first, "the first date of a front", &|| format!("{front:?}, not {first:?}"));
+        let damaged = [&self.stream[..end], &rng.number().to_le_bytes()[..rng.below(room + 1)]].concat();
+        let other = raw::first_date_in(self.edition, &damaged);
+        self.expect(other == first, "the first date with another remainder", || format!("{other:?}, not {first:?}"));
+        let front = raw::first_date_in(self.edition, &self.stream[..end]);
+        self.expect(front == first, "the first date of a front", || format!("{front:?}, not {first:?}"));
     }
 }
 

@@ -20,7 +20,7 @@ use crate::text;
 pub fn hold<'a>(stream: &'a [u8], origin: &Origin, tally: &mut Tally, rng: &mut Rng) -> [Reading<'a>; 2] {
     let readings = Edition::ALL.map(|edition| Reading::by(to_reader(edition), stream));
     for (edition, reading) in Edition::ALL.into_iter().zip(&readings) {
-        hold_against(reading, &mut One { edition, stream, reading, origin, tally }, rng);
+        hold_by(&mut One { edition, stream, reading, origin, tally }, rng);
     }
     let [of_1988, _] = &readings;
     editions::hold(stream, of_1988, origin, tally);
@@ -29,7 +29,7 @@ pub fn hold<'a>(stream: &'a [u8], origin: &Origin, tally: &mut Tally, rng: &mut 
 }
 
 /// Puts every question of one edition to the library, and holds its answers against the reading's.
-pub(crate) fn hold_against(reading: &Reading<'_>, one: &mut One<'_>, rng: &mut Rng) {
+pub(crate) fn hold_by(one: &mut One<'_>, rng: &mut Rng) {
     let before = one.stream.to_vec();
     one.ask_check(rng);
     one.ask_list(Side::Layout, rng);
@@ -40,11 +40,11 @@ pub(crate) fn hold_against(reading: &Reading<'_>, one: &mut One<'_>, rng: &mut R
     one.ask_joined(rng);
     one.ask_children(rng);
     one.expect(before == one.stream, "the stream itself", || "it was written to".into());
-    dates::hold(one.edition, one.stream, reading, one.origin, one.tally, rng);
-    order::hold(one.edition, one.stream, reading, one.origin, one.tally);
+    dates::hold(one, rng);
+    order::hold(one);
     pages::hold(one, rng);
     text::hold(one, rng);
-    if reading.refusal().is_none() {
+    if one.reading.refusal().is_none() {
         one.ask_round_trip(rng);
         one.ask_binding(rng);
     }
@@ -250,7 +250,7 @@ impl One<'_> {
         let (mut our_list, mut their_list) = (list_before.clone(), list_before.clone());
         let answer = raw::children_in(self.edition, self.stream, row, our_table.lend(), our_list.lend());
         let wanted = self.reading.children(row, their_table.lend(), their_list.lend());
-        self.tally.meet(answer.number);
+        self.meet(Question::Children, answer.number);
         let question = format!("children of {row} with a table of {table_length} numbers and a list of {list_length}");
         let same = [answer.number, answer.place, answer.elements, answer.children]
             == [wanted.number, wanted.place, wanted.elements, wanted.children];

@@ -80,7 +80,7 @@ mod tests {
         let (reading, origin, mut tally) = (Reading::of(&other), Origin::Fixed("x".into()), Tally::keeping());
         let mut one =
             One { edition: Edition::Of1988, stream: &mine, reading: &reading, origin: &origin, tally: &mut tally };
-        hold::hold_against(&reading, &mut one, &mut Rng::new(1));
+        hold::hold_by(&mut one, &mut Rng::new(1));
         let opinion = Opinion::of(&tally);
         assert!(opinion.differing > 0 && opinion.comparisons > opinion.differing, "{opinion:?}");
         assert!(opinion.differences.iter().any(|told| told.contains("normal form with an output of")), "{opinion:?}");

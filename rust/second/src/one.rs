@@ -28,7 +28,6 @@ impl One<'_> {
 
     /// Counts what the library gave for a question.
     pub fn meet(&mut self, question: Question, number: u32) {
-        self.tally.meet(number);
-        self.tally.meet_in(self.edition, question, number);
+        self.tally.meet(self.edition, question, number);
     }
 }

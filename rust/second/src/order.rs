@@ -4,10 +4,10 @@
 pub mod definition;
 
 use odif::{Class, Edition, ROW_WIDTH, raw};
-use reader::Reading;
 
 use self::definition::Run;
-use crate::tally::{Origin, Question, Tally, hex};
+use crate::one::One;
+use crate::tally::Question;
 
 /// Every front of a letter is looked at if it has no more elements than this; else those next to the place alone.
 pub const FEW: usize = 64;
@@ -21,20 +21,18 @@ pub fn to_reader(class: Class) -> reader::Order {
 }
 
 /// Puts the question to the library, to the reader and to the definition, by both classes.
-pub fn hold(edition: Edition, stream: &[u8], reading: &Reading<'_>, origin: &Origin, tally: &mut Tally) {
-    let run = Run::of(stream, reading);
+pub fn hold(one: &mut One<'_>) {
+    let run = Run::of(one.stream, one.reading);
     for class in Class::ALL {
-        let answer = raw::order_in(edition, class, stream);
+        let answer = raw::order_in(one.edition, class, one.stream);
         let question = match class {
             Class::A => Question::OrderA,
             Class::B => Question::OrderB,
         };
-        tally.meet(answer.number);
-        tally.meet_in(edition, question, answer.number);
+        one.meet(question, answer.number);
+        let (edition, stream, reading) = (one.edition, one.stream, one.reading);
         let mut expect = |holds: bool, what: &str, tell: &dyn Fn() -> String| {
-            tally.expect(holds, || {
-                format!("{origin}, by {edition}: order of class {class}: {what}: {}\n  {}", tell(), hex(stream))
-            });
+            one.expect(holds, &format!("order of class {class}: {what}"), tell);
         };
         let wanted = reading.order(to_reader(class));
         let same = [answer.number, answer.place] == [wanted.number, wanted.place];

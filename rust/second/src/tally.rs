@@ -28,6 +28,12 @@ pub enum Question {
     Content,
     /// `odif_joined`
     Joined,
+    /// `odif_children`
+    Children,
+    /// `odif_date`
+    Date,
+    /// `odif_first_date`
+    FirstDate,
     /// `odif_layout_text`
     LayoutText,
     /// `odif_logical_text`
@@ -41,23 +47,42 @@ pub enum Question {
 }
 
 impl Question {
-    const ALL: [Question; 12] = {
+    const ALL: [Question; 15] = {
         use Question::*;
-        [Check, Layout, Logical, Normal, NormalShort, Content, Joined, LayoutText, LogicalText, OrderA, OrderB, Pages]
+        [
+            Check,
+            Layout,
+            Logical,
+            Normal,
+            NormalShort,
+            Content,
+            Joined,
+            Children,
+            Date,
+            FirstDate,
+            LayoutText,
+            LogicalText,
+            OrderA,
+            OrderB,
+            Pages,
+        ]
     };
 
-    /// The refusals above 15 that it can give; those up to 15 are every question's.
-    fn refusals(self) -> &'static [usize] {
+    /// Can it give this refusal? The header has these numbers beside each answer.
+    fn can_give(self, number: usize) -> bool {
         match self {
-            Question::Check => &[16],
-            Question::Layout | Question::Logical => &[16, 19],
-            Question::Normal => &[17, 18],
-            Question::NormalShort => &[18],
-            Question::Content => &[20, 21],
-            Question::Joined => &[20, 22],
-            Question::LayoutText | Question::LogicalText => &[16, 19, 22],
-            Question::OrderA | Question::OrderB => &[26],
-            Question::Pages => &[16, 30],
+            Question::Check => matches!(number, 1..=16),
+            Question::Layout | Question::Logical => matches!(number, 1..=16 | 19),
+            Question::Normal => matches!(number, 1..=15 | 17 | 18),
+            Question::NormalShort => matches!(number, 1..=15 | 18),
+            Question::Content => matches!(number, 1..=15 | 20 | 21),
+            Question::Joined => matches!(number, 1..=15 | 20 | 22),
+            Question::Children => matches!(number, 1..=16 | 20 | 25),
+            Question::Date => matches!(number, 1..=15 | 23 | 24),
+            Question::FirstDate => matches!(number, 1..=8 | 10 | 11 | 23 | 24),
+            Question::LayoutText | Question::LogicalText => matches!(number, 1..=16 | 19 | 22),
+            Question::OrderA | Question::OrderB => matches!(number, 1..=15 | 26),
+            Question::Pages => matches!(number, 1..=16 | 30),
         }
     }
 }
@@ -115,10 +140,8 @@ pub struct Tally {
     pub parsed: u64,
     /// Elements of them that openssl was not asked about.
     pub left_out: u64,
-    /// How often the library gave each number, over all questions.
-    pub met: Counts,
-    /// The same for each question of each edition.
-    met_in: [[Counts; Question::ALL.len()]; Edition::ALL.len()],
+    /// How often the library gave each number, for each question of each edition.
+    met: [[Counts; Question::ALL.len()]; Edition::ALL.len()],
     /// What is told of comparisons that do not hold, where it is kept and not printed.
     kept: Option<Vec<String>>,
 }
@@ -150,18 +173,16 @@ impl Tally {
         }
     }
 
-    /// Counts a number that the library gave.
-    pub fn meet(&mut self, number: u32) {
-        if let Some(count) = self.met.get_mut(number as usize) {
+    /// Counts a number that the library gave for a question of an edition.
+    pub fn meet(&mut self, edition: Edition, question: Question, number: u32) {
+        if let Some(count) = self.met[edition as usize][question as usize].get_mut(number as usize) {
             *count += 1;
         }
     }
 
-    /// Counts a number that the library gave for a question of an edition.
-    pub fn meet_in(&mut self, edition: Edition, question: Question, number: u32) {
-        if let Some(count) = self.met_in[edition as usize][question as usize].get_mut(number as usize) {
-            *count += 1;
-        }
+    /// How often the library gave a number, over all questions of both editions.
+    pub fn met(&self, number: usize) -> u64 {
+        self.met.as_flattened().iter().map(|counts| counts[number]).sum()
     }
 
     /// Adds the counts of another thread.
@@ -172,11 +193,8 @@ impl Tally {
         self.accepted += other.accepted;
         self.parsed += other.parsed;
         self.left_out += other.left_out;
-        for (sum, count) in self.met.iter_mut().zip(other.met) {
-            *sum += count;
-        }
-        let theirs = other.met_in.as_flattened().as_flattened();
-        for (sum, count) in self.met_in.as_flattened_mut().as_flattened_mut().iter_mut().zip(theirs) {
+        let theirs = other.met.as_flattened().as_flattened();
+        for (sum, count) in self.met.as_flattened_mut().as_flattened_mut().iter_mut().zip(theirs) {
             *sum += count;
         }
     }
@@ -185,9 +203,9 @@ impl Tally {
     pub fn expect_every_refusal(&mut self) {
         for (edition, question) in Edition::ALL.into_iter().flat_map(|edition| Question::ALL.map(|one| (edition, one)))
         {
-            let counts = self.met_in[edition as usize][question as usize];
+            let counts = self.met[edition as usize][question as usize];
             for (number, count) in counts.into_iter().enumerate().skip(1) {
-                let possible = number <= 15 || question.refusals().contains(&number);
+                let possible = question.can_give(number);
                 let tell = || format!("{question:?} by {edition}: refusal {number} was met {count} times");
                 self.expect((count > 0) == possible, tell);
             }
@@ -197,7 +215,7 @@ impl Tally {
     /// Every number from 1 to the last must have been met.
     pub fn expect_every_number(&mut self) {
         for number in (1..=LAST_NUMBER).filter(|number| !OF_OTHERS.contains(number)) {
-            let met = self.met[number] > 0;
+            let met = self.met(number) > 0;
             self.expect(met, || format!("refusal {number} was never met"));
         }
     }

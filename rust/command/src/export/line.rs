@@ -184,6 +184,23 @@ mod tests {
     }
 
     #[test]
+    fn a_line_is_of_the_words_the_library_and_the_state_that_it_tells() {
+        let (line, other) = (line(), || String::from("other"));
+        assert!(line.is_of(&Line { outcome: Became::Accepted, reason: other(), seal: other(), ..line.clone() }));
+        for fresh in [
+            Line { how: other(), ..line.clone() },
+            Line { library: other(), ..line.clone() },
+            Line { command: other(), ..line.clone() },
+            Line { octets: Some(7), ..line.clone() },
+            Line { modified: other(), ..line.clone() },
+            Line { changed: other(), ..line.clone() },
+            Line { inode: Some(7), ..line.clone() },
+        ] {
+            assert!(!line.is_of(&fresh), "{}", String::from_utf8_lossy(&fresh.record()));
+        }
+    }
+
+    #[test]
     fn a_line_that_is_cut_or_altered_is_none() {
         let record = line().record();
         for cut in 0..record.len() - 1 {

@@ -61,9 +61,9 @@ Examples:
   odif export archive texts --prune
   odif export --verify texts
 
-Exit status: 0 every letter has its text; 1 some were refused or are gone, with --strict also if text
-was left out, with --verify if something differs; 2 some could not be read or written, or a text is no
-letter's; 130 it was interrupted, and the next run goes on from there.";
+Exit status: 0 every letter has its text; 1 some were refused or are gone, with --strict also if
+text was left out, with --verify if something differs; 2 some could not be read or written, or a
+text is no letter's; 130 it was interrupted, and the next run goes on from there.";
 
 /// Writes the text of a whole archive
 ///

@@ -51,3 +51,44 @@ fn age(about: &Metadata) -> Option<Duration> {
     let changed = UNIX_EPOCH + Duration::new(seconds, u32::try_from(about.ctime_nsec()).ok()?);
     SystemTime::now().duration_since(changed).ok()
 }
+
+#[cfg(test)]
+mod tests {
+    use std::fs;
+    use std::io::Write;
+    use std::process::Command;
+
+    use super::*;
+
+    #[test]
+    fn what_is_written_right_after_it_was_read_is_another_state() {
+        let folder = tempfile::tempdir().unwrap();
+        let path = folder.path().join("letter");
+        for _ in 0..5 {
+            fs::write(&path, "before").unwrap();
+            let modified = fs::metadata(&path).unwrap().modified().unwrap();
+            let (line, octets) = read(&path, false, &Line::default()).unwrap();
+            fs::write(&path, "behind").unwrap();
+            File::options().write(true).open(&path).unwrap().set_modified(modified).unwrap();
+            assert_eq!(octets, b"before");
+            assert!(!line.has_stamp_of(&Line::default().stamped(&fs::metadata(&path).unwrap())));
+        }
+    }
+
+    /// More is written to a pipe than it holds, so its time changes after it was read from, and before its end.
+    #[test]
+    fn what_changes_while_it_is_read_is_not_taken() {
+        let folder = tempfile::tempdir().unwrap();
+        let path = folder.path().join("pipe");
+        assert!(Command::new("mkfifo").arg(&path).status().unwrap().success());
+        let pipe = path.clone();
+        thread::spawn(move || {
+            while let Ok(mut pipe) = File::options().write(true).open(&pipe) {
+                // Who reads may have enough before this is written.
+                let _ = pipe.write_all(&[0; 1 << 17]);
+            }
+        });
+        let error = read(&path, false, &Line::default()).map(|(_, octets)| octets.len()).unwrap_err();
+        assert_eq!(error.to_string(), "it changes while it is read");
+    }
+}

@@ -7,6 +7,8 @@ use std::process::{Command, Stdio};
 use std::thread;
 use std::time::Duration;
 
+use sha2::{Digest, Sha256};
+
 use super::support::{Run, Scratch, command, item, letter, letter_of_1993, odif, two_sided};
 
 /// An archive of three letters.
@@ -269,6 +271,23 @@ fn what_a_dead_run_left_is_removed() {
     let mut left: Vec<_> = fs::read_dir(scratch.path("out")).unwrap().map(|found| found.unwrap().file_name()).collect();
     left.sort();
     assert_eq!(left, ["both.txt", "d", "manifest.csv", "manifest.lock", "new.txt"]);
+}
+
+#[test]
+fn the_journal_of_a_run_that_has_ended_tells_nothing() {
+    let scratch = archive("export-kept-journal");
+    export(&scratch, "out", &[]);
+    let first = fs::read(scratch.path("out/manifest.csv")).unwrap();
+    fs::remove_file(scratch.path("in/d/accent")).unwrap();
+    export(&scratch, "out", &["--prune"]);
+    let second = fs::read(scratch.path("out/manifest.csv")).unwrap();
+    // What is left by a kill between the manifest and the removal of the journal, which names the manifest that it goes on from.
+    for (from, is_told) in [(&b""[..], false), (&second, true)] {
+        let hash: String = Sha256::digest(from).iter().map(|octet| format!("{octet:02x}")).collect();
+        fs::write(scratch.path("out/manifest.part"), [hash.as_bytes(), b"\n", &first].concat()).unwrap();
+        let run = export(&scratch, "out", &[]);
+        assert_eq!(run.stderr.contains("d/accent: gone from the archive"), is_told, "{}", run.stderr);
+    }
 }
 
 #[test]

@@ -34,8 +34,10 @@ fn killed_exports_are_gone_on_with() {
     let mut trial = Trial::new();
     println!("seed {}", trial.random.0);
     while trial.compared == 0 || Instant::now() < end {
-        for _ in 0..trial.random.below(10) {
-            trial.change_archive();
+        for _ in 0..=trial.random.below(9) {
+            if trial.random.below(3) == 0 {
+                trial.change_archive();
+            }
             trial.kill_one();
             trial.judge_what_is_left();
         }
@@ -112,11 +114,8 @@ impl Trial {
         fs::write(file, octets).unwrap();
     }
 
-    /// Now and then a letter is changed, taken away or brought back. A changed one keeps its length and gets its old time.
+    /// A letter is changed, taken away or brought back. A changed one keeps its length and gets its old time.
     fn change_archive(&mut self) {
-        if self.random.below(3) > 0 {
-            return;
-        }
         let number = self.random.below(FILES);
         let file = self.file(number);
         let modified = fs::metadata(&file).and_then(|about| about.modified());
@@ -160,16 +159,24 @@ impl Trial {
         }
     }
 
-    /// Some export runs to its end, with the letters that are gone or without, and is compared.
+    /// Some export runs to its end, with the letters that are gone or without, and is compared; then again with these words,
+    /// so that a letter that was changed in between, and a text that was damaged, are ones that were done before.
     fn run_to_the_end(&mut self) {
-        let words = self.random.of(&WORDS);
-        let prune = self.random.below(2) == 0;
+        let (words, prune) = (self.random.of(&WORDS), self.random.below(2) == 0);
         if self.random.below(2) == 0 {
             self.damage_a_text();
         }
+        self.span = self.run_and_compare(words, prune);
+        self.change_archive();
+        self.damage_a_text();
+        self.run_and_compare(words, prune);
+    }
+
+    /// Tells how long the run took.
+    fn run_and_compare(&mut self, words: &[&str], prune: bool) -> Duration {
         let begun = Instant::now();
         let run = self.run("out", words, prune);
-        self.span = begun.elapsed().max(Duration::from_millis(10));
+        let span = begun.elapsed().max(Duration::from_millis(10));
         let _ = fs::remove_dir_all(self.scratch.path("fresh"));
         let fresh = self.run("fresh", words, false);
         if prune {
@@ -181,6 +188,7 @@ impl Trial {
         let gone = !prune && run.text().contains("gone from the archive");
         assert!(run.status == if gone { fresh.status.max(1) } else { fresh.status }, "{}", run.stderr);
         self.compared += 1;
+        span
     }
 
     fn run(&self, out: &str, words: &[&str], prune: bool) -> Run {

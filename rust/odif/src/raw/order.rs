@@ -15,23 +15,24 @@ pub struct Ordered {
 }
 
 twins! {
-    odif_order_a odif_order_a_1993(stream: *const u8, stream_len: usize) -> Ordered;
-    odif_order_b odif_order_b_1993(stream: *const u8, stream_len: usize) -> Ordered;
+    /// Says whether a stream is in the order of class A.
+    order_a order_a_in = odif_order_a odif_order_a_1993() -> Ordered;
+    /// Says whether a stream is in the order of class B.
+    order_b order_b_in = odif_order_b odif_order_b_1993() -> Ordered;
 }
 
 /// Says whether a stream is in the order of a class.
 pub fn order(class: Class, stream: &[u8]) -> Ordered {
-    order_in(Edition::Of1988, class, stream)
+    match class {
+        Class::A => order_a(stream),
+        Class::B => order_b(stream),
+    }
 }
 
-/// The same as [`order`], by an edition.
+/// [`order`] by an edition.
 pub fn order_in(edition: Edition, class: Class, stream: &[u8]) -> Ordered {
-    let ask = match (class, edition) {
-        (Class::A, Edition::Of1988) => odif_order_a,
-        (Class::A, Edition::Of1993) => odif_order_a_1993,
-        (Class::B, Edition::Of1988) => odif_order_b,
-        (Class::B, Edition::Of1993) => odif_order_b_1993,
-    };
-    // SAFETY: pointer and length come from one slice, which is lent for the call alone.
-    unsafe { ask(stream.as_ptr(), stream.len()) }
+    match class {
+        Class::A => order_a_in(edition, stream),
+        Class::B => order_b_in(edition, stream),
+    }
 }

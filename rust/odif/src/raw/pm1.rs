@@ -32,32 +32,23 @@ pub struct Listed {
     pub pages: u32,
 }
 
-#[rustfmt::skip]
 twins! {
-    pm1_pages_numbers pm1_pages_numbers_1993(
-        stream: *const u8, stream_len: usize, table: *mut u32, table_len: usize, list: *mut u32, list_len: usize
-    ) -> Listed;
+    /// [`pages`] with the list as numbers, those of a [`Page`] each; an incomplete last record is not used.
+    pub pages_numbers pages_numbers_in = pm1_pages_numbers pm1_pages_numbers_1993(table: u32, list: u32) -> Listed;
 }
 
 /// Fills the table and the list of pages and page classes, each with its verdict.
 pub fn pages(stream: &[u8], table: &mut [u32], list: &mut [Page]) -> Listed {
-    pages_in(Edition::Of1988, stream, table, list)
+    pages_numbers(stream, table, numbers_of(list))
 }
 
-/// The same as [`pages`], by an edition.
+/// [`pages`] by an edition.
 pub fn pages_in(edition: Edition, stream: &[u8], table: &mut [u32], list: &mut [Page]) -> Listed {
-    // SAFETY: a page is its two numbers and nothing else, in their order, and any numbers are a page.
-    let numbers = unsafe { slice::from_raw_parts_mut(list.as_mut_ptr().cast(), PAGE_WIDTH * list.len()) };
-    pages_numbers_in(edition, stream, table, numbers)
+    pages_numbers_in(edition, stream, table, numbers_of(list))
 }
 
-/// The same as [`pages_in`], with the list as numbers, those of a [`Page`] each; an incomplete last record is not used.
-pub fn pages_numbers_in(edition: Edition, stream: &[u8], table: &mut [u32], list: &mut [u32]) -> Listed {
-    let ask = match edition {
-        Edition::Of1988 => pm1_pages_numbers,
-        Edition::Of1993 => pm1_pages_numbers_1993,
-    };
-    // SAFETY: each pointer and its length come from one slice, which is lent for the call alone; the library writes inside
-    // these slices only, and keeps no pointer. Any numbers are valid in them.
-    unsafe { ask(stream.as_ptr(), stream.len(), table.as_mut_ptr(), table.len(), list.as_mut_ptr(), list.len()) }
+/// The numbers of records of pages.
+fn numbers_of(list: &mut [Page]) -> &mut [u32] {
+    // SAFETY: a page is its two numbers and nothing else, in their order, and any numbers are a page.
+    unsafe { slice::from_raw_parts_mut(list.as_mut_ptr().cast(), PAGE_WIDTH * list.len()) }
 }
