@@ -33,7 +33,9 @@ pub struct Words {
 /// Writes the completions of the command.
 pub fn completions(words: &Words, mut command: Command) -> Outcome {
     let mut text = Vec::new();
-    command = command.mut_subcommand("text", plain_utf8).mut_subcommand("export", plain_utf8);
+    for name in ["text", "grep", "export", "catalog"] {
+        command = command.mut_subcommand(name, plain_utf8);
+    }
     clap_complete::generate(words.shell, &mut command, "odif", &mut text);
     io::stdout().write_all(&text)?;
     Ok(Status::Accepted)
