@@ -197,16 +197,17 @@ def _date(answer) -> Date:
 
 def make(entries: Iterable[Tuple[bytes, bytes, bytes]]) -> bytes:
     """Makes a letter of entries, each an identifier, a portion and a text."""
-    parts = [part for entry in entries for part in entry]
+    parts = [bytes(part) for entry in entries for part in entry]
     ends = [0]
     for part in parts:
         ends.append(ends[-1] + len(part))
     numbers = [number for first, past in zip(ends, ends[1:]) for number in (first, past)]
     lent, buffer = (ctypes.c_uint32 * len(numbers))(*numbers), b"".join(parts)
-    out = ctypes.create_string_buffer(STREAM_LIMIT)
+    # A name stands in the letter twice, and what is around an entry's parts takes less than 64 octets.
+    out = ctypes.create_string_buffer(min(2 * len(buffer) + 64 * (len(parts) + 1), STREAM_LIMIT))
     answer = _library.odif.odif_make_numbers(buffer, len(buffer), lent, len(lent), out, len(out))
     _unless_refused(answer)
-    return out.raw[: answer.length]
+    return ctypes.string_at(out, answer.length)
 
 
 def read(file: Union[str, "os.PathLike[str]"], edition: int = 1988) -> "Letter":
@@ -237,7 +238,7 @@ class Letter:
         lent = table, len(table), lines, 5 * len(lines), out, len(out)
         shown = _ask(f"odif_{side.value}_text_numbers", self.edition, self.stream, len(self.stream), *lent)
         _unless_refused(shown)
-        octets = out.raw
+        octets = ctypes.string_at(out, shown.length)
         return [Line(line.element, line.portion, line.unit, octets[line.first : line.past]) for line in lines[: shown.lines]]
 
     def text(self, side: Optional[Side] = None) -> bytes:
@@ -249,7 +250,7 @@ class Letter:
         out = ctypes.create_string_buffer(len(self.stream))
         answer = _ask("odif_joined", self.edition, self.stream, len(self.stream), unit, out, len(out))
         _unless_refused(answer)
-        return out.raw[: answer.length]
+        return ctypes.string_at(out, answer.length)
 
     def identifier(self, element: int) -> Optional[bytes]:
         """The identifier of an element; of a text unit the layout identifier."""
@@ -280,7 +281,7 @@ class Letter:
         out = ctypes.create_string_buffer(min(len(self.stream) + len(self.stream) // 4_096 + 16, STREAM_LIMIT))
         answer = _ask("odif_normal", self.edition, self.stream, len(self.stream), out, len(out))
         _unless_refused(answer)
-        return out.raw[: answer.length]
+        return ctypes.string_at(out, answer.length)
 
     def pages(self) -> List[Page]:
         """The layout pages and page classes in stream order, each with the verdict of the PM1 desk. It needs libpm1 besides."""

@@ -190,6 +190,39 @@ class Headers(unittest.TestCase):
         self.assertTrue(odif.version().startswith(odif._library.SERIES + "."))
 
 
+class Bindings(unittest.TestCase):
+    """The table of docs/BINDINGS.md: what it names is there, and it names every function of the headers."""
+
+    def setUp(self):
+        lines = (REPOSITORY / "docs/BINDINGS.md").read_text().split("## ")[0].splitlines()
+        rows = [line.split("|")[2:6] for line in lines if line.startswith("| ")][1:]
+        self.c, self.rust, self.python, self.command = ([name for cell in column for name in re.findall(r"`([^`]+)`", cell)] for column in zip(*rows))
+
+    def test_c(self):
+        headers = "".join((REPOSITORY / f"include/{name}.h").read_text() for name in ("odif", "pm1"))
+        code = re.sub(r"/\*.*?\*/", "", headers, flags=re.DOTALL)
+        functions = set(re.findall(r"\b((?:odif|pm1)_\w+)\(", code))
+        plain = {name for name in functions if not re.search("_numbers|_1993", name)}
+        self.assertEqual(set(self.c), plain)
+
+    def test_rust(self):
+        sources = "".join(file.read_text() for file in (REPOSITORY / "rust/odif/src").glob("*.rs"))
+        for name in self.rust:
+            if name != "pm1":
+                self.assertRegex(sources, rf"pub (fn|struct|mod) {name.split('::')[-1]}\b", name)
+
+    def test_python(self):
+        letter = odif.Letter(bytes.fromhex("A000"))
+        for name in self.python:
+            owner, _, last = name.rpartition(".")
+            self.assertTrue(hasattr(letter if owner == "Letter" else odif, last), name)
+
+    def test_command(self):
+        words = (REPOSITORY / "rust/command/src/args.rs").read_text()
+        for name in {words.split()[1] for words in self.command} - {"help", "--version"}:
+            self.assertIn(f"Command::{name.capitalize()}(words)", words)
+
+
 class Threads(unittest.TestCase):
     def test_any_number_may_ask(self):
         stream = (LETTERS / "annex-d-1.odif").read_bytes()
