@@ -58,6 +58,9 @@ fn designated(octets: &[u8]) -> Option<(Charset, usize)> {
     known.map(|(sequence, set)| (*set, sequence.len()))
 }
 
+/// What every such sequence begins with.
+pub const ESCAPE: u8 = 0x1B;
+
 /// The set that is taken where none is declared.
 pub const ASSUMED: Charset = Charset::Iso6937;
 
@@ -86,10 +89,9 @@ pub fn others(set: Charset) -> impl Iterator<Item = Charset> {
 
 /// Do all of the sets turn these octets into themselves? Of most letters that is so.
 pub fn is_plain(octets: &[u8]) -> bool {
-    octets.iter().enumerate().all(|(at, octet)| match octet {
-        b'\r' => octets.get(at + 1) == Some(&b'\n'),
-        _ => matches!(octet, b' '..=b'#' | b'%'..=b'~' | b'\n' | b'\t' | 0x0C),
-    })
+    let is_so = |octet: &u8| matches!(octet, b' '..=b'#' | b'%'..=b'~' | b'\n' | b'\r' | b'\t' | 0x0C);
+    let mut returns = octets.iter().enumerate().filter(|(_, octet)| **octet == b'\r');
+    octets.iter().all(is_so) && returns.all(|(at, _)| octets.get(at + 1) == Some(&b'\n'))
 }
 
 /// Turns octets into text. An escape sequence in them that designates another of the sets is heeded.
@@ -113,7 +115,7 @@ pub fn to_utf8_at(octets: &[u8], set: Charset, places: &[usize]) -> (String, Vec
         match octet {
             b'\n' | b'\t' | 0x0C => text.push(octet as char),
             b'\r' if next == Some(b'\n') => text.push('\r'),
-            0x1B if designated(&octets[at - 1..]).is_some() => {
+            ESCAPE if designated(&octets[at - 1..]).is_some() => {
                 let (other, length) = designated(&octets[at - 1..]).expect("just seen");
                 set = other;
                 at += length - 1;

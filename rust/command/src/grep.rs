@@ -85,8 +85,7 @@ struct Counts {
 
 pub fn run(words: &Words) -> Outcome {
     let pattern = if words.fixed { regex::escape(&words.pattern) } else { words.pattern.clone() };
-    let pattern = RegexBuilder::new(&pattern).case_insensitive(words.ignore_case).build();
-    let pattern = pattern.map_err(|error| Failure::Usage(error.to_string()))?;
+    let pattern = Pattern::of(&pattern, words.ignore_case)?;
     let pool = Pool::new(words.places.jobs)?;
     let entries = words.places.list(&[])?;
     let mut counts = Counts::default();
@@ -136,7 +135,28 @@ impl Counts {
     }
 }
 
-fn search(words: &Words, pattern: &Regex, entry: &Entry) -> Searched {
+/// What is looked for in each line.
+struct Pattern {
+    of_line: Regex,
+    /// Does it match in a text wherever it matches in one of its lines? It does unless it asks where a line begins or ends.
+    is_free: bool,
+}
+
+impl Pattern {
+    fn of(pattern: &str, ignore_case: bool) -> Result<Pattern, Failure> {
+        let of_line = RegexBuilder::new(pattern).case_insensitive(ignore_case).build();
+        let of_line = of_line.map_err(|error| Failure::Usage(error.to_string()))?;
+        let is_free = !["^", "$", r"\A", r"\z"].iter().any(|anchor| pattern.contains(anchor));
+        Ok(Pattern { of_line, is_free })
+    }
+
+    /// Can no line of a text match? That is asked of the whole first, since most texts have none that does.
+    fn is_out_of(&self, text: &str) -> bool {
+        self.is_free && !self.of_line.is_match(text)
+    }
+}
+
+fn search(words: &Words, pattern: &Pattern, entry: &Entry) -> Searched {
     if let Some(trouble) = &entry.trouble {
         return Searched::Unreadable(trouble.clone());
     }
@@ -151,8 +171,12 @@ fn search(words: &Words, pattern: &Regex, entry: &Entry) -> Searched {
 }
 
 /// The lines of a text that match.
-fn found(pattern: &Regex, stream: &[u8], text: &Text) -> Vec<Found> {
+fn found(pattern: &Pattern, stream: &[u8], text: &Text) -> Vec<Found> {
     let whole = str::from_utf8(&text.octets).expect("it was turned into UTF-8");
+    if pattern.is_out_of(whole) {
+        return Vec::new();
+    }
+    let pattern = &pattern.of_line;
     let pages = OnPages::of(text.whole.elements());
     let units = text.whole.lines();
     let mut lines = Vec::new();

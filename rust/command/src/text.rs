@@ -83,7 +83,7 @@ pub struct Text {
     pub places: Vec<Range<usize>>,
     /// The text as the library gave it.
     pub whole: odif::Text,
-    /// The set of characters that was taken although the letter does not declare it, where another would give other text.
+    /// Why a set of characters was taken that the letter does not declare.
     assumed: Option<Assumed>,
 }
 
@@ -156,12 +156,14 @@ fn in_utf8(
     let ends: Vec<usize> = places.iter().flat_map(|place| [place.start, place.end]).collect();
     let (text, ends) = charset::to_utf8_at(&octets, set, &ends);
     let places = ends.chunks(2).map(|ends| ends[0]..ends[1]).collect();
-    let assumed = assumed.filter(|_| charset::others(set).any(|other| charset::to_utf8(&octets, other) != text));
     (text.into_bytes(), places, assumed)
 }
 
 /// The set of characters that the presentation attributes of a letter declare.
 pub fn declared(stream: &[u8]) -> Declared {
+    if !stream.contains(&charset::ESCAPE) {
+        return Declared::None;
+    }
     let reading = Reading::of(stream);
     let items = reading.tree().items();
     let attributes = items::named(items).filter(|named| named.name() == Some("presentation-attributes"));
@@ -171,9 +173,12 @@ pub fn declared(stream: &[u8]) -> Declared {
     charset::declared(values.map(|item| &stream[item.value()]))
 }
 
-/// Tells on standard error which set of characters was taken, if none was named and the text depends on it.
-fn note_assumed(source: &Source<'_>, assumed: Option<Assumed>) {
-    let why = match assumed {
+/// Tells on standard error which set of characters was taken, if none was named and another would give other text.
+fn note_assumed(source: &Source<'_>, text: &Text) {
+    let (octets, _) = in_blocks(&text.whole);
+    let depends =
+        || charset::others(charset::ASSUMED).any(|set| charset::to_utf8(&octets, set).as_bytes() != text.octets);
+    let why = match text.assumed.filter(|_| depends()) {
         None => return,
         Some(Assumed::NoneDeclared) => "the letter declares no character set",
         Some(Assumed::SeveralDeclared) => "the letter declares several character sets",
@@ -198,7 +203,7 @@ pub fn run(words: &Words) -> Outcome {
         }
         write(&mut out, words, &text, &pages, escape)?;
         out.flush()?;
-        note_assumed(source, text.assumed);
+        note_assumed(source, &text);
         let all = Units::of(text.side, &text.whole).note(source);
         protected::note(source, text.whole.elements());
         let is_there = has_pages(source, &words.page, text.side, &pages);

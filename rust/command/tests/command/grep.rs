@@ -52,6 +52,28 @@ fn words_of_the_pattern() {
     assert_eq!(run.status, 0, "another set");
 }
 
+/// A line is found alone, whatever stands around it: anchors, edges of words, and what a class of characters has.
+#[test]
+fn lines_are_apart() {
+    let scratch = Scratch::new("grep-apart");
+    let file = scratch.write("a.odif", &letter(b"one two\r\nthree\r\n\r\nfour"));
+    for (pattern, lines) in [
+        ("^three$", 1),
+        (r"\Athree\z", 1),
+        (r"\bthree\b", 1),
+        (r"two$", 1),
+        (r"two\s", 0),
+        ("[^a-z]", 1),
+        ("o[^x]three", 0),
+        ("^$", 1),
+        ("(?m)^t", 1),
+        (r"\Bour\b", 1),
+    ] {
+        let run = odif(&["grep", pattern, &file]);
+        assert_eq!(run.text().lines().count(), lines, "{pattern}: {}", run.text());
+    }
+}
+
 #[test]
 fn json_has_what_matches_where() {
     let scratch = Scratch::new("grep-json");
