@@ -7,7 +7,8 @@ use std::process::ExitCode;
 use clap::{CommandFactory, Parser, Subcommand};
 
 use crate::status::{Failure, Outcome, Status, tell};
-use crate::{check, date, export, identity, list, make, man, normal, order, outline, pages, same, survey, text, tree};
+use crate::{catalog, check, date, export, grep, identity, list, make, man, normal};
+use crate::{order, outline, pages, profile, same, survey, text, tree};
 
 const EXAMPLES: &str = "\
 Examples:
@@ -38,6 +39,7 @@ pub struct Cli {
 enum Command {
     Check(check::Words),
     Date(date::Words),
+    Profile(profile::Words),
     Text(text::Words),
     Tree(tree::Words),
     List(list::Words),
@@ -47,8 +49,10 @@ enum Command {
     Normal(normal::Words),
     Make(make::Words),
     Survey(survey::Words),
+    Grep(grep::Words),
     Same(same::Words),
     Export(export::Words),
+    Catalog(catalog::Words),
     Completions(man::Words),
     /// Writes the manual page, for `man -l -`
     Man,
@@ -88,6 +92,7 @@ fn dispatch(command: Command) -> Outcome {
     match command {
         Command::Check(words) => check::run(&words),
         Command::Date(words) => date::run(&words),
+        Command::Profile(words) => profile::run(&words),
         Command::Text(words) => text::run(&words),
         Command::Tree(words) => tree::run(&words),
         Command::List(words) => list::run(&words),
@@ -97,8 +102,10 @@ fn dispatch(command: Command) -> Outcome {
         Command::Normal(words) => normal::run(&words),
         Command::Make(words) => make::run(&words),
         Command::Survey(words) => survey::run(&words),
+        Command::Grep(words) => grep::run(&words),
         Command::Same(words) => same::run(&words),
         Command::Export(words) => export::run(&words),
+        Command::Catalog(words) => catalog::run(&words),
         Command::Completions(words) => man::completions(&words, Cli::command()),
         Command::Man => man::run(Cli::command()),
     }

@@ -8,9 +8,15 @@ use odif::{Edition, Refusal, Side, Text};
 /// The files of a subcommand.
 #[derive(Args)]
 pub struct Files {
-    /// The files; `-` is standard input
-    #[arg(required = true, value_name = "FILE")]
-    pub files: Vec<OsString>,
+    /// The files, and folders with all files in them and in their subfolders; `-` is standard input
+    #[arg(required_unless_present = "files_from", value_name = "FILE")]
+    pub names: Vec<OsString>,
+    /// A file with the names of files and folders to look at, one a line; `-` is standard input
+    #[arg(long, value_name = "LIST")]
+    pub files_from: Option<OsString>,
+    /// Names in the list end with a zero octet, and not with a line end
+    #[arg(short = '0', long, requires = "files_from")]
+    pub null: bool,
     /// The files are hexadecimal digits in pairs, with white space between pairs
     #[arg(long)]
     pub hex: bool,

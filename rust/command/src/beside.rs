@@ -59,6 +59,14 @@ impl Beside {
         }
     }
 
+    /// The file that is being written, for who writes to it by other means; none where it is no plain file.
+    pub fn part(&self) -> Option<&Path> {
+        match &self.out {
+            Out::Beside(out) => Some(out.get_ref().path()),
+            Out::Through(_) => None,
+        }
+    }
+
     /// Puts the finished file in its place, and on the disk.
     pub fn finish(self) -> Result<(), Failure> {
         let Beside { path, out, permissions } = self;

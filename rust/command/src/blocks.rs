@@ -6,7 +6,7 @@ use std::num::NonZeroUsize;
 use odif::{Blocks, Refusal, Walked};
 use serde::Serialize;
 
-use crate::asked::Files;
+use crate::asked::Asked;
 use crate::explain;
 use crate::input::{self, Source};
 use crate::show;
@@ -21,12 +21,14 @@ struct Counts {
 }
 
 /// Checks each file by rules 1 to 8 alone, in blocks of so many octets.
-pub fn run(files: &Files, json: bool, size: NonZeroUsize) -> Outcome {
-    input::each(files, json, |source| {
+pub fn run(asked: &Asked, quiet: bool, size: NonZeroUsize) -> Outcome {
+    let Asked { files, json } = asked;
+    input::each(files, *json, |source| {
         let count = source.stream.len().div_ceil(size.get());
         let Walked { verdict, headers, .. } = walk(&source.stream, size)?;
         let report = match &verdict {
-            _ if json => explain::answer(source, &verdict, Counts { octets: source.size, headers, blocks: count }),
+            _ if quiet => String::new(),
+            _ if *json => explain::answer(source, &verdict, Counts { octets: source.size, headers, blocks: count }),
             Ok(()) => passed(source, headers, count),
             Err(refusal) => explain::refusal(source, refusal),
         };

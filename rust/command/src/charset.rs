@@ -58,6 +58,9 @@ fn designated(octets: &[u8]) -> Option<(Charset, usize)> {
     known.map(|(sequence, set)| (*set, sequence.len()))
 }
 
+/// What every such sequence begins with.
+pub const ESCAPE: u8 = 0x1B;
+
 /// The set that is taken where none is declared.
 pub const ASSUMED: Charset = Charset::Iso6937;
 
@@ -84,18 +87,35 @@ pub fn others(set: Charset) -> impl Iterator<Item = Charset> {
     [Charset::T61, Charset::Iso6937, Charset::Latin1].into_iter().filter(move |other| *other != set)
 }
 
+/// Do all of the sets turn these octets into themselves? Of most letters that is so.
+pub fn is_plain(octets: &[u8]) -> bool {
+    let is_so = |octet: &u8| matches!(octet, b' '..=b'#' | b'%'..=b'~' | b'\n' | b'\r' | b'\t' | 0x0C);
+    let mut returns = octets.iter().enumerate().filter(|(_, octet)| **octet == b'\r');
+    octets.iter().all(is_so) && returns.all(|(at, _)| octets.get(at + 1) == Some(&b'\n'))
+}
+
 /// Turns octets into text. An escape sequence in them that designates another of the sets is heeded.
 pub fn to_utf8(octets: &[u8], set: Charset) -> String {
+    to_utf8_at(octets, set, &[]).0
+}
+
+/// The same, and where in the text these places of the octets are, which are in order. A place between an accent and its
+/// letter, or within an escape sequence, is behind both.
+pub fn to_utf8_at(octets: &[u8], set: Charset, places: &[usize]) -> (String, Vec<usize>) {
+    let mut found = Vec::with_capacity(places.len());
     let mut set = if set == Charset::Auto { ASSUMED } else { set };
     let mut text = String::with_capacity(octets.len() + octets.len() / 8);
     let mut at = 0;
     while let Some(&octet) = octets.get(at) {
         let next = octets.get(at + 1).copied();
+        while places.get(found.len()).is_some_and(|place| *place <= at) {
+            found.push(text.len());
+        }
         at += 1;
         match octet {
             b'\n' | b'\t' | 0x0C => text.push(octet as char),
             b'\r' if next == Some(b'\n') => text.push('\r'),
-            0x1B if designated(&octets[at - 1..]).is_some() => {
+            ESCAPE if designated(&octets[at - 1..]).is_some() => {
                 let (other, length) = designated(&octets[at - 1..]).expect("just seen");
                 set = other;
                 at += length - 1;
@@ -113,7 +133,8 @@ pub fn to_utf8(octets: &[u8], set: Charset) -> String {
             },
         }
     }
-    text
+    found.resize(places.len(), text.len());
+    (text, found)
 }
 
 fn mark(text: &mut String, octet: u8) {
@@ -166,6 +187,25 @@ mod tests {
         assert_eq!(to_utf8(b"x\xC8", Charset::Iso6937), "x⟦C8⟧");
         assert_eq!(to_utf8(b"\xC8\xC8u \xC8;", Charset::Iso6937), "⟦C8⟧ü ⟦C8⟧;");
         assert_eq!(to_utf8(b"a\rb\r\n\x85", Charset::Latin1), "a⟦0D⟧b\r\n⟦85⟧");
+    }
+
+    #[test]
+    fn places_are_found_again() {
+        let (text, found) = to_utf8_at(b"M\xC8uller\n\x07", Charset::Iso6937, &[0, 1, 2, 3, 8, 9, 9, 20]);
+        assert_eq!(text, "M\u{FC}ller\n\u{27E6}07\u{27E7}");
+        let parts: Vec<&str> = found.windows(2).map(|part| &text[part[0]..part[1]]).collect();
+        assert_eq!(parts, ["M", "\u{FC}", "", "ller\n", "\u{27E6}07\u{27E7}", "", ""]);
+        assert_eq!(to_utf8_at(b"", Charset::Latin1, &[0, 0]), (String::new(), vec![0, 0]));
+    }
+
+    #[test]
+    fn plain_octets_are_themselves_in_all_sets() {
+        for octets in (0..=0xFF).flat_map(|octet| [vec![octet], vec![octet, b'\n'], vec![octet, b'a']]) {
+            for set in [Charset::T61, Charset::Iso6937, Charset::Latin1] {
+                assert!(!is_plain(&octets) || to_utf8(&octets, set).as_bytes() == octets, "{octets:02X?} {set:?}");
+            }
+        }
+        assert!(is_plain(b"Dear Sir,\r\n\x0C") && !is_plain(b"$5") && !is_plain(b"\x1B-A") && !is_plain(b"a\r"));
     }
 
     #[test]

@@ -19,6 +19,8 @@ const EXAMPLES: &str = "\
 Examples:
   odif check letter.odif
   odif check --json inbox/*.odif | grep -v accepted
+  odif check -q letter.odif && echo fine
+  find archive -name '*.odif' -print0 | odif check -0 --files-from -
   echo A00205 | odif check --hex -
   odif check --blocks 512 letter.odif
   odif check --second letter.odif
@@ -36,6 +38,9 @@ independent reader differs on one.";
 pub struct Words {
     #[command(flatten)]
     asked: Asked,
+    /// Nothing of accepted and refused files: the exit status says it
+    #[arg(short, long, conflicts_with = "json")]
+    quiet: bool,
     /// Hands each file to the block engine in blocks of N octets: rules 1 to 8 alone
     #[arg(long, value_name = "N")]
     blocks: Option<NonZeroUsize>,
@@ -67,19 +72,20 @@ fn is_none(count: &usize) -> bool {
 
 pub fn run(words: &Words) -> Outcome {
     if let Some(size) = words.blocks {
-        return blocks::run(&words.asked.files, words.asked.json, size);
+        return blocks::run(&words.asked, words.quiet, size);
     }
     input::each(&words.asked.files, words.asked.json, |source| {
         let read = Letter::read_in(source.edition, &source.stream);
         let second = words.second.then(|| Second::of(&source.stream));
         let report = match &read {
+            _ if words.quiet => String::new(),
             _ if words.asked.json => {
                 explain::answer(source, &read, Judged { counts: counts(source, &read), second: &second })
             }
             Ok(letter) => accepted(source, letter),
             Err(refusal) => explain::refusal(source, refusal),
         };
-        let behind = second.as_ref().filter(|_| !words.asked.json).map_or(String::new(), Second::text);
+        let behind = second.as_ref().filter(|_| !words.asked.json && !words.quiet).map_or(String::new(), Second::text);
         let mut out = io::stdout().lock();
         out.write_all((report + &behind).as_bytes())?;
         out.flush()?;

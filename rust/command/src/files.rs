@@ -9,11 +9,11 @@ use std::path::{Path, PathBuf};
 use clap::Args;
 use walkdir::WalkDir;
 
-use crate::asked::By;
+use crate::asked::{By, Files};
 use crate::pool;
 use crate::progress::Progress;
 use crate::show;
-use crate::status::Failure;
+use crate::status::{Failure, tell};
 
 /// Where a run finds its files.
 #[derive(Args)]
@@ -66,7 +66,7 @@ impl Places {
         }
         let progress = Progress::finding();
         let mut entries = Vec::new();
-        for folder in self.folders.iter().map(PathBuf::from).chain(self.named_elsewhere()?) {
+        for folder in self.folders.iter().map(PathBuf::from).chain(named_in(self.files_from.as_deref(), self.null)?) {
             add_folder(&folder, &mut entries, &progress);
         }
         if pool::is_ended() {
@@ -78,20 +78,54 @@ impl Places {
         entries.dedup_by(|one, other| one.path == other.path);
         Ok(entries)
     }
+}
 
-    fn named_elsewhere(&self) -> Result<Vec<PathBuf>, Failure> {
-        let Some(file) = &self.files_from else { return Ok(Vec::new()) };
-        let mut text = Vec::new();
-        let read = if file == "-" {
-            io::stdin().read_to_end(&mut text).map(|_| ())
-        } else {
-            fs::read(file).map(|read| text = read)
-        };
-        read.map_err(|error| Failure::File(format!("{}: {error}", show::name(file))))?;
-        let end = if self.null { 0 } else { b'\n' };
-        let names = text.split(|&octet| octet == end).filter(|name| !name.is_empty());
-        Ok(names.map(|name| PathBuf::from(OsStr::from_bytes(name))).collect())
+impl Files {
+    /// The files in the order in which they are named, those of a folder sorted. What is neither a file nor a folder, as a
+    /// pipe, is read where it is named itself.
+    pub fn list(&self) -> Result<Vec<Entry>, Failure> {
+        self.standard_input_once()?;
+        let mut entries = Vec::new();
+        // A file of a list whose name is `-` is a file.
+        let listed = named_in(self.files_from.as_deref(), self.null)?.into_iter();
+        let listed = listed.map(|name| if name.as_os_str() == "-" { "./-".into() } else { name });
+        for name in self.names.iter().map(PathBuf::from).chain(listed) {
+            let begin = entries.len();
+            if name.as_os_str() != "-" && name.is_dir() {
+                add_folder(&name, &mut entries, &Progress::finding());
+                entries[begin..].sort_by(|one, other| one.path.cmp(&other.path));
+            } else {
+                entries.push(Entry { path: name, trouble: None });
+            }
+        }
+        if entries.is_empty() {
+            tell("odif: there are no files\n");
+        }
+        Ok(entries)
     }
+
+    /// What stands on standard input is gone once it is read.
+    fn standard_input_once(&self) -> Result<(), Failure> {
+        match self.names.iter().chain(&self.files_from).filter(|file| *file == "-").count() {
+            0 | 1 => Ok(()),
+            _ => Err(Failure::Usage("`-` stands there twice, and standard input can be read once".into())),
+        }
+    }
+}
+
+/// The names that a list has, if there is one.
+fn named_in(list: Option<&OsStr>, null: bool) -> Result<Vec<PathBuf>, Failure> {
+    let Some(file) = list else { return Ok(Vec::new()) };
+    let mut text = Vec::new();
+    let read = if file == "-" {
+        io::stdin().read_to_end(&mut text).map(|_| ())
+    } else {
+        fs::read(file).map(|read| text = read)
+    };
+    read.map_err(|error| Failure::File(format!("{}: {error}", show::name(file))))?;
+    let end = if null { 0 } else { b'\n' };
+    let names = text.split(|&octet| octet == end).filter(|name| !name.is_empty());
+    Ok(names.map(|name| PathBuf::from(OsStr::from_bytes(name))).collect())
 }
 
 fn is_same_file(path: &Path, file: &Path) -> bool {

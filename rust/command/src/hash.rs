@@ -45,7 +45,8 @@ impl<R: Read> Read for Hashing<R> {
     }
 }
 
-fn lower_hex(octets: &[u8]) -> String {
+/// Octets in hexadecimal, with small letters.
+pub fn lower_hex(octets: &[u8]) -> String {
     const DIGITS: &[u8; 16] = b"0123456789abcdef";
     let digits = octets.iter().flat_map(|octet| [octet >> 4, octet & 15]);
     digits.map(|digit| DIGITS[usize::from(digit)] as char).collect()

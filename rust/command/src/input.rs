@@ -9,6 +9,7 @@ use odif::{Edition, Letter, Refusal};
 use serde::Serialize;
 
 use crate::asked::{Asked, Files};
+use crate::files::Entry;
 use crate::names::Name;
 use crate::status::{Failure, Outcome, Status, tell};
 use crate::{explain, show};
@@ -33,19 +34,57 @@ pub struct Source<'a> {
     pub size: Option<u64>,
     /// The edition by which it is read.
     pub edition: Edition,
+    /// Is it one of several files?
+    pub several: bool,
 }
 
 /// Reads the files one after another and hands on each. One that can't be read is told, as JSON on standard output if
 /// the answers are that too, and the next one follows. The worst status counts.
-pub fn each(files: &Files, json: bool, mut answer: impl FnMut(&Source<'_>) -> Outcome) -> Outcome {
-    standard_input_once(files)?;
+pub fn each(files: &Files, json: bool, answer: impl FnMut(&Source<'_>) -> Outcome) -> Outcome {
+    each_of(&files.list()?, files, json, answer)
+}
+
+/// The same of these files.
+pub fn each_of(
+    entries: &[Entry],
+    files: &Files,
+    json: bool,
+    mut answer: impl FnMut(&Source<'_>) -> Outcome,
+) -> Outcome {
+    each_front_of(entries, files, json, |_| Ok(None), &mut answer)
+}
+
+/// The same, where the front of a file may be enough: `front` tells what it has read, if that is so.
+pub fn each_front(
+    files: &Files,
+    json: bool,
+    front: impl Fn(&OsStr) -> io::Result<Option<Vec<u8>>>,
+    mut answer: impl FnMut(&Source<'_>) -> Outcome,
+) -> Outcome {
+    each_front_of(&files.list()?, files, json, front, &mut answer)
+}
+
+fn each_front_of(
+    entries: &[Entry],
+    files: &Files,
+    json: bool,
+    front: impl Fn(&OsStr) -> io::Result<Option<Vec<u8>>>,
+    answer: &mut dyn FnMut(&Source<'_>) -> Outcome,
+) -> Outcome {
+    let (several, edition) = (entries.len() > 1, files.by.edition());
     let mut worst = Status::Accepted;
-    for file in &files.files {
+    for entry in entries {
+        let file = entry.path.as_os_str();
         let shown = show::name(file);
-        let status = match read(file, files.hex) {
-            Ok(Stream { octets, size }) => {
-                answer(&Source { file, shown, stream: octets, size, edition: files.by.edition() })?
-            }
+        // What can't be read is told as it is of any file.
+        let front = if file == "-" || entry.trouble.is_some() { None } else { front(file).unwrap_or(None) };
+        let read = match (front, &entry.trouble) {
+            (_, Some(trouble)) => Err(io::Error::other(trouble.clone())),
+            (Some(octets), _) => Ok(Stream { octets, size: None }),
+            (None, _) => read(file, files.hex),
+        };
+        let status = match read {
+            Ok(Stream { octets, size }) => answer(&Source { file, shown, stream: octets, size, edition, several })?,
             Err(error) if json => {
                 writeln!(io::stdout(), "{}", explain::unreadable(&Name::of(file), &error))?;
                 Status::Failed
@@ -58,39 +97,6 @@ pub fn each(files: &Files, json: bool, mut answer: impl FnMut(&Source<'_>) -> Ou
         worst = worst.max(status);
     }
     Ok(worst)
-}
-
-/// The same, where the front of a file may be enough: `front` tells what it has read, if that is so.
-pub fn each_front(
-    files: &Files,
-    json: bool,
-    front: impl Fn(&OsStr) -> io::Result<Option<Vec<u8>>>,
-    mut answer: impl FnMut(&Source<'_>) -> Outcome,
-) -> Outcome {
-    standard_input_once(files)?;
-    let mut worst = Status::Accepted;
-    for file in &files.files {
-        let status = match if file == "-" { Ok(None) } else { front(file) } {
-            Ok(Some(stream)) => {
-                answer(&Source { file, shown: show::name(file), stream, size: None, edition: files.by.edition() })?
-            }
-            // What can't be read is told as it is of any file.
-            Ok(None) | Err(_) => {
-                let alone = Files { files: vec![file.clone()], hex: files.hex, by: files.by };
-                each(&alone, json, &mut answer)?
-            }
-        };
-        worst = worst.max(status);
-    }
-    Ok(worst)
-}
-
-/// What stands on standard input is gone once it is read.
-fn standard_input_once(files: &Files) -> Result<(), Failure> {
-    match files.files.iter().filter(|file| *file == "-").count() {
-        0 | 1 => Ok(()),
-        _ => Err(Failure::Usage("`-` stands there twice, and standard input can be read once".into())),
-    }
 }
 
 /// What a subcommand has to say of an accepted letter. That of a refused one is empty.
@@ -116,7 +122,7 @@ pub fn answer_each<A: Answer>(asked: &Asked, ask: impl Fn(&Source<'_>, &Letter<'
             if read.is_err() {
                 return Ok(());
             }
-            heading(out, &asked.files, source)?;
+            heading(out, source)?;
             answer.write(out)
         })?;
         if let Ok(letter) = &read
@@ -151,8 +157,8 @@ pub fn write_answer<T>(
 }
 
 /// A line with the file's name, where there are several.
-pub fn heading(out: &mut (impl Write + ?Sized), files: &Files, source: &Source<'_>) -> io::Result<()> {
-    if files.files.len() > 1 { writeln!(out, "==> {} <==", source.shown) } else { Ok(()) }
+pub fn heading(out: &mut (impl Write + ?Sized), source: &Source<'_>) -> io::Result<()> {
+    if source.several { writeln!(out, "==> {} <==", source.shown) } else { Ok(()) }
 }
 
 /// Reads a file, or standard input for `-`.
@@ -160,10 +166,7 @@ fn read(name: &OsStr, hex: bool) -> io::Result<Stream> {
     if name == "-" {
         return take(io::stdin().lock(), None, hex);
     }
-    read_file(Path::new(name), hex).map_err(|error| match error.kind() {
-        kind @ io::ErrorKind::IsADirectory => io::Error::new(kind, "it is a folder; `odif survey` takes folders"),
-        _ => error,
-    })
+    read_file(Path::new(name), hex)
 }
 
 /// Reads a file of any name.

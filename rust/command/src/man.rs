@@ -13,15 +13,16 @@ use crate::status::{Outcome, Status};
 const DESCRIPTION: &str = "\
 Every verdict, reading list, content and normal form is the answer of a proved library. What `odif tree` lists, the words
 that say what exactly is wrong at a place, the dimensions behind a verdict of `odif pages` and what stands in the place of
-a missing date come from an independent reader that is tested and not proved.";
+a missing date, and all but the date in `odif profile`, come from an independent reader that is tested and not proved.";
 
 /// The form of octets in JSON, which `odif help json` prints.
 pub const JSON: &str = "\
 With --json each file is one object on a line. Octets of a letter have one form in all of them: a field NAME and a field
 NAME_hex. NAME_hex always has all octets, in hexadecimal. NAME has them as a string if each is 00 to 7E, with the escapes of
 JSON and no others, and is null or missing if not. What is no string of octets but made for people, as `detail`, may have \\xHH, \\n and
-the like in it. A file's name is `file`; where that is no UTF-8, `file_octets` has it in hexadecimal, and `file` is for people.
-Places and numbers of elements are counted from 0.";
+the like in it. What `grep` and `profile` tell of a letter's text is in UTF-8, by its set of characters. A file's name is
+`file`; where that is no UTF-8, `file_octets` has it in hexadecimal, and `file` is for people. Places and numbers of
+elements are counted from 0.";
 
 /// Writes the completions for a shell
 #[derive(Args)]
@@ -33,7 +34,9 @@ pub struct Words {
 /// Writes the completions of the command.
 pub fn completions(words: &Words, mut command: Command) -> Outcome {
     let mut text = Vec::new();
-    command = command.mut_subcommand("text", plain_utf8).mut_subcommand("export", plain_utf8);
+    for name in ["text", "grep", "export", "catalog"] {
+        command = command.mut_subcommand(name, plain_utf8);
+    }
     clap_complete::generate(words.shell, &mut command, "odif", &mut text);
     io::stdout().write_all(&text)?;
     Ok(Status::Accepted)

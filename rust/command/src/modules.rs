@@ -275,7 +275,7 @@ static CHARACTERISTICS: [Field; 11] = [
     item(0x80, "document-application-profile", Number),
     item(0x84, "document-application-profile", Object),
     item(0x81, "document-architecture-class", Named(&["formatted", "processable", "formatted-processable"])),
-    items(0xA2, "non-basic-doc-characteristics", &[]),
+    items(0xA2, "non-basic-doc-characteristics", &NON_BASIC),
     items(0xA3, "non-basic-struc-characteristics", &[item(0x80, "number-of-objects-per-page", Number)]),
     items(0xA5, "content-architecture-classes", &[item(0x06, "content-architecture-class", Object)]),
     item(0x86, "interchange-format-class", Named(&["if-a", "if-b"])),
@@ -284,13 +284,37 @@ static CHARACTERISTICS: [Field; 11] = [
     items(0xA9, "additional-doc-characteristics", &[]),
     items(0xAB, "alternative-feature-sets", &[]),
 ];
+static NON_BASIC: [Field; 3] = [
+    item(0x85, "profile-character-sets", Plain),
+    item(0x81, "comments-character-sets", Plain),
+    item(0x86, "alternative-repr-char-sets", Plain),
+];
+static ORIGINATORS: [Field; 4] = [
+    items(0xA0, "organizations", &[item(0x43, "organization", Text)]),
+    items(0xA1, "preparers", &[items(0x31, "preparer", &PERSON)]),
+    items(0xA2, "owners", &[items(0x31, "owner", &PERSON)]),
+    items(0xA3, "authors", &[items(0x31, "author", &PERSON)]),
+];
+static PERSON: [Field; 2] = [items(0xA0, "personal-name", &PERSONAL_NAME), item(0x81, "organization", Text)];
+static PERSONAL_NAME: [Field; 4] = [
+    item(0x80, "surname", Text),
+    item(0x81, "givenname", Text),
+    item(0x82, "initials", Text),
+    // 1988 has a title there.
+    item(0x83, "generation-qualifier", Text),
+];
+static CONTENT: [Field; 3] = [
+    item(0x81, "document-size", Number),
+    item(0x82, "number-of-pages", Number),
+    items(0xA4, "languages", &[item(0x43, "language", Text)]),
+];
 static MANAGEMENT: [Field; 8] = [
     items(0xA0, "dates-and-times", &DATES),
-    items(0xA1, "originators", &[]),
+    items(0xA1, "originators", &ORIGINATORS),
     items(0xA2, "other-user-information", &[]),
     items(0xA3, "external-references", &[]),
     items(0xA4, "local-file-references", &[]),
-    items(0xA5, "content-attributes", &[item(0x81, "document-size", Number), item(0x82, "number-of-pages", Number)]),
+    items(0xA5, "content-attributes", &CONTENT),
     items(0xA6, "security-information", &[item(0x81, "security-classification", Text)]),
     items(0xA7, "document-description", &DESCRIPTION),
 ];

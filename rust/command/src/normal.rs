@@ -39,20 +39,19 @@ pub struct Words {
 }
 
 pub fn run(words: &Words) -> Outcome {
-    let files = &words.files.files;
+    let entries = words.files.list()?;
+    let files: Vec<&Path> = entries.iter().map(|entry| entry.path.as_path()).collect();
     if words.into.is_none() && files.len() > 1 {
         return Err(Failure::Usage("several letters need `--into FOLDER`".into()));
     }
     if words.out.is_none() && words.into.is_none() && io::stdout().is_terminal() {
         return Err(Failure::Usage("octets are not for a terminal: give `-o OUT`".into()));
     }
-    let names: BTreeSet<_> = files.iter().map(|file| Path::new(file).file_name()).collect();
-    if words.into.is_some()
-        && (names.len() < files.len() || names.contains(&None) || files.iter().any(|file| file == "-"))
-    {
+    let names: BTreeSet<_> = files.iter().map(|file| file.file_name()).collect();
+    if words.into.is_some() && (names.len() < files.len() || names.contains(&None) || files.contains(&Path::new("-"))) {
         return Err(Failure::Usage("with `--into` each letter needs a file name of its own".into()));
     }
-    input::each(&words.files, false, |source| {
+    input::each_of(&entries, &words.files, false, |source| {
         let normal = match odif::normal_form_in(source.edition, &source.stream) {
             Ok(normal) => normal,
             Err(refusal) => {

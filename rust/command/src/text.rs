@@ -1,6 +1,7 @@
 //! `odif text`
 
 use std::io::{self, BufWriter, IsTerminal, Write};
+use std::ops::Range;
 
 use clap::Args;
 use odif::{Edition, Refusal, Side};
@@ -8,7 +9,9 @@ use reader::{Item, Reading};
 
 use crate::asked::{Files, Sides};
 use crate::charset::{self, Charset, Declared};
+use crate::files::at_least_one;
 use crate::input::{self, Source};
+use crate::on_pages::OnPages;
 use crate::status::{Outcome, Status, tell};
 use crate::units::Units;
 use crate::{explain, items, protected, show};
@@ -18,10 +21,12 @@ Examples:
   odif text samples/letters/claim.odif
   odif text --raw letter.odif | sha256sum
   odif text --utf8=t61 letter.odif
+  odif text --page 2 samples/letters/annex-d-1.odif
+  odif text --form-feeds samples/letters/annex-d-1.odif | pr | head
   odif text --strict inbox/*.odif > inbox.txt
 
-Exit status: 0 written; 1 a letter was refused, or with --strict has text that was left out; 2 a
-file could not be read or written.";
+Exit status: 0 written; 1 a letter was refused, lacks a page that was asked, or with --strict has text
+that was left out; 2 a file could not be read or written.";
 
 /// Writes the text of letters in reading order
 ///
@@ -46,7 +51,15 @@ pub struct Words {
     /// Text units that are left out, since no object of the side names them, are a refusal
     #[arg(long)]
     strict: bool,
+    /// Only the text on this page, or on these, as 2,3. Pages are counted from 1, in stream order; the logical side has none
+    #[arg(long, value_name = "N", value_delimiter = ',', value_parser = at_least_one)]
+    page: Vec<usize>,
+    /// A form feed where the text of another page begins
+    #[arg(long, conflicts_with = "raw")]
+    form_feeds: bool,
 }
+
+const FORM_FEED: &[u8] = b"\x0C";
 
 /// How a letter is read as text.
 #[derive(Args)]
@@ -66,10 +79,12 @@ pub struct Text {
     /// How many text units the letter has, and how many of them the text has.
     pub units: usize,
     pub shown: usize,
-    /// The set of characters that was taken although the letter does not declare it, where another would give other text.
+    /// Where the octets of each of the library's lines stand, without the line end behind a block.
+    pub places: Vec<Range<usize>>,
+    /// The text as the library gave it.
+    pub whole: odif::Text,
+    /// Why a set of characters was taken that the letter does not declare.
     assumed: Option<Assumed>,
-    /// The same as the library gave it.
-    whole: odif::Text,
 }
 
 /// Why a set of characters was taken that no one named.
@@ -82,19 +97,37 @@ enum Assumed {
 impl How {
     /// The text of a letter.
     pub fn text(&self, edition: Edition, stream: &[u8]) -> Result<Text, Refusal> {
+        self.text_by(self.utf8, edition, stream)
+    }
+
+    /// The text of a letter in UTF-8, whether that was asked or not.
+    pub fn text_in_utf8(&self, edition: Edition, stream: &[u8]) -> Result<Text, Refusal> {
+        self.text_by(Some(self.utf8.unwrap_or(Charset::Auto)), edition, stream)
+    }
+
+    fn text_by(&self, utf8: Option<Charset>, edition: Edition, stream: &[u8]) -> Result<Text, Refusal> {
         let (side, whole) = self.sides.text(edition, stream)?;
-        let octets = in_blocks(&whole);
-        let (octets, assumed) = match self.utf8 {
-            None => (octets, None),
-            Some(set) => in_utf8(stream, &octets, set),
+        let (octets, places) = in_blocks(&whole);
+        let (octets, places, assumed) = match utf8 {
+            None => (octets, places, None),
+            Some(set) => in_utf8(stream, octets, places, set),
         };
         let units = Units::of(side, &whole).count();
-        Ok(Text { octets, side, units, shown: whole.lines().len(), assumed, whole })
+        Ok(Text { octets, side, units, shown: whole.lines().len(), places, whole, assumed })
     }
 
     /// The same in words, to tell one way from another: every field that changes a text.
     pub fn words(&self, edition: Edition) -> String {
-        let How { sides, utf8 } = self;
+        self.words_by(self.utf8, edition)
+    }
+
+    /// The same of [`How::text_in_utf8`].
+    pub fn words_in_utf8(&self, edition: Edition) -> String {
+        self.words_by(Some(self.utf8.unwrap_or(Charset::Auto)), edition)
+    }
+
+    fn words_by(&self, utf8: Option<Charset>, edition: Edition) -> String {
+        let How { sides, utf8: _ } = self;
         let side = sides.word();
         let utf8 = utf8.map_or(String::new(), |set| format!(" utf8={set:?}").to_lowercase());
         let edition = if edition == Edition::Of1988 { String::new() } else { format!(" edition={edition}") };
@@ -102,8 +135,16 @@ impl How {
     }
 }
 
-/// Octets of a letter as UTF-8, and what was assumed for that.
-fn in_utf8(stream: &[u8], octets: &[u8], set: Charset) -> (Vec<u8>, Option<Assumed>) {
+/// Octets of a letter as UTF-8, where some places of them are in it, and what was assumed for that.
+fn in_utf8(
+    stream: &[u8],
+    octets: Vec<u8>,
+    places: Vec<Range<usize>>,
+    set: Charset,
+) -> (Vec<u8>, Vec<Range<usize>>, Option<Assumed>) {
+    if charset::is_plain(&octets) {
+        return (octets, places, None);
+    }
     let (set, assumed) = match set {
         Charset::Auto => match declared(stream) {
             Declared::One(set) => (set, None),
@@ -112,13 +153,17 @@ fn in_utf8(stream: &[u8], octets: &[u8], set: Charset) -> (Vec<u8>, Option<Assum
         },
         set => (set, None),
     };
-    let text = charset::to_utf8(octets, set);
-    let assumed = assumed.filter(|_| charset::others(set).any(|other| charset::to_utf8(octets, other) != text));
-    (text.into_bytes(), assumed)
+    let ends: Vec<usize> = places.iter().flat_map(|place| [place.start, place.end]).collect();
+    let (text, ends) = charset::to_utf8_at(&octets, set, &ends);
+    let places = ends.chunks(2).map(|ends| ends[0]..ends[1]).collect();
+    (text.into_bytes(), places, assumed)
 }
 
 /// The set of characters that the presentation attributes of a letter declare.
-fn declared(stream: &[u8]) -> Declared {
+pub fn declared(stream: &[u8]) -> Declared {
+    if !stream.contains(&charset::ESCAPE) {
+        return Declared::None;
+    }
     let reading = Reading::of(stream);
     let items = reading.tree().items();
     let attributes = items::named(items).filter(|named| named.name() == Some("presentation-attributes"));
@@ -128,9 +173,12 @@ fn declared(stream: &[u8]) -> Declared {
     charset::declared(values.map(|item| &stream[item.value()]))
 }
 
-/// Tells on standard error which set of characters was taken, if none was named and the text depends on it.
-fn note_assumed(source: &Source<'_>, assumed: Option<Assumed>) {
-    let why = match assumed {
+/// Tells on standard error which set of characters was taken, if none was named and another would give other text.
+fn note_assumed(source: &Source<'_>, text: &Text) {
+    let (octets, _) = in_blocks(&text.whole);
+    let depends =
+        || charset::others(charset::ASSUMED).any(|set| charset::to_utf8(&octets, set).as_bytes() != text.octets);
+    let why = match text.assumed.filter(|_| depends()) {
         None => return,
         Some(Assumed::NoneDeclared) => "the letter declares no character set",
         Some(Assumed::SeveralDeclared) => "the letter declares several character sets",
@@ -141,36 +189,78 @@ fn note_assumed(source: &Source<'_>, assumed: Option<Assumed>) {
 pub fn run(words: &Words) -> Outcome {
     let escape = words.escape || !words.raw && words.how.utf8.is_none() && io::stdout().is_terminal();
     input::each(&words.files, false, |source| {
-        let Text { octets, side, assumed, whole, .. } = match words.how.text(source.edition, &source.stream) {
+        let text = match words.how.text(source.edition, &source.stream) {
             Ok(text) => text,
             Err(refusal) => {
                 tell(&explain::refusal(source, &refusal));
                 return Ok(Status::Refused);
             }
         };
+        let pages = OnPages::of(text.whole.elements());
         let mut out = BufWriter::new(io::stdout().lock());
-        if words.raw {
-            out.write_all(whole.octets())?;
-        } else {
-            input::heading(&mut out, &words.files, source)?;
-            out.write_all(&if escape { show::escaped_lines(&octets).into_bytes() } else { octets })?;
+        if !words.raw {
+            input::heading(&mut out, source)?;
         }
+        write(&mut out, words, &text, &pages, escape)?;
         out.flush()?;
-        note_assumed(source, assumed);
-        let all = Units::of(side, &whole).note(source);
-        protected::note(source, whole.elements());
-        Ok(if all || !words.strict { Status::Accepted } else { Status::Refused })
+        note_assumed(source, &text);
+        let all = Units::of(text.side, &text.whole).note(source);
+        protected::note(source, text.whole.elements());
+        let is_there = has_pages(source, &words.page, text.side, &pages);
+        Ok(if is_there && (all || !words.strict) { Status::Accepted } else { Status::Refused })
     })
 }
 
-/// A text with each block ending a line.
-fn in_blocks(whole: &odif::Text) -> Vec<u8> {
+/// Writes what is asked of a text: all of it or some pages, as its octets or escaped, with form feeds or without.
+fn write(out: &mut impl Write, words: &Words, text: &Text, pages: &OnPages, escape: bool) -> io::Result<()> {
+    let mut before = None;
+    for (number, line) in text.whole.lines().iter().enumerate() {
+        let page = pages.page(line.element);
+        if !words.page.is_empty() && !page.is_some_and(|page| words.page.contains(&page)) {
+            continue;
+        }
+        if words.form_feeds && before.is_some_and(|before| before != page) {
+            out.write_all(FORM_FEED)?;
+        }
+        before = Some(page);
+        let octets = if words.raw { text.whole.content(line) } else { text.with_line_end(number) };
+        if escape { out.write_all(show::escaped_lines(octets).as_bytes())? } else { out.write_all(octets)? }
+    }
+    Ok(())
+}
+
+/// Has the text all of these pages? What it lacks is told.
+fn has_pages(source: &Source<'_>, asked: &[usize], side: Side, pages: &OnPages) -> bool {
+    let count = if side == Side::Layout { pages.count() } else { 0 };
+    let missing: Vec<String> = asked.iter().filter(|page| **page > count).map(usize::to_string).collect();
+    if !missing.is_empty() {
+        let has = show::counted(count, "page");
+        tell(&format!("odif: {}: the {side} side has {has}, and no page {}\n", source.shown, missing.join(", ")));
+    }
+    missing.is_empty()
+}
+
+impl Text {
+    /// The octets of a line, with the line end behind its block.
+    fn with_line_end(&self, number: usize) -> &[u8] {
+        let past = self.places.get(number + 1).map_or(self.octets.len(), |next| next.start);
+        &self.octets[self.places[number].start..past]
+    }
+}
+
+/// A text with each block ending a line, and where each line's octets are in it.
+fn in_blocks(whole: &odif::Text) -> (Vec<u8>, Vec<Range<usize>>) {
     let mut text = Vec::with_capacity(whole.octets().len() + whole.lines().len());
+    let mut places = Vec::with_capacity(whole.lines().len());
     for block in whole.lines().chunk_by(|one, other| one.element == other.element) {
-        block.iter().for_each(|line| text.extend_from_slice(whole.content(line)));
+        for line in block {
+            let first = text.len();
+            text.extend_from_slice(whole.content(line));
+            places.push(first..text.len());
+        }
         if text.last().is_some_and(|&last| last != b'\n') {
             text.push(b'\n');
         }
     }
-    text
+    (text, places)
 }

@@ -90,7 +90,7 @@ pub fn run(words: &Words) -> Outcome {
         let lines = || items.iter().map(|named| json_line(source, named, read_to)).collect();
         let answer = Items { items: if words.asked.json { lines() } else { Vec::new() } };
         input::write_answer(&words.asked, source, &checked.verdict, &answer, |out| {
-            input::heading(out, &words.asked.files, source)?;
+            input::heading(out, source)?;
             writeln!(out, "  offset level  item")?;
             write_items(out, source, &items, read_to)
         })?;

@@ -21,14 +21,15 @@ mod earlier;
 mod folder;
 mod gone;
 mod journal;
-mod line;
-mod source;
+pub mod line;
+pub mod source;
 mod strangers;
 mod text;
 mod verify;
 mod work;
 
 use std::collections::HashSet;
+use std::ffi::OsString;
 use std::fs;
 use std::io::{self, Write};
 use std::path::{Path, PathBuf};
@@ -59,6 +60,7 @@ Examples:
   odif export archive texts
   odif export archive texts --utf8 --jobs 8
   odif export archive texts --prune
+  find archive -name '*.odif' | odif export archive letters --files-from -
   odif export --verify texts
 
 Exit status: 0 every letter has its text; 1 some were refused or are gone, with --strict also if
@@ -82,6 +84,12 @@ pub struct Words {
     /// The folder to write to, for the export alone; it is made if it is not there
     #[arg(required_unless_present = "verify", conflicts_with = "verify")]
     out: Option<PathBuf>,
+    /// A file with the names of files and folders in ARCHIVE, one a line, which are exported and no others; `-` is standard input
+    #[arg(long, value_name = "LIST", conflicts_with = "verify")]
+    files_from: Option<OsString>,
+    /// Names in the list end with a zero octet, and not with a line end
+    #[arg(short = '0', long, requires = "files_from")]
+    null: bool,
     #[command(flatten)]
     how: How,
     /// End with 1 if text units of some letter are left out, since no object of the side names them. Its text is written
@@ -108,7 +116,8 @@ pub struct Words {
 impl Words {
     /// Every word that changes a text. Who adds a word decides here whether it does.
     fn how(&self) -> String {
-        let Words { how, hex, by, archive: _, out: _, strict: _, prune: _, verify: _, jobs: _ } = self;
+        let Words { how, hex, by, archive: _, out: _, files_from: _, null: _, strict: _, prune: _, verify: _, jobs: _ } =
+            self;
         how.words(by.edition()) + if *hex { " hex" } else { "" }
     }
 }
@@ -206,11 +215,24 @@ fn find(words: &Words, archive: &Path, out: &Path) -> Result<Vec<Entry>, Failure
     if lies_in(archive, out) {
         return Err(Failure::Usage("the archive lies in the folder to write to".into()));
     }
-    let entries = Places::of(archive.as_os_str(), words.hex, words.by, words.jobs).list(&[])?;
+    let entries = places(words, archive).list(&[])?;
+    if let Some(other) = entries.iter().find(|entry| !entry.path.starts_with(archive)) {
+        let (other, archive) = (show::name(other.path.as_os_str()), show::name(archive.as_os_str()));
+        return Err(Failure::Usage(format!("{other}: the list names it, and it is not in {archive}")));
+    }
     if entries.is_empty() && words.prune {
         return Err(Failure::File("the archive has no files, and --prune would remove every text".into()));
     }
     Ok(entries)
+}
+
+/// The whole archive, or what the list names.
+fn places(words: &Words, archive: &Path) -> Places {
+    let all = Places::of(archive.as_os_str(), words.hex, words.by, words.jobs);
+    match &words.files_from {
+        None => all,
+        list => Places { folders: Vec::new(), files_from: list.clone(), null: words.null, ..all },
+    }
 }
 
 /// Does the one lie in the other? What is not there yet lies where it would be made.

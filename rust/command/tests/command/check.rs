@@ -59,16 +59,27 @@ fn huge_files() {
 fn unreadable_files_do_not_stop_it() {
     let scratch = Scratch::new("check-unreadable");
     let wrong_piece = scratch.write("wrong-piece.odif", WRONG_PIECE);
-    let run = odif(&["check", "no-such-file.odif", CLAIM, "samples", &wrong_piece, IN_PIECES]);
+    let run = odif(&["check", "no-such-file.odif", CLAIM, &wrong_piece, IN_PIECES]);
     assert_eq!(run.status, 2);
     assert!(run.stderr.contains("odif: no-such-file.odif: No such file"), "{}", run.stderr);
-    assert!(run.stderr.contains("odif: samples: it is a folder; `odif survey` takes folders"), "{}", run.stderr);
     assert!(run.text().contains("claim.odif: accepted"));
     assert!(run.text().contains("wrong-piece.odif: refused, number 12 at octet 21: "));
     let detail =
         "element 2 (counted from 0), a text unit: an item among the pieces of the content is neither 04 nor 24";
     assert!(run.text().contains(detail), "{}", run.text());
     assert!(run.text().ends_with("in-pieces.odif: accepted, 3 elements, 13 items, 42 octets\n"), "{}", run.text());
+}
+
+#[test]
+fn quiet() {
+    for (words, status) in [(&[CLAIM][..], 0), (&[CLAIM, CUT_SHORT], 1), (&["--blocks", "7", CUT_SHORT], 1)] {
+        let run = odif(&[&["check", "-q"], words].concat());
+        assert_eq!((run.status, run.text(), run.stderr.as_str()), (status, "", ""), "{words:?}");
+    }
+    assert_eq!(odif(&["check", "-q", "--second", CLAIM]).text(), "");
+    let run = odif(&["check", "--quiet", "none", CLAIM]);
+    assert!(run.status == 2 && run.stderr.contains("none: No such file"), "what can't be read is told");
+    assert!(odif(&["check", "-q", "--json", CLAIM]).stderr.contains("cannot be used with"));
 }
 
 #[test]

@@ -20,6 +20,8 @@ const EXAMPLES: &[Example] = &[
     ("echo A0800000 | odif normal --hex - -o - | xxd", 0, "00000000: a000"),
     ("odif check letter.odif", 0, "letter.odif: accepted, "),
     ("odif check --json inbox/*.odif | grep -v accepted", 0, "\"outcome\":\"refused\",\"number\":7,"),
+    ("odif check -q letter.odif && echo fine", 0, "fine\n"),
+    ("find archive -name '*.odif' -print0 | odif check -0 --files-from -", 1, "archive/claim.odif: accepted, "),
     ("echo A00205 | odif check --hex -", 1, "refused, number 7 at octet 0: "),
     ("odif check --blocks 512 letter.odif", 0, "passed rules 1 to 8"),
     ("odif check --second letter.odif", 0, "the independent reader agrees, in "),
@@ -28,7 +30,18 @@ const EXAMPLES: &[Example] = &[
     ("echo A010A30EA00C800A313938382D30362D3035 | odif date --hex -", 0, "standard input: 1988-06-05\n"),
     ("odif text --raw letter.odif | sha256sum", 0, "  -\n"),
     ("odif text --utf8=t61 letter.odif", 0, "\n"),
+    ("odif text --page 2 samples/letters/annex-d-1.odif", 0, "\n"),
+    ("odif text --form-feeds samples/letters/annex-d-1.odif | pr | head", 0, "Page 1\n"),
     ("odif text --strict inbox/*.odif > inbox.txt", 1, ""),
+    ("odif profile letter.odif", 0, "letter.odif: 1991-04-08"),
+    ("odif profile --json archive | jq -r 'select(.date != null) | .date'", 0, ""),
+    ("odif grep Insurance archive", 0, "archive/claim.odif:1:"),
+    ("odif grep -i -l 'quay [0-9]+|harbour' archive inbox", 0, "archive/claim.odif\n"),
+    ("odif grep --json Insurance archive | jq -r .block", 0, "1 0 "),
+    ("odif catalog archive -o letters.sqlite", 1, "4 files\n2 letters\n"),
+    ("odif catalog --files-from list.txt -o letters.sqlite --prune", 1, "4 files\n"),
+    ("odif catalog --merge host1.sqlite host2.sqlite -o letters.sqlite", 1, "7 files\n"),
+    ("sqlite3 letters.sqlite \"SELECT file, page, block, snippet(search, 0, '[', ']', '..', 8) FROM search JOIN lines ON lines.id = search.rowid JOIN letters ON letters.id = letter WHERE search MATCH 'insurance' AND letters.first = letters.id\"", 0, "[Insurance]"),
     ("odif tree letter.odif | head", 0, "  offset level  item\n"),
     ("odif tree --json letter.odif | jq -r '.items[] | select(.name == \"document-date-and-time\").value'", 0, "1991-04-08\n"),
     ("odif list letter.odif", 0, "element portion  unit"),
@@ -58,6 +71,7 @@ const EXAMPLES: &[Example] = &[
     ("odif export archive texts", 1, "4 files\n"),
     ("odif export archive texts --utf8 --jobs 8", 1, "4 files\n"),
     ("odif export archive texts --prune", 1, "4 files\n"),
+    ("find archive -name '*.odif' | odif export archive letters --files-from -", 1, "3 files\n"),
     ("odif export --verify texts", 0, ""),
     ("odif survey archive --csv archive.csv", 1, "4 files in "),
     ("odif date samples/letters/dated.odif", 0, "samples/letters/dated.odif: 1991-04-08\n"),
@@ -88,10 +102,10 @@ fn of_manual() -> BTreeSet<String> {
     examples_in(&page).into_iter().collect()
 }
 
-/// The lines of a page that begin with the command, without what is said behind them.
+/// The lines of a page that begin with the command, or ask a catalog, without what is said behind them.
 fn of_page(name: &str) -> BTreeSet<String> {
     let page = fs::read_to_string(repository().join(name)).unwrap();
-    let lines = page.lines().filter(|line| line.starts_with("odif "));
+    let lines = page.lines().filter(|line| ["odif ", "sqlite3 "].iter().any(|word| line.starts_with(word)));
     lines.map(|line| line.split(" # ").next().unwrap().trim().to_string()).collect()
 }
 
@@ -124,7 +138,9 @@ fn prepared(name: &str) -> Scratch {
         scratch.write(name, b"Dear Sir,\r\n");
     }
     let before = "odif normal a.odif -o b-normal.odif && odif make answer.txt -o answer.odif
-        odif export archive texts; odif survey archive --csv host1.csv; odif survey inbox --csv host2.csv; true";
+        odif export archive texts; odif survey archive --csv host1.csv; odif survey inbox --csv host2.csv
+        odif catalog archive -o host1.sqlite; odif catalog inbox -o host2.sqlite; odif catalog archive -o letters.sqlite
+        find archive -type f > list.txt";
     assert_eq!(run(&scratch, before).0, 0);
     scratch
 }

@@ -22,6 +22,9 @@ fn the_overview_names_every_subcommand() {
             "survey",
             "same",
             "export",
+            "catalog",
+            "grep",
+            "profile",
             "Examples:",
             "Exit status:",
         ] {
@@ -32,7 +35,10 @@ fn the_overview_names_every_subcommand() {
 
 #[test]
 fn every_subcommand_has_help_with_examples() {
-    for name in ["check", "text", "tree", "normal", "make", "list", "order", "pages", "survey", "same", "export"] {
+    for name in [
+        "check", "text", "tree", "normal", "make", "list", "order", "pages", "profile", "survey", "grep", "same",
+        "export", "catalog",
+    ] {
         for words in [[name, "--help"], ["help", name]] {
             let run = odif(&words);
             assert_eq!(run.status, 0);
@@ -74,6 +80,9 @@ fn completions_and_a_manual_page() {
         ".SH odif export\n",
         ".SH odif order\n",
         ".SH odif pages\n",
+        ".SH odif profile\n",
+        ".SH odif grep\n",
+        ".SH odif catalog\n",
         ".B \\-\\-utf8[=SET]\n",
         "One of: auto (What the letter",
         ".SH JSON\n",
@@ -112,6 +121,18 @@ fn misuse_is_told() {
         (&["survey", "--only", "x", "samples"], "Invalid value 'x'"),
         (&["survey", "--merge", "a.csv", "--files-from", "b"], "cannot be used with"),
         (&["help", "read"], "'read' wasn't recognized"),
+        (&["check", "-0", CLAIM], "--files-from <LIST>"),
+        (&["check", "-", "--files-from", "-"], "standard input can be read once"),
+        (&["text", "--page", "0", CLAIM], "a number from 1"),
+        (&["text", "--form-feeds", "--raw", CLAIM], "cannot be used with"),
+        (&["profile"], "<FILE>..."),
+        (&["grep"], "<PATTERN>"),
+        (&["grep", "a"], "folder is missing"),
+        (&["grep", "(", "samples"], "unclosed group"),
+        (&["catalog", "samples"], "-o <OUT>"),
+        (&["catalog", "-o", "x.sqlite"], "folder is missing"),
+        (&["catalog", "--merge", "a.sqlite", "--prune", "-o", "x.sqlite"], "cannot be used with"),
+        (&["export", "samples", "x", "--files-from", "a", "--verify", "y"], "cannot be used with"),
     ] {
         let run = odif(words);
         assert_eq!(run.status, 2, "{words:?}");

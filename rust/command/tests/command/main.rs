@@ -1,6 +1,7 @@
 //! The command as a user meets it: each subcommand on good, refused, empty, huge and unreadable files.
 
 mod blocks;
+mod catalog;
 mod check;
 mod date;
 mod editions;
@@ -8,8 +9,11 @@ mod examples;
 mod export;
 mod export_kept;
 mod faults;
+mod files;
+mod grep;
 mod help;
 mod kill;
+mod kill_catalog;
 mod leftovers;
 mod list;
 mod make;
@@ -19,6 +23,7 @@ mod order;
 mod outline;
 mod output;
 mod pages;
+mod profile;
 mod same;
 mod support;
 mod survey;

@@ -142,3 +142,32 @@ fn an_assumed_set_is_told() {
     let run = odif(&["text", "--utf8", &several]);
     assert!(run.stderr.contains("the letter declares several character sets, so ISO 6937"), "{}", run.stderr);
 }
+
+/// The pages of annex D.1's letter, by its own objects: a block belongs to the page above it.
+#[test]
+fn pages_of_a_letter() {
+    const ANNEX: &str = "samples/letters/annex-d-1.odif";
+    let all = odif(&["text", ANNEX]);
+    let pages: Vec<String> = ["1", "2", "3"].map(|page| odif(&["text", "--page", page, ANNEX]).text().into()).into();
+    assert_eq!(pages.concat(), all.text());
+    assert!(pages.iter().all(|page| !page.is_empty()), "{pages:?}");
+    assert!(pages[0].starts_with("CESSON, 26 JUNE 1985\n"), "{}", pages[0]);
+    let feeds = odif(&["text", "--form-feeds", ANNEX]);
+    assert_eq!(feeds.text().split('\x0C').collect::<Vec<_>>(), pages);
+    assert_eq!(odif(&["text", "--page", "1,3", "--form-feeds", ANNEX]).text(), [&pages[0][..], &pages[2]].join("\x0C"));
+    let raw: Vec<u8> =
+        ["1", "2", "3"].iter().flat_map(|page| odif(&["text", "--raw", "--page", page, ANNEX]).stdout).collect();
+    assert_eq!(raw, odif(&["text", "--raw", ANNEX]).stdout);
+}
+
+#[test]
+fn a_page_that_is_not_there() {
+    let run = odif(&["text", "--page", "4", "samples/letters/annex-d-1.odif"]);
+    assert_eq!((run.status, run.text()), (1, ""));
+    assert!(run.stderr.contains("the layout side has 3 pages, and no page 4"), "{}", run.stderr);
+    let run = odif(&["text", "--page", "1", "--logical", CLAIM]);
+    assert!(run.status == 1 && run.stderr.contains("the logical side has 0 pages, and no page 1"), "{}", run.stderr);
+    let run = odif_with(&["text", "--page", "1", "-"], &letter(b"on no page"));
+    assert_eq!((run.status, run.text()), (1, ""));
+    assert_eq!(odif_with(&["text", "--form-feeds", "-"], &letter(b"on no page")).text(), "on no page\n");
+}
