@@ -99,7 +99,7 @@ pub fn to_utf8(octets: &[u8], set: Charset) -> String {
     to_utf8_at(octets, set, &[]).0
 }
 
-/// The same, and where in the text these places of the octets are, which are in order. A place between an accent and its
+/// Turns octets into text, and says where in it these places of the octets are, which are in order. A place between an accent and its
 /// letter, or within an escape sequence, is behind both.
 pub fn to_utf8_at(octets: &[u8], set: Charset, places: &[usize]) -> (String, Vec<usize>) {
     let mut found = Vec::with_capacity(places.len());

@@ -44,7 +44,7 @@ pub fn each(files: &Files, json: bool, answer: impl FnMut(&Source<'_>) -> Outcom
     each_of(&files.list()?, files, json, answer)
 }
 
-/// The same of these files.
+/// Does so with files that are listed already.
 pub fn each_of(
     entries: &[Entry],
     files: &Files,

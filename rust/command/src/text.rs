@@ -121,7 +121,7 @@ impl How {
         self.words_by(self.utf8, edition)
     }
 
-    /// The same of [`How::text_in_utf8`].
+    /// The words for [`How::text_in_utf8`].
     pub fn words_in_utf8(&self, edition: Edition) -> String {
         self.words_by(Some(self.utf8.unwrap_or(Charset::Auto)), edition)
     }

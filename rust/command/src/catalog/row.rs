@@ -116,7 +116,7 @@ impl Row {
         self.line.is_whole() && self.line.text_sha256 == self.rest_sha256()
     }
 
-    /// The same with another outcome.
+    /// This row with another outcome.
     pub fn with_outcome(self, outcome: Became) -> Row {
         let line = Line { outcome, ..self.line };
         Row { line: line.sealed(), ..self }
