@@ -48,10 +48,10 @@ pub record Looks : Type 0 where
 abbrev pub looksOf : Contents → Looks
 looksOf profile = record { identifier = none; needed = false; logical = none; portions = none; barred = []; typed = none; types = 0; holders = [] }
 looksOf (described needed types) =
-    let barred = 0x61 ∷ 0x81 ∷ [] in
+    let barred : List ℕ = 0x61 ∷ 0x81 ∷ [] in
     record { identifier = some 0x41; needed = needed; logical = none; portions = some 0xA1; barred = barred; typed = some 0x02; types = types; holders = [] }
 looksOf (unit needed tiled) =
-    let barred = 0x60 ∷ 0xA4 ∷ [] in
+    let barred : List ℕ = 0x60 ∷ 0xA4 ∷ [] in
     let holders = cond tiled octetStringOrTiles octetString in
     record { identifier = some 0x40; needed = false; logical = some 0x84; portions = none; barred = barred; typed = none; types = 0; holders = holders }
 looksOf style = record { identifier = some 0x45; needed = true; logical = none; portions = none; barred = 0x65 ∷ []; typed = none; types = 0; holders = [] }
