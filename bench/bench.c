@@ -57,7 +57,7 @@ static uint32_t layout(void) { return odif_layout(stream, length, table, NUMBERS
 static uint32_t logical(void) { return odif_logical(stream, length, table, NUMBERS, matches, ODIF_MOST_ELEMENTS).matches; }
 static uint32_t normal(void) { return odif_normal(stream, length, out, sizeof out).length; }
 static uint32_t content(void) { return odif_content(stream, length, asked).past; }
-static odif_shown show(void) {
+static odif_text_read show(void) {
     if (by_logical)
         return odif_logical_text(stream, length, table, NUMBERS, lines, ODIF_MOST_ELEMENTS, out, sizeof out);
     return odif_layout_text(stream, length, table, NUMBERS, lines, ODIF_MOST_ELEMENTS, out, sizeof out);

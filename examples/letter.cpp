@@ -30,7 +30,7 @@ struct Text {
     // Asks odif_layout_text or odif_logical_text, which judge the stream once. No two parts that are lent overlap.
     Text(decltype(odif_layout_text) ask, const Octets &stream) : octets(stream.size()), lines(ODIF_MOST_ELEMENTS) {
         std::vector<std::uint32_t> table(ODIF_ROW_WIDTH * ODIF_MOST_ELEMENTS);
-        odif_shown shown = ask(stream.data(), stream.size(), table.data(), table.size(), lines.data(), lines.size(),
+        odif_text_read shown = ask(stream.data(), stream.size(), table.data(), table.size(), lines.data(), lines.size(),
                                octets.data(), octets.size());
         if (shown.number != 0) throw Refused(shown.number, shown.place);
         lines.resize(shown.lines);

@@ -131,7 +131,7 @@ extern "C" {
 #define ODIF_ROW_WIDTH     13      /* the numbers of a row */
 #define ODIF_NO_PARENT     65535   /* the parent's row where there is none */
 #define ODIF_STACK         262144  /* octets of stack: no question but the lists and the whole readings takes more */
-#define ODIF_STACK_LISTS   311296  /* the same for the two lists */
+#define ODIF_STACK_LISTS   311296  /* for the two lists */
 #define ODIF_STACK_TEXTS   344064  /* and for the two whole readings */
 #define ODIF_STACK_MAKE    131072  /* and for odif_make */
 #define ODIF_MOST_ENTRIES  2047    /* the most entries of a letter that is made */
@@ -254,7 +254,7 @@ typedef struct {
     uint32_t elements; /* the rows filled, also with 19 */
     uint32_t lines;    /* the lines filled */
     uint32_t length;   /* the octets written */
-} odif_shown;
+} odif_text_read;
 
 /* One line of a whole reading: a match, and its text. All count from 0. */
 typedef struct {
@@ -292,7 +292,7 @@ odif_listed odif_layout(const uint8_t *ODIF_APART stream, size_t stream_len,
                         uint32_t *ODIF_APART table, size_t table_len,
                         odif_match *ODIF_APART list, size_t list_len);
 
-/* The same for the logical side. */
+/* Of the logical side. */
 odif_listed odif_logical(const uint8_t *ODIF_APART stream, size_t stream_len,
                          uint32_t *ODIF_APART table, size_t table_len,
                          odif_match *ODIF_APART list, size_t list_len);
@@ -302,13 +302,13 @@ odif_listed odif_logical(const uint8_t *ODIF_APART stream, size_t stream_len,
    line for each match. Every octet of out up to the length is an octet of a text unit of this stream, and none that was
    there before shows. lines_len counts numbers, five a line in the order of odif_line, and an incomplete last line is
    not used; lines and octets past the last one filled stay. It takes time as the stream is long. */
-odif_shown odif_layout_text_numbers(const uint8_t *ODIF_APART stream, size_t stream_len,
+odif_text_read odif_layout_text_numbers(const uint8_t *ODIF_APART stream, size_t stream_len,
                                     uint32_t *ODIF_APART table, size_t table_len,
                                     uint32_t *ODIF_APART lines, size_t lines_len,
                                     uint8_t *ODIF_APART out, size_t out_len);
 
-/* The same for the logical side. */
-odif_shown odif_logical_text_numbers(const uint8_t *ODIF_APART stream, size_t stream_len,
+/* Of the logical side. */
+odif_text_read odif_logical_text_numbers(const uint8_t *ODIF_APART stream, size_t stream_len,
                                      uint32_t *ODIF_APART table, size_t table_len,
                                      uint32_t *ODIF_APART lines, size_t lines_len,
                                      uint8_t *ODIF_APART out, size_t out_len);
@@ -349,7 +349,7 @@ odif_dated odif_date(const uint8_t *stream, size_t stream_len);
    else 7 is given, or what stands there is refused. It takes time as the first element is long, and little stack. */
 odif_first_dated odif_first_date(const uint8_t *stream, size_t stream_len);
 
-/* The same questions by the edition of 1993. */
+/* These questions by the edition of 1993. */
 odif_checked odif_check_1993(const uint8_t *ODIF_APART stream, size_t stream_len,
                              uint32_t *ODIF_APART table, size_t table_len);
 odif_written odif_normal_1993(const uint8_t *ODIF_APART stream, size_t stream_len,
@@ -373,38 +373,38 @@ odif_ordered odif_order_b_1993(const uint8_t *stream, size_t stream_len);
 odif_dated odif_date_1993(const uint8_t *stream, size_t stream_len);
 odif_first_dated odif_first_date_1993(const uint8_t *stream, size_t stream_len);
 
-odif_shown odif_layout_text_numbers_1993(const uint8_t *ODIF_APART stream, size_t stream_len,
+odif_text_read odif_layout_text_numbers_1993(const uint8_t *ODIF_APART stream, size_t stream_len,
                                          uint32_t *ODIF_APART table, size_t table_len,
                                          uint32_t *ODIF_APART lines, size_t lines_len,
                                          uint8_t *ODIF_APART out, size_t out_len);
-odif_shown odif_logical_text_numbers_1993(const uint8_t *ODIF_APART stream, size_t stream_len,
+odif_text_read odif_logical_text_numbers_1993(const uint8_t *ODIF_APART stream, size_t stream_len,
                                           uint32_t *ODIF_APART table, size_t table_len,
                                           uint32_t *ODIF_APART lines, size_t lines_len,
                                           uint8_t *ODIF_APART out, size_t out_len);
 
 /* The whole readings with so many lines. */
-ODIF_INLINE odif_shown odif_layout_text(const uint8_t *ODIF_APART stream, size_t stream_len,
+ODIF_INLINE odif_text_read odif_layout_text(const uint8_t *ODIF_APART stream, size_t stream_len,
                                         uint32_t *ODIF_APART table, size_t table_len,
                                         odif_line *ODIF_APART lines, size_t lines_len,
                                         uint8_t *ODIF_APART out, size_t out_len) {
     return odif_layout_text_numbers(stream, stream_len, table, table_len, (uint32_t *)lines, 5 * lines_len,
         out, out_len);
 }
-ODIF_INLINE odif_shown odif_logical_text(const uint8_t *ODIF_APART stream, size_t stream_len,
+ODIF_INLINE odif_text_read odif_logical_text(const uint8_t *ODIF_APART stream, size_t stream_len,
                                          uint32_t *ODIF_APART table, size_t table_len,
                                          odif_line *ODIF_APART lines, size_t lines_len,
                                          uint8_t *ODIF_APART out, size_t out_len) {
     return odif_logical_text_numbers(stream, stream_len, table, table_len, (uint32_t *)lines, 5 * lines_len,
         out, out_len);
 }
-ODIF_INLINE odif_shown odif_layout_text_1993(const uint8_t *ODIF_APART stream, size_t stream_len,
+ODIF_INLINE odif_text_read odif_layout_text_1993(const uint8_t *ODIF_APART stream, size_t stream_len,
                                              uint32_t *ODIF_APART table, size_t table_len,
                                              odif_line *ODIF_APART lines, size_t lines_len,
                                              uint8_t *ODIF_APART out, size_t out_len) {
     return odif_layout_text_numbers_1993(stream, stream_len, table, table_len, (uint32_t *)lines, 5 * lines_len,
         out, out_len);
 }
-ODIF_INLINE odif_shown odif_logical_text_1993(const uint8_t *ODIF_APART stream, size_t stream_len,
+ODIF_INLINE odif_text_read odif_logical_text_1993(const uint8_t *ODIF_APART stream, size_t stream_len,
                                               uint32_t *ODIF_APART table, size_t table_len,
                                               odif_line *ODIF_APART lines, size_t lines_len,
                                               uint8_t *ODIF_APART out, size_t out_len) {
@@ -422,7 +422,7 @@ odif_written odif_make_numbers(const uint8_t *ODIF_APART buffer, size_t buffer_l
                                const uint32_t *ODIF_APART entries, size_t entries_len,
                                uint8_t *ODIF_APART out, size_t out_len);
 
-/* The same of so many entries. */
+/* odif_make_numbers, of so many entries. */
 ODIF_INLINE odif_written odif_make(const uint8_t *ODIF_APART buffer, size_t buffer_len,
                                    const odif_entry *ODIF_APART entries, size_t entries_len,
                                    uint8_t *ODIF_APART out, size_t out_len) {

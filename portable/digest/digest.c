@@ -91,8 +91,8 @@ static odif_listed side(Stream s, int logical, size_t numbers, size_t records) {
     words(list, 3 * records + 3);
     return a;
 }
-static odif_shown text(Stream s, int logical, size_t numbers, size_t records, size_t room) {
-    odif_shown a;
+static odif_text_read text(Stream s, int logical, size_t numbers, size_t records, size_t room) {
+    odif_text_read a;
     fill_words(table, numbers + GUARD);
     fill_words(lines, 5 * records + 5);
     fill_octets(room + 8);
@@ -215,7 +215,7 @@ static void sides(Stream s, int accepted, size_t exact, size_t rows) {
     for (int logical = 0; logical < 2; logical++) {
         odif_listed l = side(s, logical, exact, rows);
         if (l.matches > 0) side(s, logical, exact, l.matches), side(s, logical, exact, l.matches - 1);
-        odif_shown t = text(s, logical, exact, rows, s.length);
+        odif_text_read t = text(s, logical, exact, rows, s.length);
         if (t.lines > 0) text(s, logical, exact, t.lines - 1, s.length);
         if (t.length > 0) text(s, logical, exact, t.lines, t.length), text(s, logical, exact, t.lines, t.length - 1);
         if (accepted) text(s, logical, exact - 1, rows, s.length);

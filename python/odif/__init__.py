@@ -233,7 +233,7 @@ class Letter:
         text."""
         if side is None:
             return self.lines(Side.LAYOUT) or self.lines(Side.LOGICAL)
-        table, lines = _table(len(self.elements)), (_library.ShownLine * len(self.elements))()
+        table, lines = _table(len(self.elements)), (_library.TextLine * len(self.elements))()
         out = ctypes.create_string_buffer(len(self.stream))
         lent = table, len(table), lines, 5 * len(lines), out, len(out)
         shown = _ask(f"odif_{side.value}_text_numbers", self.edition, self.stream, len(self.stream), *lent)

@@ -24,8 +24,8 @@ Related = _answer("Related", "number place elements children")
 Dated = _answer("Dated", "number place first past year month day")
 FirstDated = _answer("FirstDated", "number place first past year month day unread")
 Ordered = _answer("Ordered", "number place")
-Shown = _answer("Shown", "number place elements lines length")
-ShownLine = _answer("ShownLine", "element portion unit first past")
+TextRead = _answer("TextRead", "number place elements lines length")
+TextLine = _answer("TextLine", "element portion unit first past")
 Listed = _answer("Listed", "number place elements pages")
 ListedPage = _answer("ListedPage", "element verdict")
 Entry = _answer("Entry", "identifier_first identifier_past portion_first portion_past text_first text_past")
@@ -43,8 +43,8 @@ _OF_BOTH_EDITIONS = {
     "odif_order_b": (Ordered, _STREAM),
     "odif_date": (Dated, _STREAM),
     "odif_first_date": (FirstDated, _STREAM),
-    "odif_layout_text_numbers": (Shown, _STREAM + 3 * _LENT),
-    "odif_logical_text_numbers": (Shown, _STREAM + 3 * _LENT),
+    "odif_layout_text_numbers": (TextRead, _STREAM + 3 * _LENT),
+    "odif_logical_text_numbers": (TextRead, _STREAM + 3 * _LENT),
 }
 _OF_NONE = {
     "odif_make_numbers": (Written, _STREAM + 2 * _LENT),

@@ -170,14 +170,14 @@ class Headers(unittest.TestCase):
 
     def test_structs_are_the_headers(self):
         both = self.header + (REPOSITORY / "include/pm1.h").read_text()
-        structs = {"checked", "written", "copied", "related", "dated", "first_dated", "ordered", "shown", "line", "entry", "listed", "page"}
+        structs = {"checked", "written", "copied", "related", "dated", "first_dated", "ordered", "text_read", "line", "entry", "listed", "page"}
         fields = {}
         for body, name in re.findall(r"typedef struct \{([^}]*)\} (?:odif|pm1)_(\w+);", both):
             if name in structs:
                 fields[name] = re.findall(r"uint32_t +(\w+);", body)
         for name, struct in [
             ("checked", "Checked"), ("written", "Written"), ("copied", "Copied"), ("related", "Related"), ("dated", "Dated"),
-            ("first_dated", "FirstDated"), ("ordered", "Ordered"), ("shown", "Shown"), ("line", "ShownLine"), ("entry", "Entry"),
+            ("first_dated", "FirstDated"), ("ordered", "Ordered"), ("text_read", "TextRead"), ("line", "TextLine"), ("entry", "Entry"),
             ("listed", "Listed"), ("page", "ListedPage"),
         ]:
             ours = [field for field, _ in getattr(odif._library, struct)._fields_]

@@ -1,4 +1,4 @@
--- The check's answer and table, case by case: what the stream is decides both. Assumes nothing.
+-- The check's answer and table, case by case: what the stream is decides both.
 use mathlib.Core.Path.{_≡_}
 use mathlib.Core.Bool.{true, false}
 use mathlib.Core.List.{List}

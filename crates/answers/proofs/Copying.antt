@@ -1,4 +1,4 @@
--- Octets are copied to a lent buffer, or it is too short: the two cases, and what the question answers in each. Assumes nothing.
+-- Octets are copied to a lent buffer, or it is too short: the two cases, and what the question answers in each.
 use mathlib.Core.Path.{_≡_, refl, ap, sym, _∙_}
 use mathlib.Core.Bool.{true, false, cond}
 use mathlib.Core.List.{List, _++_}
@@ -41,7 +41,8 @@ module _ (edition : Edition) (s : List ℕ) (asked : ℕ) (out : List ℕ) where
   copied-within =
       let part = joinedIn edition s asked .part in
       cond-holds (λ (a : Copied). a .length ≤ length out) (eqb (joinedIn edition s asked .number) 0)
-      (λ _. cond-holds (λ (a : Copied). a .length ≤ length out) (ltb (length out) (length part)) (λ _. omega arith) (λ t. ltb-false (length out) (length part) t))
+      (λ _. cond-holds (λ (a : Copied). a .length ≤ length out) (ltb (length out) (length part)) (λ _. omega arith)
+      (λ t. ltb-false (length out) (length part) t))
       (λ _. omega arith)
 
   -- what is refused before the buffer is looked at

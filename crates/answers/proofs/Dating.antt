@@ -1,8 +1,8 @@
 -- The date of a letter: its first element is the profile, so the date in the run that is met there is the letter's. What is found in a first
--- element is told alike of a letter and of that element alone (`Tells`). Assumes nothing.
+-- element is told alike of a letter and of that element alone (`Tells`).
 use mathlib.Core.Path.{_≡_, refl, ap, sym, _∙_}
 use mathlib.Core.Bool.{Bool, true, false, cond, not, xor, true≢false}
-use mathlib.Core.List.{List, [], _∷_}
+use mathlib.Core.List.{List, []}
 use Prim.Native.Nat.{ℕ, _≤_}
 use native.Mathlib.Omega.{arith}
 use lib.Dec.{eqb}
@@ -19,7 +19,7 @@ use Rattle.runs.proofs.Laws.{tree-none}
 use Rattle.contents.specs.Search.{is, firstRun, itemsIn}
 use Rattle.contents.proofs.Firsts.{is-field}
 use Rattle.dates.specs.declared.DateFound.{DateFound}
-use Rattle.dates.specs.Dates.{Date, dateIn}
+use Rattle.dates.specs.Dates.{dateIn}
 use Rattle.dates.specs.Finding.{placesFrom, Answers}
 use Rattle.dates.proofs.Real.{asDate, found-small}
 use Rattle.elements.specs.declared.Edition.{Edition}
@@ -29,7 +29,7 @@ use Rattle.letters.specs.Letter.{itemsOfStream}
 use Rattle.answers.specs.declared.Reason.{Reason}
 use Rattle.answers.specs.declared.Dated.{Dated}
 use Rattle.answers.specs.Answers.{ruled}
-use Rattle.answers.specs.Dates.{DateAnswer, noDate, dateAfter, profileIn, dateOf, datePlaces, soleSpan, dateSpan, datedAt, dated, Bounds}
+use Rattle.answers.specs.Dates.{DateAnswer, dateAfter, profileIn, dateOf, datePlaces, soleSpan, dateSpan, datedAt, dated, Bounds}
 use Rattle.answers.specs.Dating.{refusedDated, datedAs, Narrow, DateTells}
 use Rattle.answers.proofs.Letters.{letter-found}
 use Rattle.answers.proofs.Working.{is-letter}

@@ -1,5 +1,4 @@
 -- The content of an element, case by case: what holds it is a part of the stream or pieces, and both questions are answered by that.
--- Assumes nothing.
 use mathlib.Core.Path.{_≡_, refl, ap, sym, _∙_, subst}
 use mathlib.Core.Bool.{false}
 use mathlib.Core.List.{List, [], _∷_}
@@ -27,7 +26,6 @@ use Rattle.letters.proofs.Fetching.{part-joined}
 use Rattle.reading.specs.Match.{unitKind}
 use Rattle.answers.specs.declared.ContentFound.{ContentFound}
 use Rattle.answers.specs.declared.Found.{Found}
-use Rattle.answers.specs.declared.Reason.{Reason}
 use Rattle.answers.specs.declared.ContentFound.the-variants.{NoUnit, Content as Part, Pieces}
 use Rattle.answers.specs.Answers.{Fetched, handed, withheld, fetchedBy, partOf, fetched, whyNot, located, allOf, joinedIn}
 use Rattle.answers.proofs.Small.{refusal-small}
@@ -51,7 +49,8 @@ one-piece absent = refl
 one-piece (octets bytes) = refl
 
 -- why, from where: number and place of both are those of the fetch
-pub why-located : (edition : Edition) (s : List ℕ) (asked : ℕ) {told : Found} → told ≡ located edition s asked → record { number = told .number; place = told .place } ≡ whyNot edition s asked
+pub why-located : (edition : Edition) (s : List ℕ) (asked : ℕ) {told : Found} → told ≡ located edition s asked
+    → record { number = told .number; place = told .place } ≡ whyNot edition s asked
 unfolding located
 why-located edition s asked e = ap (λ (t : Found). record { number = t .number; place = t .place }) e
 

@@ -1,4 +1,4 @@
--- The date by the first element alone: 1, an empty stream, the walk's refusals, rules 10 and 11, and what is found in its run. Assumes nothing.
+-- The date by the first element alone: 1, an empty stream, the walk's refusals, rules 10 and 11, and what is found in its run.
 use mathlib.Core.Path.{_≡_, refl, sym, _∙_}
 use mathlib.Core.Bool.{Bool, true, false, not, xor}
 use mathlib.Core.List.{List}
@@ -24,7 +24,7 @@ use Rattle.elements.specs.Shape.{shapeOf}
 use Rattle.elements.specs.Judge.{profileOctet, mostElements, firstOf, placeRules}
 use Rattle.judging.specs.Judges.{earlyRefusal, shapeBy}
 use Rattle.answers.specs.declared.Dated.{Dated}
-use Rattle.answers.specs.FirstDates.{firstTree, firstRule, firstRuled, firstDateOf}
+use Rattle.answers.specs.FirstDates.{firstRule, firstRuled, firstDateOf}
 use Rattle.answers.specs.Dating.{refusedDated, datedAs, FirstTells}
 use Rattle.answers.proofs.Dating.{first-rules, Tells, refused-told, found-told}
 

@@ -1,4 +1,4 @@
--- What is known once a stream is walked and judged: what the stream is, and where its rows are. Assumes nothing.
+-- What is known once a stream is walked and judged: what the stream is, and where its rows are.
 use mathlib.Core.Path.{_≡_, refl, ap, sym, _∙_}
 use mathlib.Core.List.{List}
 use Prim.Native.Nat.{ℕ, suc, _≤_}
@@ -41,14 +41,16 @@ pub record Accepting (edition : Edition) (s rows : List ℕ) (count headers : �
   pub within-limit : length s ≤ streamLimit
 
 -- rules 9 to 15 refused it
-pub refused-stopped : {edition : Edition} {s : List ℕ} {at headers number place : ℕ} → walkOf s ≡ Ended at headers → Stopped edition s number place → Refusing edition s number place headers
+pub refused-stopped : {edition : Edition} {s : List ℕ} {at headers number place : ℕ} → walkOf s ≡ Ended at headers → Stopped edition s number place
+    → Refusing edition s number place headers
 refused-stopped {edition} {s} {at} {headers} {number} {place} walked stopped =
     let told : letterIn edition s ≡ refusal number place headers =
     refused-element edition s at headers number (stopped .element) walked (stopped .judged) ∙ rw (sym (stopped .placed)) in
     record { judged = told; small = refusal-small edition s number place headers told }
 
 -- none of them did
-pub accepted-judged : {edition : Edition} {s rows : List ℕ} {count at headers : ℕ} → walkOf s ≡ Ended at headers → LetterRows edition s rows count → Accepting edition s rows count headers
+pub accepted-judged : {edition : Edition} {s rows : List ℕ} {count at headers : ℕ} → walkOf s ≡ Ended at headers → LetterRows edition s rows count
+    → Accepting edition s rows count headers
 accepted-judged {edition} {s} {rows} {count} {at} {headers} walked held =
     let counted = held .holds .counted in
     let few : count ≤ mostElements = omega (arith, letter-apart held .few, counted) in

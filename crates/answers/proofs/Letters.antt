@@ -1,4 +1,4 @@
--- What a stream is, from what the walk and the judge found of it, and the other way round: one case of each. Assumes nothing.
+-- What a stream is, from what the walk and the judge found of it, and the other way round: one case of each.
 use mathlib.Core.Path.{_≡_, refl}
 use mathlib.Core.List.{List}
 use Prim.Native.Nat.{ℕ}

@@ -12,7 +12,10 @@ pub mod Copying
 pub mod Listing
 pub mod Tabling
 pub mod Relating
-pub mod Showing
+pub mod TextSteps
 pub mod Working
 pub mod Dating
 pub mod FirstDating
+-- Placing: what a pass finds in the scratch that the judge filled is what the definition says. Refusing: a stream that the rules refuse.
+pub mod Placing
+pub mod Refusing

@@ -1,5 +1,4 @@
--- The lister's answer, table and numbers, case by case: what the stream is decides them, and the matches were counted before. Assumes
--- nothing.
+-- The lister's answer, table and numbers, case by case: what the stream is decides them, and the matches were counted before.
 use mathlib.Core.Path.{_≡_, refl, ap, sym, _∙_}
 use mathlib.Core.Bool.{true, false, true≢false}
 use mathlib.Core.List.{List, [], _++_}
@@ -23,8 +22,8 @@ use Rattle.answers.specs.declared.Listed.{Listed}
 use Rattle.answers.specs.Table.{rowsLent, tooFewRows}
 use Rattle.answers.specs.Answers.{listed, listedTable, matchesIn, listedList}
 use Rattle.answers.specs.Asking.{ListsFlat}
-use Rattle.answers.specs.Texts.{finishing, tableBy}
-use Rattle.answers.specs.Showing.{FindsMatches}
+use Rattle.answers.specs.Text.{finishing, tableBy}
+use Rattle.answers.specs.TextSteps.{FindsMatches}
 use Rattle.answers.proofs.Small.{refusal-small}
 
 -- no records
@@ -43,7 +42,8 @@ module _ (edition : Edition) (side : Side) (s table flat : List ℕ) (room : ℕ
       record { answered = rw e; tabled = rw (e, some, no-19); stored = rw some (no-records flat); fits = omega arith; enough = omega arith }
 
 -- before the table is written
-module _ (edition : Edition) (side : Side) (s flat : List ℕ) (lent room : ℕ) (headers : ℕ) (elements : List Element) (e : letterIn edition s ≡ letter headers elements) where
+module _ (edition : Edition) (side : Side) (s flat : List ℕ) (lent room : ℕ) (headers : ℕ) (elements : List Element)
+    (e : letterIn edition s ≡ letter headers elements) where
   pub finds-16 : lent < length elements → FindsMatches edition side s lent room (record { number = 16; place = 0; elements = 0; matches = 0 }) flat
   unfolding listed
   finds-16 few =
@@ -54,7 +54,8 @@ module _ (edition : Edition) (side : Side) (s flat : List ℕ) (lent room : ℕ)
         enough = omega arith;
       }
 
-  module _ (count : ℕ) (counted : length elements ≡ count) (enough-rows : count ≤ lent) (before : List ℕ) (m : ℕ) (lists : ListsMatches side elements before flat m) where
+  module _ (count : ℕ) (counted : length elements ≡ count) (enough-rows : count ≤ lent) (before : List ℕ) (m : ℕ)
+      (lists : ListsMatches side elements before flat m) where
     rows-enough : (table : List ℕ) → rowsLent table ≡ lent → ltb (rowsLent table) (length elements) ≡ false
     rows-enough table same = le-ltb (rowsLent table) (length elements) (omega arith)
 
@@ -107,7 +108,8 @@ pub listed-list : (list : List Match) {edition : Edition} {side : Side} {s table
 unfolding listedList
 listed-list list {edition} {side} {s} {table} {answer} {after} {flat} l =
     let n = answer .matches in
-    let told : eqb (listed edition side s table (length list) .number) 0 ≡ eqb (answer .number) 0 = ap (λ (a : Listed). eqb (a .number) 0) (sym (l .answered)) in
+    let told : eqb (listed edition side s table (length list) .number) 0 ≡ eqb (answer .number) 0 = ap (λ (a : Listed). eqb (a .number) 0)
+    (sym (l .answered)) in
     let size = length-records flat n in
     let stored = l .stored in
     cases (eqb (answer .number) 0)

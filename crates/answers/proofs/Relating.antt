@@ -1,5 +1,5 @@
--- The answer about a row's children, the table and the list, case by case: what the stream is decides them. Assumes nothing.
-use mathlib.Core.Path.{_≡_, refl, sym, _∙_}
+-- The answer about a row's children, the table and the list, case by case: what the stream is decides them.
+use mathlib.Core.Path.{_≡_, refl}
 use mathlib.Core.Bool.{true, false}
 use mathlib.Core.List.{List}
 use Prim.Native.Nat.{ℕ, _<_, _≤_}
@@ -74,6 +74,7 @@ module _ (edition : Edition) (s table : List ℕ) (row room : ℕ) (list : List 
             record { answered = rw (e, t, u, v, counted, all); tabled = rw (e, t, u, v); filled = rw e }
 
 -- table and list by other names
-pub renamed : {edition : Edition} {s table : List ℕ} {row room : ℕ} {list : List ℕ} {answer same : Related} {after finished listAfter put : List ℕ} → answer ≡ same
+pub renamed : {edition : Edition} {s table : List ℕ} {row room : ℕ} {list : List ℕ} {answer same : Related} {after finished listAfter put : List ℕ}
+    → answer ≡ same
     → after ≡ finished → listAfter ≡ put → Relates edition s table row room list same finished put → Relates edition s table row room list answer after listAfter
 renamed a e f r = rw (a, e, f) r

@@ -1,5 +1,5 @@
 -- The number of a refusal by rules 1 to 15 is one of 1 to 15, its place lies in the stream, and no more than half the stream's bytes are
--- headers: by what is known of the walk, and for each rule by its number. Assumes nothing.
+-- headers: by what is known of the walk, and for each rule by its number.
 use mathlib.Core.Path.{_≡_, refl, _∙_}
 use mathlib.Core.Logic.{_⊎_, inl, inr}
 use mathlib.Core.Bool.{Bool, true, false, cond, not, xor}
@@ -21,7 +21,8 @@ use Rattle.runs.proofs.Laws.{stream-within, stream-fine, stream-count, count-wi
 use Rattle.contents.specs.Search.{is}
 use Rattle.elements.specs.declared.Edition.{Edition}
 use Rattle.elements.specs.Shape.{shapeOf}
-use Rattle.elements.specs.Judge.{valueAt, typeOctet, typesOf, Element, elementOf, asTabled, typeFits, namesFit, Judged, accepted, refused, mostElements, profileOctet, twice, refusalOf, judgeOne, judgeFrom, judge}
+use Rattle.elements.specs.Judge.{valueAt, typeOctet, typesOf, Element, elementOf, asTabled, typeFits, namesFit, Judged, accepted, refused, mostElements}
+use Rattle.elements.specs.Judge.{profileOctet, twice, refusalOf, judgeOne, judgeFrom, judge}
 use Rattle.elements.specs.ElementRows.{placeOf}
 use Rattle.letters.specs.Letter.{refusal, itemsOfStream, afterWalk, byWalk, letterIn}
 

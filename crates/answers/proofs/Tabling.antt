@@ -1,7 +1,6 @@
 -- The lent table while it is filled, row by row: what is put, and then the rows that are left, is all. A finished table tells the parents of its rows,
--- so the rows that have one as their parent are its children. Assumes nothing.
-use mathlib.Core.Path.{_≡_, refl, ap, sym, _∙_, subst}
-use mathlib.Core.Bool.{true, false}
+-- so the rows that have one as their parent are its children.
+use mathlib.Core.Path.{_≡_, refl, ap, sym, _∙_}
 use mathlib.Core.List.{List, [], _∷_, _++_, append-assoc}
 use mathlib.Core.Option.{Option, none, some}
 use Prim.Native.Nat.{ℕ, zero, suc, _+_, _-_, _*_, _<_, _≤_}
@@ -28,7 +27,8 @@ use Rattle.answers.specs.Filling.{PutsRow, Fills, rowsWith}
 use Rattle.answers.specs.Answers.{elementsIn, onto, tableOf}
 
 -- the numbers of row j, among those of all rows
-numbers-slice : (rows : List Row) (j : ℕ) (row : Row) → getElem? rows j ≡ some row → slice (j * scratchWidth) (j * scratchWidth + scratchWidth) (numbers rows) ≡ cells row
+numbers-slice : (rows : List Row) (j : ℕ) (row : Row) → getElem? rows j ≡ some row
+    → slice (j * scratchWidth) (j * scratchWidth + scratchWidth) (numbers rows) ≡ cells row
 unfolding numbers
 numbers-slice [] j row e = let z : _≡_ {A = ℕ} 0 1 = cc in absurd (omega arith)
 numbers-slice (r ∷ rows) zero row e = let q : r ≡ row = cc in take-at (cells r) (numbers rows) scratchWidth refl ∙ ap cells q
@@ -78,7 +78,8 @@ pub record Filling (s scratch : List ℕ) (count : ℕ) (table₀ table : List �
   pub within : j ≤ count
   pub kept : length table ≡ length table₀
   pub goes-on : (edition : Edition) (held : LetterRows edition s scratch count)
-      → sets table₀ 0 (tableNumbers (held .elements) (rowsIn edition s)) ≡ sets table (j * tableWidth) (forEach j (drop j (rowsIn edition s)) (rowNumbers (held .elements)))
+      → sets table₀ 0 (tableNumbers (held .elements) (rowsIn edition s)) ≡ sets table (j * tableWidth)
+      (forEach j (drop j (rowsIn edition s)) (rowNumbers (held .elements)))
 
 -- there is a row for each element
 rows-counted : {edition : Edition} {s scratch : List ℕ} {count : ℕ} → LetterRows edition s scratch count → length (rowsIn edition s) ≡ count
@@ -123,7 +124,8 @@ module _ {s scratch : List ℕ} {count : ℕ} {table₀ table : List ℕ} {j : �
 
 -- the table that is filled by the rows of a letter is the finished one
 module _ {edition : Edition} {s rows : List ℕ} {count : ℕ} (held : LetterRows edition s rows count) where
-  pub table-filled : {headers : ℕ} → letterIn edition s ≡ letter headers (held .elements) → (table after : List ℕ) → Fills s rows count table after → after ≡ tableOf edition s table
+  pub table-filled : {headers : ℕ} → letterIn edition s ≡ letter headers (held .elements) →
+      (table after : List ℕ) → Fills s rows count table after → after ≡ tableOf edition s table
   table-filled e table after fills =
       let size : length (tableNumbers (held .elements) (rowsIn edition s)) ≡ count * tableWidth =
       table-length (held .elements) 0 (rowsIn edition s) ∙ ap (λ (k : ℕ). k * tableWidth) (rows-counted held) in
@@ -146,7 +148,8 @@ parent-there elements n (row ∷ rows) rest (suc j) l =
 
 -- in the finished table of a letter
 pub table-tells : (edition : Edition) (s : List ℕ) {headers : ℕ} {elements : List Element} → letterIn edition s ≡ letter headers elements
-    → length (rowsIn edition s) ≡ length elements → (table : List ℕ) (j : ℕ) → j < length elements → parentAt (tableOf edition s table) j ≡ rowOrNone (parent elements j)
+    → length (rowsIn edition s) ≡ length elements → (table : List ℕ) (j : ℕ) → j < length elements → parentAt (tableOf edition s table) j ≡ rowOrNone
+    (parent elements j)
 table-tells edition s {headers} {elements} e counted table j l =
     let z : 0 + j ≡ j = omega arith in
     let own : elementsIn edition s ≡ elements = rw e in
@@ -155,7 +158,8 @@ table-tells edition s {headers} {elements} e counted table j l =
     ∙ ap (λ (k : ℕ). rowOrNone (parent elements k)) z
 
 -- and the numbers of the scratch's row before it
-pub cell-there : (elements : List Element) (n : ℕ) (rows : List Row) (rest : List ℕ) (j : ℕ) (row : Row) → getElem? rows j ≡ some row → (c : ℕ) → c < scratchWidth
+pub cell-there : (elements : List Element) (n : ℕ) (rows : List Row) (rest : List ℕ) (j : ℕ) (row : Row) → getElem? rows j ≡ some row → (c : ℕ)
+    → c < scratchWidth
     → getD (forEach n rows (rowNumbers elements) ++ rest) (j * tableWidth + c) 0 ≡ getD (cells row) c 0
 unfolding forEach
 cell-there elements n [] rest j row e c l = let z : _≡_ {A = ℕ} 0 1 = cc in absurd (omega arith)
@@ -253,7 +257,8 @@ module _ {table : List ℕ} {count row : ℕ} {list₀ list : List ℕ} {j found
     -- there is room for a child,
     pub putting-room : parentAt table j ≡ row → found < length list
     putting-room e =
-        let l : length (rowsWith table row j (count - j)) ≡ suc (length (rowsWith table row (j + 1) (count - (j + 1)))) = ap length (rows-hit table row j count below e) in
+        let l : length (rowsWith table row j (count - j)) ≡ suc (length (rowsWith table row (j + 1) (count - (j + 1)))) = ap length
+        (rows-hit table row j count below e) in
         omega (arith, putting .room)
 
     -- which is put,

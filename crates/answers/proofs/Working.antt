@@ -1,4 +1,4 @@
--- What each question's work leaves, from what its answer says, and what any question is told of a stream that the walk refuses. Assumes nothing.
+-- What each question's work leaves, from what its answer says, and what any question is told of a stream that the walk refuses.
 use mathlib.Core.Path.{_≡_, refl, ap, sym, _∙_, subst}
 use mathlib.Core.List.{List}
 use Prim.Native.Nat.{ℕ}
@@ -13,14 +13,14 @@ use Rattle.order.specs.declared.Ordered.{Ordered}
 use Rattle.order.specs.Question.{OrderIs}
 use Rattle.order.specs.Computed.{orderIn}
 use Rattle.order.proofs.Letters.{computed-is}
-use Rattle.orders.proofs.Refusing.{ordered-refused}
+use Rattle.answers.proofs.Refusing.{ordered-refused}
 use Rattle.answers.specs.declared.Checked.{Checked}
 use Rattle.answers.specs.declared.Listed.{Listed}
 use Rattle.answers.specs.declared.Reason.{Reason}
 use Rattle.answers.specs.declared.Found.{Found}
 use Rattle.answers.specs.declared.Copied.{Copied}
 use Rattle.answers.specs.declared.Related.{Related}
-use Rattle.answers.specs.declared.Shown.{Shown}
+use Rattle.answers.specs.declared.TextRead.{TextRead}
 use Rattle.answers.specs.declared.Told.{Told}
 use Rattle.answers.specs.declared.Question.{Question}
 use Rattle.answers.specs.declared.Question.the-variants.{Rules, Check, Content, Joined, List as Reading, Children, Order, Text}
@@ -28,16 +28,17 @@ use Rattle.answers.specs.Answers.{ruledBy, ruled, CheckOutcome, JoinedOu
 use Rattle.answers.specs.Asking.{ListsFlat, Fetches}
 use Rattle.answers.specs.Related.{ChildrenOutcome, relatedList, related}
 use Rattle.answers.specs.Filling.{Relates}
-use Rattle.answers.specs.Questions.{reasonTold, checkTold, locatedTold, copiedTold, listedTold, relatedTold, orderedTold, checkOf, locatedOf, copiedOf, listedOf, relatedOf, orderedOf, refusedTold, Leaves}
-use Rattle.answers.specs.Questions.{shownTold, shownOf}
-use Rattle.answers.specs.Showing.{TextsFlat}
+use Rattle.answers.specs.Questions.{reasonTold, checkTold, locatedTold, copiedTold, listedTold, relatedTold, orderedTold, checkOf, locatedOf, copiedOf}
+use Rattle.answers.specs.Questions.{listedOf, relatedOf, orderedOf, refusedTold, Leaves}
+use Rattle.answers.specs.Questions.{textTold, textReadOf}
+use Rattle.answers.specs.TextSteps.{TextsFlat}
 use Rattle.answers.proofs.Small.{refusal-small}
 use Rattle.answers.proofs.Checks.{checks-refused}
 use Rattle.answers.proofs.Fetching.{fetches-refused, joins-refused}
 use Rattle.answers.proofs.Copying.{joins-none}
 use Rattle.answers.proofs.Listing.{lists-refused}
 use Rattle.answers.proofs.Relating.{relates-refused}
-use Rattle.answers.proofs.Showing.{shows-ruled}
+use Rattle.answers.proofs.TextSteps.{text-ruled}
 
 -- a stream that is refused by one of rules 1 to 15
 pub ruled-refused : (edition : Edition) (s : List ℕ) {number place headers : ℕ} → letterIn edition s ≡ refusal number place headers
@@ -46,7 +47,8 @@ unfolding ruled
 ruled-refused edition s e = rw e
 
 -- a letter
-pub ruled-letter : (edition : Edition) (s : List ℕ) {headers : ℕ} {elements : List Element} → letterIn edition s ≡ letter headers elements → ruled edition s ≡ record { number = 0; place = 0 }
+pub ruled-letter : (edition : Edition) (s : List ℕ) {headers : ℕ} {elements : List Element} → letterIn edition s ≡ letter headers elements
+    → ruled edition s ≡ record { number = 0; place = 0 }
 unfolding ruled
 ruled-letter edition s e = rw e
 
@@ -79,12 +81,9 @@ module _ (edition : Edition) (s : List ℕ) where
   unfolding ruled
   is-refused some = refused-if (letterIn edition s) refl some
 
--- the same, of what the rules told
-pub letter-told : {edition : Edition} {s : List ℕ} {told : Told} → told ≡ reasonTold (ruled edition s) → told .number ≡ 0 → IsLetter edition s
-letter-told {edition} {s} e zero = is-letter edition s (ap (λ (t : Told). t .number) (sym e) ∙ zero)
-
 -- a question that is known, and what it is told, by other names
-pub as-asked : {edition : Edition} {question known : Question} {s table flat out : List ℕ} {told same : Told} {tableAfter flatAfter outAfter : List ℕ} → question ≡ known
+pub as-asked : {edition : Edition} {question known : Question} {s table flat out : List ℕ} {told same : Told} {tableAfter flatAfter outAfter : List ℕ}
+    → question ≡ known
     → told ≡ same → Leaves edition known s table flat out same tableAfter flatAfter outAfter → Leaves edition question s table flat out told tableAfter flatAfter outAfter
 as-asked {edition = edition} {known = known} {s = s} {table = table} {flat = flat} {out = out} {told = told} {tableAfter = tableAfter} {flatAfter = flatAfter} {outAfter = outAfter} q t l =
     subst (λ (x : Question). Leaves edition x s table flat out told tableAfter flatAfter outAfter) (sym q)
@@ -101,7 +100,8 @@ module _ (edition : Edition) (s table flat out : List ℕ) where
   pub leaves-check : {r : Checked} {after : List ℕ} → CheckOutcome edition s table r after → Leaves edition Check s table flat out (checkTold r) after flat out
   leaves-check e = record { answered = ap checkTold (e .answered); tabled = e .tabled; put = refl; beside = tt }
 
-  pub leaves-content : {element : ℕ} {r : Found} → Fetches edition s element r → Leaves edition (Content element) s table flat out (locatedTold r) table flat out
+  pub leaves-content : {element : ℕ} {r : Found} → Fetches edition s element r → Leaves edition (Content element) s table flat out
+      (locatedTold r) table flat out
   leaves-content e = record { answered = ap locatedTold (e .answered); tabled = refl; put = refl; beside = e .stands }
 
   pub leaves-joined : {element : ℕ} {r : Copied} {after : List ℕ} → JoinedOutcome edition s element out r after
@@ -124,9 +124,9 @@ module _ (edition : Edition) (s table flat out : List ℕ) where
   pub leaves-order : {class : Class} {r : Ordered} → r ≡ orderIn edition class s → Leaves edition (Order class) s table flat out (orderedTold r) table flat out
   leaves-order e = record { answered = ap orderedTold e; tabled = refl; put = refl; beside = tt }
 
-  pub leaves-text : {side : Side} {room : ℕ} {r : Shown} {after flatAfter outAfter : List ℕ} → TextsFlat edition side s table room out r after flatAfter outAfter
-      → Leaves edition (Text side room) s table flat out (shownTold r) after flatAfter outAfter
-  leaves-text e = record { answered = ap shownTold (e .answered); tabled = e .tabled; put = e .put; beside = e .lined }
+  pub leaves-text : {side : Side} {room : ℕ} {r : TextRead} {after flatAfter outAfter : List ℕ} → TextsFlat edition side s table room out r after flatAfter outAfter
+      → Leaves edition (Text side room) s table flat out (textTold r) after flatAfter outAfter
+  leaves-text e = record { answered = ap textTold (e .answered); tabled = e .tabled; put = e .put; beside = e .lined }
 
   -- whatever is asked, nothing that was lent is touched
   pub leaves-refused : (question : Question) (number place headers : ℕ) → letterIn edition s ≡ refusal number place headers
@@ -140,20 +140,22 @@ module _ (edition : Edition) (s table flat out : List ℕ) where
   leaves-refused (Reading side room) number place headers e = leaves-list (lists-refused edition side s table flat room number place headers e)
   leaves-refused (Children row room) number place headers e = leaves-children (relates-refused edition s table row room flat number place headers e)
   leaves-refused (Order class) number place headers e = leaves-order (sym (ordered-refused edition class s number place headers e))
-  leaves-refused (Text side room) number place headers e = leaves-text (shows-ruled edition side s table flat room out number place headers e)
+  leaves-refused (Text side room) number place headers e = leaves-text (text-ruled edition side s table flat room out number place headers e)
 
 -- what each question answers, from what its work left
 module _ {edition : Edition} {s table flat out : List ℕ} {told : Told} {tableAfter flatAfter outAfter : List ℕ} where
   pub check-left : Leaves edition Check s table flat out told tableAfter flatAfter outAfter → CheckOutcome edition s table (checkOf told) tableAfter
   check-left l = record { answered = ap checkOf (l .answered); tabled = l .tabled }
 
-  pub content-left : {element : ℕ} → Leaves edition (Content element) s table flat out told tableAfter flatAfter outAfter → Fetches edition s element (locatedOf told)
+  pub content-left : {element : ℕ} → Leaves edition (Content element) s table flat out told tableAfter flatAfter outAfter → Fetches edition s element
+      (locatedOf told)
   content-left l = record { answered = ap locatedOf (l .answered); stands = l .beside }
 
   pub joined-left : {element : ℕ} → Leaves edition (Joined element) s table flat out told tableAfter flatAfter outAfter → JoinedOutcome edition s element out (copiedOf told) outAfter
   joined-left l = record { answered = ap copiedOf (l .answered); put = l .put }
 
-  pub lists-told : {side : Side} {room : ℕ} {answer : Listed} → answer ≡ listedOf told → Leaves edition (Reading side room) s table flat out told tableAfter flatAfter outAfter
+  pub lists-told : {side : Side} {room : ℕ} {answer : Listed} → answer ≡ listedOf told → Leaves edition
+      (Reading side room) s table flat out told tableAfter flatAfter outAfter
       → ListsFlat edition side s table room answer tableAfter flatAfter
   lists-told {side} {room} e l =
       let b = l .beside in
@@ -170,8 +172,9 @@ module _ {edition : Edition} {s table flat out : List ℕ} {told : Told} {tableA
       let told-is : told .number ≡ related edition s table row (length flat) .number = ap (λ (t : Told). t .number) (l .answered) in
       record { answered = ap relatedOf (l .answered); tabled = l .tabled; filled = l .beside ∙ rw told-is }
 
-  pub text-told : {side : Side} {room : ℕ} {answer : Shown} → answer ≡ shownOf told → Leaves edition (Text side room) s table flat out told tableAfter flatAfter outAfter
+  pub text-told : {side : Side} {room : ℕ} {answer : TextRead} → answer ≡ textReadOf told → Leaves edition
+      (Text side room) s table flat out told tableAfter flatAfter outAfter
       → TextsFlat edition side s table room out answer tableAfter flatAfter outAfter
   text-told {side} {room} e l =
-      subst (λ (r : Shown). TextsFlat edition side s table room out r tableAfter flatAfter outAfter) (sym e)
-      (record { answered = ap shownOf (l .answered); tabled = l .tabled; put = l .put; lined = l .beside })
+      subst (λ (r : TextRead). TextsFlat edition side s table room out r tableAfter flatAfter outAfter) (sym e)
+      (record { answered = ap textReadOf (l .answered); tabled = l .tabled; put = l .put; lined = l .beside })

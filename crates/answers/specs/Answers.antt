@@ -1,7 +1,6 @@
 -- The public questions of the base, and the joined content (W-201): what each answers, and what it leaves in what it was lent. Those asked for later:
--- specs/Short, Related, Dates, FirstDates, Texts; the order is in crate orders. Document 01, "Numbers given back" and "Table, list, part, normal form".
--- A contract of crate odif says that the result and every lent buffer at exit are these
--- definitions of the values at entry. Definitions only: assumes nothing.
+-- specs/Short, Related, Dates, FirstDates, Texts; the order is in crate order (specs/Question). Document 01, "Numbers given back" and "Table, list,
+-- part, normal form". A contract of crate odif says that the result and every lent buffer at exit are these definitions of the values at entry.
 use mathlib.Core.Path.{_≡_}
 use Prim.Native.Nat.{ℕ, _≤_}
 use mathlib.Core.Bool.{cond}
@@ -174,7 +173,7 @@ whyNot edition s asked = record { number = fetched edition s asked .number; plac
 abbrev pub WhyOutcome : Edition → (s : List ℕ) → (asked : ℕ) → (answer : Reason) → Type 0
 WhyOutcome edition s asked answer = answer ≡ whyNot edition s asked
 
--- The same question for callers that take bounds: those of the content in the unit's row, and 0 and 0 with a refusal.
+-- The content for callers that take bounds: those of the content in the unit's row, and 0 and 0 with a refusal.
 abbrev pub contentPair : Option Row → Span
 contentPair none = noSpan
 contentPair (some row) = row .content
@@ -191,7 +190,7 @@ located edition s asked =
 abbrev pub LocatedOutcome : Edition → (s : List ℕ) → (asked : ℕ) → (answer : Found) → Type 0
 LocatedOutcome edition s asked answer = answer ≡ located edition s asked
 
--- They are where the part stands that the question in its other form hands back, in the stream: demands has that of every stream.
+-- They are where the part stands that the question in its other form hands back, in the stream: promises has that of every stream.
 pub record Stands (edition : Edition) (s : List ℕ) (asked first past : ℕ) : Type 0 where
   pub part : slice first past s ≡ fetched edition s asked .part
   pub order : first ≤ past

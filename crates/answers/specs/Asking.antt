@@ -1,5 +1,4 @@
--- What the work behind the questions learns: of a stream that was judged, and of a content that was fetched or copied. Definitions only: assumes
--- nothing.
+-- What the work behind the questions learns: of a stream that was judged, and of a content that was fetched or copied.
 use mathlib.Core.Path.{_≡_}
 use mathlib.Core.Bool.{cond}
 use mathlib.Core.List.{List, []}
@@ -64,7 +63,7 @@ Known s NoUnit = Unit {0}
 Known s (Content first past) = Unit {0}
 Known s (Pieces run) = Fine s run
 
--- the answer in bounds, with what `odif::content` needs to hand the part back; crate demands has that it holds of every stream (`located-stands`)
+-- the answer in bounds, with what `odif::content` needs to hand the part back; crate promises has that it holds of every stream (`located-stands`)
 pub record Fetches (edition : Edition) (s : List ℕ) (asked : ℕ) (told : Found) : Type 0 where
   pub answered : told ≡ located edition s asked
   pub stands : Stands edition s asked (told .first) (told .past)

@@ -1,6 +1,6 @@
 -- The date of the document (W-203): "Answer the bytes of the date as a part of the stream, with year, month and day from its first ten bytes". Where
 -- a date stands in a profile is crate dates' to say (specs/Dates): the items [0] on the path A3, A0. Which days there are, and how they are spelt,
--- is crate calendar's (specs/Calendar, specs/Named). Definitions only: assumes nothing.
+-- is crate calendar's (specs/Calendar, specs/Named).
 use mathlib.Core.Path.{_≡_}
 use Prim.Native.Nat.{ℕ, _≤_}
 use mathlib.Core.Bool.{cond}
@@ -84,7 +84,7 @@ DateOutcome edition s answer = answer ≡ dated edition s
 abbrev pub DatePartOutcome : Edition → (s part : List ℕ) → Type 0
 DatePartOutcome edition s part = part ≡ dateOf edition s .part
 
--- The bounds bound that part of the stream: demands has it of every stream.
+-- The bounds bound that part of the stream: promises has it of every stream.
 pub record Bounds (s octets : List ℕ) (first past : ℕ) : Type 0 where
   pub part : slice first past s ≡ octets
   pub order : first ≤ past

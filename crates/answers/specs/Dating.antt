@@ -1,4 +1,4 @@
--- What the work behind the date learns: the numbers of a date that was looked for, and that they fit 32 bits. Definitions only: assumes nothing.
+-- What the work behind the date learns: the numbers of a date that was looked for, and that they fit 32 bits.
 use mathlib.Core.Path.{_≡_}
 use Prim.Native.Nat.{ℕ, _≤_}
 use mathlib.Core.List.{List}
@@ -27,7 +27,7 @@ pub record Narrow (d : DateFound) : Type 0 where
   pub month : d .month ≤ 12
   pub day : d .day ≤ 32
 
--- the answer in numbers, with what `odif::date` needs to hand the part back; crate demands has that it holds of every stream (`DocumentDate.stands`)
+-- the answer in numbers, with what `odif::date` needs to hand the part back; crate promises has that it holds of every stream (`DocumentDate.stands`)
 pub record DateTells (edition : Edition) (s : List ℕ) (told : Dated) : Type 0 where
   pub answered : told ≡ dated edition s
   pub stands : Bounds s (dateOf edition s .part) (told .first) (told .past)

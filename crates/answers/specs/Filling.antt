@@ -1,4 +1,4 @@
--- What the code that fills the lent table has done, row by row, and what it asks of the filled one. Definitions only: assumes nothing.
+-- What the code that fills the lent table has done, row by row, and what it asks of the filled one.
 use mathlib.Core.Path.{_≡_}
 use Prim.Native.Nat.{ℕ, zero, suc, _*_}
 use mathlib.Core.List.{List, [], _++_}

@@ -1,5 +1,5 @@
 -- The date without the rest (W-206): "walks the first element alone under rules 1 to 8, 10 and 11, with the end of the given bytes as limit, and then
--- answers as W-203". The walk of the first element is crate fronts' to say (specs/First). Definitions only: assumes nothing.
+-- answers as W-203". The walk of the first element is crate fronts' to say (specs/First).
 use mathlib.Core.Path.{_≡_}
 use Prim.Native.Nat.{ℕ}
 use mathlib.Core.Bool.{cond}

@@ -6,11 +6,13 @@ pub mod Table
 pub mod Filling
 pub mod Answers
 pub mod Related
-pub mod Texts
+pub mod Text
 pub mod Short
 pub mod Dates
 pub mod FirstDates
 pub mod Dating
 pub mod Asking
-pub mod Showing
+pub mod TextSteps
 pub mod Questions
+-- Orders: 26 by the rows.
+pub mod Orders

@@ -1,5 +1,5 @@
 -- What the work of each question must leave, once its stream is walked and judged: what is told, and what was lent at exit. A question that is
--- added later adds a case to each of these. Definitions only: assumes nothing.
+-- added later adds a case to each of these.
 use mathlib.Core.Path.{_≡_}
 use mathlib.Core.Bool.{cond}
 use mathlib.Core.List.{List, []}
@@ -18,14 +18,14 @@ use Rattle.answers.specs.declared.Reason.{Reason}
 use Rattle.answers.specs.declared.Found.{Found}
 use Rattle.answers.specs.declared.Copied.{Copied}
 use Rattle.answers.specs.declared.Related.{Related}
-use Rattle.answers.specs.declared.Shown.{Shown}
+use Rattle.answers.specs.declared.TextRead.{TextRead}
 use Rattle.answers.specs.declared.Told.{Told}
 use Rattle.answers.specs.declared.Question.{Question}
 use Rattle.answers.specs.declared.Question.the-variants.{Rules, Check, Content, Joined, List as Reading, Children, Order, Text}
 use Rattle.answers.specs.Answers.{checked, checkedTable, listed, listedTable, matchesIn, ruled, refusedCheck, located, Stands, copied, copiedOutput}
 use Rattle.answers.specs.Related.{related, relatedTable, childrenOnto}
-use Rattle.answers.specs.Texts.{shown, shownTable, shownOutput}
-use Rattle.answers.specs.Showing.{LinesNumbered}
+use Rattle.answers.specs.Text.{textRead, shownTable, textOutput}
+use Rattle.answers.specs.TextSteps.{LinesNumbered}
 
 -- each answer in the one form in which the work tells it: what a question does not ask for is 0
 abbrev pub reasonTold : Reason → Told
@@ -49,8 +49,8 @@ relatedTold r = record { number = r .number; place = r .place; headers = 0; elem
 abbrev pub orderedTold : Ordered → Told
 orderedTold r = record { number = r .number; place = r .place; headers = 0; elements = 0; listed = 0; length = 0; first = 0; past = 0 }
 
-abbrev pub shownTold : Shown → Told
-shownTold r = record { number = r .number; place = r .place; headers = 0; elements = r .elements; listed = r .lines; length = r .length; first = 0; past = 0 }
+abbrev pub textTold : TextRead → Told
+textTold r = record { number = r .number; place = r .place; headers = 0; elements = r .elements; listed = r .lines; length = r .length; first = 0; past = 0 }
 
 -- and the answer again, of what was told
 abbrev pub checkOf : Told → Checked
@@ -71,8 +71,8 @@ relatedOf t = record { number = t .number; place = t .place; elements = t .eleme
 abbrev pub orderedOf : Told → Ordered
 orderedOf t = record { number = t .number; place = t .place }
 
-abbrev pub shownOf : Told → Shown
-shownOf t = record { number = t .number; place = t .place; elements = t .elements; lines = t .listed; length = t .length }
+abbrev pub textReadOf : Told → TextRead
+textReadOf t = record { number = t .number; place = t .place; elements = t .elements; lines = t .listed; length = t .length }
 
 -- what is told of a stream, with this table and this buffer lent
 abbrev pub toldTo : Edition → Question → (s table out : List ℕ) → Told
@@ -83,7 +83,7 @@ toldTo edition (Joined element) s table out = copiedTold (copied edition s eleme
 toldTo edition (Reading side room) s table out = listedTold (listed edition side s table room)
 toldTo edition (Children row room) s table out = relatedTold (related edition s table row room)
 toldTo edition (Order class) s table out = orderedTold (orderIn edition class s)
-toldTo edition (Text side room) s table out = shownTold (shown edition side s table room out)
+toldTo edition (Text side room) s table out = textTold (textRead edition side s table room out)
 
 -- what is told of a stream that rules 1 to 15 refuse: the check alone is told how many headers passed
 abbrev pub refusedTold : Question → (number place headers : ℕ) → Told
@@ -116,7 +116,7 @@ outLeft edition (Joined element) s table out = copiedOutput edition s element ou
 outLeft edition (Reading side room) s table out = out
 outLeft edition (Children row room) s table out = out
 outLeft edition (Order class) s table out = out
-outLeft edition (Text side room) s table out = shownOutput edition side s table room out
+outLeft edition (Text side room) s table out = textOutput edition side s table room out
 
 -- the reading list as numbers, three a record: as many as are told, all matches if the number is 0
 pub record Numbered (edition : Edition) (side : Side) (s : List ℕ) (room number count : ℕ) (flat : List ℕ) : Type 0 where

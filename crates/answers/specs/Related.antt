@@ -1,5 +1,5 @@
 -- The children of a row (W-204): "Also give, in one lent list, the children of a row in stream order, as row numbers." "Refusals, after 16, place 0,
--- list untouched: 20 no such row, table untouched too; 25 children list too short, table finished." Definitions only: assumes nothing.
+-- list untouched: 20 no such row, table untouched too; 25 children list too short, table finished."
 use mathlib.Core.Path.{_≡_}
 use Prim.Native.Nat.{ℕ}
 use mathlib.Core.Bool.{cond}

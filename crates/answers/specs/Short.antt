@@ -1,5 +1,5 @@
 -- The mailroom's own normal form question (W-212): "limited to 65,535 bytes of input", and with no 17, which "can't arise" there. That it gives
--- what the normal form question gives, but for 1, is in crate demands (`Mailroom`). Definitions only: assumes nothing.
+-- what the normal form question gives, but for 1, is in crate promises (`Mailroom`).
 use mathlib.Core.Path.{_≡_}
 use Prim.Native.Nat.{ℕ}
 use mathlib.Core.Bool.{cond}

@@ -1,7 +1,7 @@
 -- The lent table. Document 01, "Table, list, part, normal form": "A table row is twelve numbers: kind .., object type .., then first and past for the
 -- element, its identifier, the unit's logical identifier, the portions' value, the content"; "an incomplete last row isn't used". W-204: "The table row
 -- grows to thirteen numbers, the last being the parent's row". The scratch's row (`scratchWidth`, `cells`) has what is read of an element; what is told of
--- it besides is added to the table's row alone, here. Definitions only: assumes nothing.
+-- it besides is added to the table's row alone, here.
 use Prim.Native.Nat.{ℕ, _+_, _*_, _/_}
 use mathlib.Core.Bool.{Bool}
 use mathlib.Core.List.{List, [], _∷_, _++_}

@@ -7,7 +7,6 @@ use elements::Edition;
 use fronts::First;
 use octets::STREAM_LIMIT;
 use runs::Run;
-ghost use mathlib.Core.Path.{_≡_};
 ghost use Prim.Native.Nat.{_≤_};
 ghost use lib.ListN.{length};
 ghost use Rattle.octets.specs.Walk.{streamLimit};

@@ -15,15 +15,16 @@ ghost use Rattle.letters.specs.Scratch.{LetterRows};
 ghost use Rattle.answers.specs.Answers.{refusedCheck, CheckOutcome};
 ghost use Rattle.answers.specs.Questions.{reasonTold, checkTold, locatedTold, copiedTold, listedTold, relatedTold, orderedTold};
 ghost use Rattle.answers.specs.Questions.{listedOf, refusedTold, Leaves, Roomy};
-ghost use Rattle.answers.specs.Questions.{shownTold, shownOf};
+ghost use Rattle.answers.specs.Questions.{textTold, textReadOf};
 
 mod children; // children.rt: the children of a row
 mod content; // content.rt: the content of one element, as a part or copied
 mod date; // date.rt: the date of the document
 mod first_date; // first_date.rt: the same by the first element alone
+mod in_order; // in_order.rt: the order of a letter, as number and place
 mod list; // list.rt: the reading list of a side
 mod table; // table.rt: the lent table
-mod whole; // whole.rt: the whole reading of a side
+mod text; // text.rt: the whole reading of a side
 
 use children::children_judged;
 use content::join_judged;
@@ -33,7 +34,7 @@ pub use date::refused_date;
 pub use first_date::date_of_first;
 use list::list_judged;
 pub use table::TABLE_WIDTH;
-use whole::text_judged;
+use text::text_judged;
 
 // The numbers of refusals that come after rules 1 to 15, those of the questions themselves; 17 and 18 are crate normal's.
 const TOO_FEW_ROWS: u32 = 16;
@@ -113,7 +114,7 @@ pub struct Dated {
     pub day: u32,
 }
 
-// The same by the first element alone, with the note that the remainder is unread: always 1.
+// The date of the document by its first element alone, with the note that the remainder is unread: always 1.
 #[repr(C)]
 pub struct FirstDated {
     pub number: u32,
@@ -137,7 +138,7 @@ pub struct Related {
 
 // What is answered of the whole reading of a side.
 #[repr(C)]
-pub struct Shown {
+pub struct TextRead {
     pub number: u32,
     pub place: u32,
     pub elements: u32,
@@ -316,8 +317,8 @@ fn tell_ordered(r: Ordered) -> Told
     })
 }
 
-fn tell_shown(r: Shown) -> Told
-    ensures { λ told. ⌜ told ≡ shownTold r ⌝ }
+fn tell_text(r: TextRead) -> Told
+    ensures { λ told. ⌜ told ≡ textTold r ⌝ }
 {
     Told {
         number: r.number,
@@ -332,10 +333,10 @@ fn tell_shown(r: Shown) -> Told
 }
 
 // The whole reading's answer, of what was told.
-pub fn shown_of(told: Told) -> Shown
-    ensures { λ r. ⌜ r ≡ shownOf told ⌝ }
+pub fn text_read_of(told: Told) -> TextRead
+    ensures { λ r. ⌜ r ≡ textReadOf told ⌝ }
 {
-    Shown {
+    TextRead {
         number: told.number,
         place: told.place,
         elements: told.elements,
@@ -451,7 +452,7 @@ pub fn work(
             table,
             flat,
         )),
-        Question::Order { class } => tell_ordered(orders::order_judged(
+        Question::Order { class } => tell_ordered(in_order::order_judged(
             edition,
             stream,
             class,
@@ -460,7 +461,7 @@ pub fn work(
             next,
             count,
         )),
-        Question::Text { side, room } => tell_shown(text_judged(
+        Question::Text { side, room } => tell_text(text_judged(
             edition,
             stream,
             side,

@@ -15,7 +15,7 @@ ghost use Rattle.rows.specs.Columns.{identifierColumn, logicalColumn};
 ghost use Rattle.rows.specs.Lookup.{Filed};
 ghost use Rattle.letters.specs.Scratch.{LetterRows};
 ghost use Rattle.answers.specs.Asking.{ListsFlat};
-ghost use Rattle.answers.specs.Showing.{FindsMatches};
+ghost use Rattle.answers.specs.TextSteps.{FindsMatches};
 
 // The matches of a side as numbers, and the answer of the list: 16 if the table has too few rows, then 19.
 pub fn find_matches(

@@ -16,7 +16,7 @@ ghost use Rattle.rows.specs.Lookup.{Filed};
 ghost use Rattle.letters.specs.Scratch.{LetterRows};
 ghost use Rattle.answers.specs.Table.{tableWidth, rowsLent};
 ghost use Rattle.answers.specs.Filling.{PutsRow, Fills};
-ghost use Rattle.answers.specs.Texts.{finishing, tableBy};
+ghost use Rattle.answers.specs.Text.{finishing, tableBy};
 
 pub const TABLE_WIDTH: usize = 13;
 

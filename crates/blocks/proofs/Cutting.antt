@@ -1,27 +1,23 @@
 -- The theorems. After any octets of a letter the state stands for the walk of the letter, whatever comes (`stands`); at the close its
 -- answer is that of the walk (`answers`), for any cutting into blocks (`any-cutting`) and with refused blocks between (`any-blocks`).
--- Assumes nothing.
 use mathlib.Core.Path.{_≡_, refl, ap, sym, _∙_, subst}
 use mathlib.Core.Bool.{Bool, true, false, cond}
-use mathlib.Core.List.{List, [], _∷_, _++_, append-assoc, append-nil, foldl-append, flatten}
-use Prim.Native.Nat.{ℕ, zero, suc, _+_, _-_, _<_, _≤_}
+use mathlib.Core.List.{List, [], _∷_, _++_, append-nil, foldl-append, flatten}
+use Prim.Native.Nat.{ℕ, suc, _+_, _-_, _<_, _≤_}
 use native.Mathlib.Omega.{arith}
 use native.Mathlib.Nat.{add-zero}
 use lib.Dec.{leb, eqb}
-use lib.ListN.{length, getD, drop, length-append, length-drop}
-use lib.Seq.{drop-cons, drop-drop, getD-drop}
+use lib.ListN.{length, drop, length-append, length-drop}
+use lib.Seq.{drop-cons}
 use borrow.Author.Tests.{leb-true, leb-false, le-leb, lt-leb, eqb-true, eq-eqb, ne-eqb}
 use Rattle.headers.specs.Head.{octetAt}
-use Rattle.laws.proofs.Tests.{cond-holds}
-use Rattle.octets.specs.declared.Outcome.{Outcome}
-use Rattle.octets.specs.declared.Outcome.the-variants.{Refused}
 use Rattle.octets.specs.Walk.{run, answer, walkOf}
 use Rattle.octets.specs.Told.{told}
 use Rattle.octets.proofs.Turns.{plus-zero}
-use Rattle.blocks.specs.Engine.{Standing, reading, found, State, onward, step, feed, fresh, stateAfter}
-use Rattle.blocks.specs.Blocks.{start, takeBlock, toldOf, close, takeBlocks, kept, atClose}
+use Rattle.blocks.specs.Engine.{reading, found, State, step, feed, fresh, stateAfter}
+use Rattle.blocks.specs.Blocks.{start, takeBlock, close, takeBlocks, kept, atClose}
 use Rattle.blocks.specs.Resume.{outlook}
-use Rattle.blocks.proofs.Stands.{Reads, Good, onward-good, good-end}
+use Rattle.blocks.proofs.Stands.{Good, onward-good, good-end}
 
 -- the octets are counted, and the total is kept
 pub feed-taken : (s : State) (xs : List ℕ) → feed s xs .taken ≡ s .taken + length xs
@@ -61,7 +57,15 @@ module _ (letter : List ℕ) where
   fresh-good = (refl, go (leb (length letter) 1048576) refl)
     where
       go : (b : Bool) → leb (length letter) 1048576 ≡ b → Good letter 0 (walkOf letter) (cond b (reading 0 [] 0 []) (found 1 0 0))
-      go true e = (record { nested = tt; within = omega arith; going = λ _. tt; come = omega arith }, rw e (sym (plus-zero (answer (run 16 letter 0 (length letter) false)))))
+      go true e = (
+        record {
+          nested = tt;
+          within = omega arith;
+          going = λ _. tt;
+          come = omega arith;
+        },
+        rw e (sym (plus-zero (answer (run 16 letter 0 (length letter) false)))),
+      )
       go false e = (tt, rw e)
 
 -- After the octets xs of a letter the state stands for the walk of the letter, whatever octets are to come.
@@ -105,7 +109,8 @@ Kept blocks = (s : State) → s .taken ≤ s .total → takeBlocks s blocks ≡ 
 
 kept-more : (block : List ℕ) (blocks : List (List ℕ)) → Kept blocks → (s : State) → s .taken ≤ s .total
     → (b : Bool) → leb (length block) (s .total - s .taken) ≡ b
-    → takeBlocks (takeBlock s block .state) blocks ≡ feed s (cond b (block ++ kept (s .total - s .taken - length block) blocks) (kept (s .total - s .taken) blocks))
+    → takeBlocks (takeBlock s block .state) blocks ≡ feed s (cond b (block ++ kept (s .total - s .taken - length block) blocks)
+    (kept (s .total - s .taken) blocks))
 kept-more block blocks more s l true e =
     let fits = leb-true (length block) (s .total - s .taken) e in
     let n = feed-taken s block in

@@ -1,22 +1,20 @@
 -- Laws for code that goes faster than octet by octet: a finding stays (`finding-stays`), value octets are one addition (`value-octets`), a
 -- header that lies in a block is read there (`header-octets`); and sixteen ends are enough, in every state (`never-deeper`).
--- Assumes nothing.
-use mathlib.Core.Path.{_≡_, refl, ap, sym, _∙_, subst}
-use mathlib.Core.Bool.{Bool, true, false, cond}
-use mathlib.Core.List.{List, [], _∷_, _++_, append-assoc, append-nil}
-use Prim.Native.Nat.{ℕ, zero, suc, _+_, _-_, _<_, _≤_, min}
+use mathlib.Core.Path.{_≡_, refl, ap, sym, _∙_}
+use mathlib.Core.Bool.{Bool, true, false}
+use mathlib.Core.List.{List, [], _∷_, _++_, append-assoc}
+use Prim.Native.Nat.{ℕ, suc, _+_, _-_, _<_, _≤_, min}
 use native.Mathlib.Omega.{arith}
-use native.Mathlib.Numerals.{add-one}
 use lib.Dec.{leb, eqb}
 use lib.ListN.{length, drop, length-append}
-use borrow.Author.Tests.{leb-true, leb-false, le-leb, lt-leb, ne-eqb}
-use Rattle.headers.specs.declared.Header.{Header}
+use borrow.Author.Tests.{le-leb, lt-leb, ne-eqb}
 use Rattle.headers.specs.declared.Head.{Head}
 use Rattle.headers.specs.declared.Head.the-variants.{Item, ClosingMark, Refusal}
-use Rattle.headers.specs.Head.{constructed, octetAt, headAt}
+use Rattle.headers.specs.Head.{constructed, headAt}
 use Rattle.headers.proofs.Lies.{HeadOk, head-ok}
 use Rattle.laws.proofs.Tests.{cond-holds}
-use Rattle.blocks.specs.Engine.{Open, Standing, reading, found, State, limitOf, markedOf, roomOf, wanted, whole, moved, settle, arrive, enter, decide, inHeader, onward, step, feed}
+use Rattle.blocks.specs.Engine.{Open, Standing, reading, found, State, limitOf, markedOf, roomOf, wanted, whole, moved, settle, arrive, enter, decide}
+use Rattle.blocks.specs.Engine.{inHeader, onward, step, feed}
 use Rattle.blocks.proofs.Headers.{same-wanted}
 
 abbrev state : (total taken : ℕ) → Standing → State
@@ -118,7 +116,13 @@ decide-shallow : (taken k : ℕ) (opens : List Open) (at limit : ℕ) → length
     → Shallow (decide taken k opens at (moved at head))
 decide-shallow taken k opens at limit h by (Item i) o = go (constructed (i .code))
   where
-    go : (b : Bool) → Shallow (enter b taken (suc k) opens (record { code = i .code; number = i .number; start = at + i .start; bound = at + i .bound; marked = i .marked }))
+    go : (b : Bool) → Shallow (enter b taken (suc k) opens (record {
+      code = i .code;
+      number = i .number;
+      start = at + i .start;
+      bound = at + i .bound;
+      marked = i .marked;
+    }))
     go true = let d = o .deep in arrive-shallow taken (suc k) (record { bound = at + i .bound; marked = i .marked } ∷ opens) (at + i .start) (omega arith)
     go false = arrive-shallow taken (suc k) opens (at + i .bound) h
 decide-shallow taken k opens at limit h by ClosingMark o = go opens h

@@ -1,17 +1,15 @@
 -- A header is read the same from its own octets alone as in the letter (`same-head`), it has as many octets as `wanted` says (`as-wanted`),
 -- and its first octets tell whether more are wanted (`same-wanted`). Nothing else in this crate knows what a header looks like.
--- Assumes nothing.
-use mathlib.Core.Path.{_≡_, refl, ap, sym, _∙_, subst}
+use mathlib.Core.Path.{_≡_, refl, ap, sym, _∙_}
 use mathlib.Core.Bool.{Bool, true, false, cond}
 use mathlib.Core.List.{List, [], _∷_, _++_}
-use Prim.Native.Nat.{ℕ, zero, suc, _+_, _-_, _<_, _≤_, min}
+use Prim.Native.Nat.{ℕ, suc, _+_, _-_, _<_, _≤_, min}
 use native.Mathlib.Omega.{arith}
 use native.Mathlib.Nat.{add-zero}
 use lib.Dec.{leb, ltb, eqb}
-use lib.ListN.{length, getD, take, drop, length-append, length-drop, List·getD-append}
+use lib.ListN.{length, getD, take, drop, length-drop, List·getD-append}
 use lib.Seq.{getD-drop, drop-drop, drop-append-le, take-append-le}
 use borrow.Author.Tests.{leb-true, leb-false, le-leb, lt-leb, ltb-true, lt-ltb, le-ltb, eqb-true, eq-eqb, ne-eqb}
-use Rattle.headers.specs.declared.Header.{Header}
 use Rattle.headers.specs.declared.Head.{Head}
 use Rattle.headers.specs.declared.Head.the-variants.{Item, ClosingMark, Refusal}
 use Rattle.headers.specs.declared.Field.{Field}
@@ -270,7 +268,8 @@ same-wanted (y ∷ z ∷ []) c =
     (λ _. cond-holds P (ltb z 0x80) (λ _. (λ _. omega arith, λ _. omega arith)) (λ _. (λ _. omega arith, λ _. omega arith)))
     (λ _. (λ h. h, λ h. h))
 same-wanted (y ∷ z ∷ w ∷ []) c =
-    let P : ℕ → Type 0 = λ n. (3 < headerSize n (y ∷ z ∷ w ∷ []) → 3 < headerSize n (y ∷ z ∷ w ∷ c)) × (3 < headerSize n (y ∷ z ∷ w ∷ c) → 3 < headerSize n (y ∷ z ∷ w ∷ [])) in
+    let P : ℕ → Type 0 = λ n. (3 < headerSize n (y ∷ z ∷ w ∷ []) → 3 < headerSize n (y ∷ z ∷ w ∷ c))
+    × (3 < headerSize n (y ∷ z ∷ w ∷ c) → 3 < headerSize n (y ∷ z ∷ w ∷ [])) in
     cond-holds P (eqb (numberBits y) 31)
     (λ _. cond-holds P (ltb z 0x80) (λ _. (λ h. h, λ h. h)) (λ _. (λ _. omega arith, λ _. omega arith)))
     (λ _. (λ h. h, λ h. h))

@@ -1,9 +1,9 @@
 -- The walk from a place with items open, turn by turn: what the engine does there leaves what the walk will tell. From the laws of the
--- walk's own turns (octets, proofs/Turns). Assumes nothing.
-use mathlib.Core.Path.{_≡_, refl, ap, sym, _∙_, subst}
-use mathlib.Core.Bool.{Bool, true, false}
+-- walk's own turns (octets, proofs/Turns).
+use mathlib.Core.Path.{_≡_, refl, _∙_}
+use mathlib.Core.Bool.{true, false}
 use mathlib.Core.List.{List, [], _∷_}
-use Prim.Native.Nat.{ℕ, zero, suc, _+_, _-_, _<_, _≤_}
+use Prim.Native.Nat.{ℕ, suc, _+_, _-_, _<_}
 use native.Mathlib.Omega.{arith}
 use lib.ListN.{length}
 use Rattle.headers.specs.declared.Header.{Header}

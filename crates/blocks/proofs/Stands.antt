@@ -1,10 +1,10 @@
 -- What holds of the engine after some octets of a letter (`Good`): the walk from where it stands tells what the walk of the letter tells,
 -- and the octets of a begun header are the letter's. A step keeps it (`onward-good`), and when all octets have come it is the answer
--- (`good-end`). Assumes nothing.
-use mathlib.Core.Path.{_≡_, refl, ap, sym, _∙_, subst}
-use mathlib.Core.Bool.{Bool, true, false, cond, false≢true}
+-- (`good-end`).
+use mathlib.Core.Path.{_≡_, refl, ap, sym, _∙_}
+use mathlib.Core.Bool.{Bool, true, false, false≢true}
 use mathlib.Core.List.{List, [], _∷_, _++_, append-assoc}
-use Prim.Native.Nat.{ℕ, zero, suc, _+_, _-_, _<_, _≤_, min}
+use Prim.Native.Nat.{ℕ, suc, _+_, _-_, _<_, _≤_, min}
 use native.Mathlib.Omega.{arith}
 use lib.Dec.{leb, eqb}
 use lib.ListN.{length, drop, length-append}
@@ -14,17 +14,18 @@ use Rattle.headers.specs.declared.Header.{Header}
 use Rattle.headers.specs.declared.Head.{Head}
 use Rattle.headers.specs.declared.Head.the-variants.{Item, ClosingMark, Refusal}
 use Rattle.headers.specs.Head.{constructed, octetAt, headAt}
-use Rattle.headers.proofs.Lies.{HeadOk, head-ok}
 use Rattle.laws.proofs.Tests.{cond-holds}
 use Rattle.octets.specs.declared.Outcome.{Outcome}
 use Rattle.octets.specs.declared.Outcome.the-variants.{Ended, Refused}
 use Rattle.octets.specs.Told.{told}
 use Rattle.octets.proofs.Turns.{header-ok, mark-ok}
-use Rattle.blocks.specs.Engine.{Open, Standing, reading, found, limitOf, markedOf, roomOf, wanted, whole, moved, settle, arrive, enter, decide, inHeader, onward}
+use Rattle.blocks.specs.Engine.{Open, Standing, reading, found, limitOf, markedOf, roomOf, wanted, whole, moved, settle, arrive, enter, decide}
+use Rattle.blocks.specs.Engine.{inHeader, onward}
 use Rattle.blocks.specs.Blocks.{toldOf}
 use Rattle.blocks.specs.Resume.{leave, resume, outlook}
 use Rattle.blocks.proofs.Headers.{Ends, same-head, as-wanted, two-wanted, same-wanted}
-use Rattle.blocks.proofs.Resumes.{opened, resume-ended, resume-unclosed, resume-letter, resume-refused, resume-mark, resume-primitive, resume-constructed}
+use Rattle.blocks.proofs.Resumes.{opened, resume-ended, resume-unclosed, resume-letter, resume-refused, resume-mark, resume-primitive}
+use Rattle.blocks.proofs.Resumes.{resume-constructed}
 
 -- an open item ends no later than the one around it
 abbrev pub Nested : (total : ℕ) → List Open → Type 0

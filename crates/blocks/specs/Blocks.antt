@@ -1,6 +1,6 @@
--- The block engine's three questions: start, take a block, close (W-209). Definitions only: assumes nothing.
+-- The block engine's three questions: start, take a block, close (W-209).
 use Prim.Native.Nat.{ℕ, _+_, _-_}
-use mathlib.Core.Bool.{Bool, cond}
+use mathlib.Core.Bool.{cond}
 use mathlib.Core.List.{List, [], _∷_, _++_}
 use lib.ListN.{length}
 use lib.Dec.{eqb, leb}

@@ -1,6 +1,6 @@
 -- A letter taken octet by octet, for the block engine (W-209): the state after the octets so far, and what one octet more does to it. A step
 -- is defined on every state and looks at no octet to come. The octets of a header are kept until it has come, and then the walk's own
--- `headAt` says what it is: rules 2 to 8 are not said again. Definitions only: assumes nothing.
+-- `headAt` says what it is: rules 2 to 8 are not said again.
 use Prim.Native.Nat.{ℕ, suc, _+_, _-_, min}
 use mathlib.Core.Bool.{Bool, true, false, cond}
 use mathlib.Core.List.{List, [], _∷_, _++_, foldl}

@@ -1,6 +1,5 @@
 -- Letters cut into blocks, and what the close tells: the checked examples of document 01 that the walk decides, cut in the middle of a
 -- header, of a type field, of a value and of a closing mark, with empty blocks, blocks that are refused, and a close that comes early.
--- Definitions only: assumes nothing.
 use Prim.Native.Nat.{ℕ}
 use mathlib.Core.List.{List, [], _∷_}
 use Rattle.octets.specs.Told.{Told}

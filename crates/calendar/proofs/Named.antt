@@ -1,5 +1,4 @@
 -- A value names a day exactly when the day exists and its spelling is the value's first ten octets: `names`, and the other way `named`.
--- Assumes nothing.
 use mathlib.Core.Path.{_≡_, refl, ap, sym, _∙_}
 use mathlib.Core.Bool.{Bool, true, false, cond, _&&_}
 use mathlib.Core.List.{List, [], _∷_}

@@ -1,4 +1,4 @@
--- The parts of a value that is spelt as a date, and that the numbers in it are small. Assumes nothing.
+-- The parts of a value that is spelt as a date, and that the numbers in it are small.
 use mathlib.Core.Path.{_≡_, refl}
 use mathlib.Core.Bool.{Bool, true, false, _&&_, false≢true}
 use mathlib.Core.List.{List}

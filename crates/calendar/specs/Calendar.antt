@@ -1,5 +1,5 @@
 -- W-203: "four, two and two digits with hyphens between, naming a day of the Gregorian calendar, its leap rule in all years, 0001 on.
--- Bytes after the ten aren't judged." Definitions only: assumes nothing.
+-- Bytes after the ten aren't judged."
 use Prim.Native.Nat.{ℕ, _+_, _*_, _-_, _/_, _%_}
 use mathlib.Core.Bool.{Bool, cond, not, _&&_, _||_}
 use mathlib.Core.List.{List, [], _∷_, _++_}

@@ -1,5 +1,4 @@
 -- What a search in a run learns of the item that it meets: it is the first with the octet, or the search goes on after it.
--- Assumes nothing.
 use mathlib.Core.Path.{_≡_, refl, ap, sym, _∙_, subst}
 use mathlib.Core.Bool.{Bool, true, false, cond, true≢false, false≢true}
 use mathlib.Core.List.{List}

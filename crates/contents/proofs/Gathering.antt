@@ -1,4 +1,4 @@
--- One pass for five octets: what was gathered so far, and what the run still has. Assumes nothing.
+-- One pass for five octets: what was gathered so far, and what the run still has.
 use mathlib.Core.Path.{_≡_}
 use mathlib.Core.Bool.{Bool, true, false, cond}
 use mathlib.Core.List.{List}

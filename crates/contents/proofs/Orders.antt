@@ -1,4 +1,4 @@
--- Two slots in order, by how many items a run has: the octets of its first two decide. Assumes nothing.
+-- Two slots in order, by how many items a run has: the octets of its first two decide.
 use mathlib.Core.Path.{_≡_, refl, sym, ap, _∙_}
 use mathlib.Core.Bool.{Bool, true, false, not, _&&_, _||_, and-true, and-false, or-false, false≢true}
 use mathlib.Core.List.{List}

@@ -1,5 +1,4 @@
 -- The items of an opening, one after the other: the first with the octet is the run's, and if neither has it, the run has none.
--- Assumes nothing.
 use mathlib.Core.Path.{_≡_, subst}
 use mathlib.Core.List.{List}
 use Prim.Native.Nat.{ℕ, _<_, _≤_}

@@ -1,4 +1,4 @@
--- A pass that counts the items with an octet and keeps the first: what was seen, and what the run still has. Assumes nothing.
+-- A pass that counts the items with an octet and keeps the first: what was seen, and what the run still has.
 use mathlib.Core.Path.{_≡_, refl, sym, _∙_, subst}
 use mathlib.Core.Bool.{true, false}
 use mathlib.Core.List.{List}
@@ -19,7 +19,8 @@ use Rattle.contents.specs.Search.{amount, firstRun, boundsOf, itemsIn}
 use Rattle.contents.specs.First.{spanOf, IsFirst, Lacks}
 use Rattle.contents.specs.Opening.{noPart, Begins}
 use Rattle.contents.specs.Gather.{Counted, unseen, earlier, seenWith}
-use Rattle.contents.proofs.Firsts.{Alike, same-search, alike-on, holds-before, lacks-before, lacks-at-end, amount-at-end, amount-of-item, alike-after, holds-here}
+use Rattle.contents.proofs.Firsts.{Alike, same-search, alike-on, holds-before, lacks-before, lacks-at-end, amount-at-end, amount-of-item, alike-after}
+use Rattle.contents.proofs.Firsts.{holds-here}
 
 -- x is what was seen of the octet from the run `from` up to the run `to`, which is what is left of it
 pub record Sees (s : List ℕ) (octet : ℕ) (from to : Run) (x : Tally) : Type 0 where

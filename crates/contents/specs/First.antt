@@ -1,4 +1,4 @@
--- What the code learns of the first item of a run with an octet, or of its absence. Definitions only: assumes nothing.
+-- What the code learns of the first item of a run with an octet, or of its absence.
 use mathlib.Core.Path.{_≡_}
 use mathlib.Core.Bool.{true, false}
 use mathlib.Core.List.{List}

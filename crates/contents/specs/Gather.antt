@@ -1,7 +1,6 @@
 -- What names an element, gathered in one pass: how often each octet that matters stands in the run, and the first one's value.
 -- Document 01, "Element rules": "at most one 41 (its identifier), at most one A1 (portions ..), no 61 and no 81 .. at most one 40 (layout
 -- identifier), at most one 84 (logical identifier), no 60 and no A4. In a style: no 65." An octet 0 stands for none: no item has it.
--- Definitions only: assumes nothing.
 use mathlib.Core.Path.{_≡_}
 use mathlib.Core.Bool.{true, false, cond}
 use mathlib.Core.List.{List}

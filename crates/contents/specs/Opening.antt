@@ -1,5 +1,5 @@
 -- The first two items of a run, and whether there are more. An element of document 01 has at most two items, but for the profile and the
--- styles, whose items are free. Definitions only: assumes nothing.
+-- styles, whose items are free.
 use mathlib.Core.Path.{_≡_}
 use mathlib.Core.List.{List}
 use Prim.Native.Nat.{ℕ, _≤_}

@@ -1,6 +1,5 @@
 -- What is asked of a run of items, not looking inside them: how many have an octet, and the first that has it; then which items an
 -- element may have, and in which order. "In the 31", "in it" and "in a style" of document 01 mean the direct items.
--- Definitions only: assumes nothing.
 use Prim.Native.Nat.{ℕ, _+_}
 use mathlib.Core.Bool.{Bool, cond, true, false, _&&_, _||_, not}
 use mathlib.Core.List.{List}

@@ -108,7 +108,7 @@ fn part_of(code: usize, first: usize, past: usize, inner: Run) -> Part
     }
 }
 
-// The same part, field by field.
+// A copy of a part, field by field.
 fn copied(p: Part) -> Part
     ensures { λ q. ⌜ q ≡ p ⌝ }
 {

@@ -1,4 +1,4 @@
--- What a pass tells, and the day that a value names, make the answer. Assumes nothing.
+-- What a pass tells, and the day that a value names, make the answer.
 use mathlib.Core.Path.{_≡_, refl, ap, sym, _∙_}
 use mathlib.Core.Bool.{Bool, true, false, cond}
 use mathlib.Core.List.{List, map}

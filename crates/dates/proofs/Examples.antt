@@ -1,4 +1,4 @@
--- The definitions answer the examples as they should. Assumes nothing.
+-- The definitions answer the examples as they should.
 use mathlib.Core.Path.{_≡_, refl}
 use mathlib.Core.List.{map}
 use Rattle.names.specs.Names.{isDigit}

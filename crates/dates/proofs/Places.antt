@@ -1,5 +1,5 @@
 -- The items on the path with their places: they are the items of the tree; what the item that is met adds to them; and what a pass
--- tells of them. Assumes nothing.
+-- tells of them.
 use mathlib.Core.Path.{_≡_, refl, ap, sym, _∙_, subst}
 use mathlib.Core.Bool.{Bool, true, false, cond}
 use mathlib.Core.List.{List, [], _∷_, _++_, append-nil, append-assoc}

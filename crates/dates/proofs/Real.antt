@@ -1,5 +1,5 @@
 -- A date that is answered is a day that exists, spelt in the document's own octets (`date-is-real`, `real-is-date`); every other answer is
--- 23 or 24 and nothing else (`else-empty`); its numbers are small (`found-small`); and the tree alone decides it (`determined`). Assumes nothing.
+-- 23 or 24 and nothing else (`else-empty`); its numbers are small (`found-small`); and the tree alone decides it (`determined`).
 use mathlib.Core.Path.{_≡_, refl, ap, sym, _∙_, subst}
 use mathlib.Core.Logic.{_⊎_, inl, inr}
 use mathlib.Core.Bool.{Bool, true, false}
@@ -9,19 +9,16 @@ use native.Mathlib.Omega.{arith}
 use lib.Dec.{eqb}
 use lib.Seq.{slice}
 use borrow.Author.Tests.{eqb-true, eqb-false}
-use Rattle.headers.specs.Head.{typeField}
-use Rattle.tree.specs.Tree.{Tree, branch, treeOf}
+use Rattle.tree.specs.Tree.{Tree}
 use Rattle.runs.specs.declared.Run.{Run}
-use Rattle.runs.specs.Runs.{itemsOf, treeIn, wholeStream, Meeting}
-use Rattle.runs.proofs.Laws.{tree-meets}
+use Rattle.runs.specs.Runs.{treeIn}
 use Rattle.calendar.specs.declared.Day.{Day}
 use Rattle.calendar.specs.Calendar.{namesDay}
 use Rattle.calendar.specs.Named.{Names}
 use Rattle.calendar.proofs.Named.{names, named, days-small}
 use Rattle.dates.specs.declared.DateFound.{DateFound}
 use Rattle.dates.specs.Dates.{Date, DateItem, inPrimitive, inConstructed, noDateBy, dateFrom, theDate, datesIn, dateIn}
-use Rattle.dates.specs.Places.{bounds}
-use Rattle.dates.specs.Finding.{placesFrom, Answers}
+use Rattle.dates.specs.Finding.{Answers}
 
 -- the value of a date that is not refused is the sole item's on the path, and names the day
 pub record Given (t : Tree) (a : Date) : Type 0 where
@@ -99,42 +96,6 @@ pub found-small : {s : List ℕ} {r : Run} {a : DateFound} → Answers s r a →
 found-small {s} {r} x = subst Small (x .date) (small-by (treeIn s r) (eqb (dateIn (treeIn s r) .number) 0) refl)
 
 -- the tree alone decides: of two streams with equal trees the number, the octets and the day are the same
-pub determined : (s other : List ℕ) (r q : Run) (a b : DateFound) → treeIn s r ≡ treeIn other q → Answers s r a → Answers other q b → asDate s a ≡ asDate other b
+pub determined : (s other : List ℕ) (r q : Run) (a b : DateFound) → treeIn s r ≡ treeIn other q → Answers s r a → Answers other q b
+    → asDate s a ≡ asDate other b
 determined s other r q a b e x y = sym (x .date) ∙ ap dateIn e ∙ y .date
-
-same-part : (b : Bool) (s other : List ℕ) (r q : Run) (x y : DateFound) → eqb (x .number) 0 ≡ b → x .number ≡ y .number → itemsOf s r ≡ itemsOf other q
-    → Answers s r x → Answers other q y → (x .first ≡ y .first) × (x .past ≡ y .past)
-same-part true s other r q x y t n e a c =
-    let z = eqb-true (x .number) 0 t in
-    let p : bounds (x .first) (x .past) ∷ [] ≡ bounds (y .first) (y .past) ∷ [] =
-    sym (a .place z) ∙ ap (placesFrom 2) e ∙ c .place (sym n ∙ z) in
-    let f : x .first ≡ y .first = cc in
-    let l : x .past ≡ y .past = cc in
-    (f, l)
-same-part false s other r q x y t n e a c =
-    let z = eqb-false (x .number) 0 t in
-    let i = a .no-part z in
-    let j = c .no-part (λ k. z (n ∙ k)) in
-    (i .0 ∙ sym (j .0), i .1 ∙ sym (j .1))
-
--- runs with the same items and the same tree, in one stream or in two, have one answer, its places too
-pub same-answer : (s other : List ℕ) (r q : Run) (a b : DateFound) → itemsOf s r ≡ itemsOf other q → treeIn s r ≡ treeIn other q
-    → Answers s r a → Answers other q b → a ≡ b
-same-answer s other r q a b i t x y =
-    let d = determined s other r q a b t x y in
-    let n : a .number ≡ b .number = ap (λ (z : Date). z .number) d in
-    let k : a .year ≡ b .year = ap (λ (z : Date). z .day .year) d in
-    let m : a .month ≡ b .month = ap (λ (z : Date). z .day .month) d in
-    let o : a .day ≡ b .day = ap (λ (z : Date). z .day .day) d in
-    let p = same-part (eqb (a .number) 0) s other r q a b refl n i x y in
-    rw (n, k, m, o, p .0, p .1)
-
--- two streams that begin with a profile and have one tree, as a letter and its normal form, have one date
-pub letters-same : (s other : List ℕ) {first past from to : ℕ} {inner rest within after : Run} → Meeting s (wholeStream s) 0xA0 first past inner rest
-    → Meeting other (wholeStream other) 0xA0 from to within after → treeOf s ≡ treeOf other
-    → (a b : DateFound) → Answers s inner a → Answers other within b → asDate s a ≡ asDate other b
-letters-same s other {inner = inner} {rest} {within} {after} m n e a b x y =
-    let p : branch (typeField 0xA0) (treeIn s inner) (treeIn s rest) ≡ branch (typeField 0xA0) (treeIn other within) (treeIn other after) =
-    sym (tree-meets m) ∙ e ∙ tree-meets n in
-    let t : treeIn s inner ≡ treeIn other within = cc in
-    determined s other inner within a b t x y

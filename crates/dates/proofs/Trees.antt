@@ -1,5 +1,4 @@
 -- The items on the path with their places are those of the tree (`dates-places`), and what a pass tells of them decides the date.
--- Assumes nothing.
 use mathlib.Core.Path.{_≡_, refl, ap, sym, _∙_}
 use mathlib.Core.Bool.{Bool, true, false, cond, true≢false, false≢true}
 use mathlib.Core.List.{List, [], _∷_, _++_, map, map-append}
@@ -67,7 +66,8 @@ module _ (s : List ℕ) where
   each-places known k list listAt same (item at code first past inside after) =
       map-append (readAt s) (cond (eqb code known) (listAt inside) []) (inEachAt known listAt after)
       ∙ ap (λ (l : List DateItem). map (readAt s) (cond (eqb code known) (listAt inside) []) ++ l) (each-places known k list listAt same after)
-      ∙ ap (λ (l : List DateItem). l ++ inEach known list (plain s after)) (read-cond (eqb code known) (listAt inside) ∙ ap (λ (l : List DateItem). cond (eqb code known) l []) (same inside))
+      ∙ ap (λ (l : List DateItem). l ++ inEach known list (plain s after)) (read-cond (eqb code known) (listAt inside)
+      ∙ ap (λ (l : List DateItem). cond (eqb code known) l []) (same inside))
       ∙ sym (each-formed code (slice first past s) (plain s inside) (plain s after) known k list (constructed code) (eqb code known) refl refl)
 
   -- the items on the path, read in the stream, are those of the tree

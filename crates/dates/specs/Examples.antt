@@ -1,5 +1,4 @@
--- Values and what they are answered with, and profiles on and off the path: from an independent reading of W-203. Definitions only:
--- assumes nothing.
+-- Values and what they are answered with, and profiles on and off the path: from an independent reading of W-203.
 use Prim.Native.Nat.{ℕ, _+_}
 use mathlib.Core.List.{List, [], _∷_, _++_}
 use Rattle.calendar.specs.declared.Day.{Day}

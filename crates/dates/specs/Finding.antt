@@ -1,5 +1,4 @@
 -- What the pass over a profile finds, and what it tells of that: `dates-places` (proofs/Trees) shows that the places are the items of the tree.
--- Definitions only: assumes nothing.
 use Prim.Native.Nat.{ℕ, zero, suc, _+_, _≤_}
 use mathlib.Core.Path.{_≡_}
 use mathlib.Core.Bool.{cond}

@@ -1,5 +1,4 @@
--- The same items with their places: what the pass over a run finds. `dates-places` (proofs/Trees) shows that they are the items of the tree.
--- Definitions only: assumes nothing.
+-- The items on the way to a date, with their places: what the pass over a run finds. `dates-places` (proofs/Trees) shows that they are the items of the tree.
 use Prim.Native.Nat.{ℕ}
 use mathlib.Core.Bool.{cond}
 use mathlib.Core.List.{List, [], _∷_, _++_}

@@ -1,4 +1,4 @@
--- The verdict on a body, by what was found in it: no A4, one, or a second one. Every verdict is 4 at most. Assumes nothing.
+-- The verdict on a body, by what was found in it: no A4, one, or a second one. Every verdict is 4 at most.
 use mathlib.Core.Path.{_≡_, refl, ap, sym, _∙_, subst}
 use mathlib.Core.Bool.{Bool, true, false, cond, not, _&&_, _||_}
 use mathlib.Core.List.{List}
@@ -16,7 +16,8 @@ use Rattle.contents.specs.First.{IsFirst, Lacks}
 use Rattle.contents.specs.Opening.{FoundIn}
 use Rattle.measures.specs.declared.Integer.{Integer}
 use Rattle.measures.specs.Integers.{integerOf}
-use Rattle.measures.specs.Verdicts.{none, essential, nonEssential, outside, notFixed, within, essentialPairs, nonEssentialPairs, underOne, verdictOfSizes, verdictOfTwo}
+use Rattle.measures.specs.Verdicts.{none, essential, nonEssential, outside, notFixed, within, essentialPairs, nonEssentialPairs, underOne, verdictOfSizes}
+use Rattle.measures.specs.Verdicts.{verdictOfTwo}
 use Rattle.dimensions.specs.Dimensions.{verdictOfItems, verdictOfBody, verdictOf}
 
 -- what was found, once its case is known

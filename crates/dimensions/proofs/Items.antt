@@ -1,19 +1,17 @@
--- The verdict on what an A4 holds, by its first two items and whether there are more. Assumes nothing.
+-- The verdict on what an A4 holds, by its first two items and whether there are more.
 use mathlib.Core.Path.{_≡_, refl, ap, sym, _∙_}
-use mathlib.Core.Bool.{Bool, true, false, cond, _&&_}
+use mathlib.Core.Bool.{Bool, true, false}
 use mathlib.Core.List.{List}
-use Prim.Native.Nat.{ℕ, _≤_}
+use Prim.Native.Nat.{ℕ}
 use native.Mathlib.Omega.{arith}
 use lib.Seq.{slice}
 use borrow.Author.Tests.{eq-eqb, ne-eqb}
 use Rattle.headers.specs.Head.{constructed, typeField}
-use Rattle.octets.specs.Walk.{noItems}
-use Rattle.tree.specs.Tree.{Tree, empty, leaf, formed}
+use Rattle.tree.specs.Tree.{Tree, empty, formed}
 use Rattle.runs.specs.declared.Run.{Run}
-use Rattle.runs.specs.Runs.{itemsOf, treeIn}
+use Rattle.runs.specs.Runs.{treeIn}
 use Rattle.runs.proofs.Laws.{tree-meets, tree-none}
 use Rattle.contents.specs.declared.Opening.{Opening}
-use Rattle.contents.specs.declared.Part.{Part}
 use Rattle.contents.specs.Opening.{Begins, CountsOn, Opens, nothing, single, several, ends-here, goes-on}
 use Rattle.contents.proofs.Firsts.{is-field}
 use Rattle.measures.specs.Integers.{integerOf}
@@ -68,19 +66,25 @@ module _ {s : List ℕ} {r : Run} {o : Opening} where
       → notFixed ≡ verdictOfItems (treeIn s r)
   after-two rest last m n (ends-here z e) k = absurd (k z)
   after-two rest last m n (goes-on third beyond z t) k =
-      let deep : treeIn s rest ≡ formed (constructed (o .two .code)) (typeField (o .two .code)) (slice (o .two .first) (o .two .past) s) (treeIn s (o .two .inner))
+      let deep : treeIn s rest ≡ formed (constructed (o .two .code)) (typeField (o .two .code)) (slice (o .two .first) (o .two .past) s)
+      (treeIn s (o .two .inner))
       (formed (constructed (third .code)) (typeField (third .code)) (slice (third .first) (third .past) s) (treeIn s (third .inner)) (treeIn s beyond)) =
-      tree-meets n ∙ ap (formed (constructed (o .two .code)) (typeField (o .two .code)) (slice (o .two .first) (o .two .past) s) (treeIn s (o .two .inner))) (tree-meets t) in
-      sym (ap verdictOfItems (tree-meets m ∙ ap (formed (constructed (o .one .code)) (typeField (o .one .code)) (slice (o .one .first) (o .one .past) s) (treeIn s (o .one .inner))) deep)
-      ∙ of-three (typeField (o .one .code)) (slice (o .one .first) (o .one .past) s) (treeIn s (o .one .inner)) (constructed (o .one .code)) (constructed (o .two .code)) (constructed (third .code)) _ _ _ _ _ _ _)
+      tree-meets n ∙ ap (formed (constructed (o .two .code)) (typeField (o .two .code)) (slice (o .two .first) (o .two .past) s)
+      (treeIn s (o .two .inner))) (tree-meets t) in
+      sym (ap verdictOfItems (tree-meets m ∙ ap (formed (constructed (o .one .code)) (typeField (o .one .code))
+      (slice (o .one .first) (o .one .past) s) (treeIn s (o .one .inner))) deep)
+      ∙ of-three (typeField (o .one .code)) (slice (o .one .first) (o .one .past) s) (treeIn s (o .one .inner)) (constructed (o .one .code))
+      (constructed (o .two .code)) (constructed (third .code)) _ _ _ _ _ _ _)
 
   -- not two items
   pub not-two : Opens s r o → (o .count ≡ 2 → ⊥) → notFixed ≡ verdictOfItems (treeIn s r)
   unfolding verdictOfItems
   not-two (nothing z e) n = sym (ap verdictOfItems (tree-none s r e))
   not-two (single rest z m e) n =
-      let t : treeIn s r ≡ formed (constructed (o .one .code)) (typeField (o .one .code)) (slice (o .one .first) (o .one .past) s) (treeIn s (o .one .inner)) empty =
-      tree-meets m ∙ ap (formed (constructed (o .one .code)) (typeField (o .one .code)) (slice (o .one .first) (o .one .past) s) (treeIn s (o .one .inner))) (tree-none s rest e) in
+      let t : treeIn s r ≡ formed (constructed (o .one .code)) (typeField (o .one .code)) (slice (o .one .first) (o .one .past) s)
+      (treeIn s (o .one .inner)) empty =
+      tree-meets m ∙ ap (formed (constructed (o .one .code)) (typeField (o .one .code)) (slice (o .one .first) (o .one .past) s)
+      (treeIn s (o .one .inner))) (tree-none s rest e) in
       sym (ap verdictOfItems t ∙ of-one _ _ _ (constructed (o .one .code)))
   not-two (several rest last m k c) n = after-two rest last m k c n
 
@@ -94,7 +98,8 @@ module _ {s : List ℕ} {r : Run} {o : Opening} where
         two-met = n;
         tree = tree-meets m
             ∙ ap (formed (constructed (o .one .code)) (typeField (o .one .code)) (slice (o .one .first) (o .one .past) s) (treeIn s (o .one .inner)))
-            (tree-meets n ∙ ap (formed (constructed (o .two .code)) (typeField (o .two .code)) (slice (o .two .first) (o .two .past) s) (treeIn s (o .two .inner))) (tree-none s last e));
+            (tree-meets n ∙ ap (formed (constructed (o .two .code)) (typeField (o .two .code)) (slice (o .two .first) (o .two .past) s)
+            (treeIn s (o .two .inner))) (tree-none s last e));
       }
 
   pub two-items : Opens s r o → o .count ≡ 2 → Two s r o
@@ -104,7 +109,8 @@ module _ {s : List ℕ} {r : Run} {o : Opening} where
 
   module _ (t : Two s r o) where
     pub one-other : (o .one .code ≡ 0x80 → ⊥) → notFixed ≡ verdictOfItems (treeIn s r)
-    one-other n = sym (ap verdictOfItems (t .tree) ∙ first-other (o .one .code) (o .two .code) _ _ _ _ (constructed (o .one .code)) (constructed (o .two .code)) n)
+    one-other n = sym (ap verdictOfItems (t .tree) ∙ first-other (o .one .code) (o .two .code) _ _ _ _ (constructed (o .one .code))
+        (constructed (o .two .code)) n)
 
     pub two-other : o .one .code ≡ 0x80 → (o .two .code ≡ 0x80 → ⊥) → notFixed ≡ verdictOfItems (treeIn s r)
     two-other e n =

@@ -1,8 +1,7 @@
 -- A page's dimensions. W-210: "find the dimensions, A4 in the descriptor body holding two items 80 .., and read horizontal and vertical as X.209
--- integers". Over the tree of an element: places and length octets are no part of it. Definitions only: assumes nothing.
+-- integers". Over the tree of an element: places and length octets are no part of it.
 use Prim.Native.Nat.{ℕ}
 use mathlib.Core.Bool.{cond, _&&_}
-use mathlib.Core.List.{List}
 use lib.Dec.{eqb}
 use Rattle.tree.specs.Tree.{Tree, empty, leaf, branch}
 use Rattle.contents.specs.Search.{is, amount, firstRun}

@@ -1,4 +1,4 @@
--- What was found of an item, as a pair that bounds its value, or as the run inside it. Assumes nothing.
+-- What was found of an item, as a pair that bounds its value, or as the run inside it.
 use mathlib.Core.Path.{_≡_, refl, sym, ap, _∙_, subst}
 use mathlib.Core.Bool.{Bool, true, false, cond}
 use mathlib.Core.List.{List}

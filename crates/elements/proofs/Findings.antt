@@ -1,5 +1,4 @@
 -- What was found of an element, against what it says: rule 12, and the number of the first of rules 12 to 14 that refuses it.
--- Assumes nothing.
 use mathlib.Core.Path.{_≡_, refl, sym, ap, _∙_, subst}
 use mathlib.Core.Bool.{Bool, true, false, _&&_, false≢true, and-false, and-assoc, Bool·not-not}
 use mathlib.Core.List.{List}

@@ -1,5 +1,5 @@
 -- The top of an element, by its shape: items that are free, items that are not looked at, and items in order, of which there are then no
--- more than two. Assumes nothing.
+-- more than two.
 use mathlib.Core.Path.{_≡_, sym, ap, _∙_}
 use mathlib.Core.Bool.{Bool, true, false, _||_, false≢true}
 use mathlib.Core.List.{List}

@@ -1,5 +1,5 @@
 -- What holds the content of an element: an item with pieces, if there is one, or else one with tiles, or else the item with the content. And
--- what stands among the pieces of a content, or of a seal. Assumes nothing.
+-- what stands among the pieces of a content, or of a seal.
 use mathlib.Core.Path.{_≡_, refl, sym, ap, _∙_}
 use mathlib.Core.Bool.{Bool, true, false, true≢false}
 use mathlib.Core.List.{List}

@@ -1,5 +1,5 @@
 -- The look-up of a shape by its octet, where the code tries one octet after another as the list of an edition does. One law for an octet
--- that is tried, whichever it is, and one for all others. Assumes nothing.
+-- that is tried, whichever it is, and one for all others.
 use mathlib.Core.Path.{_≡_, refl, sym, ap, _∙_}
 use mathlib.Core.List.{[], _∷_, _++_}
 use Prim.Native.Nat.{ℕ}

@@ -1,4 +1,4 @@
--- The slots of every shape are well made, by a test that says so, and so are the items that may hold content. Assumes nothing.
+-- The slots of every shape are well made, by a test that says so, and so are the items that may hold content.
 use mathlib.Core.Path.{_≡_, refl}
 use mathlib.Core.Bool.{Bool, true, false, not, _||_, true≢false, false≢true}
 use mathlib.Core.List.{List, [], _∷_}
@@ -59,7 +59,8 @@ well-made : (shape : Slots) → all (tests shape) ≡ true → WellMade shape
 well-made shape e =
     let k = every (tests shape) e in
     record {
-      within = λ f l. where-true (shape .looked) (constructed (shape .within)) (unless (shape .free) (not (shape .looked) || constructed (shape .within)) (k .0) f) l;
+      within = λ f l. where-true (shape .looked) (constructed (shape .within))
+          (unless (shape .free) (not (shape .looked) || constructed (shape .within)) (k .0) f) l;
       itself = λ f. eqb-true (shape .within) 0 (where-true (shape .free) (eqb (shape .within) 0) (k .1 .0) f);
       no-object = λ f. eqb-true (shape .object) 0 (where-true (shape .free) (eqb (shape .object) 0) (k .1 .1 .0) f);
       no-content = λ f. eqb-true (shape .content) 0 (where-true (shape .free) (eqb (shape .content) 0) (k .1 .1 .1 .0) f);

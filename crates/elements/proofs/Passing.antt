@@ -1,4 +1,4 @@
--- An element that rules 12 to 14 do not refuse: its row is that of the definition, and says what the element says. Assumes nothing.
+-- An element that rules 12 to 14 do not refuse: its row is that of the definition, and says what the element says.
 use mathlib.Core.Path.{_≡_, refl, sym, ap, _∙_}
 use mathlib.Core.Bool.{Bool, true, false, not, _&&_, false≢true}
 use mathlib.Core.List.{List, [], _∷_}

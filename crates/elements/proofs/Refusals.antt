@@ -1,4 +1,4 @@
--- Rules 9 to 15 of one element, taken apart: 9, 10 and 11 by their own tests, then the shape's, then 15. Assumes nothing.
+-- Rules 9 to 15 of one element, taken apart: 9, 10 and 11 by their own tests, then the shape's, then 15.
 use mathlib.Core.Path.{_≡_, refl}
 use mathlib.Core.Bool.{Bool, true, false, cond, xor}
 use mathlib.Core.List.{List, [], _∷_, _++_}
@@ -9,7 +9,8 @@ use Rattle.tree.specs.Tree.{Tree}
 use Rattle.contents.specs.Search.{is}
 use Rattle.elements.specs.declared.Edition.{Edition}
 use Rattle.elements.specs.Shape.{shapeOf}
-use Rattle.elements.specs.Judge.{valueAt, typeOctet, typesOf, Element, elementOf, asTabled, typeFits, namesFit, mostElements, profileOctet, twice, firstOf, _when_, contentsRules, refusalOf}
+use Rattle.elements.specs.Judge.{valueAt, typeOctet, typesOf, Element, elementOf, asTabled, typeFits, namesFit, mostElements, profileOctet, twice}
+use Rattle.elements.specs.Judge.{firstOf, _when_, contentsRules, refusalOf}
 use Rattle.elements.specs.ShapeRefusal.{shapeRefusal}
 use Rattle.elements.specs.Sees.{numberOf}
 
@@ -44,5 +45,6 @@ module _ (edition : Edition) (done : List Element) (type : List ℕ) (run : Tree
       refusal-by-shape e =
           let shape = shapeOf edition type in
           rw (few, known, e)
-          (then-last (asTabled (shape .contents) run) (typeFits (typesOf (shape .contents)) (valueAt (typeOctet (shape .contents)) run)) (namesFit (elementOf shape run))
+          (then-last (asTabled (shape .contents) run) (typeFits (typesOf (shape .contents)) (valueAt (typeOctet (shape .contents)) run))
+          (namesFit (elementOf shape run))
           (twice done (elementOf shape run)))

@@ -1,4 +1,4 @@
--- The portions of an element can be read again by the bounds of their value alone: they are primitive items. Assumes nothing.
+-- The portions of an element can be read again by the bounds of their value alone: they are primitive items.
 use mathlib.Core.Path.{_≡_, refl, sym, ap, _∙_, subst}
 use mathlib.Core.Bool.{Bool, true, false, cond, false≢true}
 use mathlib.Core.List.{List}

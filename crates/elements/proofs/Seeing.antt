@@ -1,4 +1,4 @@
--- What is seen of an element is what was found of it: the first rule of 12 to 14 that refuses, or its row. Assumes nothing.
+-- What is seen of an element is what was found of it: the first rule of 12 to 14 that refuses, or its row.
 use mathlib.Core.Path.{_≡_, refl, sym, _∙_}
 use mathlib.Core.Bool.{Bool, true, false, and-false}
 use mathlib.Core.List.{List}
@@ -90,7 +90,7 @@ module _ {s : List ℕ} {shape : Slots} {r : Run} {frame : Frame} {g : Gathered}
         record { refusal = sym zero ∙ number; placed = row-placed; passes = λ _. passes-by f whole none (k .1) (sym q ∙ k .2) })
         (λ e. record { refusal = number; placed = no-row-placed s; passes = λ z. absurd (eqb-false (numberOf tabled (typed .fits) fit) 0 e z) })
 
-    -- the same of what the code has, step by step
+    -- what is seen, by the number and the row that the code has
     pub sees-by : (number : ℕ) → number ≡ numberOf tabled (typed .fits) fit → (row : Row) → row ≡ rowBy shape frame (typed .value) g whole
         → (seen : Seen) → seen ≡ seenBy number row (listed .count) → SeesSlots s shape r (whole .first) (whole .past) numbers seen
     sees-by number n row w seen e = rw (e, n, w) sees-either

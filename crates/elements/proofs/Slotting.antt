@@ -1,19 +1,18 @@
 -- What an element says and is refused by is the same by its shape and by its slots, in a run of which no item has octet 0: what is sought by
--- an empty slot is then not found. Assumes nothing.
-use mathlib.Core.Path.{_≡_, refl, sym, ap, _∙_, subst}
+-- an empty slot is then not found.
+use mathlib.Core.Path.{_≡_, refl, ap, subst}
 use mathlib.Core.Bool.{Bool, true, false, cond, not, _&&_, _||_}
 use mathlib.Core.List.{List}
 use Prim.Native.Nat.{ℕ, _+_}
 use native.Mathlib.Omega.{arith}
 use borrow.Author.Tests.{eqb-true}
 use borrow.Table.Steps.{cases}
-use lib.Dec.{eqb}
 use Rattle.octets.specs.Walk.{Items}
 use Rattle.tree.specs.Tree.{Tree, empty, leaf, branch, plain}
 use Rattle.runs.specs.declared.Run.{Run}
 use Rattle.runs.specs.Runs.{itemsOf, treeIn, Fine}
 use Rattle.contents.specs.declared.Span.{Span}
-use Rattle.contents.specs.Search.{is, absent, amount, firstValue, firstRun, boundsOf, itemsIn, isEmpty, slot, inOrder, noSpan}
+use Rattle.contents.specs.Search.{is, absent, amount, firstValue, firstRun, boundsOf, itemsIn, isEmpty, slot, inOrder}
 use Rattle.pieces.specs.Pieces.{onlyPieces}
 use Rattle.portions.specs.Portions.{allPortions, values}
 use Rattle.elements.specs.declared.Holder.{Holder}
@@ -21,12 +20,14 @@ use Rattle.elements.specs.declared.Row.{Row}
 use Rattle.elements.specs.declared.Seen.{Seen}
 use Rattle.contents.specs.declared.Slot.{Slot}
 use Rattle.elements.specs.Shape.{Contents, profile, described, unit, style, protected, Shape}
-use Rattle.elements.specs.Judge.{required, optional, asked, noneOf, typeOctet, typesOf, valueAt, Content, single, inPieces, contentOf, Element, bodyOf, elementOf, itemsInOrder, asTabled, typeFits, namesFit}
+use Rattle.elements.specs.Judge.{required, optional, asked, noneOf, typeOctet, typesOf, valueAt, Content, single, inPieces, contentOf, Element, bodyOf}
+use Rattle.elements.specs.Judge.{elementOf, itemsInOrder, asTabled, typeFits}
 use Rattle.elements.specs.ShapeRefusal.{shapeRefusal}
 use Rattle.elements.specs.ElementRows.{bodyIn, contentOctet, boundsAt, rowOf}
 use Rattle.elements.specs.Frames.{Holding, HoldingShape, HoldingSlots}
 use Rattle.elements.specs.Sees.{Sees, SeesShape, SeesSlots}
-use Rattle.elements.specs.Slots.{noItem, slotsBy, slotsOf, slotBody, slotItems, slotContent, slotOctet, slotElement, slotOrdered, slotTabled, slotRefusal, slotRow}
+use Rattle.elements.specs.Slots.{noItem, slotsBy, slotsOf, slotBody, slotItems, slotContent, slotOctet, slotElement, slotOrdered, slotTabled}
+use Rattle.elements.specs.Slots.{slotRefusal, slotRow}
 use Rattle.elements.proofs.Bounding.{none-bounds}
 use Rattle.elements.proofs.Zero.{no-zero, no-zero-inside, no-zero-items}
 
@@ -101,25 +102,6 @@ octet-by octet (protected false) = refl
 
 pub octet-same : (shape : Shape) → slotsOf shape .octet ≡ shape .octet
 octet-same shape = octet-by (shape .octet) (shape .contents)
-
--- where the items stand that name an element
-body-same : (octet : ℕ) (contents : Contents) (run : Tree) → slotBody (slotsBy octet contents) run ≡ bodyOf contents run
-unfolding slotBody bodyOf
-body-same octet profile run = refl
-body-same octet (described needed types) run = refl
-body-same octet (unit needed tiled) run = refl
-body-same octet style run = refl
-body-same octet (protected true) run = refl
-body-same octet (protected false) run = refl
-
-items-same : (octet : ℕ) (contents : Contents) (items : Items) → slotItems (slotsBy octet contents) items ≡ bodyIn contents items
-unfolding slotItems bodyIn
-items-same octet profile items = refl
-items-same octet (described needed types) items = refl
-items-same octet (unit needed tiled) items = refl
-items-same octet style items = refl
-items-same octet (protected true) items = refl
-items-same octet (protected false) items = refl
 
 -- a content that is one value, whether or not its item is there
 one-value : (octet : ℕ) (t : Tree) → single (firstValue octet t) ≡ cond (noneOf octet t) (single absent) (single (firstValue octet t))

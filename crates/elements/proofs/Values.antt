@@ -1,4 +1,4 @@
--- What a pair tells of the value that it bounds: the object type, and how an identifier is spelt. Assumes nothing.
+-- What a pair tells of the value that it bounds: the object type, and how an identifier is spelt.
 use mathlib.Core.Path.{_≡_, refl, sym, ap, _∙_}
 use mathlib.Core.Bool.{Bool, true, false, false≢true}
 use mathlib.Core.List.{List, [], _∷_}

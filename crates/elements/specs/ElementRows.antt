@@ -1,6 +1,6 @@
 -- What a row holds of its element. Document 01, "Table, list, part, normal form": "A table row is twelve numbers: kind .., object type .., then first
 -- and past for the element, its identifier, the unit's logical identifier, the portions' value, the content. All pairs but the element's bound a
--- value. .. Absent is 0 and 0." The lent table's row has the parent's besides (answers/specs/Table). Definitions only: assumes nothing.
+-- value. .. Absent is 0 and 0." The lent table's row has the parent's besides (answers/specs/Table).
 use Prim.Native.Nat.{ℕ, zero, suc}
 use mathlib.Core.Bool.{cond}
 use mathlib.Core.List.{List, [], _∷_, _++_}

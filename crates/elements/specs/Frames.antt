@@ -1,5 +1,4 @@
--- What the code learns of the top of an element: whether its items stand as tabled, and where to look further. Definitions only: assumes
--- nothing.
+-- What the code learns of the top of an element: whether its items stand as tabled, and where to look further.
 use mathlib.Core.Path.{_≡_}
 use mathlib.Core.Bool.{true, false}
 use mathlib.Core.List.{List}

@@ -1,6 +1,5 @@
 -- What an element says, rules 12 to 14, and the judge of a letter: "Then elements in order, 9 to 15 in order within each." Document 01,
 -- "Element rules" and "Numbers given back". Over the tree of items alone, never places or length octets.
--- Definitions only: assumes nothing.
 use Prim.Native.Nat.{ℕ, _%_}
 use mathlib.Core.Bool.{Bool, cond, false, true, not, _&&_, _||_, xor}
 use mathlib.Core.List.{List, [], _∷_, _++_, map}
@@ -286,7 +285,7 @@ contentsRules tabled fits spelt =
     ∷ (14 when not spelt)
     ∷ []
 
--- the same for an element with a shape and a run of items
+-- rules 12 to 14 of an element with a shape and a run of items
 abbrev pub shapeRules : Shape → Tree → List Rule
 shapeRules shape run =
     let contents = shape .contents in

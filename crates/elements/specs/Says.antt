@@ -1,5 +1,5 @@
 -- What a table row tells of its element. Document 01, "Table, list, part, normal form": "All pairs but the element's bound a value. ..
--- Absent is 0 and 0. Closing marks lie in the element and in no value." Definitions only: assumes nothing.
+-- Absent is 0 and 0. Closing marks lie in the element and in no value."
 use mathlib.Core.Path.{_≡_}
 use mathlib.Core.Bool.{true}
 use mathlib.Core.List.{List}
@@ -7,7 +7,6 @@ use Prim.Native.Nat.{ℕ, _≤_, _<_}
 use lib.ListN.{length}
 use lib.Seq.{slice}
 use Rattle.rows.specs.Columns.{portionsRun}
-use Rattle.runs.specs.declared.Run.{Run}
 use Rattle.runs.specs.Runs.{treeIn, Fine}
 use Rattle.contents.specs.declared.Span.{Span}
 use Rattle.contents.specs.Search.{Value, absent, octets, noSpan}

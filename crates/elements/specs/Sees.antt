@@ -1,4 +1,4 @@
--- What the code learns of an element: rules 12 to 14, and its row. Definitions only: assumes nothing.
+-- What the code learns of an element: rules 12 to 14, and its row.
 use mathlib.Core.Path.{_≡_}
 use mathlib.Core.Bool.{Bool, cond, not, _&&_}
 use mathlib.Core.List.{List, [], _∷_}

@@ -1,6 +1,5 @@
 -- The element table of document 01, "Element rules", as data: of each element its octet and its contents, and a list of them for each
--- edition. The edition of 1993 is W-213's, from source document 001; docs/EDITIONS.md has both tables side by side. Definitions only: assumes
--- nothing.
+-- edition. The edition of 1993 is W-213's, from source document 001; docs/EDITIONS.md has both tables side by side.
 use Prim.Native.Nat.{ℕ}
 use mathlib.Core.Bool.{Bool, true, false, cond}
 use mathlib.Core.List.{List, [], _∷_, _++_}

@@ -1,4 +1,4 @@
--- The first of rules 12 to 14 that refuses an element, or 0: what the code asks of a shape. Definitions only: assumes nothing.
+-- The first of rules 12 to 14 that refuses an element, or 0: what the code asks of a shape.
 use Prim.Native.Nat.{ℕ}
 use Rattle.tree.specs.Tree.{Tree}
 use Rattle.elements.specs.Shape.{Shape}

@@ -1,6 +1,5 @@
 -- A shape as the code looks for it: in slots, of which most are empty, and an octet 0 stands for none, since no item has it. What an
 -- element says and is refused by, by its slots; `Slotting` among the proofs says that this is what the shape says.
--- Definitions only: assumes nothing.
 use Prim.Native.Nat.{ℕ, _%_}
 use mathlib.Core.Bool.{Bool, true, false, cond, not, _&&_, _||_}
 use mathlib.Core.List.{List, [], _∷_}
@@ -161,7 +160,7 @@ slotsOf shape = slotsBy (shape .octet) (shape .contents)
 unfoldable pub slotBody : Slots → Tree → Tree
 slotBody shape run = cond (shape .looked) (cond (eqb (shape .within) 0) run (firstRun (shape .within) run)) empty
 
--- the same items, with places
+-- the items of `slotBody`, with places
 unfoldable pub slotItems : Slots → Items → Items
 slotItems shape items = cond (shape .looked) (cond (eqb (shape .within) 0) items (itemsIn (shape .within) items)) noItems
 

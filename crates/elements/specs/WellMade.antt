@@ -1,5 +1,5 @@
 -- What the code relies on in the slots of a shape, and what every shape of an edition is: an item with a value is primitive, one with a run is
--- constructed, and where items are free nothing is sought among them in order. Definitions only: assumes nothing.
+-- constructed, and where items are free nothing is sought among them in order.
 use mathlib.Core.Path.{_≡_}
 use mathlib.Core.Bool.{true, false}
 use mathlib.Core.List.{List, [], _∷_}

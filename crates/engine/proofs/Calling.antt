@@ -1,9 +1,9 @@
 -- What a caller gets who starts, hands over blocks one after another and closes, by the contracts of the three functions alone: after every
 -- block the state that is defined over the octets so far (`after-every-block`), and at the close the answer of the walk of the octets that
--- were not refused, if they are all (`from-start-to-close`). Assumes nothing.
+-- were not refused, if they are all (`from-start-to-close`).
 use mathlib.Core.Path.{_≡_, refl, ap, sym, _∙_}
-use mathlib.Core.Bool.{Bool, true, false, cond}
-use mathlib.Core.List.{List, [], _∷_}
+use mathlib.Core.Bool.{true}
+use mathlib.Core.List.{List}
 use Prim.Native.Nat.{ℕ}
 use Rattle.blocks.specs.Engine.{State, stateAfter}
 use Rattle.blocks.specs.Blocks.{start, takeBlock, takeBlocks, kept, close, atClose}
@@ -11,7 +11,7 @@ use Rattle.blocks.proofs.Cutting.{any-blocks, any-close}
 use Rattle.octets.specs.Told.{Told}
 use Rattle.engine.specs.declared.Blocks.{Blocks}
 use Rattle.engine.specs.declared.Taken.{Taken}
-use Rattle.engine.specs.Stored.{stateOf, sound, takenOf, closedOf, Starts, Takes, Calls, none, call}
+use Rattle.engine.specs.Stored.{stateOf, sound, closedOf, Starts, Takes, Calls, none, call}
 
 calls : {b last : Blocks} {blocks : List (List ℕ)} → Calls b blocks last → sound b ≡ true
     → (stateOf last ≡ takeBlocks (stateOf b) blocks) × (sound last ≡ true)

@@ -1,4 +1,4 @@
--- A finding is one of 1 to 8 if the one that it began with is: no octet makes another (`one-to-eight`). Assumes nothing.
+-- A finding is one of 1 to 8 if the one that it began with is: no octet makes another (`one-to-eight`).
 use mathlib.Core.Bool.{Bool, true, false}
 use mathlib.Core.List.{List, [], _∷_, _++_}
 use Prim.Native.Nat.{ℕ, suc, _+_, _-_, _≤_}
@@ -9,7 +9,8 @@ use Rattle.headers.specs.declared.Head.{Head}
 use Rattle.headers.specs.declared.Head.the-variants.{Item, ClosingMark, Refusal}
 use Rattle.headers.specs.Head.{constructed, headAt}
 use Rattle.laws.proofs.Tests.{cond-holds}
-use Rattle.blocks.specs.Engine.{Open, Standing, reading, found, State, limitOf, markedOf, roomOf, whole, moved, settle, arrive, enter, decide, inHeader, onward, step, feed}
+use Rattle.blocks.specs.Engine.{Open, Standing, reading, found, State, limitOf, markedOf, roomOf, whole, moved, settle, arrive, enter, decide, inHeader}
+use Rattle.blocks.specs.Engine.{onward, step, feed}
 use Rattle.engine.specs.Skimming.{Numbered}
 use Rattle.engine.proofs.Stores.{numbered}
 
@@ -30,7 +31,13 @@ decided : (taken k : ℕ) (opens : List Open) (at : ℕ) (head : Head) → Numbe
 decided taken k opens at (Item h) n = go (constructed (h .code))
   where
     go : (b : Bool)
-        → OneToEight (enter b taken (suc k) opens (record { code = h .code; number = h .number; start = at + h .start; bound = at + h .bound; marked = h .marked }))
+        → OneToEight (enter b taken (suc k) opens (record {
+          code = h .code;
+          number = h .number;
+          start = at + h .start;
+          bound = at + h .bound;
+          marked = h .marked;
+        }))
     go true = arrived taken (suc k) (record { bound = at + h .bound; marked = h .marked } ∷ opens) (at + h .start)
     go false = arrived taken (suc k) opens (at + h .bound)
 decided taken k opens at ClosingMark n = arrived taken k (drop 1 opens) (at + 2)

@@ -1,8 +1,8 @@
--- What the three questions answer, case by case. Assumes nothing.
-use mathlib.Core.Path.{_≡_, refl, ap, sym, _∙_, subst}
+-- What the three questions answer, case by case.
+use mathlib.Core.Path.{_≡_, refl, sym, _∙_, subst}
 use mathlib.Core.Bool.{Bool, true, false, cond, false≢true}
 use mathlib.Core.List.{List}
-use Prim.Native.Nat.{ℕ, _+_, _-_, _<_, _≤_}
+use Prim.Native.Nat.{ℕ, _+_, _<_, _≤_}
 use native.Mathlib.Omega.{arith}
 use lib.Dec.{leb, eqb}
 use lib.ListN.{length, replicate}
@@ -13,7 +13,7 @@ use Rattle.laws.proofs.Tests.{cond-holds}
 use Rattle.blocks.proofs.Cutting.{take-fits, take-past}
 use Rattle.engine.specs.declared.Blocks.{Blocks}
 use Rattle.engine.specs.Stored.{stateOf, readable, sound, Starts, Takes, closedOf}
-use Rattle.engine.specs.Skimming.{Fine, FineIfReading}
+use Rattle.engine.specs.Skimming.{FineIfReading}
 use Rattle.engine.proofs.Findings.{OneToEight, one-to-eight}
 
 both : (t x : Bool) → cond t x false ≡ true → (t ≡ true) × (x ≡ true)
@@ -46,7 +46,14 @@ sound-of b s k = go (eqb (b .number) 0) refl
     go true e =
         let z = eqb-true (b .number) 0 e in
         let f = s z in
-        rw (le-leb (b .number) 8 (omega arith), e, le-leb (b .level) 16 (f .depth), le-leb (b .have) 7 (f .kept), le-leb (b .headers) (b .taken) (f .counted), le-leb (b .total) 1048576 (f .small))
+        rw (
+          le-leb (b .number) 8 (omega arith),
+          e,
+          le-leb (b .level) 16 (f .depth),
+          le-leb (b .have) 7 (f .kept),
+          le-leb (b .headers) (b .taken) (f .counted),
+          le-leb (b .total) 1048576 (f .small),
+        )
     go false e =
         let l : b .number ≤ 8 = rw e at k in
         rw (le-leb (b .number) 8 l, e)
@@ -55,7 +62,18 @@ sound-of b s k = go (eqb (b .number) 0) refl
 pub starts : (total number : ℕ) → number ≡ start total .number → Starts total
     (record {
       number = number;
-      state = record { total = total; taken = 0; at = 0; level = 0; headers = 0; number = number; place = 0; have = 0; ends = replicate 16 0; begun = replicate 8 0 };
+      state = record {
+        total = total;
+        taken = 0;
+        at = 0;
+        level = 0;
+        headers = 0;
+        number = number;
+        place = 0;
+        have = 0;
+        ends = replicate 16 0;
+        begun = replicate 8 0;
+      };
     })
 unfolding start fresh
 starts total number e = go (leb total 1048576) refl
@@ -63,7 +81,18 @@ starts total number e = go (leb total 1048576) refl
     go : (t : Bool) → leb total 1048576 ≡ t → Starts total
         (record {
           number = number;
-          state = record { total = total; taken = 0; at = 0; level = 0; headers = 0; number = number; place = 0; have = 0; ends = replicate 16 0; begun = replicate 8 0 };
+          state = record {
+            total = total;
+            taken = 0;
+            at = 0;
+            level = 0;
+            headers = 0;
+            number = number;
+            place = 0;
+            have = 0;
+            ends = replicate 16 0;
+            begun = replicate 8 0;
+          };
         })
     go true t = let z : number ≡ 0 = e ∙ rw t in record { number = e; state = rw (z, t); goes-on = rw (z, t) }
     go false t = let z : number ≡ 1 = e ∙ rw t in record { number = e; state = rw (z, t); goes-on = rw z }
@@ -77,10 +106,16 @@ module _ (b : Blocks) (block : List ℕ) where
       let e = take-past (stateOf b) block l in
       record { number = rw (s, e); state = rw (s, e); unchanged = λ _. refl; goes-on = λ h. h }
 
-  pub takes-fits : (r : Blocks) → FineIfReading r → sound b ≡ true → b .taken + length block ≤ b .total → stateOf r ≡ feed (stateOf b) block → Takes b block (record { number = 0; state = r })
+  pub takes-fits : (r : Blocks) → FineIfReading r → sound b ≡ true → b .taken + length block ≤ b .total → stateOf r ≡ feed
+      (stateOf b) block → Takes b block (record { number = 0; state = r })
   takes-fits r g s l f =
       let e = take-fits (stateOf b) block l in
-      record { number = rw (s, e); state = rw (s, e) f; unchanged = λ z. absurd (omega arith); goes-on = λ _. sound-of r g (subst (λ (x : State). OneToEight (x .standing)) (sym f) (one-to-eight (stateOf b) block (sound-found b s))) }
+      record {
+        number = rw (s, e);
+        state = rw (s, e) f;
+        unchanged = λ z. absurd (omega arith);
+        goes-on = λ _. sound-of r g (subst (λ (x : State). OneToEight (x .standing)) (sym f) (one-to-eight (stateOf b) block (sound-found b s)));
+      }
 
 module _ (b : Blocks) (s : sound b ≡ true) where
   pub closed-early : (b .taken ≡ b .total → ⊥) → record { number = 29; place = 0; headers = 0 } ≡ closedOf b

@@ -1,19 +1,18 @@
--- A header that lies in a block is read there, in one go (`seen`). From `header-octets` and `same-head`. Assumes nothing.
-use mathlib.Core.Path.{_≡_, refl, ap, sym, _∙_, subst}
-use mathlib.Core.Bool.{Bool, true, false, cond}
+-- A header that lies in a block is read there, in one go (`seen`). From `header-octets` and `same-head`.
+use mathlib.Core.Path.{_≡_, refl, sym, subst}
+use mathlib.Core.Bool.{Bool, true, false}
 use mathlib.Core.List.{List, [], _∷_, _++_}
-use Prim.Native.Nat.{ℕ, zero, suc, _+_, _-_, _<_, _≤_, min}
+use Prim.Native.Nat.{ℕ, _+_, _-_, _<_, _≤_, min}
 use native.Mathlib.Omega.{arith}
 use lib.Dec.{leb}
-use lib.ListN.{length, getD, take, drop, length-drop, take-append-drop}
+use lib.ListN.{length, take, drop, length-drop, take-append-drop}
 use lib.Seq.{length-take-le}
 use borrow.Author.Tests.{le-leb, leb-true, leb-false}
-use Rattle.headers.specs.declared.Header.{Header}
 use Rattle.headers.specs.declared.Head.{Head}
 use Rattle.headers.specs.declared.Head.the-variants.{Item, ClosingMark, Refusal}
-use Rattle.headers.specs.Head.{octetAt, headAt}
+use Rattle.headers.specs.Head.{headAt}
 use Rattle.headers.proofs.Lies.{HeadOk, head-ok}
-use Rattle.blocks.specs.Engine.{Open, Standing, reading, State, limitOf, markedOf, roomOf, wanted, whole, moved, decide, feed}
+use Rattle.blocks.specs.Engine.{Open, limitOf, markedOf, roomOf, wanted, whole, moved, decide, feed}
 use Rattle.blocks.proofs.Headers.{Ends, same-head, as-wanted, two-wanted, eight-wanted, same-wanted, told-wanted}
 use Rattle.blocks.proofs.Goes.{header-octets}
 use Rattle.engine.specs.Skimming.{Numbered, atHeader, back, Ahead, Seen}
@@ -66,7 +65,11 @@ module _ (c : List ℕ) (left : ℕ) (l : 8 ≤ length c) where
 
 at-once : (total k : ℕ) (os : List Open) (at : ℕ) (b : List ℕ) → 0 < length b → length b ≡ min (wanted b) (limitOf total os - at)
     → feed (atHeader total k os at) b
-    ≡ record { total = total; taken = at + length b; standing = decide (at + length b) k os at (moved at (headAt b 0 (limitOf total os - at) (markedOf os) (roomOf os))) }
+    ≡ record {
+      total = total;
+      taken = at + length b;
+      standing = decide (at + length b) k os at (moved at (headAt b 0 (limitOf total os - at) (markedOf os) (roomOf os)));
+    }
 at-once total k os at [] z j = absurd (omega arith)
 at-once total k os at (x ∷ q) z j = header-octets total k os at x q j
 

@@ -1,14 +1,14 @@
--- What a header that was read in a block leaves, case by case, and where the skimming stands after it (`turned`). Assumes nothing.
+-- What a header that was read in a block leaves, case by case, and where the skimming stands after it (`turned`).
 use mathlib.Core.Path.{_≡_, refl, ap, sym, _∙_, subst}
 use mathlib.Core.Bool.{Bool, true, false, cond, false≢true}
-use mathlib.Core.List.{List, [], _∷_, _++_}
-use Prim.Native.Nat.{ℕ, zero, suc, _+_, _-_, _*_, _/_, _%_, _<_, _≤_, min}
+use mathlib.Core.List.{List, [], _∷_}
+use Prim.Native.Nat.{ℕ, zero, suc, _+_, _-_, _<_, _≤_, min}
 use native.Mathlib.Omega.{arith}
 use native.Mathlib.Numerals.{add-one}
 use lib.Dec.{eqb, leb}
 use lib.ListN.{length, take, drop, set, length-drop, length-set, take-append-drop}
 use lib.Seq.{drop-drop, drop-length, length-take-le}
-use borrow.Author.Tests.{eq-eqb, ne-eqb, eqb-true, eqb-false, le-leb, lt-leb, leb-true, leb-false}
+use borrow.Author.Tests.{eq-eqb, ne-eqb, eqb-true, eqb-false, le-leb, leb-true, leb-false}
 use Rattle.headers.specs.declared.Header.{Header}
 use Rattle.headers.specs.declared.Head.{Head}
 use Rattle.headers.specs.declared.Head.the-variants.{Item, ClosingMark, Refusal}
@@ -21,8 +21,8 @@ use Rattle.engine.specs.declared.Blocks.{Blocks}
 use Rattle.engine.specs.declared.skim.Seat.{Seat}
 use Rattle.engine.specs.declared.skim.Skim.{Skim}
 use Rattle.engine.specs.Stored.{openOf, opensOf, stateOf}
-use Rattle.engine.specs.Skimming.{FineIfReading, atHeader, back, Seen, Turns, placeOf, InRun, GoesOn, Seated, Reads, Skims, Before, Settles, leftBy}
-use Rattle.engine.proofs.Stores.{innermost, settle-going, others, pushed, level-is}
+use Rattle.engine.specs.Skimming.{FineIfReading, atHeader, back, Seen, Turns, placeOf, GoesOn, Reads, Skims, Before, Settles, leftBy}
+use Rattle.engine.proofs.Stores.{settle-going, pushed, level-is}
 use Rattle.engine.proofs.Turning.{values}
 use Rattle.engine.proofs.Seeing.{seen}
 
@@ -221,11 +221,13 @@ pub ready : (b : Blocks) → b .number ≡ 0 → b .have ≡ 0 → b .at ≡ b .
 ready b z h t = rw (eq-eqb (b .number) 0 z, h, ← t)
 
 -- nothing was taken
-pub none-turn : (b : Blocks) (block : List ℕ) (start : ℕ) → FineIfReading b → start ≤ length block → b .taken + (length block - start) ≤ b .total → Turns b block start b start
+pub none-turn : (b : Blocks) (block : List ℕ) (start : ℕ) → FineIfReading b → start ≤ length block → b .taken + (length block - start) ≤ b .total
+    → Turns b block start b start
 none-turn b block start s l f = record { further = omega arith; within = l; fits = f; total = refl; fine = s; state = refl }
 
 -- before the limit no item ends
-pub settle-open : (total n : ℕ) (ends : List ℕ) (at k : ℕ) → at < limitOf total (opensOf n ends) → settle k (opensOf n ends) at ≡ reading k (opensOf n ends) at []
+pub settle-open : (total n : ℕ) (ends : List ℕ) (at k : ℕ) → at < limitOf total (opensOf n ends)
+    → settle k (opensOf n ends) at ≡ reading k (opensOf n ends) at []
 settle-open total zero ends at k l = refl
 settle-open total (suc n) ends at k l = settle-going (suc n) ends (omega arith) at k (let e : suc n - 1 ≡ n = omega arith in rw e l)
 
@@ -244,7 +246,8 @@ module _ (seat : Seat) (s : Skim) (ends block : List ℕ) (p : Reads seat ends s
   at = placeOf seat (s .i)
 
   abbrev came : Standing
-  came = cond (eqb (k .number) 0) (arrive (at + w .size) (k .headers) (opensOf (k .level) after) (placeOf seat (k .i))) (found (k .number) (k .place) (k .headers))
+  came = cond (eqb (k .number) 0) (arrive (at + w .size) (k .headers) (opensOf (k .level) after) (placeOf seat (k .i)))
+      (found (k .number) (k .place) (k .headers))
 
   abbrev rest : List ℕ
   rest = drop (s .i + w .size) block
@@ -380,7 +383,8 @@ module _ (seat : Seat) (s : Skim) (ends block : List ℕ) (p : Reads seat ends s
         let n = length-drop (k .i) block in
         let m : min (r .i) (seat .size) ≡ length block = omega arith in
         let t : there + length (drop (k .i) block) ≡ placeOf seat (length block) = omega arith in
-        let e : settle (k .headers) (opensOf (k .level) after) there ≡ found (r .number) (r .place) (k .headers) = q .state z near ∙ rw (ne-eqb (r .number) 0 c) in
+        let e : settle (k .headers) (opensOf (k .level) after) there ≡ found (r .number) (r .place) (k .headers) = q .state z near
+        ∙ rw (ne-eqb (r .number) 0 c) in
         record {
           further = omega arith;
           near = omega arith;
@@ -467,7 +471,8 @@ goes b block start seat ends s v p after r t =
 abbrev pub seatOf : Blocks → (block : List ℕ) → (start : ℕ) → Seat
 seatOf b block start = record { total = b .total; base = b .at; from = start; size = length block }
 
-module _ (b : Blocks) (block : List ℕ) (start : ℕ) (fine : FineIfReading b) (z : b .number ≡ 0) (h : b .have ≡ 0) (t : b .at ≡ b .taken) (l : start ≤ length block)
+module _ (b : Blocks) (block : List ℕ) (start : ℕ) (fine : FineIfReading b) (z : b .number ≡ 0) (h : b .have ≡ 0) (t : b .at ≡ b .taken)
+    (l : start ≤ length block)
     (fits : b .taken + (length block - start) ≤ b .total) (short : length block ≤ b .total) where
   pub begins : (s : Skim) → length (b .ends) ≡ 16 → GoesOn (seatOf b block start) (b .ends) (b .level) start (b .headers) s → start < s .stop
       → Skimming b block start (seatOf b block start) (b .ends) s

@@ -1,8 +1,8 @@
--- The open items in the array: the innermost is read, closed and opened. Assumes nothing.
+-- The open items in the array: the innermost is read, closed and opened.
 use mathlib.Core.Path.{_≡_, refl, ap, sym, _∙_, subst}
-use mathlib.Core.Bool.{Bool, true, false, cond}
+use mathlib.Core.Bool.{Bool, true, false}
 use mathlib.Core.List.{List, [], _∷_, _++_}
-use Prim.Native.Nat.{ℕ, zero, suc, _+_, _-_, _*_, _/_, _%_, _<_, _≤_, min}
+use Prim.Native.Nat.{ℕ, zero, suc, _+_, _-_, _/_, _%_, _<_, _≤_, min}
 use native.Mathlib.Omega.{arith}
 use native.Mathlib.Numerals.{add-one}
 use lib.Dec.{leb, ltb, eqb}
@@ -16,7 +16,7 @@ use Rattle.headers.specs.Head.{constructed, misfits, bigEndian, octetAt, defini
 use Rattle.headers.proofs.Lies.{HeadOk, head-ok, item-holds}
 use Rattle.laws.proofs.Tests.{cond-holds}
 use Rattle.blocks.proofs.Headers.{same-head}
-use Rattle.blocks.specs.Engine.{Open, Standing, reading, found, settle, limitOf, markedOf, roomOf, further, fieldSize, wanted, whole, moved, decide, inHeader}
+use Rattle.blocks.specs.Engine.{Open, reading, found, settle, limitOf, markedOf, roomOf, further, fieldSize, wanted, whole, moved, decide, inHeader}
 use Rattle.engine.specs.declared.Blocks.{Blocks}
 use Rattle.engine.specs.Stored.{openOf, opensOf, stateOf}
 use Rattle.engine.specs.Skimming.{opens, withStanding, Lying, Numbered}

@@ -1,19 +1,18 @@
--- A turn of the loop over a block, and what it leaves to take. From the laws of the engine (blocks, proofs/Goes). Assumes nothing.
-use mathlib.Core.Path.{_≡_, refl, ap, sym, _∙_}
-use mathlib.Core.Bool.{Bool, true, false, cond}
+-- A turn of the loop over a block, and what it leaves to take. From the laws of the engine (blocks, proofs/Goes).
+use mathlib.Core.Path.{_≡_, ap, sym, _∙_}
 use mathlib.Core.List.{List, [], _∷_, _++_}
-use Prim.Native.Nat.{ℕ, zero, suc, _+_, _-_, _<_, _≤_}
+use Prim.Native.Nat.{ℕ, suc, _+_, _-_, _<_, _≤_}
 use native.Mathlib.Omega.{arith}
 use native.Mathlib.Numerals.{add-one}
 use lib.ListN.{length, getD, take, drop, length-drop, take-append-drop}
 use lib.Seq.{drop-cons, drop-drop, drop-length, length-take-le}
 use borrow.Author.Tests.{eq-eqb, ne-eqb, lt-leb}
-use Rattle.blocks.specs.Engine.{Open, Standing, reading, found, State, arrive, inHeader, step, feed}
+use Rattle.blocks.specs.Engine.{Open, reading, found, State, arrive, inHeader, step, feed}
 use Rattle.blocks.proofs.Goes.{finding-stays, value-octets}
 use Rattle.blocks.proofs.Cutting.{feed-append}
 use Rattle.engine.specs.declared.Blocks.{Blocks}
 use Rattle.engine.specs.Stored.{standingOf, stateOf}
-use Rattle.engine.specs.Skimming.{opens, Fine, FineIfReading, Turns}
+use Rattle.engine.specs.Skimming.{opens, FineIfReading, Turns}
 
 -- an octet of a header
 pub header-step : (b : Blocks) (x : ℕ) → b .number ≡ 0 → b .at ≤ b .taken → step (stateOf b) x

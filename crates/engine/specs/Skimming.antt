@@ -1,8 +1,7 @@
 -- What the engine's own functions say, of a state, of a header and of the headers that lie in a block. No public contract cites this page.
--- Definitions only: assumes nothing.
 use Prim.Native.Nat.{ℕ, _+_, _-_, _<_, _≤_, min}
 use mathlib.Core.Path.{_≡_}
-use mathlib.Core.Bool.{Bool, cond}
+use mathlib.Core.Bool.{cond}
 use mathlib.Core.List.{List, []}
 use lib.ListN.{take, drop, length}
 use lib.Dec.{eqb}

@@ -1,5 +1,5 @@
 -- What the stored state stands for, and what the three questions answer of it: their contracts. The ends of the open items lie in an array,
--- the outermost first, each twice and one more if the item waits for its closing mark. Definitions only: assumes nothing.
+-- the outermost first, each twice and one more if the item waits for its closing mark.
 use Prim.Native.Nat.{ℕ, zero, suc, _/_, _%_}
 use mathlib.Core.Path.{_≡_}
 use mathlib.Core.Bool.{Bool, true, false, cond}

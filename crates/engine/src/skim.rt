@@ -4,7 +4,6 @@ use super::Moved;
 use super::ends;
 use super::numbers;
 use headers::Head;
-use headers::Header;
 use octets::DEEPEST;
 ghost use mathlib.Core.Path.{_≡_};
 ghost use mathlib.Core.Bool.{true};

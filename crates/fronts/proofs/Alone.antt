@@ -1,6 +1,6 @@
 -- The first item of a stream, walked alone (`oneOf`). Where that ends, at next: any stream that begins with the same octets up to there,
 -- with any limit that is not before that, has the same first item, walked alone (`one-front`) or with all that follows (`run-front`);
--- and the run of the item alone, from its place to next, is fine and has that item (`alone-fine`, `alone-items`). Assumes nothing.
+-- and the run of the item alone, from its place to next, is fine and has that item (`alone-fine`, `alone-items`).
 use mathlib.Core.Path.{_≡_, refl, ap, sym, _∙_, subst}
 use mathlib.Core.Bool.{Bool, true, false, cond, false≢true}
 use mathlib.Core.List.{List}
@@ -56,7 +56,8 @@ module _ (room : ℕ) (s : List ℕ) (at limit next : ℕ) where
           h = h;
           head = e;
           inside = inside;
-          inner = subst (λ (b : Bool). Inner b s room h inside next) (sym c) (subst (λ (n : ℕ). Runs s (room - 1) (h .start) (h .bound) (h .marked) inside (ends n)) k r);
+          inner = subst (λ (b : Bool). Inner b s room h inside next) (sym c)
+              (subst (λ (n : ℕ). Runs s (room - 1) (h .start) (h .bound) (h .marked) inside (ends n)) k r);
           is = rw k;
         }
     follow-alone inside (stops number place) c r p = let z : _≡_ {A = ℕ} 0 1 = cc in absurd (omega arith)

@@ -1,4 +1,4 @@
--- The first item of a stream: what `meet` tells of it (`first-met`), and how it is refused (`first-stops`, `first-none`). Assumes nothing.
+-- The first item of a stream: what `meet` tells of it (`first-met`), and how it is refused (`first-stops`, `first-none`).
 use mathlib.Core.Path.{_≡_, ap, sym, _∙_, subst}
 use mathlib.Core.List.{List}
 use mathlib.Core.Bool.{false}
@@ -10,11 +10,10 @@ use Rattle.octets.specs.Walk.{item, ends, stops, ended, deepest}
 use Rattle.octets.specs.Further.{oneOf}
 use Rattle.octets.proofs.Numbers.{Stops, run-stops}
 use Rattle.runs.specs.declared.Run.{Run}
-use Rattle.runs.specs.Runs.{itemsOf, definiteRun, wholeStream, Fine, Meeting}
-use Rattle.fronts.specs.declared.First.the-variants.{Refused}
+use Rattle.runs.specs.Runs.{itemsOf, definiteRun, Meeting}
 use Rattle.fronts.specs.First.{walkFirst}
-use Rattle.fronts.specs.FirstItem.{FirstItem, BeginsWith}
-use Rattle.fronts.proofs.Alone.{alone-items, one-only, one-within, whole-alone, alone-stops}
+use Rattle.fronts.specs.FirstItem.{FirstItem}
+use Rattle.fronts.proofs.Alone.{alone-items, one-only, one-within, alone-stops}
 
 -- the item that is met in the run of the first item alone
 pub first-met : (s : List ℕ) (next : ℕ) → 0 < length s → walkFirst s .how ≡ ends next → {code first past : ℕ} {inner rest : Run}
@@ -31,14 +30,6 @@ first-met s next l e {code} {first} {past} {inner} {rest} m =
       is = i ∙ ap (item 0 code first past (itemsOf s inner)) z;
       fine = m .inner-fine;
     }
-
--- where the whole stream was walked, its first item alone is not refused
-pub whole-passes : (s : List ℕ) → 0 < length s → Fine s (wholeStream s) → (number place : ℕ) → BeginsWith s (Refused number place) → ⊥
-whole-passes s l f number place r =
-    let n = whole-alone deepest s 0 (length s) l (f .whole) in
-    let p : ends (n .0) ≡ stops number place = sym (n .1) ∙ r in
-    let z : _≡_ {A = ℕ} 0 1 = cc in
-    omega arith
 
 -- a refusal of the first item alone: one of 2 to 8, in the stream
 pub first-stops : (s : List ℕ) (number place : ℕ) → 0 < length s → walkFirst s .how ≡ stops number place

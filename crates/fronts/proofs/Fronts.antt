@@ -1,5 +1,5 @@
 -- What is read of an item depends on nothing after it: another stream that begins with the same octets, up to where the item ends, with
--- any limit that is not before that, has the same header there and the same items in it (`head-same`, `runs-same`). Assumes nothing.
+-- any limit that is not before that, has the same header there and the same items in it (`head-same`, `runs-same`).
 use mathlib.Core.Path.{_≡_, refl, ap, sym, _∙_, subst}
 use mathlib.Core.Bool.{Bool, true, false, cond, false≢true}
 use mathlib.Core.List.{List, [], _∷_}
@@ -155,8 +155,10 @@ module _ (s other : List ℕ) where
   runs-same (closes {room} {at} {limit} {marked} l h) next e g past w d =
       let k : at + 2 ≡ next = cc in
       let before : at < past = omega arith in
-      let front = agree-less (at + 2) next (omega arith) g in
-      (omega arith, subst (λ (n : ℕ). Runs other room at past marked noItems (ends n)) k (closes before (mark-same at limit past room marked h (omega arith) front)))
+      let front = agree-less (at + 2) next (omega arith) g in (
+        omega arith,
+        subst (λ (n : ℕ). Runs other room at past marked noItems (ends n)) k (closes before (mark-same at limit past room marked h (omega arith) front)),
+      )
   runs-same (refuses l h) next e g past w d = let z : _≡_ {A = ℕ} 0 1 = cc in absurd (omega arith)
   runs-same (primitive {room} {at} {limit} {marked} {h} {after} l p q r) next e g past w d =
       let o = header-ok s at limit room marked h p in
@@ -167,8 +169,11 @@ module _ (s other : List ℕ) where
       let k = head-same at limit past room marked h p (omega arith) (λ _. omega arith) front in
       let b : under past h .bound ≡ h .bound = ap (λ (x : Bool). cond x past (h .bound)) m in
       let r′ = subst (λ (x : ℕ). Runs other room x past marked after (ends next)) (sym b) (n .1) in
-      let v : pastOf (h .marked) (under past h .bound) ≡ pastOf (h .marked) (h .bound) = ap (pastOf (h .marked)) b in
-      (omega arith, subst (λ (x : ℕ). Runs other room at past marked (item at (h .code) (h .start) x noItems after) (ends next)) v (primitive {h = under past h} before k q r′))
+      let v : pastOf (h .marked) (under past h .bound) ≡ pastOf (h .marked) (h .bound) = ap (pastOf (h .marked)) b in (
+        omega arith,
+        subst (λ (x : ℕ). Runs other room at past marked (item at (h .code) (h .start) x noItems after) (ends next)) v
+            (primitive {h = under past h} before k q r′),
+      )
   runs-same (passes {room} {at} {limit} {marked} {h} {inside} {after} {next} l p q v r) final e g past w d =
       let o = header-ok s at limit room marked h p in
       let n = runs-same r final e g past w d in
@@ -176,7 +181,8 @@ module _ (s other : List ℕ) where
       let i = runs-same v next refl (agree-less next final (n .0) g) (under past h .bound) (b .0) (b .1) in
       let before : at < past = omega arith in
       let front = agree-less (h .start) final (omega arith) g in
-      let k = head-same at limit past room marked h p (omega arith) (λ m. let z = bound-is (h .marked) next (h .bound) (h .start) (right v) m in omega arith) front in
+      let k = head-same at limit past room marked h p (omega arith)
+      (λ m. let z = bound-is (h .marked) next (h .bound) (h .start) (right v) m in omega arith) front in
       (omega arith, passes {h = under past h} before k q (i .1) (n .1))
   runs-same (breaks l p q v) next e g past w d = let z : _≡_ {A = ℕ} 0 1 = cc in absurd (omega arith)
 

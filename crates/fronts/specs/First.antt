@@ -1,5 +1,5 @@
 -- W-206: "walks the first element alone under rules 1 to 8 .., with the end of the given bytes as limit". Rules 1, 10 and 11 are the
--- caller's: the stream's length, and the item's code. Definitions only: assumes nothing.
+-- caller's: the stream's length, and the item's code.
 use Prim.Native.Nat.{ℕ}
 use mathlib.Core.List.{List}
 use lib.ListN.{length}

@@ -1,4 +1,4 @@
--- What the code learns of the first item of a stream. Definitions only: assumes nothing.
+-- What the code learns of the first item of a stream.
 use Prim.Native.Nat.{ℕ, _≤_}
 use mathlib.Core.Path.{_≡_}
 use mathlib.Core.List.{List}

@@ -1,10 +1,10 @@
 -- Reading at a position is refused by a number exactly when its condition holds and no earlier one does (`refused-exactly`), and passes
--- exactly where none holds: by cases, as `headAt` has them. Assumes nothing.
+-- exactly where none holds: by cases, as `headAt` has them.
 use mathlib.Core.Path.{_≡_, refl, ap, sym, _∙_, subst}
 use mathlib.Core.Logic.{_⊎_, inl, inr, _↔_}
 use mathlib.Core.Bool.{Bool, true, false, cond, true≢false, false≢true}
 use mathlib.Core.List.{List, [], _∷_}
-use Prim.Native.Nat.{ℕ, _+_, _-_, _*_, _/_, _%_, _<_, _≤_}
+use Prim.Native.Nat.{ℕ, _+_, _-_, _/_, _%_, _<_, _≤_}
 use native.Mathlib.Omega.{arith}
 use lib.Dec.{leb, ltb, eqb}
 use lib.ListN.{drop, take}
@@ -14,10 +14,13 @@ use Rattle.headers.specs.declared.Head.{Head}
 use Rattle.headers.specs.declared.Head.the-variants.{Item, ClosingMark, Refusal}
 use Rattle.headers.specs.declared.Field.{Field}
 use Rattle.headers.specs.declared.Field.the-variants.{Read, Wrong}
-use Rattle.headers.specs.Head.{numberBits, constructed, isIn, formAllowed, aboveThirty, codeOf, bigEndian, misfits, octetAt, definiteAt, indefiniteAt, longAt, byFirst, lengthAt, afterField, closingAt, itemAt, headAt}
-use Rattle.headers.specs.Conditions.{ItemThere, LongNumber, FieldTo, one, two, three, HeaderHas, second, third, first-length, last-length, ValueIs, short, long}
+use Rattle.headers.specs.Head.{numberBits, constructed, isIn, formAllowed, aboveThirty, codeOf, bigEndian, misfits, octetAt, definiteAt, indefiniteAt}
+use Rattle.headers.specs.Head.{longAt, byFirst, lengthAt, afterField, closingAt, itemAt, headAt}
+use Rattle.headers.specs.Conditions.{ItemThere, LongNumber, FieldTo, one, two, three, HeaderHas, second, third, first-length, last-length, ValueIs}
+use Rattle.headers.specs.Conditions.{short, long}
 use Rattle.headers.specs.Conditions.{WrongNumber, over, led-by-80, under-31, no-octet, HeadRefused}
-use Rattle.headers.specs.Conditions.{HeadRefuses, stray, half-mark, too-deep, wrong-number, wrong-form, universal-number, reserved, unending, header-cut, value-cut, mark-cut, misfit}
+use Rattle.headers.specs.Conditions.{HeadRefuses, stray, half-mark, too-deep, wrong-number, wrong-form, universal-number, reserved, unending}
+use Rattle.headers.specs.Conditions.{header-cut, value-cut, mark-cut, misfit}
 use Rattle.laws.proofs.Tests.{cond-holds}
 
 never : {A : Type 0} (m k : ℕ) → k ≤ m → m < k → A → ⊥
@@ -211,7 +214,8 @@ module _ (s : List ℕ) (at limit : ℕ) where
         by : (k : ℕ) → (6 < k → Six → ⊥) → (7 < k → Seven → ⊥) → (8 < k → Eight → ⊥) → (n : ℕ) → n < k → Refuses n → ⊥
         by k h6 h7 h8 = below k (λ _. h3) (λ _. h4) (λ _. h5) h6 h7 h8
 
-        module _ (code past : ℕ) (f : FieldTo s at limit past) (form : constructed code ≡ constructed x) (fit : (len : ℕ) → misfits code len ≡ misfits x len) where
+        module _ (code past : ℕ) (f : FieldTo s at limit past) (form : constructed code ≡ constructed x)
+            (fit : (len : ℕ) → misfits code len ≡ misfits x len) where
           abbrev first : ℕ
           first = octetAt s past
 
@@ -266,21 +270,38 @@ module _ (s : List ℕ) (at limit : ℕ) where
               (λ b. let e = eqb-true first 0x80 b in
               cond-holds Verdict (constructed code)
               (λ c. all-below (by 9 (λ _. no-six (omega arith) (λ _. sym form ∙ c)) (λ _. no-value there e) (λ _ v. value-none past f e (v .2))))
-              (λ c. record { here = refl; refuses = unending item f there e (sym form ∙ c); no-earlier = by 6 (never 6 6 (omega arith)) (never 7 6 (omega arith)) (never 8 6 (omega arith)) }))
+              (λ c. record {
+                here = refl;
+                refuses = unending item f there e (sym form ∙ c);
+                no-earlier = by 6 (never 6 6 (omega arith)) (never 7 6 (omega arith)) (never 8 6 (omega arith));
+              }))
               (λ b. let ne = eqb-false first 0x80 b in let above : 0x80 < first = omega arith in
               cond-holds Verdict (ltb first 0x85)
               (λ c. let under = ltb-true first 0x85 c in
               let six = no-six under (λ e. absurd (ne e)) in
               cond-holds Verdict (leb (past + 1 + (first - 0x80)) limit)
               (λ d. let fits = leb-true (past + 1 + (first - 0x80)) limit d in
-              definite-verdict (past + 1 + (first - 0x80)) (bigEndian (take (first - 0x80) (drop (past + 1) s))) (long f there above under fits) (value-long past f above) six
+              definite-verdict (past + 1 + (first - 0x80)) (bigEndian (take (first - 0x80) (drop (past + 1) s))) (long f there above under fits)
+              (value-long past f above) six
               (no-header there (λ _ _. omega arith)))
               (λ d. let far = leb-false (past + 1 + (first - 0x80)) limit d in
               let beyond : limit ≤ past + (first - 0x80) = omega arith in
-              record { here = refl; refuses = header-cut item (last-length f there above under) beyond; no-earlier = by 7 (λ _. six) (never 7 7 (omega arith)) (never 8 7 (omega arith)) }))
-              (λ c. record { here = refl; refuses = reserved item f there (ltb-false first 0x85 c); no-earlier = by 6 (never 6 6 (omega arith)) (never 7 6 (omega arith)) (never 8 6 (omega arith)) }))))
+              record {
+                here = refl;
+                refuses = header-cut item (last-length f there above under) beyond;
+                no-earlier = by 7 (λ _. six) (never 7 7 (omega arith)) (never 8 7 (omega arith));
+              }))
+              (λ c. record {
+                here = refl;
+                refuses = reserved item f there (ltb-false first 0x85 c);
+                no-earlier = by 6 (never 6 6 (omega arith)) (never 7 6 (omega arith)) (never 8 6 (omega arith));
+              }))))
               (λ t. let far = ltb-false past limit t in
-              record { here = refl; refuses = header-cut item (first-length f) far; no-earlier = by 7 (λ _. six-there far) (never 7 7 (omega arith)) (never 8 7 (omega arith)) })
+              record {
+                here = refl;
+                refuses = header-cut item (first-length f) far;
+                no-earlier = by 7 (λ _. six-there far) (never 7 7 (omega arith)) (never 8 7 (omega arith));
+              })
 
       -- the type field, and what follows it
       abbrev After : Field → Type 0
@@ -300,12 +321,14 @@ module _ (s : List ℕ) (at limit : ℕ) where
       five-cut b cut (inr (c, e, (p, f))) = cut p f
 
       module _ (h3 : room ≡ 0 → ⊥) where
-        missing : LongNumber s at → {p : ℕ} → HeaderHas s at limit p → limit ≤ p → (WrongNumber s at limit → ⊥) → ((p : ℕ) → FieldTo s at limit p → ⊥) → After (Wrong 7)
+        missing : LongNumber s at → {p : ℕ} → HeaderHas s at limit p → limit ≤ p → (WrongNumber s at limit → ⊥) →
+            ((p : ℕ) → FieldTo s at limit p → ⊥) → After (Wrong 7)
         missing b h far right cut =
             record {
               here = refl;
               refuses = header-cut item h far;
-              no-earlier = below 7 (λ _. h3) (λ _ w. right (w .1)) (λ _. five-cut b cut) (λ _ six. cut (six .0) (six .1)) (never 7 7 (omega arith)) (never 8 7 (omega arith));
+              no-earlier = below 7 (λ _. h3) (λ _ w. right (w .1)) (λ _. five-cut b cut) (λ _ six. cut (six .0) (six .1)) (never 7 7 (omega arith))
+                  (never 8 7 (omega arith));
             }
 
         four : LongNumber s at → WrongNumber s at limit → After (Wrong 4)
@@ -313,7 +336,8 @@ module _ (s : List ℕ) (at limit : ℕ) where
             record {
               here = refl;
               refuses = wrong-number item b w;
-              no-earlier = below 4 (λ _. h3) (never 4 4 (omega arith)) (never 5 4 (omega arith)) (never 6 4 (omega arith)) (never 7 4 (omega arith)) (never 8 4 (omega arith));
+              no-earlier = below 4 (λ _. h3) (never 4 4 (omega arith)) (never 5 4 (omega arith)) (never 6 4 (omega arith)) (never 7 4 (omega arith))
+                  (never 8 4 (omega arith));
             }
 
         five : Refuses 5 → (LongNumber s at × WrongNumber s at limit → ⊥) → After (Wrong 5)
@@ -321,7 +345,8 @@ module _ (s : List ℕ) (at limit : ℕ) where
             record {
               here = refl;
               refuses = r;
-              no-earlier = below 5 (λ _. h3) (λ _. right) (never 5 5 (omega arith)) (never 6 5 (omega arith)) (never 7 5 (omega arith)) (never 8 5 (omega arith));
+              no-earlier = below 5 (λ _. h3) (λ _. right) (never 5 5 (omega arith)) (never 6 5 (omega arith)) (never 7 5 (omega arith))
+                  (never 8 5 (omega arith));
             }
 
         -- a number that was read whole

@@ -1,6 +1,6 @@
--- A code stands for one type field, and back; and what is known of a code by the octets of its field. Assumes nothing.
+-- A code stands for one type field, and back; and what is known of a code by the octets of its field.
 use mathlib.Core.Path.{_≡_}
-use mathlib.Core.Bool.{Bool, true, false, false≢true}
+use mathlib.Core.Bool.{Bool, true, false≢true}
 use mathlib.Core.List.{List, [], _∷_}
 use Prim.Native.Nat.{ℕ, _+_, _*_, _/_, _%_, _<_, _≤_}
 use native.Mathlib.Omega.{arith}

@@ -1,4 +1,4 @@
--- Laws on the definitions of specs/. Assumes nothing.
+-- Laws on the definitions of specs/.
 use mathlib.Core.Path.{_≡_, refl}
 use mathlib.Core.List.{List, [], _∷_, _++_}
 use Prim.Native.Nat.{ℕ, _+_, _*_, _%_, _^_, _<_, _≤_}

@@ -1,7 +1,7 @@
 -- What an item's type field is that was read, and that a header that is read lies between its place and the limit, in the order of its
--- parts; and so does a closing mark. Assumes nothing.
-use mathlib.Core.Path.{_≡_, refl}
-use mathlib.Core.Bool.{Bool, true, false, cond, false≢true}
+-- parts; and so does a closing mark.
+use mathlib.Core.Path.{_≡_}
+use mathlib.Core.Bool.{Bool, true, false≢true}
 use mathlib.Core.List.{List, [], _∷_}
 use Prim.Native.Nat.{ℕ, _+_, _-_, _<_, _≤_}
 use native.Mathlib.Omega.{arith}
@@ -12,7 +12,8 @@ use Rattle.headers.specs.declared.Head.{Head}
 use Rattle.headers.specs.declared.Head.the-variants.{Item, ClosingMark, Refusal}
 use Rattle.headers.specs.declared.Field.{Field}
 use Rattle.headers.specs.declared.Field.the-variants.{Read, Wrong}
-use Rattle.headers.specs.Head.{numberBits, constructed, isIn, formAllowed, aboveThirty, codeOf, misfits, octetAt, definiteAt, indefiniteAt, longAt, byFirst, lengthAt, fieldAt, afterField, closingAt, itemAt, headAt}
+use Rattle.headers.specs.Head.{numberBits, constructed, isIn, formAllowed, aboveThirty, codeOf, misfits, octetAt, definiteAt, indefiniteAt, longAt}
+use Rattle.headers.specs.Head.{byFirst, lengthAt, fieldAt, afterField, closingAt, itemAt, headAt}
 use Rattle.laws.proofs.Tests.{cond-holds}
 
 -- a type field that was read at `at`, from this octet on: its code, and the place past it

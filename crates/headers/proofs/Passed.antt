@@ -1,4 +1,4 @@
--- What stands where nothing is refused: each test of `headAt` that could have refused went the other way. Assumes nothing.
+-- What stands where nothing is refused: each test of `headAt` that could have refused went the other way.
 use mathlib.Core.Path.{_≡_, refl, _∙_, subst}
 use mathlib.Core.Bool.{Bool, true, false}
 use mathlib.Core.List.{List}

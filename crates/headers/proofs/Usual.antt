@@ -1,4 +1,4 @@
--- The octets of `is_usual` pass rules 2, 4 and 5, and with the lengths that it lets through rule 8. Assumes nothing.
+-- The octets of `is_usual` pass rules 2, 4 and 5, and with the lengths that it lets through rule 8.
 use mathlib.Core.Path.{_≡_, refl}
 use mathlib.Core.Bool.{Bool, true, false, not}
 use mathlib.Core.Logic.{_⊎_, inl, inr}

@@ -2,7 +2,7 @@
 -- and 7. No condition looks at another one. "Each is given exactly when its condition holds and no earlier one does" is proved of `headAt`
 -- (proofs/Conditions: `refused-exactly`). One line is of no position and stands with the walk: "an indefinite item reaches it unclosed", 7
 -- too (octets, specs/Rules: `unclosed`). `at` is the position, before `limit`; `marked` says whether the innermost open item is indefinite, and
--- `room` is how many levels are left. Definitions only: assumes nothing.
+-- `room` is how many levels are left.
 use Prim.Native.Nat.{ℕ, _+_, _-_, _<_, _≤_}
 use mathlib.Core.Path.{_≡_}
 use mathlib.Core.Bool.{Bool, true, false}

@@ -1,7 +1,7 @@
 -- "Reading at a position yields an item header, a closing mark or a refusal." Document 01, "Octet rules" and numbers 2 to 8,
 -- which are tested in their order; X.209, 6.2 and 6.3. First the octet that begins an item, then what length octets say, then the header.
 -- `at` is the position, `limit` the end of the nearest enclosing definite item or of the stream, `marked` says whether the innermost open
--- item is indefinite, and `room` is how many levels are left. Definitions only: assumes nothing.
+-- item is indefinite, and `room` is how many levels are left.
 use Prim.Native.Nat.{ℕ, _/_, _%_, _+_, _*_, _-_}
 use mathlib.Core.Bool.{Bool, cond, false, true, _||_, not}
 use mathlib.Core.List.{List, [], _∷_}

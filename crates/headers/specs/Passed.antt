@@ -1,4 +1,4 @@
--- What the code asks of a header that it reads again: what stands there was not refused. Definitions only: assumes nothing.
+-- What the code asks of a header that it reads again: what stands there was not refused.
 use Rattle.headers.specs.declared.Head.{Head}
 use Rattle.headers.specs.declared.Head.the-variants.{Item, ClosingMark, Refusal}
 

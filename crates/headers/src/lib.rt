@@ -250,7 +250,7 @@ pub fn head_at(s: &[u8], at: usize, limit: usize, marked: bool, room: usize) -> 
     read_head(s, at, limit, marked, room)
 }
 
-// The same, for the block engine's loop alone. The compiler makes a function with one caller part of it; with a second one the walk, or the
+// `head_at`, for the block engine's loop alone. The compiler makes a function with one caller part of it; with a second one the walk, or the
 // engine, would call it for each item and take its answer from memory, and then each takes twice as long.
 pub fn head_apart(s: &[u8], at: usize, limit: usize, marked: bool, room: usize) -> Head
     requires { ⌜ (at < length (now s)) × (min limit (at + 8) ≤ length (now s)) ⌝ }

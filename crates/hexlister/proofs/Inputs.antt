@@ -1,9 +1,9 @@
 -- What is printed is the output of the text that was read, whatever its blocks were, and of all that follows a line that cannot be read: by what
--- `lister_hex` promises of any cutting. Assumes nothing.
+-- `lister_hex` promises of any cutting.
 use mathlib.Core.Path.{_≡_, refl, sym, ap, subst, _∙_}
 use mathlib.Core.Bool.{Bool, true, false, true≢false}
 use mathlib.Core.List.{List, [], _∷_, _++_, flatten, append-nil}
-use Prim.Native.Nat.{ℕ, _<_}
+use Prim.Native.Nat.{ℕ}
 use native.Mathlib.Omega.{arith}
 use lib.ListN.{length, take}
 use lib.IntN.{ℤ, pos, negsuc}
@@ -34,7 +34,10 @@ pub heard-more :
     Heard lent state octets →
     standing next after ≡ fed (standing state octets) block →
     Heard lent next after
-heard-more block {lent} h e = record { text = h .text ++ block; leads = e ∙ ap (λ (t : Standing). fed t block) (h .leads) ∙ fed-join (standing started lent) (h .text) block }
+heard-more block {lent} h e = record {
+  text = h .text ++ block;
+  leads = e ∙ ap (λ (t : Standing). fed t block) (h .leads) ∙ fed-join (standing started lent) (h .text) block;
+}
 
 -- what a turn takes in is a block more, whether reading goes on or is over
 pub heard-on :
@@ -122,7 +125,8 @@ one-block text lent full =
     subst (λ (t : List ℕ). Answers (reads t) lent (fed (standing started lent) t)) all
     (subst (Answers (reads (flatten (text ∷ []))) lent) (fed-flatten (text ∷ []) (standing started lent)) (any-cutting (text ∷ []) lent full))
 
-by-outcome : (outcome : TextMeaning) (lent : List ℕ) (end : Standing) → Answers outcome lent end → readLines (finished (end .state)) (end .out) ≡ outcomeLines outcome
+by-outcome : (outcome : TextMeaning) (lent : List ℕ) (end : Standing) → Answers outcome lent end
+    → readLines (finished (end .state)) (end .out) ≡ outcomeLines outcome
 by-outcome (hex.stream s) lent end a = rw (a .answer) (ap streamLines (a .part s refl))
 by-outcome (hex.unreadable line) lent end a = rw (a .answer)
 

@@ -1,10 +1,10 @@
 -- What the questions' answers give to print: by the demands on them, an accepted stream has no more elements than the table rows, no more
--- matches than elements, and a row for each. Assumes nothing.
+-- matches than elements, and a row for each.
 use mathlib.Core.Path.{_≡_, refl, sym, ap, ap₂, _∙_}
 use mathlib.Core.Bool.{true, false}
 use mathlib.Core.List.{List, [], _∷_, _++_}
 use mathlib.Core.Option.{some}
-use Prim.Native.Nat.{ℕ, suc, _+_, _*_, _/_, _<_, _≤_}
+use Prim.Native.Nat.{ℕ, suc, _+_, _*_, _/_, _≤_}
 use native.Mathlib.Omega.{arith}
 use lib.Dec.{eqb, ltb}
 use lib.ListN.{length, take, getD, getElem?, length-replicate, length-append, drop, length-drop}
@@ -29,8 +29,8 @@ use Rattle.answers.specs.declared.Listed.{Listed}
 use Rattle.answers.specs.Answers.{elementsBy, elementsIn, onto, tableOf, checked, checkedBy, matchesIn, CheckOutcome, ListOutcome}
 use Rattle.answers.proofs.Small.{refusal-small}
 use Rattle.answers.proofs.Letters.{letter-found}
-use Rattle.demands.proofs.Demand2.{demand2}
-use Rattle.demands.proofs.Demand3.{demand3}
+use Rattle.promises.proofs.Demand2.{demand2}
+use Rattle.promises.proofs.Demand3.{demand3}
 use Rattle.hexlister.specs.Output.{rowsLent, recordsLent, tableRoom, lentTable, noRecord, lentList, elementLines, acceptedLines, streamLines}
 use Rattle.hexlister.specs.Pages.{rowLine, rowLines}
 
@@ -42,7 +42,8 @@ pub record Accepted (s : List ℕ) : Type 0 where
   pub few : length elements ≤ rowsLent
 
 module _ (s : List ℕ) where
-  by-rows : (headers : ℕ) (elements : List Element) → letterIn Of1988 s ≡ letter headers elements → checkedBy (letter headers elements) lentTable .number ≡ 0 → Accepted s
+  by-rows : (headers : ℕ) (elements : List Element) → letterIn Of1988 s ≡ letter headers elements → checkedBy
+      (letter headers elements) lentTable .number ≡ 0 → Accepted s
   by-rows headers elements e =
       cases (ltb (length lentTable / tableWidth) (length elements))
       (λ t. rw t (λ n. absurd (omega arith)))
@@ -59,14 +60,16 @@ module _ (s : List ℕ) where
   accepted-on n = by-letter (letterIn Of1988 s) refl n
 
 -- the lines of the elements, by their rows in the table
-module _ (table : List ℕ) (all : List Row) (lines : (j : ℕ) (row : Row) → getElem? all j ≡ some row → rowLine table j ≡ element j (row .whole .first) (row .whole .past) (row .kind)) where
+module _ (table : List ℕ) (all : List Row) (lines : (j : ℕ) (row : Row) → getElem? all j ≡ some row → rowLine table j ≡ element j (row .whole .first)
+    (row .whole .past) (row .kind)) where
   lines-from : (k : ℕ) (rows : List Row) → ((i : ℕ) → getElem? rows i ≡ getElem? all (k + i)) → rowLines table k (length rows) ≡ elementLines k rows
   unfolding rowLines elementLines
   lines-from k [] at = refl
   lines-from k (row ∷ rows) at =
       let first : k + 0 ≡ k = omega arith in
       let here : getElem? all k ≡ some row = ap (getElem? all) (sym first) ∙ sym (at 0) in
-      let onward : (i : ℕ) → getElem? rows i ≡ getElem? all (suc k + i) = λ i. let next : k + suc i ≡ suc k + i = omega arith in at (suc i) ∙ ap (getElem? all) next in
+      let onward : (i : ℕ) → getElem? rows i ≡ getElem? all (suc k + i) = λ i. let next : k + suc i ≡ suc k + i = omega arith in at (suc i)
+      ∙ ap (getElem? all) next in
       ap₂ (λ (l m : List ℕ). l ++ m) (lines k row here) (lines-from (suc k) rows onward)
 
 module _ (elements : List Element) (rows : List Row) (rest : List ℕ) where
@@ -104,7 +107,8 @@ lists-all side s table {answer} {tableAfter} {records} n full o =
     let rows : length table / tableWidth ≡ rowsLent = ap (λ (k : ℕ). k / tableWidth) full in
     let found = letter-found Of1988 s (a .headers) (a .elements) e in
     let same : matchesIn Of1988 side s ≡ matches side (a .elements) = rw e in
-    let below : length (matchesIn Of1988 side s) ≤ length (a .elements) = rw same (no-more-than-elements (a .elements) (accepted-apart Of1988 _ _ (found .judged)) side) in
+    let below : length (matchesIn Of1988 side s) ≤ length (a .elements) = rw same
+    (no-more-than-elements (a .elements) (accepted-apart Of1988 _ _ (found .judged)) side) in
     let room : length lentList ≡ recordsLent = length-replicate recordsLent noRecord in
     let given = demand3 Of1988 .of-letter side s (a .headers) (a .elements) e .lists table lentList (omega (arith, a .few)) (omega (arith, a .few)) in
     let count : answer .matches ≡ length (matchesIn Of1988 side s) = ap (λ (r : Listed). r .matches) (o .answered ∙ given .0) in
@@ -141,13 +145,15 @@ checks-all s {answer} {table} zero-number o =
     }
 
 -- the lines of a stream, by the check's number
-pub refused-lines : (s : List ℕ) {answer : Checked} → answer ≡ checked Of1988 s lentTable → (answer .number ≡ 0 → ⊥) → refused (answer .number) (answer .place) ≡ streamLines s
+pub refused-lines : (s : List ℕ) {answer : Checked} → answer ≡ checked Of1988 s lentTable → (answer .number ≡ 0 → ⊥)
+    → refused (answer .number) (answer .place) ≡ streamLines s
 unfolding streamLines
 refused-lines s {answer} e other =
     let test : eqb (answer .number) 0 ≡ false = ne-eqb (answer .number) 0 other in
     rw (← e, test)
 
-pub accepted-lines : (s : List ℕ) {answer : Checked} → answer ≡ checked Of1988 s lentTable → answer .number ≡ 0 → acceptedLines (answer .elements) (answer .headers) s ≡ streamLines s
+pub accepted-lines : (s : List ℕ) {answer : Checked} → answer ≡ checked Of1988 s lentTable → answer .number ≡ 0
+    → acceptedLines (answer .elements) (answer .headers) s ≡ streamLines s
 unfolding streamLines
 accepted-lines s {answer} e same =
     let test : eqb (answer .number) 0 ≡ true = eq-eqb (answer .number) 0 same in

@@ -1,4 +1,4 @@
--- Lines that are put one after another are put as one: so the loops and the calls of `page` each add what they put. Assumes nothing.
+-- Lines that are put one after another are put as one: so the loops and the calls of `page` each add what they put.
 use Prim.Native.Nat.{ℕ, zero, suc, _+_, _*_, _≤_, _<_}
 use native.Mathlib.Omega.{arith}
 use native.Mathlib.Numerals.{add-one}
@@ -15,13 +15,15 @@ use Rattle.hexlister.specs.Output.{matchLine, matchLines}
 use Rattle.hexlister.specs.Pages.{lineRoom, PutsOnPage, rowLine, rowLines}
 
 -- the next byte of a line
-pub store-next : (page line : List ℕ) (at i : ℕ) → i < length line → sets (set page (at + i) (getD line i 0)) (at + (i + 1)) (drop (i + 1) line) ≡ sets page (at + i) (drop i line)
+pub store-next : (page line : List ℕ) (at i : ℕ) → i < length line
+    → sets (set page (at + i) (getD line i 0)) (at + (i + 1)) (drop (i + 1) line) ≡ sets page (at + i) (drop i line)
 store-next page line at i h =
     let e : at + (i + 1) ≡ at + i + 1 = omega arith in
     rw e (sym (sets-next page (at + i) line i h))
 
--- the same bytes
-pub puts-as : {bytes same page after : List ℕ} {at told room : ℕ} → bytes ≡ same → PutsOnPage bytes page at told after room → PutsOnPage same page at told after room
+-- bytes that are put may be named otherwise
+pub puts-as : {bytes same page after : List ℕ} {at told room : ℕ} → bytes ≡ same → PutsOnPage bytes page at told after room
+    → PutsOnPage same page at told after room
 puts-as {bytes} {same} {page} {after} {at} {told} {room} e p = subst (λ (l : List ℕ). PutsOnPage l page at told after room) e p
 
 -- what is put after something else
@@ -53,7 +55,8 @@ pub puts-nothing : (page : List ℕ) (at : ℕ) → PutsOnPage [] page at at pag
 puts-nothing page at = record { past = omega arith; stored = refl; within = omega arith }
 
 -- within more room
-pub puts-within : {bytes page after : List ℕ} {at told room more : ℕ} → PutsOnPage bytes page at told after room → room ≤ more → PutsOnPage bytes page at told after more
+pub puts-within : {bytes page after : List ℕ} {at told room more : ℕ} → PutsOnPage bytes page at told after room → room ≤ more
+    → PutsOnPage bytes page at told after more
 puts-within {bytes} {page} {after} {at} {told} {room} {more} p h = record { past = p .past; stored = p .stored; within = omega (arith, p .within) }
 
 -- a line more than so many
@@ -73,7 +76,8 @@ rows-more table number zero = rw (add-zero, append-nil)
 rows-more table number (suc count) =
     let e : number + suc count ≡ suc number + count = omega arith in
     append-assoc (rowLine table number) (rowLines table (suc number) count) (rowLine table (number + suc count))
-    ∙ ap (λ (l : List ℕ). rowLine table number ++ l) (subst (λ (k : ℕ). rowLines table (suc number) count ++ rowLine table k ≡ rowLines table (suc number) (suc count)) (sym e) (rows-more table (suc number) count))
+    ∙ ap (λ (l : List ℕ). rowLine table number ++ l) (subst (λ (k : ℕ). rowLines table (suc number) count ++ rowLine table k ≡ rowLines table
+    (suc number) (suc count)) (sym e) (rows-more table (suc number) count))
 
 pub puts-row :
     (table : List ℕ) (count : ℕ) {page middle after : List ℕ} {at here told : ℕ} →
@@ -86,7 +90,8 @@ puts-row table count p q =
     puts-more count p q (rw (add-one count) more)
 
 -- the lines of one match more
-matches-more : (side : Side) (ms : List Match) (count : ℕ) (none : Match) → count < length ms → matchLines side (take count ms) ++ matchLine side (getD ms count none) ≡ matchLines side (take (suc count) ms)
+matches-more : (side : Side) (ms : List Match) (count : ℕ) (none : Match) → count < length ms
+    → matchLines side (take count ms) ++ matchLine side (getD ms count none) ≡ matchLines side (take (suc count) ms)
 unfolding matchLines flatten
 matches-more side [] count none h = absurd (omega arith)
 matches-more side (m ∷ ms) zero none h = rw append-nil

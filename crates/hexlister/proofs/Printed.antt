@@ -1,4 +1,4 @@
--- The whole output for document 01's whole input is the one that it prints: all is computed. Assumes nothing.
+-- The whole output for document 01's whole input is the one that it prints: all is computed.
 use mathlib.Core.Path.{_≡_, refl}
 use mathlib.Core.Bool.{xor}
 use mathlib.Core.List.{flatten}

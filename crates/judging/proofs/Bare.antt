@@ -1,7 +1,6 @@
 -- An element in which nothing stands: whatever its shape it says no more than its kind, so it shares no name and its row is soon made.
--- Assumes nothing.
 use mathlib.Core.Path.{_≡_, refl, sym, ap, _∙_, subst}
-use mathlib.Core.Bool.{Bool, true, false, cond, _&&_}
+use mathlib.Core.Bool.{Bool, true, false, _&&_}
 use mathlib.Core.List.{List, [], _∷_}
 use mathlib.Core.Option.{none}
 use Prim.Native.Nat.{ℕ, _%_, _≤_}
@@ -122,7 +121,8 @@ row-says s code first past =
     }
 
 -- rules 9 to 15 of an item in which nothing stands
-module _ (edition : Edition) (s : List ℕ) (done : List Element) (item : PlacedItem) (may : MayBeBare edition (item .code)) (bare : itemsOf s (item .inner) ≡ noItems) where
+module _ (edition : Edition) (s : List ℕ) (done : List Element) (item : PlacedItem) (may : MayBeBare edition (item .code))
+    (bare : itemsOf s (item .inner) ≡ noItems) where
   abbrev early : ℕ
   early = earlyRefusal (length done) (item .code) (item .code)
 
@@ -138,8 +138,10 @@ module _ (edition : Edition) (s : List ℕ) (done : List Element) (item : Placed
     bare-passes =
         record {
           unrefused =
-              rw bare (refused-last edition done (item .code) empty (rw (may .known) passed) (may .fits) false (rw its-element (never-twice done (item .code))));
-          row-is = rw bare (sym (row-of-none (shapeBy edition (item .code)) s (item .first) (item .past) ∙ ap (λ (o : ℕ). bareRow o (item .first) (item .past)) (may .known)));
+              rw bare (refused-last edition done (item .code) empty (rw (may .known) passed) (may .fits) false
+              (rw its-element (never-twice done (item .code))));
+          row-is = rw bare (sym (row-of-none (shapeBy edition (item .code)) s (item .first) (item .past)
+              ∙ ap (λ (o : ℕ). bareRow o (item .first) (item .past)) (may .known)));
           says = rw (bare, its-element) (row-says s (item .code) (item .first) (item .past));
           placed = record {
             kind = omega arith;

@@ -1,5 +1,5 @@
 -- Rule 15 by the index: a row with the same name in the same name space is found exactly when its element clashes, for rows say what
--- their elements say and no identifier is empty. Assumes nothing.
+-- their elements say and no identifier is empty.
 use mathlib.Core.Path.{_≡_, refl, ap, sym, _∙_, subst}
 use mathlib.Core.Bool.{Bool, true, false, _&&_, _||_, false≢true}
 use mathlib.Core.List.{List, [], map}
@@ -126,7 +126,8 @@ module _ {s scratch : List ℕ} {n : ℕ} {table : List Row} {done : List Elemen
   abbrev shares-logical : Element → Bool
   shares-logical d = eqb (nameSpaceOf (d .kind)) (nameSpaceOf (e .kind)) && shares (d .logical) (e .logical)
 
-  by-identifier : (b : Bool) → Taken s scratch identifierColumn n (nameSpaceOf (row .kind)) (bytesIn s (row .identifier)) b → any (map shares-identifier done) ≡ b
+  by-identifier : (b : Bool) → Taken s scratch identifierColumn n (nameSpaceOf (row .kind)) (bytesIn s (row .identifier)) b → any
+      (map shares-identifier done) ≡ b
   by-identifier = hits identifierColumn (omega arith) (λ r. r .identifier) (λ d. d .identifier) (λ r. refl) (λ r. refl) (λ r d w. w .identifier)
 
   by-logical : (b : Bool) → Taken s scratch logicalColumn n (nameSpaceOf (row .kind)) (bytesIn s (row .logical)) b → any (map shares-logical done) ≡ b

@@ -1,4 +1,4 @@
--- What stands where in a list with one more at its end, and whether a test holds of any of a list. Assumes nothing.
+-- What stands where in a list with one more at its end, and whether a test holds of any of a list.
 use mathlib.Core.Path.{_≡_, refl, ap, sym, _∙_}
 use mathlib.Core.Bool.{Bool, true, false, _||_, true≢false}
 use mathlib.Core.List.{List, [], _∷_, _++_, map}

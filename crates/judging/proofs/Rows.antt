@@ -1,4 +1,4 @@
--- The numbers of rows, one row more, and what the scratch has of a row: what its element says. Assumes nothing.
+-- The numbers of rows, one row more, and what the scratch has of a row: what its element says.
 use mathlib.Core.Path.{_≡_, refl, ap, sym, _∙_}
 use mathlib.Core.List.{List, [], _∷_, _++_, append-assoc, append-nil}
 use mathlib.Core.Option.{some}
@@ -28,12 +28,16 @@ numbers-more (r ∷ rows) row =
 
 -- one row more is written
 pub written-more : (scratch : List ℕ) (n : ℕ) (rows : List Row) (row : Row) → take (n * scratchWidth) scratch ≡ numbers rows → length rows ≡ n
-    → n * scratchWidth + scratchWidth ≤ length scratch → take ((n + 1) * scratchWidth) (sets scratch (n * scratchWidth) (cells row)) ≡ numbers (rows ++ row ∷ [])
+    → n * scratchWidth + scratchWidth ≤ length scratch → take ((n + 1) * scratchWidth) (sets scratch (n * scratchWidth) (cells row)) ≡ numbers
+    (rows ++ row ∷ [])
 written-more scratch n rows row t size long =
-    let stored : sets scratch (n * scratchWidth) (cells row) ≡ take (n * scratchWidth) scratch ++ cells row ++ drop (n * scratchWidth + scratchWidth) scratch = sets-eq (cells row) scratch (n * scratchWidth) long in
-    let all : sets scratch (n * scratchWidth) (cells row) ≡ numbers (rows ++ row ∷ []) ++ drop (n * scratchWidth + scratchWidth) scratch = stored ∙ rw (t, numbers-more rows row) in
+    let stored : sets scratch (n * scratchWidth) (cells row) ≡ take (n * scratchWidth) scratch ++ cells row ++ drop
+    (n * scratchWidth + scratchWidth) scratch = sets-eq (cells row) scratch (n * scratchWidth) long in
+    let all : sets scratch (n * scratchWidth) (cells row) ≡ numbers (rows ++ row ∷ []) ++ drop (n * scratchWidth + scratchWidth) scratch = stored
+    ∙ rw (t, numbers-more rows row) in
     let whole : length (numbers (rows ++ row ∷ [])) ≡ (n + 1) * scratchWidth = numbers-length (rows ++ row ∷ []) ∙ simp length-append (omega arith) in
-    ap (take ((n + 1) * scratchWidth)) all ∙ take-at (numbers (rows ++ row ∷ [])) (drop (n * scratchWidth + scratchWidth) scratch) ((n + 1) * scratchWidth) whole
+    ap (take ((n + 1) * scratchWidth)) all ∙ take-at (numbers (rows ++ row ∷ [])) (drop (n * scratchWidth + scratchWidth) scratch)
+    ((n + 1) * scratchWidth) whole
 
 pub numbers-at : (rows : List Row) (j : ℕ) (row : Row) → getElem? rows j ≡ some row → (c : ℕ) → c < scratchWidth
     → getD (numbers rows) (j * scratchWidth + c) 0 ≡ getD (cells row) c 0

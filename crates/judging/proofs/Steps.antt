@@ -1,9 +1,9 @@
 -- The rules of an element in three steps, 9 to 11, 12 to 14 and 15, of which the first that refuses counts; and what an element does to
--- the judge of a run. Assumes nothing.
+-- the judge of a run.
 use mathlib.Core.Path.{_≡_, refl, _∙_}
 use mathlib.Core.Bool.{Bool, true, false, cond, xor}
 use mathlib.Core.List.{List, [], _∷_, _++_}
-use Prim.Native.Nat.{ℕ, _+_, _<_}
+use Prim.Native.Nat.{ℕ, _<_}
 use native.Mathlib.Omega.{arith}
 use borrow.Author.Tests.{eq-eqb, ne-eqb, leb-false}
 use borrow.Table.Steps.{cases}
@@ -72,7 +72,8 @@ pub is-other : (code known : ℕ) → (code ≡ known → ⊥) → is known (typ
 is-other code known e = is-field known code ∙ ne-eqb code known e
 
 -- an item of a run, and then those after it
-module _ (edition : Edition) (s : List ℕ) (done : List Element) (at code first past : ℕ) (inside after : Items) (nothing-inside : constructed code ≡ false → inside ≡ noItems) where
+module _ (edition : Edition) (s : List ℕ) (done : List Element) (at code first past : ℕ) (inside after : Items)
+    (nothing-inside : constructed code ≡ false → inside ≡ noItems) where
   pub judged-one : judgeFrom edition done (plain s (item at code first past inside after))
       ≡ judgeOne edition done (typeField code) (plain s inside) (λ more. judgeFrom edition more (plain s after))
   unfolding judgeFrom

@@ -1,5 +1,5 @@
 -- What the scratch holds while a stream is judged: the rows of the elements that are done. That their names can be looked up is said of the slices that
--- the look-up is lent (`Filed`). Nobody but the code that lends the scratch sees it. Definitions only: assumes nothing.
+-- the look-up is lent (`Filed`). Nobody but the code that lends the scratch sees it.
 use mathlib.Core.Path.{_≡_}
 use mathlib.Core.List.{List, [], _∷_, _++_}
 use Prim.Native.Nat.{ℕ, _*_}

@@ -1,5 +1,4 @@
 -- What the code learns of one element: the rules in three steps, whether an earlier row has its identifier, and its row.
--- Definitions only: assumes nothing.
 use mathlib.Core.Path.{_≡_}
 use mathlib.Core.Bool.{Bool, true, false}
 use mathlib.Core.List.{List, [], _∷_, _++_}

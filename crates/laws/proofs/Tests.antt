@@ -1,4 +1,4 @@
--- What holds of the case that a test picks. Assumes nothing.
+-- What holds of the case that a test picks.
 use mathlib.Core.Bool.{Bool, true, false, cond}
 use mathlib.Core.Path.{_≡_, refl}
 

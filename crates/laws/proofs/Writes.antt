@@ -1,4 +1,4 @@
--- Numbers that are written one after another into a list. Assumes nothing.
+-- Numbers that are written one after another into a list.
 use mathlib.Core.List.{List, _++_, [], _∷_}
 use Prim.Native.Nat.{ℕ, _+_, suc}
 use lib.Seq.{sets}

@@ -1,4 +1,4 @@
--- In an accepted letter no two elements share a name, for each was judged after those before it. Assumes nothing.
+-- In an accepted letter no two elements share a name, for each was judged after those before it.
 use mathlib.Core.Path.{_≡_, refl, sym, _∙_, subst}
 use mathlib.Core.Bool.{Bool, true, false, not, xor, _||_, true≢false}
 use mathlib.Core.List.{List, [], _∷_, _++_, map}
@@ -11,12 +11,13 @@ use lib.Dec.{eqb, leb}
 use lib.ListN.{length, getElem?, length-append}
 use Rattle.tree.specs.Tree.{Tree, empty, leaf, branch}
 use Rattle.names.proofs.Same.{same-refl}
-use Rattle.contents.specs.Search.{octets, is, firstValue}
+use Rattle.contents.specs.Search.{octets, is}
 use Rattle.portions.specs.Portions.{any, repeats}
 use Rattle.rows.specs.Rows.{nameSpaceOf}
 use Rattle.elements.specs.declared.Edition.{Edition}
 use Rattle.elements.specs.Shape.{shapeOf}
-use Rattle.elements.specs.Judge.{valueAt, typeOctet, typesOf, Element, elementOf, asTabled, typeFits, namesFit, mostElements, profileOctet, shares, clash, twice, refusalOf, Judged, accepted, refused, judgeOne, judgeFrom, judge}
+use Rattle.elements.specs.Judge.{valueAt, typeOctet, typesOf, Element, elementOf, asTabled, typeFits, namesFit, mostElements, profileOctet, shares, clash}
+use Rattle.elements.specs.Judge.{twice, refusalOf, Judged, accepted, refused, judgeOne, judgeFrom, judge}
 use Rattle.letters.specs.Apart.{Apart}
 use Rattle.judging.proofs.Lists.{Last, before, last, below-length, at-last, any-none}
 use Rattle.judging.proofs.Steps.{passed}
@@ -32,7 +33,8 @@ record Apt (done : List Element) (e : Element) : Type 0 where
   once : repeats (e .portions) ≡ false
   spelt : namesFit e ≡ true
 
-apt : (edition : Edition) (done : List Element) (type : List ℕ) (run : Tree) → refusalOf edition done type run ≡ 0 → Apt done (elementOf (shapeOf edition type) run)
+apt : (edition : Edition) (done : List Element) (type : List ℕ) (run : Tree) → refusalOf edition done type run ≡ 0
+    → Apt done (elementOf (shapeOf edition type) run)
 unfolding refusalOf twice
 apt edition done type run z =
     let shape = shapeOf edition type in
@@ -109,7 +111,8 @@ or-true a b e = rw e
 
 -- two elements of one name space have not the same identifier
 pub identifiers-differ : {elements : List Element} → Apart elements → (i j : ℕ) (d e : Element) → i < j → getElem? elements i ≡ some d
-    → getElem? elements j ≡ some e → nameSpaceOf (d .kind) ≡ nameSpaceOf (e .kind) → (xs ys : List ℕ) → d .identifier ≡ octets xs → e .identifier ≡ octets ys → xs ≡ ys → ⊥
+    → getElem? elements j ≡ some e → nameSpaceOf (d .kind) ≡ nameSpaceOf (e .kind) →
+    (xs ys : List ℕ) → d .identifier ≡ octets xs → e .identifier ≡ octets ys → xs ≡ ys → ⊥
 unfolding clash
 identifiers-differ a i j d e l p q same-space xs ys x y same-bytes =
     let shared : shares (d .identifier) (e .identifier) ≡ true = rw (x, y, same-bytes) (same-refl ys) in

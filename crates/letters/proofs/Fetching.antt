@@ -1,5 +1,4 @@
 -- The content of element j of a letter stands where its element holds it, and the content fields of its row bound it.
--- Assumes nothing.
 use mathlib.Core.Path.{_≡_, refl, ap, sym, _∙_, subst}
 use mathlib.Core.List.{List}
 use mathlib.Core.Option.{some}

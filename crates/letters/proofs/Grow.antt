@@ -1,4 +1,4 @@
--- A row more: it is written after the others, which stay as they are, and both indexes take it up. Assumes nothing.
+-- A row more: it is written after the others, which stay as they are, and both indexes take it up.
 use mathlib.Core.Path.{_≡_, refl, ap, _∙_}
 use mathlib.Core.List.{List, [], _∷_, _++_}
 use Prim.Native.Nat.{ℕ, _+_, _*_, _<_, _≤_}
@@ -26,8 +26,16 @@ narrow s row short placed =
     let identifier = placed .identifier in
     let logical = placed .logical in
     let portions = placed .portions in
-    let content = placed .content in
-    (omega (arith, placed .kind), (omega (arith, placed .object), (omega arith, (omega arith, (omega arith, (omega arith, (omega arith, (omega arith, (omega arith, (omega arith, (omega arith, (omega arith, tt))))))))))))
+    let content = placed .content in (
+      omega (arith, placed .kind),
+      (
+        omega (arith, placed .object),
+        (
+          omega arith,
+          (omega arith, (omega arith, (omega arith, (omega arith, (omega arith, (omega arith, (omega arith, (omega arith, (omega arith, tt))))))))),
+        ),
+      ),
+    )
 
 -- row n is written, and the rows before it are indexed
 pub record Written (s scratch head next : List ℕ) (column n : ℕ) (bytes : List ℕ) : Type 0 where

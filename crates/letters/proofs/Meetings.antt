@@ -1,4 +1,4 @@
--- A primitive item that is met has nothing inside. Assumes nothing.
+-- A primitive item that is met has nothing inside.
 use mathlib.Core.Path.{_≡_, sym}
 use mathlib.Core.Bool.{Bool, true, false, false≢true}
 use mathlib.Core.List.{List}

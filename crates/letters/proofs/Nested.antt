@@ -1,5 +1,5 @@
 -- Items lie in their run, at every depth, and the bounds of a value that is looked for lie there too; an item of the stream lies before
--- the next. By the rules of the walk. Assumes nothing.
+-- the next. By the rules of the walk.
 use mathlib.Core.Path.{_≡_, refl, sym, _∙_}
 use mathlib.Core.Bool.{Bool, true, false, false≢true}
 use mathlib.Core.Option.{Option, some, none}

@@ -1,5 +1,5 @@
 -- Where element j of a stream stands: its row begins there, the rest of the stream from there is a run, and its first item is the
--- element. By the rules of the walk. Assumes nothing.
+-- element. By the rules of the walk.
 use mathlib.Core.Path.{_≡_, refl, ap, sym, _∙_, subst}
 use mathlib.Core.Bool.{Bool, false, false≢true}
 use mathlib.Core.List.{List, [], _∷_, _++_}

@@ -1,5 +1,4 @@
 -- Where the judge stands between two elements: what is done is in the scratch, and the rest of the stream decides as the whole does.
--- Assumes nothing.
 use mathlib.Core.Path.{_≡_, refl, ap, sym, _∙_}
 use mathlib.Core.Bool.{false}
 use mathlib.Core.List.{List, [], _∷_, _++_, append-assoc, append-nil}
@@ -65,8 +64,10 @@ judging-none edition s scratch head next head2 next2 bounds lent fine = record {
     identifiers = bounded-none s scratch identifierColumn (omega arith);
     logicals = bounded-none s scratch logicalColumn (omega arith);
   };
-  by-identifier = filed-none s scratch identifierColumn head next (lent .some-heads) (lent .few-heads) (lent .empty-heads) (omega (arith, lent .links)) (lent .unmarked);
-  by-logical = filed-none s scratch logicalColumn head2 next2 (lent .some-heads2) (lent .few-heads2) (lent .empty-heads2) (omega (arith, lent .links2)) (lent .unmarked2);
+  by-identifier = filed-none s scratch identifierColumn head next (lent .some-heads) (lent .few-heads) (lent .empty-heads)
+      (omega (arith, lent .links)) (lent .unmarked);
+  by-logical = filed-none s scratch logicalColumn head2 next2 (lent .some-heads2) (lent .few-heads2) (lent .empty-heads2)
+      (omega (arith, lent .links2)) (lent .unmarked2);
   judged = refl;
   tabled = refl;
   counted = omega arith;
@@ -91,7 +92,8 @@ module _ {edition : Edition} {s scratch head next head2 next2 : List ℕ} {n : �
         let all-rows : rowsIn edition s ≡ j .table = j .tabled ∙ ap (λ (i : Items). j .table ++ rowsOf edition s i) end ∙ append-nil (j .table) in
         record {
           elements = j .done;
-          judged = judge-some edition s (itemsOfStream s) (omega (arith, whole-count, some)) ∙ j .judged ∙ ap (λ (i : Items). judgeFrom edition (j .done) (plain s i)) end;
+          judged = judge-some edition s (itemsOfStream s) (omega (arith, whole-count, some)) ∙ j .judged
+              ∙ ap (λ (i : Items). judgeFrom edition (j .done) (plain s i)) end;
           holds = rw all-rows (j .holds);
         }
 
@@ -121,7 +123,8 @@ module _ {edition : Edition} {s scratch head next head2 next2 : List ℕ} {n : �
         record {
           element = length (j .done);
           judged = met-judged ∙ met-tree
-              ∙ judged-refused edition s (j .done) (cur .at) code first past (itemsOf s inner) (itemsOf s rest) (nothing-inside (j .fine) m) number (w .0) (w .1);
+              ∙ judged-refused edition s (j .done) (cur .at) code first past (itemsOf s inner) (itemsOf s rest) (nothing-inside (j .fine) m) number
+              (w .0) (w .1);
           placed = sym (ap (λ (i : ℕ). placeOf i (itemsOfStream s)) (sym this) ∙ j .placed 0 ∙ ap (placeOf 0) (m .tree));
         }
 

@@ -1,5 +1,5 @@
 -- The table of a walked stream: its elements meet end to end, each pair lies in its element, and rows say what the elements of an
--- accepted letter say. Assumes nothing.
+-- accepted letter say.
 use mathlib.Core.Path.{_≡_, refl, subst}
 use mathlib.Core.List.{List}
 use mathlib.Core.Option.{some}
@@ -12,13 +12,11 @@ use Rattle.octets.proofs.RulesHold.{derives}
 use Rattle.tree.specs.Tree.{plain, treeOf}
 use Rattle.runs.specs.Runs.{wholeStream, Fine}
 use Rattle.runs.proofs.Laws.{start-at}
-use Rattle.contents.specs.Search.{octets}
 use Rattle.elements.specs.declared.Row.{Row}
 use Rattle.elements.specs.declared.Edition.{Edition}
 use Rattle.elements.specs.Shape.{Shape, shapeOf}
-use Rattle.elements.specs.Judge.{identifierOctet, logicalOctet, portionsOctet, single, Element}
-use Rattle.elements.specs.ElementRows.{bodyIn, contentOctet, rowOf, rowsOf, bytesIn}
-use Rattle.elements.specs.Says.{Contains, Says}
+use Rattle.elements.specs.Judge.{identifierOctet, logicalOctet, portionsOctet, Element}
+use Rattle.elements.specs.ElementRows.{bodyIn, contentOctet, rowOf, rowsOf}
 use Rattle.letters.specs.Letter.{itemsOfStream, rowsIn, EndToEnd, PairsWithin}
 use Rattle.letters.specs.Scratch.{LetterRows}
 use Rattle.letters.specs.Apart.{Apart}

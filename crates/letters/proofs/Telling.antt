@@ -1,4 +1,4 @@
--- The rows of a letter tell of its elements; they are few, and each is one of the table. Assumes nothing.
+-- The rows of a letter tell of its elements; they are few, and each is one of the table.
 use mathlib.Core.Path.{_≡_, ap, sym, _∙_, subst}
 use mathlib.Core.Option.{some}
 use mathlib.Core.List.{List}
@@ -37,7 +37,10 @@ module _ {edition : Edition} {s rows : List ℕ} {n : ℕ} (letter : LetterRows 
     abbrev row : Row
     row = own .row
 
-    pair-at : (column : ℕ) → column + 1 < scratchWidth → spanAt rows column j ≡ record { first = getD (cells row) column 0; past = getD (cells row) (column + 1) 0 }
+    pair-at : (column : ℕ) → column + 1 < scratchWidth → spanAt rows column j ≡ record {
+      first = getD (cells row) column 0;
+      past = getD (cells row) (column + 1) 0;
+    }
     pair-at column l = rw (first-at (letter .holds) j row (own .stands) column (omega arith), past-at (letter .holds) j row (own .stands) column l)
 
     run-at : portionsAt rows j ≡ portionsRun (row .portions)

@@ -1,5 +1,4 @@
 -- What is known of the elements of an accepted letter beside one another. Document 01, "Element rules".
--- Definitions only: assumes nothing.
 use mathlib.Core.Path.{_≡_}
 use mathlib.Core.Bool.{false, true}
 use mathlib.Core.List.{List}

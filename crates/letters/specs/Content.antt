@@ -1,5 +1,5 @@
 -- An element of a letter again by its row, as an item, and where its content stands, W-201: "The content is the pieces joined in order .. a 04
--- being one piece". Either is a part of the stream: the value of one item, or the run of the pieces. Definitions only: assumes nothing.
+-- being one piece". Either is a part of the stream: the value of one item, or the run of the pieces.
 use mathlib.Core.Path.{_≡_}
 use mathlib.Core.Bool.{cond}
 use mathlib.Core.List.{List}

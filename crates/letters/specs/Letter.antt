@@ -1,6 +1,5 @@
 -- The whole stream: refusals 1 to 15 in their order, the table of an accepted one, and what is promised of it. Document 01, "Numbers given
 -- back": "Refusal 1 comes first. Then the whole stream is walked for 2 to 8 .. Then elements in order, 9 to 15 in order within each."
--- Definitions only: assumes nothing.
 use Prim.Native.Nat.{ℕ, _≤_}
 use mathlib.Core.Bool.{false}
 use mathlib.Core.List.{List, [], _∷_}

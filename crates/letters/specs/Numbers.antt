@@ -1,4 +1,4 @@
--- The numbers of a row as they are kept: each in 32 bits. Definitions only: assumes nothing.
+-- The numbers of a row as they are kept: each in 32 bits.
 use Prim.Native.Nat.{ℕ, _<_}
 use mathlib.Core.List.{List, [], _∷_}
 use Rattle.elements.specs.declared.Row.{Row}

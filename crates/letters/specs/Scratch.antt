@@ -1,5 +1,5 @@
 -- What the judge of a stream gives, and what the scratch then holds: `LetterRows` is what all that is asked of the rows of a letter is asked by. Who looks
--- names up asks besides that the rows are filed in the slices it is lent (`Filed`). Definitions only: assumes nothing.
+-- names up asks besides that the rows are filed in the slices it is lent (`Filed`).
 use mathlib.Core.Path.{_≡_}
 use mathlib.Core.List.{List}
 use Prim.Native.Nat.{ℕ}

@@ -1,5 +1,5 @@
 -- What the rows of a letter tell of its elements. A function over rows says what it gives of all elements that the rows tell, and needs none of them
--- itself; that there are such elements, its caller knows by `LetterRows`. Of any edition. Definitions only: assumes nothing.
+-- itself; that there are such elements, its caller knows by `LetterRows`. Of any edition.
 use mathlib.Core.Path.{_≡_}
 use mathlib.Core.Bool.{true, cond}
 use mathlib.Core.Option.{some}

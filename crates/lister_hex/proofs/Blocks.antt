@@ -1,4 +1,4 @@
--- Feeding is a fold: the next byte goes first, two blocks are their join, and once stopped it stays so. Assumes nothing.
+-- Feeding is a fold: the next byte goes first, two blocks are their join, and once stopped it stays so.
 use Prim.Native.Nat.{ℕ, _+_, _≤_, _<_}
 use native.Mathlib.Numerals.{add-one}
 use mathlib.Core.Path.{_≡_, refl, _∙_}
@@ -10,7 +10,8 @@ use Rattle.lister_hex.specs.Blocks.{Standing, standing, onByte, fed}
 use Rattle.lister_hex.specs.Promise.{fedAll}
 
 -- from a byte of a block on
-pub fed-next : (t : Standing) (block : List ℕ) (i : ℕ) → i < length block → fed t (drop i block) ≡ fed (onByte (t .state) (t .out) (getD block i 0)) (drop (i + 1) block)
+pub fed-next : (t : Standing) (block : List ℕ) (i : ℕ) → i < length block
+    → fed t (drop i block) ≡ fed (onByte (t .state) (t .out) (getD block i 0)) (drop (i + 1) block)
 unfolding fed
 fed-next t block i h = rw (add-one, drop-cons block i 0)
 

@@ -1,4 +1,4 @@
--- Each example reads as it says: it is computed. Assumes nothing.
+-- Each example reads as it says: it is computed.
 use mathlib.Core.Path.{_≡_, refl}
 use mathlib.Core.List.{map}
 use Rattle.lister_text.specs.Ascii.{ascii}

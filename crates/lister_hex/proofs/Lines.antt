@@ -1,4 +1,5 @@
--- How the reading of lines begins: a newline ends a line of whole pairs, a pair with room for it is an octet of the stream, and all else makes the line unreadable. Assumes nothing.
+-- How the reading of lines begins: a newline ends a line of whole pairs, a pair with room for it is an octet of the stream, and all else makes the
+-- line unreadable.
 use Prim.Native.Nat.{ℕ, _+_, _≤_, _<_}
 use native.Mathlib.Omega.{arith}
 use mathlib.Core.Path.{_≡_, refl, sym, _∙_, ap}
@@ -18,7 +19,8 @@ unfolding digitValue
 digit-in-line b d = ne-eqb b newline (λ e. true≢false (sym d ∙ ap isHexDigit e))
 
 -- a newline ends a line of whole pairs
-pub reads-newline : (done : List ℕ) (number b : ℕ) (bs : List ℕ) → eqb b newline ≡ true → length done ≤ inputLimit → readsFrom done number (lines (b ∷ bs)) ≡ readsFrom done (number + 1) (lines bs)
+pub reads-newline : (done : List ℕ) (number b : ℕ) (bs : List ℕ) → eqb b newline ≡ true → length done ≤ inputLimit
+    → readsFrom done number (lines (b ∷ bs)) ≡ readsFrom done (number + 1) (lines bs)
 unfolding lines readsFrom pairs
 reads-newline done number b bs e h = rw (e, append-nil done, le-leb (length done) inputLimit h)
 
@@ -35,26 +37,30 @@ module _ (done : List ℕ) (number a b : ℕ) where
   broken (l ∷ ls) e = rw e
 
   -- whatever else the line holds, a pair more in it is an octet more of the stream
-  join-pair : (rest : Option (List ℕ)) (go : List ℕ → TextMeaning) → withLine done number (Option·map (λ os. octet a b ∷ os) rest) go ≡ withLine (done ++ (octet a b ∷ [])) number rest go
+  join-pair : (rest : Option (List ℕ)) (go : List ℕ → TextMeaning) → withLine done number (Option·map (λ os. octet a b ∷ os) rest) go ≡ withLine
+      (done ++ (octet a b ∷ [])) number rest go
   join-pair none go = refl
   join-pair (some os) go = rw append-snoc
 
   -- and past the limit it makes the line unreadable
-  join-past : (rest : Option (List ℕ)) (go : List ℕ → TextMeaning) → inputLimit ≤ length done → withLine done number (Option·map (λ os. octet a b ∷ os) rest) go ≡ unreadable number
+  join-past : (rest : Option (List ℕ)) (go : List ℕ → TextMeaning) → inputLimit ≤ length done → withLine done number
+      (Option·map (λ os. octet a b ∷ os) rest) go ≡ unreadable number
   join-past none go h = refl
   join-past (some os) go h =
       let past : inputLimit < length (done ++ octet a b ∷ os) = simp length-append (omega arith) in
       rw (lt-leb (length (done ++ octet a b ∷ os)) inputLimit past)
 
-  -- the same of a line that begins with the pair
-  begin-pair : (ls : List (List ℕ)) → isHexDigit a && isHexDigit b ≡ true → length done < inputLimit → readsFrom done number (begin a (begin b ls)) ≡ readsFrom (done ++ (octet a b ∷ [])) number ls
+  -- a line that begins with the pair reads as its octet and the rest
+  begin-pair : (ls : List (List ℕ)) → isHexDigit a && isHexDigit b ≡ true → length done < inputLimit → readsFrom done number
+      (begin a (begin b ls)) ≡ readsFrom (done ++ (octet a b ∷ [])) number ls
   unfolding readsFrom pairs
   begin-pair [] e h =
       let room : length (done ++ octet a b ∷ []) ≤ inputLimit = simp length-append (omega arith) in
       rw (e, le-leb (length (done ++ octet a b ∷ [])) inputLimit room)
   begin-pair (l ∷ ls) e h = rw e (join-pair (pairs l) (λ more. readsFrom more (number + 1) ls))
 
-  begin-past : (ls : List (List ℕ)) → isHexDigit a && isHexDigit b ≡ true → inputLimit ≤ length done → readsFrom done number (begin a (begin b ls)) ≡ unreadable number
+  begin-past : (ls : List (List ℕ)) → isHexDigit a && isHexDigit b ≡ true → inputLimit ≤ length done → readsFrom done number
+      (begin a (begin b ls)) ≡ unreadable number
   unfolding readsFrom pairs
   begin-past [] e h = rw e (join-past (some []) (λ more. stream more) h)
   begin-past (l ∷ ls) e h = rw e (join-past (pairs l) (λ more. readsFrom more (number + 1) ls) h)
@@ -67,7 +73,8 @@ module _ (done : List ℕ) (number a b : ℕ) where
         let digits = and-eq-true-iff (isHexDigit a) (isHexDigit b) .0 e in
         rw (digit-in-line a (digits .0), digit-in-line b (digits .1))
 
-    pub reads-pair : isHexDigit a && isHexDigit b ≡ true → length done < inputLimit → readsFrom done number (lines (a ∷ b ∷ bs)) ≡ readsFrom (done ++ (octet a b ∷ [])) number (lines bs)
+    pub reads-pair : isHexDigit a && isHexDigit b ≡ true → length done < inputLimit → readsFrom done number (lines (a ∷ b ∷ bs)) ≡ readsFrom
+        (done ++ (octet a b ∷ [])) number (lines bs)
     reads-pair e h = rw (lines-pair e) (begin-pair (lines bs) e h)
 
     pub reads-past : isHexDigit a && isHexDigit b ≡ true → inputLimit ≤ length done → readsFrom done number (lines (a ∷ b ∷ bs)) ≡ unreadable number

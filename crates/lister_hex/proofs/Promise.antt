@@ -1,4 +1,5 @@
--- A text fed in any cutting is answered as the whole text reads: the blocks are their join, and along one text each pair and each newline moves the standing and the reading of lines alike. Assumes nothing.
+-- A text fed in any cutting is answered as the whole text reads: the blocks are their join, and along one text each pair and each newline moves the
+-- standing and the reading of lines alike.
 use Prim.Native.Nat.{ℕ, suc, _+_, _≤_, _<_, min}
 use native.Mathlib.Omega.{arith}
 use mathlib.Core.Path.{_≡_, refl, sym, _∙_}
@@ -31,12 +32,14 @@ no-stream number s e = let never : _≡_ {A = ℕ} 0 1 = cc in omega arith
 
 module _ (lent : List ℕ) (full : length lent ≡ inputLimit) where
   -- a line that cannot be read, and what is told of it
-  unread : (outcome : TextMeaning) (number : ℕ) (end : Standing) → outcome ≡ unreadable number → finished (end .state) ≡ readAs (unreadable number) → Answers outcome lent end
+  unread : (outcome : TextMeaning) (number : ℕ) (end : Standing) → outcome ≡ unreadable number → finished (end .state) ≡ readAs
+      (unreadable number) → Answers outcome lent end
   unread outcome number end u e =
       record { answer = rw u e; part = λ s o. absurd (no-stream number s (sym u ∙ o)); past = λ s o. absurd (no-stream number s (sym u ∙ o)) }
 
   -- wherever in it reading stopped
-  stopped : (outcome : TextMeaning) (number : ℕ) (out bs : List ℕ) → outcome ≡ unreadable number → Answers outcome lent (fed (standing (Stopped (min number lastLine)) out) bs)
+  stopped : (outcome : TextMeaning) (number : ℕ) (out bs : List ℕ) → outcome ≡ unreadable number → Answers outcome lent
+      (fed (standing (Stopped (min number lastLine)) out) bs)
   stopped outcome number out bs u = rw fed-stopped (unread outcome number _ u refl)
 
   -- in a line, after whole pairs

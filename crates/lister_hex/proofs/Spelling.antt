@@ -1,4 +1,4 @@
--- Octets that are spelt as pairs read back, as many as the limit allows: each pair is read as one octet more. Assumes nothing.
+-- Octets that are spelt as pairs read back, as many as the limit allows: each pair is read as one octet more.
 use Prim.Native.Nat.{ℕ, _+_, _/_, _%_, _≤_, _<_}
 use native.Mathlib.Omega.{arith}
 use mathlib.Core.Path.{_≡_, refl, _∙_}
@@ -22,7 +22,12 @@ value-digit v h = go (ltb v 10) refl
         rw (le-leb 48 (48 + v) (omega arith), le-leb (48 + v) 57 (omega arith)) (omega arith)
     go false e =
         let many : 10 ≤ v = ltb-false v 10 e in
-        rw (le-leb 48 (55 + v) (omega arith), lt-leb (55 + v) 57 (omega arith), le-leb 65 (55 + v) (omega arith), le-leb (55 + v) 70 (omega arith)) (omega arith)
+        rw (
+          le-leb 48 (55 + v) (omega arith),
+          lt-leb (55 + v) 57 (omega arith),
+          le-leb 65 (55 + v) (omega arith),
+          le-leb (55 + v) 70 (omega arith),
+        ) (omega arith)
 
 -- the two digits of an octet are digits, and its own
 octet-digits : (o : ℕ) → o < 256 → (isHexDigit (digitOf (o / 16)) && isHexDigit (digitOf (o % 16)) ≡ true) × (octet (digitOf (o / 16)) (digitOf (o % 16)) ≡ o)
@@ -50,9 +55,11 @@ after-octet o os done number h go true r =
 after-octet o os done number h go false r =
     let full : inputLimit ≤ length done = ltb-false (length done) inputLimit r in
     let past : inputLimit < length (done ++ o ∷ os) = simp length-append (omega arith) in
-    rw (lt-leb (length (done ++ o ∷ os)) inputLimit past) (reads-past done number (digitOf (o / 16)) (digitOf (o % 16)) (spelling os) (octet-digits o h .0) full)
+    rw (lt-leb (length (done ++ o ∷ os)) inputLimit past) (reads-past done number (digitOf (o / 16)) (digitOf (o % 16)) (spelling os)
+    (octet-digits o h .0) full)
 
-reads-spelling : (os : List ℕ) → Octets os → (number : ℕ) (done : List ℕ) → length done ≤ inputLimit → readsFrom done number (lines (spelling os)) ≡ after done number os
+reads-spelling : (os : List ℕ) → Octets os → (number : ℕ) (done : List ℕ) → length done ≤ inputLimit
+    → readsFrom done number (lines (spelling os)) ≡ after done number os
 unfolding spelling lines readsFrom
 reads-spelling [] all number done h = rw (append-nil done, le-leb (length done) inputLimit h)
 reads-spelling (o ∷ os) all number done h =

@@ -1,4 +1,4 @@
--- The same reading in blocks: where it stands after the bytes so far, and the lent array then.
+-- Lines read in blocks: where it stands after the bytes so far, and the lent array then.
 -- `Promise` says that this is what the whole text reads as, wherever it is cut.
 use Prim.Native.Nat.{ℕ, _+_, min}
 use mathlib.Core.Bool.{cond, _&&_}

@@ -1,4 +1,4 @@
--- A decimal number is its tenth and then its last digit, since turns past the number's own change nothing; the rest follows by going down the tenths. Assumes nothing.
+-- A decimal number is its tenth and then its last digit, since turns past the number's own change nothing; the rest follows by going down the tenths.
 use Prim.Native.Nat.{ℕ, zero, suc, _+_, _-_, _*_, _/_, _%_, _^_, _≤_, _<_}
 use native.Mathlib.Nat.{pow-suc}
 use native.Mathlib.Omega.{arith}

@@ -1,4 +1,4 @@
--- What document 01 prints is what the lines make: it is computed. Assumes nothing.
+-- What document 01 prints is what the lines make: it is computed.
 use mathlib.Core.Path.{_≡_, refl}
 use mathlib.Core.List.{flatten}
 use Rattle.lister_text.specs.Decimal.{decimalIn, decimal}

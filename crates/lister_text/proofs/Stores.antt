@@ -1,4 +1,4 @@
--- One run of stores after another is one run, so what a line is joined from is stored piece by piece. Assumes nothing.
+-- One run of stores after another is one run, so what a line is joined from is stored piece by piece.
 use Prim.Native.Nat.{ℕ, suc, _+_, _≤_, _<_}
 use native.Mathlib.Nat.{add-zero, zero-add, add-suc, suc-add}
 use native.Mathlib.Numerals.{add-one}
@@ -33,7 +33,8 @@ module _ (numbers : List ℕ) (i : ℕ) (h : i < length numbers) where
 
   pub rest-stores :
       (l : List ℕ) (here : ℕ) →
-      sets (sets (set l here spaceByte) (here + 1) (decimal number)) (here + 1 + length (decimal number)) (rest (drop (i + 1) numbers)) ≡ sets l here (rest (drop i numbers))
+      sets (sets (set l here spaceByte) (here + 1) (decimal number)) (here + 1 + length (decimal number)) (rest (drop (i + 1) numbers)) ≡ sets l here
+      (rest (drop i numbers))
   rest-stores l here = rw (rest-next, add-one here, sets-join)
 
 pub rest-end : (numbers : List ℕ) (i : ℕ) → length numbers ≤ i → rest (drop i numbers) ≡ newline ∷ []

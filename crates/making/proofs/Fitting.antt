@@ -1,5 +1,5 @@
 -- What it is that no entry is refused: each is well spelt, has an identifier that no entry before it has, and is within the elements. The
--- judge of entries, taken apart. Assumes nothing.
+-- judge of entries, taken apart.
 use mathlib.Core.Path.{_≡_, refl, ap, sym, _∙_}
 use mathlib.Core.Bool.{Bool, true, false, not}
 use mathlib.Core.List.{List, [], _∷_, _++_, map, append-nil}
@@ -59,13 +59,15 @@ module _ (buffer : List ℕ) where
       → (partsInside buffer entry ≡ true) × (allSpelt (saidBy buffer entry) ≡ true)
   unfolding entryRefusal
   passed-tests done entry e =
-      let p = passed (partsInside buffer entry) (allSpelt (saidBy buffer entry)) (used done (saidBy buffer entry)) (ltb mostElements (elementsFor (suc (length done)))) e in
+      let p = passed (partsInside buffer entry) (allSpelt (saidBy buffer entry)) (used done (saidBy buffer entry))
+      (ltb mostElements (elementsFor (suc (length done)))) e in
       (p .first, p .second)
 
   pub fits-one : (done : List Said) (entry : Entry) → entryRefusal buffer done entry ≡ 0 → Fits done (saidBy buffer entry)
   unfolding entryRefusal
   fits-one done entry e =
-      let p = passed (partsInside buffer entry) (allSpelt (saidBy buffer entry)) (used done (saidBy buffer entry)) (ltb mostElements (elementsFor (suc (length done)))) e in
+      let p = passed (partsInside buffer entry) (allSpelt (saidBy buffer entry)) (used done (saidBy buffer entry))
+      (ltb mostElements (elementsFor (suc (length done)))) e in
       record {
         well = spelt (saidBy buffer entry) (p .second);
         fresh = p .third;

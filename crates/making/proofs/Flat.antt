@@ -1,5 +1,5 @@
 -- The judge over entries as numbers: what the loop of code keeps. Up to entry k all fit; entry k fits too, or is what the answer is, whatever
--- follows it. Assumes nothing.
+-- follows it.
 use mathlib.Core.Path.{_≡_, refl, ap, sym, _∙_}
 use mathlib.Core.List.{List, [], _∷_, _++_}
 use Prim.Native.Nat.{ℕ, zero, suc, _<_}
@@ -34,7 +34,8 @@ module _ (buffer numbers : List ℕ) (k : ℕ) (done : List Said) (so-far : judg
   one-each = count-said buffer (entriesIn numbers k) done so-far ∙ count-in numbers k
 
   -- entry k fits: so do all up to it
-  pub fits-on : entryRefusal buffer done (entryAt numbers k) ≡ 0 → judgeEntries buffer (entriesIn numbers (suc k)) ≡ fit (done ++ (saidBy buffer (entryAt numbers k) ∷ []))
+  pub fits-on : entryRefusal buffer done (entryAt numbers k) ≡ 0 → judgeEntries buffer (entriesIn numbers (suc k)) ≡ fit
+      (done ++ (saidBy buffer (entryAt numbers k) ∷ []))
   unfolding entriesIn judgeEntriesFrom
   fits-on e = judged-on buffer [] (entriesIn numbers k) (entryAt numbers k ∷ []) done so-far ∙ judge-more buffer done (entryAt numbers k) [] e
 

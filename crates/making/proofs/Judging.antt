@@ -1,5 +1,5 @@
--- The judge of entries between two of them: those before have passed, and scratch keeps them. Assumes nothing.
-use mathlib.Core.Path.{_≡_, refl, ap, sym, _∙_, subst}
+-- The judge of entries between two of them: those before have passed, and scratch keeps them.
+use mathlib.Core.Path.{_≡_, refl, ap, sym, _∙_}
 use mathlib.Core.Logic.{_⊎_, inl, inr}
 use mathlib.Core.List.{List, [], _∷_, _++_, map}
 use Prim.Native.Nat.{ℕ, _+_, _-_, _*_, _/_, _<_, _≤_}
@@ -10,8 +10,6 @@ use Rattle.names.specs.Hash.{hashes}
 use Rattle.rows.specs.Rows.{scratchWidth}
 use Rattle.rows.specs.Chains.{Empty}
 use Rattle.rows.specs.Lookup.{markOf}
-use Rattle.answers.specs.declared.Reason.{Reason}
-use Rattle.making.specs.declared.Entry.{Entry}
 use Rattle.making.specs.Entries.{Said, saidBy, entryRefusal, fit, refusedEntry, judgeEntriesFrom, judgeEntries}
 use Rattle.making.specs.Answers.{reasonOf}
 use Rattle.making.specs.Flat.{entryWidth, entryAt, entriesIn}
@@ -39,7 +37,8 @@ no-mark : (n : ℕ) → 0 < n → markOf (replicate n 0) ≡ 0
 no-mark n some = getD-replicate n (length (replicate {A = ℕ} n 0) - 1) 0 0 (omega (arith, zeros n))
 
 -- arrays of zeros are what is lent
-pub zeros-roomy : (numbers : List ℕ) (rows heads links : ℕ) → (length numbers / entryWidth < links) ⊎ (2047 < links) → links * scratchWidth ≤ rows + scratchWidth
+pub zeros-roomy : (numbers : List ℕ) (rows heads links : ℕ) → (length numbers / entryWidth < links) ⊎ (2047 < links)
+    → links * scratchWidth ≤ rows + scratchWidth
     → 0 < heads → heads ≤ hashes → Roomy numbers (replicate rows 0) (replicate heads 0) (replicate links 0)
 zeros-roomy numbers rows heads links enough room some few = record {
   some-heads = omega (arith, zeros heads);
@@ -59,7 +58,11 @@ pub record Judging (buffer numbers rows head next : List ℕ) (k : ℕ) : Type 0
 pub judging-none : (buffer numbers rows head next : List ℕ) → Roomy numbers rows head next → Judging buffer numbers rows head next 0
 unfolding entriesIn judgeEntriesFrom
 judging-none buffer numbers rows head next roomy =
-    record { done = []; so-far = refl; keeps = keeps-none buffer rows head next (roomy .some-heads) (roomy .few-heads) (roomy .empty-heads) (roomy .some-links) (roomy .unmarked) }
+    record {
+      done = [];
+      so-far = refl;
+      keeps = keeps-none buffer rows head next (roomy .some-heads) (roomy .few-heads) (roomy .empty-heads) (roomy .some-links) (roomy .unmarked);
+    }
 
 module _ {buffer numbers rows head next : List ℕ} {k : ℕ} (j : Judging buffer numbers rows head next k) where
   -- no more than fit

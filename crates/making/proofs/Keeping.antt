@@ -1,10 +1,10 @@
--- A row more for an entry more: scratch keeps it, and the rows before it. Assumes nothing.
-use mathlib.Core.Path.{_≡_, refl, ap, sym, _∙_, subst}
+-- A row more for an entry more: scratch keeps it, and the rows before it.
+use mathlib.Core.Path.{_≡_, refl, ap, sym, _∙_}
 use mathlib.Core.List.{List, [], _∷_, _++_}
 use Prim.Native.Nat.{ℕ, _+_, _*_, _<_, _≤_}
 use native.Mathlib.Omega.{arith}
 use lib.Dec.{eqb}
-use lib.ListN.{length, getD, set, length-append, length-set}
+use lib.ListN.{length, set, length-append, length-set}
 use lib.Seq.{slice, getD-set-same, getD-set-other}
 use borrow.Author.Tests.{eqb-true, eqb-false}
 use borrow.Table.Steps.{cases}
@@ -47,14 +47,16 @@ module _ (rows : List ℕ) (n first past : ℕ) (long : n * scratchWidth + scrat
 
   pub put-kind : kindAt rowPut n ≡ blockKind
   put-kind =
-      getD-set-other (set (set rows (n * scratchWidth) blockKind) (n * scratchWidth + 4) first) (n * scratchWidth + 4 + 1) (n * scratchWidth) past 0 (λ e. absurd (omega arith))
+      getD-set-other (set (set rows (n * scratchWidth) blockKind) (n * scratchWidth + 4) first) (n * scratchWidth + 4 + 1) (n * scratchWidth) past 0
+      (λ e. absurd (omega arith))
       ∙ getD-set-other (set rows (n * scratchWidth) blockKind) (n * scratchWidth + 4) (n * scratchWidth) first 0 (λ e. absurd (omega arith))
       ∙ getD-set-same rows (n * scratchWidth) blockKind 0 (omega arith)
 
   pub put-first : firstAt rowPut identifierColumn n ≡ first
   put-first =
       let size : length (set rows (n * scratchWidth) blockKind) ≡ length rows = simp length-set refl in
-      getD-set-other (set (set rows (n * scratchWidth) blockKind) (n * scratchWidth + 4) first) (n * scratchWidth + 4 + 1) (n * scratchWidth + 4) past 0 (λ e. absurd (omega arith))
+      getD-set-other (set (set rows (n * scratchWidth) blockKind) (n * scratchWidth + 4) first) (n * scratchWidth + 4 + 1)
+      (n * scratchWidth + 4) past 0 (λ e. absurd (omega arith))
       ∙ getD-set-same (set rows (n * scratchWidth) blockKind) (n * scratchWidth + 4) first 0 (omega arith)
 
   pub put-past : pastAt rowPut identifierColumn n ≡ past

@@ -1,4 +1,4 @@
--- Entries that lie in the buffer: their sizes by their bounds are those of what they say, and each entry more adds its own. Assumes nothing.
+-- Entries that lie in the buffer: their sizes by their bounds are those of what they say, and each entry more adds its own.
 use mathlib.Core.Path.{_≡_, refl, ap, sym, _∙_, subst}
 use mathlib.Core.List.{List, [], _∷_, _++_, map-append}
 use Prim.Native.Nat.{ℕ, zero, suc, _+_, _*_, _/_, _<_, _≤_}
@@ -13,7 +13,7 @@ use Rattle.normal.specs.Passes.{PutsOctets}
 use Rattle.making.specs.declared.Entry.{Entry}
 use Rattle.making.specs.Entries.{Said, saidBy, unitName}
 use Rattle.making.specs.Flat.{entryWidth, entryAt, entriesIn, saidUpTo}
-use Rattle.making.specs.Octets.{nameSize, entrySizeBy, entrySize, entryOctets, entriesOctets, entriesSize, capped}
+use Rattle.making.specs.Octets.{entrySizeBy, entryOctets, entriesOctets, entriesSize, capped}
 use Rattle.making.specs.Lent.{namesOf, textOf, EntryLies, Ordered, AllLie, AllOrdered, sizeUpTo}
 use Rattle.making.proofs.Octets.{Short, entries-size}
 use Rattle.making.proofs.Steps.{written-more, measured-more}

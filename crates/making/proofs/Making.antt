@@ -1,8 +1,7 @@
--- What the question answers, case by case: a refusal of an entry, 17, 18, or the letter written. Assumes nothing.
+-- What the question answers, case by case: a refusal of an entry, 17, 18, or the letter written.
 use mathlib.Core.Path.{_≡_, refl, ap, sym, _∙_, subst}
-use mathlib.Core.Bool.{Bool, true, false, not}
 use mathlib.Core.List.{List, [], _∷_, _++_}
-use Prim.Native.Nat.{ℕ, zero, suc, _+_, _/_, _<_, _≤_}
+use Prim.Native.Nat.{ℕ, zero, suc, _/_, _<_, _≤_}
 use native.Mathlib.Nat.{zero-add}
 use native.Mathlib.Omega.{arith}
 use lib.Dec.{eqb}
@@ -13,10 +12,8 @@ use borrow.Table.Steps.{cases}
 use Rattle.octets.specs.Walk.{streamLimit}
 use Rattle.normal.specs.Passes.{PutsOctets}
 use Rattle.answers.specs.declared.Reason.{Reason}
-use Rattle.answers.specs.declared.Written.{Written}
-use Rattle.answers.specs.Answers.{onto}
 use Rattle.making.specs.declared.Entry.{Entry}
-use Rattle.making.specs.Entries.{Said, saidBy, partsInside, allSpelt, JudgedEntries, entryRefusal, fit, refusedEntry, judgeEntriesFrom, judgeEntries}
+use Rattle.making.specs.Entries.{Said, saidBy, JudgedEntries, entryRefusal, fit, refusedEntry, judgeEntriesFrom, judgeEntries}
 use Rattle.making.specs.Stream.{streamOf}
 use Rattle.making.specs.Answers.{notMade, reasonOf, madeOf, madeOutput, MakeOutcome}
 use Rattle.making.specs.Flat.{entryWidth, entryAt, entriesIn, entriesOf, saidIn}
@@ -25,7 +22,7 @@ use Rattle.making.specs.Lent.{EntryLies, AllLie, sizeFor}
 use Rattle.making.proofs.Fitting.{passed-tests, says}
 use Rattle.making.proofs.Octets.{octets-are}
 use Rattle.making.proofs.Ruling.{entry-lies}
-use Rattle.making.proofs.Sizes.{capped-within, capped-cases}
+use Rattle.making.proofs.Sizes.{capped-cases}
 use Rattle.making.proofs.Lent.{LieUpTo, all-short, octets-up-to}
 
 module _ (buffer : List ℕ) where
@@ -35,7 +32,8 @@ module _ (buffer : List ℕ) where
     front-fits : judgeEntriesFrom buffer done front ≡ fit mid
     back-fits : judgeEntriesFrom buffer mid back ≡ fit said
 
-  parted : (done : List Said) (front back : List Entry) (said : List Said) → judgeEntriesFrom buffer done (front ++ back) ≡ fit said → Parted done front back said
+  parted : (done : List Said) (front back : List Entry) (said : List Said) → judgeEntriesFrom buffer done
+      (front ++ back) ≡ fit said → Parted done front back said
   unfolding judgeEntriesFrom
   parted done [] back said e = record { mid = done; front-fits = refl; back-fits = e }
   parted done (x ∷ front) back said e =
@@ -98,7 +96,8 @@ module _ (buffer numbers out : List ℕ) where
   fits-by (refusedEntry number k) e z = absurd (refused-some buffer [] entries number k e z)
   fits-by (fit said) e z = e ∙ ap fit (says buffer entries said e)
 
-  pub make-fits : (reason : Reason) → reason ≡ reasonOf (judgeEntries buffer entries) → reason .number ≡ 0 → judgeEntries buffer entries ≡ fit (saidIn buffer numbers)
+  pub make-fits : (reason : Reason) → reason ≡ reasonOf (judgeEntries buffer entries) → reason .number ≡ 0 → judgeEntries buffer entries ≡ fit
+      (saidIn buffer numbers)
   make-fits reason e z = fits-by (judgeEntries buffer entries) refl (sym (ap (λ (r : Reason). r .number) e) ∙ z)
 
   module _ (fits : judgeEntries buffer entries ≡ fit (saidIn buffer numbers)) where
@@ -113,7 +112,10 @@ module _ (buffer numbers out : List ℕ) where
 
     size-is : length stream ≡ sizeFor numbers
     size-is =
-        let e : length (streamOctets (saidIn buffer numbers)) ≡ sizeFor numbers = omega (arith, octets-up-to buffer numbers (length numbers / entryWidth) make-lie) in
+        let e : length (streamOctets (saidIn buffer numbers)) ≡ sizeFor numbers = omega (
+          arith,
+          octets-up-to buffer numbers (length numbers / entryWidth) make-lie,
+        ) in
         ap length stream-is ∙ e
 
     -- 17
@@ -121,7 +123,8 @@ module _ (buffer numbers out : List ℕ) where
     unfolding madeOf madeOutput
     make-long size e l =
         let over : streamLimit < length stream
-        = capped-cases (sizeFor numbers) (λ n. n ≡ size → streamLimit < length stream) (λ m f. omega (arith, size-is)) (λ m f. omega (arith, size-is)) (sym e) in
+        = capped-cases (sizeFor numbers) (λ n. n ≡ size → streamLimit < length stream) (λ m f. omega (arith, size-is))
+        (λ m f. omega (arith, size-is)) (sym e) in
         let t = lt-ltb streamLimit (length stream) over in
         record { answered = rw (fits, t); put = rw (fits, t) }
 

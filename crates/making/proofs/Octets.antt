@@ -1,5 +1,5 @@
 -- The stream from front to back is the normal form of the tree: an item's length octets say the length of what follows, and the short ones
--- are one octet. Assumes nothing.
+-- are one octet.
 use mathlib.Core.Path.{_≡_, refl, ap, _∙_}
 use mathlib.Core.List.{List, [], _∷_, _++_, append-assoc, append-nil}
 use Prim.Native.Nat.{ℕ, _+_, _<_, _≤_}

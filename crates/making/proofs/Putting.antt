@@ -1,4 +1,4 @@
--- One entry as code writes it: octets, length octets and parts of the buffer, one after another. Assumes nothing.
+-- One entry as code writes it: octets, length octets and parts of the buffer, one after another.
 use mathlib.Core.Path.{_≡_, refl, ap, sym, _∙_}
 use mathlib.Core.List.{List, [], _∷_, _++_, append-assoc, append-nil}
 use Prim.Native.Nat.{ℕ, suc, _+_}
@@ -43,7 +43,8 @@ module _ (said : Said) where
   n = nameSize said
 
   -- a block in its pieces
-  pub block-pieces : blockFront n (length (said .identifier)) ++ (said .identifier ++ (portionFront (length (said .portion)) ++ said .portion)) ≡ blockOctets said []
+  pub block-pieces : blockFront n (length (said .identifier)) ++
+      (said .identifier ++ (portionFront (length (said .portion)) ++ said .portion)) ≡ blockOctets said []
   unfolding blockOctets
   block-pieces = rw (append-nil (said .portion))
 

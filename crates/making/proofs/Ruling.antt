@@ -1,7 +1,7 @@
--- The rules of an entry, one after another, as code finds them. Assumes nothing.
-use mathlib.Core.Path.{_≡_, refl, ap, sym, _∙_}
+-- The rules of an entry, one after another, as code finds them.
+use mathlib.Core.Path.{_≡_, refl}
 use mathlib.Core.Bool.{Bool, true, false, false≢true, true≢false, and-eq-true-iff}
-use mathlib.Core.List.{List, [], _∷_, _++_}
+use mathlib.Core.List.{List, [], _∷_}
 use Prim.Native.Nat.{ℕ, suc, _+_, _-_, _<_, _≤_}
 use native.Mathlib.Omega.{arith}
 use lib.Dec.{leb}
@@ -11,10 +11,9 @@ use Rattle.names.specs.Names.{spaceByte, longestIdentifier, isIdentifier, isPor
 use Rattle.contents.specs.declared.Span.{Span}
 use Rattle.portions.specs.Portions.{all}
 use Rattle.elements.specs.Judge.{mostElements}
-use Rattle.elements.specs.ElementRows.{bytesIn}
 use Rattle.making.specs.declared.Entry.{Entry}
 use Rattle.making.specs.Entries.{Said, saidBy, inside, partsInside, unitName, allSpelt, used, elementsFor, entryRefusal}
-use Rattle.making.specs.Lent.{PartLies, namesOf, EntryLies}
+use Rattle.making.specs.Lent.{PartLies, EntryLies}
 use Rattle.making.proofs.Sizes.{part-size}
 
 -- three tests, of which the last, the second or the first tells

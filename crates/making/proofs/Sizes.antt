@@ -1,5 +1,5 @@
--- Sizes: how long the parts of an entry are by their bounds, and sums of sizes that stop growing past the limit. Assumes nothing.
-use mathlib.Core.Path.{_≡_, refl, ap, sym, _∙_}
+-- Sizes: how long the parts of an entry are by their bounds, and sums of sizes that stop growing past the limit.
+use mathlib.Core.Path.{_≡_, ap, sym, _∙_}
 use mathlib.Core.List.{List, [], _∷_, _++_}
 use Prim.Native.Nat.{ℕ, _+_, _-_, _<_, _≤_}
 use native.Mathlib.Omega.{arith}
@@ -91,6 +91,8 @@ pub unit-by : (said : Said) (u n t : ℕ) → u ≡ unitSize said → n ≡ name
     → header 0xA3 u ++ ((unitFront n ++ (said .identifier ++ ((spaceByte ∷ []) ++ said .portion))) ++ (header 0x04 t ++ said .text)) ≡ unitOctets said []
 unit-by said u n t e f g =
     ap (λ (k : ℕ). header 0xA3 k ++ ((unitFront n ++ (said .identifier ++ ((spaceByte ∷ []) ++ said .portion))) ++ (header 0x04 t ++ said .text))) e
-    ∙ ap (λ (k : ℕ). header 0xA3 (unitSize said) ++ ((unitFront k ++ (said .identifier ++ ((spaceByte ∷ []) ++ said .portion))) ++ (header 0x04 t ++ said .text))) f
-    ∙ ap (λ (k : ℕ). header 0xA3 (unitSize said) ++ ((unitFront (nameSize said) ++ (said .identifier ++ ((spaceByte ∷ []) ++ said .portion))) ++ (header 0x04 k ++ said .text))) g
+    ∙ ap (λ (k : ℕ). header 0xA3 (unitSize said) ++ ((unitFront k ++ (said .identifier ++ ((spaceByte ∷ []) ++ said .portion))) ++
+    (header 0x04 t ++ said .text))) f
+    ∙ ap (λ (k : ℕ). header 0xA3 (unitSize said) ++ ((unitFront (nameSize said) ++ (said .identifier ++ ((spaceByte ∷ []) ++ said .portion))) ++
+    (header 0x04 k ++ said .text))) g
     ∙ unit-pieces said

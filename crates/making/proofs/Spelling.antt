@@ -1,4 +1,4 @@
--- A unit identifier is an identifier: groups of allDigits, a nameSpaceOf, and allDigits are groups of allDigits. Assumes nothing.
+-- A unit identifier is an identifier: groups of allDigits, a nameSpaceOf, and allDigits are groups of allDigits.
 use mathlib.Core.Path.{_≡_, refl}
 use mathlib.Core.Bool.{Bool, true, false, _&&_, false≢true, and-eq-true-iff}
 use mathlib.Core.List.{List, [], _∷_, _++_}

@@ -1,16 +1,15 @@
--- The steps of code that makes a letter: one entry more that is judged, looked up, measured or written. Assumes nothing.
+-- The steps of code that makes a letter: one entry more that is judged, looked up, measured or written.
 use mathlib.Core.Path.{_≡_, refl, ap, sym, _∙_}
-use mathlib.Core.Bool.{true, false, false≢true, and-eq-true-iff}
+use mathlib.Core.Bool.{true, false≢true}
 use mathlib.Core.List.{List, [], _∷_, _++_, append-assoc}
 use mathlib.Core.Option.{some}
-use Prim.Native.Nat.{ℕ, _+_, _<_, _≤_}
+use Prim.Native.Nat.{ℕ, _+_, _<_}
 use native.Mathlib.Omega.{arith}
-use lib.Dec.{leb}
 use lib.ListN.{length, getElem?}
 use lib.Seq.{length-slice}
-use borrow.Author.Tests.{ne-eqb, leb-true}
+use borrow.Author.Tests.{ne-eqb}
 use borrow.Table.Steps.{cases}
-use Rattle.names.specs.Names.{longestIdentifier, grouped, isIdentifier, same}
+use Rattle.names.specs.Names.{grouped, isIdentifier, same}
 use Rattle.names.proofs.Same.{same-eq, same-refl}
 use Rattle.rows.specs.declared.RowFound.{RowFound}
 use Rattle.rows.specs.declared.RowFound.the-variants.{At, Nothing}
@@ -19,11 +18,9 @@ use Rattle.rows.specs.Rows.{nameSpaceOf}
 use Rattle.rows.specs.Chains.{Has, FindsRow}
 use Rattle.judging.proofs.Lists.{below-length, at-below, any-true, any-false}
 use Rattle.making.specs.declared.Entry.{Entry}
-use Rattle.making.specs.Entries.{Said, saidBy, unitName, used, entryRefusal, refusedEntry, judgeEntriesFrom, Spelt}
+use Rattle.making.specs.Entries.{Said, saidBy, used, entryRefusal, refusedEntry, judgeEntriesFrom, Spelt}
 use Rattle.making.specs.Octets.{entrySize, entryOctets, blockOctets, unitOctets, entriesOctets, entriesSize}
 use Rattle.making.specs.Keeps.{blockSpace, Keeps, isFound}
-use Rattle.making.proofs.Fitting.{AllFit}
-use Rattle.making.proofs.Octets.{Short}
 
 -- one entry judged: the judge goes on with the next, or ends
 module _ (buffer : List ℕ) (done : List Said) (entry : Entry) (entries : List Entry) where
@@ -84,21 +81,3 @@ pub measured-more : (done : List Said) (said : Said) → entriesSize (done ++ (s
 unfolding entriesSize
 measured-more [] said = omega arith
 measured-more (x ∷ done) said = let e = measured-more done said in omega arith
-
--- a size that is over the limit stays over it, and a text over it is enough: so code need not add up such sizes
-pub measured-on : (done more : List Said) → entriesSize done ≤ entriesSize (done ++ more)
-unfolding entriesSize
-measured-on [] more = omega arith
-measured-on (x ∷ done) more = let e = measured-on done more in omega arith
-
-pub text-within : (said : Said) → length (said .text) ≤ entrySize said
-text-within said = omega arith
-
--- entries that fit have short names
-pub name-fits : (xs : List ℕ) → isIdentifier xs ≡ true → length xs ≤ longestIdentifier
-unfolding isIdentifier
-name-fits xs e = leb-true (length xs) longestIdentifier (and-eq-true-iff (leb (length xs) longestIdentifier) (grouped false xs) .0 e .0)
-
-pub fit-short : (done said : List Said) → AllFit done said → Short said
-fit-short done [] f = tt
-fit-short done (x ∷ said) (f, more) = (name-fits (unitName x) (f .well .unit), fit-short (done ++ (x ∷ [])) said more)

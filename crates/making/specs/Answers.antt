@@ -1,5 +1,5 @@
 -- The question that makes a letter: what it answers, and what it leaves in the output. W-208: "then 17, then 18; place is the entry's
--- number, 0 for the last two; output untouched". Definitions only: assumes nothing.
+-- number, 0 for the last two; output untouched".
 use Prim.Native.Nat.{ℕ}
 use mathlib.Core.Path.{_≡_}
 use mathlib.Core.Bool.{cond}

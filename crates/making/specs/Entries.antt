@@ -1,7 +1,6 @@
 -- The entries that a letter is made of, W-208: "a lent list of entries (identifier, portion, text, each a first and past in one lent
 -- buffer)", and their refusals: "entries in order, from 0, and within one in this order: 27 .., 14 .., 15 .., 9 ..".
 -- An entry is the code's own struct: a first and past for each of its parts. 17 and 18 are the answer's, not an entry's.
--- Definitions only: assumes nothing.
 use Prim.Native.Nat.{ℕ, suc, _+_, _*_}
 use mathlib.Core.Path.{_≡_}
 use mathlib.Core.Bool.{Bool, true, cond, not, _&&_}

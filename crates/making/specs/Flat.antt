@@ -1,5 +1,4 @@
 -- Entries as they are lent: six numbers an entry, one entry after another. "An incomplete last entry is not used", as of a table's rows.
--- Definitions only: assumes nothing.
 use Prim.Native.Nat.{ℕ, zero, suc, _+_, _*_, _/_}
 use mathlib.Core.List.{List, [], _∷_, _++_, map}
 use lib.ListN.{length, getD}

@@ -1,5 +1,5 @@
 -- What scratch keeps for 15, so that an identifier used before is found by the index: a row for each entry that is done, of the kind of a
--- block, with the bounds of its identifier. The other numbers of a row are free. Definitions only: assumes nothing.
+-- block, with the bounds of its identifier. The other numbers of a row are free.
 use Prim.Native.Nat.{ℕ, _+_, _*_, _/_, _<_, _≤_}
 use mathlib.Core.Path.{_≡_}
 use mathlib.Core.Bool.{Bool, true, false}

@@ -1,5 +1,5 @@
 -- Entries that were judged and fit, as the code that measures and writes relies on them: their parts lie in the buffer, and their names are
--- short. Definitions only: assumes nothing.
+-- short.
 use Prim.Native.Nat.{ℕ, zero, suc, _+_, _-_, _/_, _<_, _≤_}
 use mathlib.Core.List.{List}
 use lib.ListN.{length}
@@ -27,7 +27,7 @@ pub record EntryLies (buffer : List ℕ) (entry : Entry) : Type 0 where
   pub text : PartLies buffer (entry .text)
   pub short : namesOf entry ≤ 63
 
--- the same of an entry by itself: each part ends no sooner than it begins, and its names are short
+-- an entry by itself, whatever the buffer: each part ends no sooner than it begins, and its names are short
 pub record Ordered (entry : Entry) : Type 0 where
   pub identifier : entry .identifier .first ≤ entry .identifier .past
   pub portion : entry .portion .first ≤ entry .portion .past

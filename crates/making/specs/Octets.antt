@@ -1,6 +1,6 @@
 -- The stream of a letter that is made, from front to back: how code writes it, with no tree and nothing measured twice. An identifier, a
 -- space and a portion are at most 64 octets, so all lengths but two are one octet. That this is the tree's normal form, piece by piece, is
--- `octets-are` (proofs/Octets). Definitions only: assumes nothing.
+-- `octets-are` (proofs/Octets).
 use Prim.Native.Nat.{ℕ, _+_}
 use mathlib.Core.List.{List, [], _∷_, _++_}
 use mathlib.Core.Bool.{cond}

@@ -4,7 +4,7 @@ use crate::Entry;
 use contents::Span;
 use octets::STREAM_LIMIT;
 ghost use mathlib.Core.Path.{_≡_};
-ghost use mathlib.Core.List.{List, [], _∷_, _++_};
+ghost use mathlib.Core.List.{[], _∷_, _++_};
 ghost use Prim.Native.Nat.{_+_, _-_, _<_, _≤_};
 ghost use lib.ListN.{length};
 ghost use Rattle.names.specs.Names.{spaceByte};
@@ -13,21 +13,7 @@ ghost use Rattle.normal.specs.Passes.{PutsOctets};
 ghost use Rattle.normal.specs.Normal.{furtherOctets};
 ghost use Rattle.elements.specs.ElementRows.{bytesIn};
 ghost use Rattle.making.specs.Entries.{saidBy};
-ghost use Rattle.making.specs.Octets.{
-  itemSize,
-  unitSizeBy,
-  entrySizeBy,
-  capped,
-  header,
-  blockFront,
-  portionFront,
-  unitFront,
-  blockOctets,
-  unitOctets,
-  entryOctets,
-  entriesOctets,
-  streamOctets,
-};
+ghost use Rattle.making.specs.Octets.{itemSize, unitSizeBy, entrySizeBy, capped, header, blockFront, unitFront, blockOctets, unitOctets, entryOctets, entriesOctets, streamOctets};
 ghost use Rattle.making.specs.Flat.{saidIn};
 ghost use Rattle.making.specs.Lent.{PartLies, namesOf, textOf, EntryLies, Ordered, AllLie, AllOrdered, sizeFor};
 

@@ -1,4 +1,4 @@
--- The integer that octets are, by what the code looks at: how many there are, and the first two. Assumes nothing.
+-- The integer that octets are, by what the code looks at: how many there are, and the first two.
 use mathlib.Core.Path.{_≡_, refl, ap, sym, _∙_}
 use mathlib.Core.Bool.{Bool, true, false, cond, not, _&&_, false≢true}
 use mathlib.Core.List.{List, [], _∷_}

@@ -1,4 +1,4 @@
--- Within a table of pairs is within one of them: the tests one by one. Assumes nothing.
+-- Within a table of pairs is within one of them: the tests one by one.
 use mathlib.Core.Path.{_≡_, refl}
 use mathlib.Core.Bool.{Bool, true, false, _||_, true≢false, false≢true}
 use mathlib.Core.List.{List, [], _∷_}

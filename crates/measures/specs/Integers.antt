@@ -1,5 +1,5 @@
 -- The integer that the octets of a value are. X.209, 8: "two's complement", and the fewest octets: the first nine bits are not all alike. W-210: "at
--- most four octets and shortest". Definitions only: assumes nothing.
+-- most four octets and shortest".
 use Prim.Native.Nat.{ℕ, _+_, _*_, _-_, _/_, _^_}
 use mathlib.Core.Bool.{Bool, cond, true, false, not, _&&_}
 use mathlib.Core.List.{List, [], _∷_}

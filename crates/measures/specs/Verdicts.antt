@@ -1,5 +1,5 @@
 -- What a page's two numbers are to PM1. T.502, table 10 (source document 003): the row of dimensions, with its essential and its non-essential
--- values, in basic measurement units. W-210: "State within once over the table of pairs." Definitions only: assumes nothing.
+-- values, in basic measurement units. W-210: "State within once over the table of pairs."
 use Prim.Native.Nat.{ℕ}
 use mathlib.Core.Bool.{Bool, cond, false, not, _&&_, _||_}
 use mathlib.Core.List.{List, [], _∷_}

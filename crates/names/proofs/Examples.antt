@@ -1,4 +1,4 @@
--- Spellings at the edges of the rules, and those that were got wrong before: one table with one statement. Assumes nothing.
+-- Spellings at the edges of the rules, and those that were got wrong before: one table with one statement.
 use mathlib.Core.Path.{_≡_, refl}
 use mathlib.Core.Bool.{Bool, true, false}
 use mathlib.Core.List.{List, [], _∷_, map}

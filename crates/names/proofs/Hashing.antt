@@ -1,4 +1,4 @@
--- A hash goes on byte by byte, so in parts too, and stays below 2^32; its bucket is one of the buckets. Assumes nothing.
+-- A hash goes on byte by byte, so in parts too, and stays below 2^32; its bucket is one of the buckets.
 use mathlib.Core.Path.{_≡_, refl, sym, ap, _∙_}
 use mathlib.Core.List.{List, [], _∷_, _++_}
 use Prim.Native.Nat.{ℕ, _+_, _*_, _-_, _%_, _^_, _<_, _≤_}

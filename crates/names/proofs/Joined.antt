@@ -1,4 +1,4 @@
--- A portion number has no space, so it is all after the last space of a joined name, and such a name tells both its parts. Assumes nothing.
+-- A portion number has no space, so it is all after the last space of a joined name, and such a name tells both its parts.
 use mathlib.Core.Path.{_≡_, refl, sym, ap, _∙_}
 use mathlib.Core.Bool.{true, _&&_, false≢true, and-eq-true-iff}
 use mathlib.Core.List.{List, [], _∷_, _++_}

@@ -1,4 +1,4 @@
--- A part of a list begins with its first element, and is two parts wherever it is cut. Assumes nothing.
+-- A part of a list begins with its first element, and is two parts wherever it is cut.
 use mathlib.Core.Path.{_≡_, sym, ap, _∙_}
 use mathlib.Core.List.{List, _∷_, _++_}
 use Prim.Native.Nat.{ℕ, _+_, _<_, _≤_}

@@ -1,4 +1,4 @@
--- Lists are the same exactly when they are equal; compared from the front, in two parts, or by their lengths alone. Assumes nothing.
+-- Lists are the same exactly when they are equal; compared from the front, in two parts, or by their lengths alone.
 use mathlib.Core.Path.{_≡_, refl, ap}
 use mathlib.Core.Bool.{true, false, _&&_, false≢true}
 use mathlib.Core.List.{List, [], _∷_, _++_}

@@ -1,4 +1,4 @@
--- What the length of a part and its first byte decide of its spelling. Assumes nothing.
+-- What the length of a part and its first byte decide of its spelling.
 use mathlib.Core.Path.{_≡_, ap}
 use mathlib.Core.Bool.{Bool, true, false, cond, _&&_}
 use mathlib.Core.List.{List}

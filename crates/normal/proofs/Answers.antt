@@ -1,4 +1,4 @@
--- What the writer gives, by how long the normal form is: each case is one of `answerOf`. Assumes nothing.
+-- What the writer gives, by how long the normal form is: each case is one of `answerOf`.
 use mathlib.Core.Path.{_≡_, refl, ap, sym, _∙_}
 use mathlib.Core.Bool.{true, false}
 use mathlib.Core.List.{List}

@@ -1,4 +1,4 @@
--- The writer gives of each example what it should. Assumes nothing.
+-- The writer gives of each example what it should.
 use mathlib.Core.Path.{_≡_, refl}
 use mathlib.Core.List.{map}
 use Rattle.headers.specs.Head.{permits, formAllowed, bigEndianFrom, misfits, definiteAt, indefiniteAt, longAt, byFirst, lengthAt, itemAt, closingAt, headAt}

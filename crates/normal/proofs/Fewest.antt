@@ -1,4 +1,4 @@
--- No length octets that say a number are fewer than those of the normal form: k octets say numbers below 256 ^ k. Assumes nothing.
+-- No length octets that say a number are fewer than those of the normal form: k octets say numbers below 256 ^ k.
 use mathlib.Core.Path.{_≡_, subst}
 use mathlib.Core.List.{List, [], _∷_}
 use Prim.Native.Nat.{ℕ, suc, _+_, _*_, _^_, _<_, _≤_}

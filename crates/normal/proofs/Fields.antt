@@ -1,4 +1,4 @@
--- A type field as it is written: its octets, each from the code. Assumes nothing.
+-- A type field as it is written: its octets, each from the code.
 use mathlib.Core.Path.{_≡_, ap, _∙_, subst}
 use mathlib.Core.List.{List, [], _∷_}
 use Prim.Native.Nat.{ℕ, _/_, _%_, _<_, _≤_}

@@ -1,4 +1,4 @@
--- How many octets a length takes, what its leading zeros tell of that, and that its octets are written one after another. Assumes nothing.
+-- How many octets a length takes, what its leading zeros tell of that, and that its octets are written one after another.
 use mathlib.Core.Path.{_≡_, refl, ap, sym, _∙_}
 use mathlib.Core.List.{List, [], _∷_}
 use Prim.Native.Nat.{ℕ, zero, suc, _+_, _-_, _*_, _^_, _/_, _%_, _<_, _≤_}
@@ -81,6 +81,7 @@ pub by-some : (k n : ℕ) → (k ≡ 0 → ⊥) → lengthBy k n ≡ (0x80 + k) 
 by-some zero n p = absurd (p refl)
 by-some (suc k) n p = refl
 
-pub put-long : (l : List ℕ) (at n k : ℕ) → k ≡ furtherOctets n → (k ≡ 0 → ⊥) → sets (set l at (0x80 + k)) (at + 1) (numberOctets k n) ≡ sets l at (lengthOctets n)
+pub put-long : (l : List ℕ) (at n k : ℕ) → k ≡ furtherOctets n → (k ≡ 0 → ⊥)
+    → sets (set l at (0x80 + k)) (at + 1) (numberOctets k n) ≡ sets l at (lengthOctets n)
 put-long l at n k e p =
     rw (add-one at) (ap (sets l at) (sym (by-some k n p) ∙ ap (λ (j : ℕ). lengthBy j n) e))

@@ -1,4 +1,4 @@
--- The measuring of a run: what is counted so far, with what is left from `at`, is all of it, and a turn keeps that. Assumes nothing.
+-- The measuring of a run: what is counted so far, with what is left from `at`, is all of it, and a turn keeps that.
 use mathlib.Core.Path.{_≡_, refl, ap, sym, _∙_}
 use mathlib.Core.Bool.{Bool, true, false, false≢true}
 use mathlib.Core.List.{List, _++_, append-assoc, append-nil}
@@ -26,7 +26,10 @@ plain-measured room s h v k =
       measures = record {
         past = sym (ap endOf e);
         size = sym (ap length f ∙ length-slice (h .start) (h .bound) s (v .within));
-        own = λ _. (f ∙ ap (λ (j : ℕ). slice (h .start) j s) (sym z), z ∙ ap (λ (x : Bool). pastOf x (h .bound)) (sym (unmarked (h .marked) (h .code) (v .mark) k)));
+        own = λ _. (
+          f ∙ ap (λ (j : ℕ). slice (h .start) j s) (sym z),
+          z ∙ ap (λ (x : Bool). pastOf x (h .bound)) (sym (unmarked (h .marked) (h .code) (v .mark) k)),
+        );
       };
       inner = λ e′. absurd (false≢true (sym e′));
     }
@@ -53,7 +56,8 @@ module _ (room : ℕ) (s : List ℕ) (from limit : ℕ) (marked : Bool) where
 
   module _ (at size : ℕ) (shortest : Bool) (c : Counted at size shortest) where
     -- at the end of the run all is counted
-    pub all-counted : (past : ℕ) → Meets room s at limit marked (Last past) → RunMeasures room s from limit marked (record { next = past; size = size; shortest = shortest })
+    pub all-counted : (past : ℕ) → Meets room s at limit marked (Last past) → RunMeasures room s from limit marked
+        (record { next = past; size = size; shortest = shortest })
     all-counted past (e, f, g) = record {
       past = sym (ap endOf (c .same ∙ e));
       size = sym (c .sum ∙ ap (λ (l : List ℕ). size + length l) f ∙ omega arith);

@@ -1,4 +1,4 @@
--- The normal form codes the tree that it is made of: its lengths say what they should, and nothing else of an item changes. Assumes nothing.
+-- The normal form codes the tree that it is made of: its lengths say what they should, and nothing else of an item changes.
 use mathlib.Core.Path.{_≡_, _∙_, subst}
 use mathlib.Core.List.{List, _∷_}
 use Prim.Native.Nat.{ℕ, zero, suc, _+_, _*_, _^_, _/_, _%_, _<_, _≤_}
@@ -41,7 +41,8 @@ shortest n l =
     (λ _. cond-holds P (ltb n 0x1000000) (λ e. long-length 2 n (omega arith) (ltb-true n 0x1000000 e))
     (λ _. long-length 3 n (omega arith) l))))
 
-pub coded-length : (type value after : List ℕ) → length (coded type value after) ≡ length type + (1 + furtherOctets (length value)) + length value + length after
+pub coded-length : (type value after : List ℕ)
+    → length (coded type value after) ≡ length type + (1 + furtherOctets (length value)) + length value + length after
 coded-length type value after = simp length-append (omega (arith, length-length (length value)))
 
 -- The normal form codes the same tree, and no item of it is indefinite.
@@ -78,6 +79,14 @@ small nothing = omega arith
 small (primitive {type = type} {len} {value} {rest} {after} g m l c) =
     simp length-append (omega (arith, length-length (length value), further-le (length value), field-some g, some-length l, small c))
 small (definite {type = type} {len} {value} {rest} {inside} {after} g l j c) =
-    simp length-append (omega (arith, length-length (length (normalOf inside)), further-le (length (normalOf inside)), field-some g, some-length l, small c, small j))
+    simp length-append (omega (
+      arith,
+      length-length (length (normalOf inside)),
+      further-le (length (normalOf inside)),
+      field-some g,
+      some-length l,
+      small c,
+      small j,
+    ))
 small (indefinite {type = type} {value} {rest} {inside} {after} g j c) =
     simp length-append (omega (arith, length-length (length (normalOf inside)), further-le (length (normalOf inside)), field-some g, small c, small j))

@@ -1,5 +1,4 @@
 -- Octets that are as few as those of the normal form, are those of the normal form: length octets of one number and one count are the same.
--- Assumes nothing.
 use mathlib.Core.Path.{_≡_, refl, ap, sym, _∙_, subst}
 use mathlib.Core.Bool.{Bool, true, false}
 use mathlib.Core.List.{List, [], _∷_, _++_, append-assoc, append-nil}

@@ -1,5 +1,5 @@
 -- What a pass over a run that was walked to its end meets at a place (`meets`): an item, whose value was walked to its end too, or the end of
--- the run. The walk's equation at the place says so. Assumes nothing.
+-- the run. The walk's equation at the place says so.
 use mathlib.Core.Path.{_≡_, refl, ap, sym, _∙_, subst}
 use mathlib.Core.Bool.{Bool, true, false, cond, false≢true}
 use mathlib.Core.List.{List, []}
@@ -147,7 +147,8 @@ module _ (room : ℕ) (s : List ℕ) (at limit : ℕ) (marked : Bool) where
         let v = valueOf room s h in
         let next = endOf (v .how) in
         let o = header-ok s at limit room marked h e in
-        let (i, k, t) = turn-of at h (v .items) (v .how) (λ n. run room s n limit marked) (run room s at limit marked) (at-head room s at limit marked l (Item h) e) (r .whole) in
+        let (i, k, t) = turn-of at h (v .items) (v .how) (λ n. run room s n limit marked) (run room s at limit marked)
+        (at-head room s at limit marked l (Item h) e) (r .whole) in
         let b = value-past room s h (o .order) i in
         let inside : ValueEnds room s h = record { deep = o .deep; order = o .order; within = omega arith; small = r .small; whole = i; mark = o .mark } in
         let definite = value-end room s h inside (constructed (h .code)) refl in
@@ -161,7 +162,8 @@ module _ (room : ℕ) (s : List ℕ) (at limit : ℕ) (marked : Bool) where
           rest = k;
           form = ap (λ (x : Items). normalOf (plain s x)) t
               ∙ form-of (constructed (h .code)) (typeField (h .code)) (slice (h .start) (pastOf (h .marked) next) s) (slice (h .start) (h .bound) s)
-              (plain s (v .items)) (plain s (run room s next limit marked .items)) (normalOf (plain s (run (room - 1) s (h .start) (h .bound) (h .marked) .items)))
+              (plain s (v .items)) (plain s (run room s next limit marked .items))
+              (normalOf (plain s (run (room - 1) s (h .start) (h .bound) (h .marked) .items)))
               (λ c. rw c)
               (λ c.
               let m = unmarked (h .marked) (h .code) (o .mark) c in
@@ -181,7 +183,8 @@ module _ (room : ℕ) (s : List ℕ) (at limit : ℕ) (marked : Bool) where
     meets-head l ClosingMark e = at-mark l e
     meets-head l (Refusal number place) e = absurd (subst Passed e (passed room s at limit marked l (r .whole)))
 
-at-end : (room : ℕ) (s : List ℕ) (at limit : ℕ) (marked : Bool) → at ≡ limit → Whole (run room s at limit marked .how) → Meets room s at limit marked (Last limit)
+at-end : (room : ℕ) (s : List ℕ) (at limit : ℕ) (marked : Bool) → at ≡ limit → Whole (run room s at limit marked .how)
+    → Meets room s at limit marked (Last limit)
 unfolding normalFrom normalOf
 at-end room s at limit true e w =
     let p : run room s at limit true ≡ stopped 7 limit = run-step room s at limit true (omega arith) ∙ rw (le-leb limit at (omega arith)) in

@@ -1,5 +1,5 @@
 -- The writing of a run: what is left to write from `at` makes of the output what all of it made of the output as it was, and a turn keeps
--- that. Assumes nothing.
+-- that.
 use mathlib.Core.Path.{_≡_, refl, ap, sym, _∙_, subst}
 use mathlib.Core.Bool.{Bool, true}
 use mathlib.Core.List.{List, _++_, append-assoc}

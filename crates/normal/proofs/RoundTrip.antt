@@ -1,5 +1,5 @@
 -- The normal form reads as the same tree, and is a normal form itself. It codes the tree (`normal-codes`), and what codes a tree is accepted
--- with it (`accepts` of the crate tree). Assumes nothing.
+-- with it (`accepts` of the crate tree).
 use mathlib.Core.Path.{_≡_, refl, ap, sym, _∙_}
 use mathlib.Core.List.{List}
 use Prim.Native.Nat.{ℕ, _≤_}

@@ -1,10 +1,8 @@
 -- What the writer of the mailroom box gives, by how long the normal form is; and that this is what the other writer gives, as the normal form
--- of a short stream is within every limit. Assumes nothing.
+-- of a short stream is within every limit.
 use mathlib.Core.Path.{_≡_, refl, ap}
-use mathlib.Core.Bool.{true, false}
 use mathlib.Core.List.{List}
 use Prim.Native.Nat.{ℕ, _<_, _≤_}
-use native.Mathlib.Omega.{arith}
 use lib.ListN.{length}
 use borrow.Author.Tests.{le-leb, lt-leb}
 use Rattle.octets.specs.Walk.{streamLimit}

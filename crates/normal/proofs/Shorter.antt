@@ -1,5 +1,5 @@
 -- How long a normal form is beside a stream with the same tree: item by item it has no more octets, but for an indefinite item whose value
--- has more than 65,535. Assumes nothing.
+-- has more than 65,535.
 use mathlib.Core.Path.{_≡_, refl}
 use mathlib.Core.Bool.{Bool, true, false, cond, false≢true}
 use mathlib.Core.List.{List, [], _∷_, _++_}

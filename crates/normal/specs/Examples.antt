@@ -1,5 +1,5 @@
 -- Examples of the writer that are proved, document 01's starred one first: a stream that the walk accepts, and what the writer gives with an output of
--- eight octets. Definitions only: assumes nothing.
+-- eight octets.
 use Prim.Native.Nat.{ℕ}
 use mathlib.Core.List.{List, [], _∷_}
 use Rattle.normal.specs.declared.Answer.{Answer}

@@ -1,4 +1,4 @@
--- Which forms of length a coding uses: what the theorems about the shortest stream speak of. Definitions only: assumes nothing.
+-- Which forms of length a coding uses: what the theorems about the shortest stream speak of.
 use Prim.Native.Nat.{ℕ}
 use mathlib.Core.Path.{_≡_}
 use mathlib.Core.List.{List}

@@ -1,6 +1,5 @@
 -- The normal form of a tree of items, and of a stream. Document 01, "Table, list, part, normal form": "each item in the same order,
 -- definite, with the fewest length octets"; X.209, 6.3.3. That they are the fewest is `fewest` (proofs/Fewest).
--- Definitions only: assumes nothing.
 use Prim.Native.Nat.{ℕ, _/_, zero, suc, _%_, _+_, _<_}
 use mathlib.Core.List.{List, [], _∷_, _++_}
 use lib.ListN.{length}

@@ -1,5 +1,5 @@
 -- What the writer's passes over a stream whose walk ended meet, measure and write: the contracts of the functions inside this crate. What
--- the writer answers and writes in all is in Writes, and needs none of it. Definitions only: assumes nothing.
+-- the writer answers and writes in all is in Writes, and needs none of it.
 use Prim.Native.Nat.{ℕ, _+_, _-_, _<_, _≤_}
 use mathlib.Core.Path.{_≡_}
 use mathlib.Core.Bool.{Bool, true, false, cond}

@@ -1,5 +1,4 @@
 -- What the writer answers, and what the output then holds. Document 01, numbers 17 and 18, and "Output past it stays".
--- Definitions only: assumes nothing.
 use Prim.Native.Nat.{ℕ}
 use mathlib.Core.Path.{_≡_}
 use mathlib.Core.Bool.{cond}

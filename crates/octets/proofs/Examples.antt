@@ -1,4 +1,4 @@
--- The walk tells of each example what document 01 says, and of type numbers above 30 what W-202 says. Assumes nothing.
+-- The walk tells of each example what document 01 says, and of type numbers above 30 what W-202 says.
 use mathlib.Core.Path.{_≡_, refl}
 use mathlib.Core.List.{map}
 use Rattle.headers.specs.Head.{permits, formAllowed, bigEndianFrom, misfits, definiteAt, indefiniteAt, longAt, byFirst, lengthAt, itemAt, closingAt, headAt}

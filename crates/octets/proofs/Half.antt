@@ -1,4 +1,4 @@
--- The header count is at most half the stream's bytes. Assumes nothing.
+-- The header count is at most half the stream's bytes.
 use mathlib.Core.Bool.{false}
 use mathlib.Core.List.{List}
 use Prim.Native.Nat.{ℕ, _+_, _≤_}

@@ -1,5 +1,4 @@
 -- A walk refuses by a number from 2 to 8, at a place no further than the limit; and each of its items stands before the limit.
--- Assumes nothing.
 use mathlib.Core.Bool.{Bool}
 use mathlib.Core.List.{List}
 use Prim.Native.Nat.{ℕ, _<_, _≤_}

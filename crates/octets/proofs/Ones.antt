@@ -1,4 +1,4 @@
--- What the walk of one item answers, by what stands at its place. Assumes nothing.
+-- What the walk of one item answers, by what stands at its place.
 use mathlib.Core.Path.{_≡_, ap, _∙_}
 use mathlib.Core.Bool.{false}
 use mathlib.Core.List.{List}

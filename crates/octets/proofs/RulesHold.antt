@@ -1,5 +1,4 @@
 -- The rules and the function say the same: what the rules derive is the walk of `run` (`derived`), and they derive it (`derives`).
--- Assumes nothing.
 use mathlib.Core.Path.{_≡_, refl, sym, _∙_}
 use mathlib.Core.Bool.{Bool, true, false, cond}
 use mathlib.Core.List.{List}
@@ -29,7 +28,8 @@ pub derived : {s : List ℕ} {room at limit : ℕ} {marked : Bool} {i : Items} {
 derived {s} (at-limit {room} {at} {limit} p) = sym (run-step room s at limit false (omega arith) ∙ rw (le-leb limit at (omega arith)))
 derived {s} (unclosed {room} {at} {limit} p) = sym (run-step room s at limit true (omega arith) ∙ rw (le-leb limit at (omega arith)))
 derived {s} (closes {room} {at} {limit} {marked} l h) = sym (run-at room s at limit marked ClosingMark l h)
-derived {s} (refuses {room} {at} {limit} {marked} {number} {place} l h) = sym (run-at room s at limit marked (Refusal number place) l (refused-exactly s at limit marked room number place .1 h))
+derived {s} (refuses {room} {at} {limit} {marked} {number} {place} l h) = sym
+    (run-at room s at limit marked (Refusal number place) l (refused-exactly s at limit marked room number place .1 h))
 derived {s} (primitive {room} {at} {limit} {marked} {h} {after} {e} l p q r) =
     sym (run-at room s at limit marked (Item h) l p
     ∙ rw (q, ← derived r))

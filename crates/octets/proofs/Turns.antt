@@ -1,4 +1,4 @@
--- What a turn of the run walker does to its answer, by what stands at its place. Assumes nothing.
+-- What a turn of the run walker does to its answer, by what stands at its place.
 use mathlib.Core.Path.{_≡_, ap, _∙_, subst}
 use mathlib.Core.Bool.{Bool, true, false}
 use mathlib.Core.List.{List}
@@ -61,12 +61,14 @@ module _ (room : ℕ) (s : List ℕ) (at limit : ℕ) (marked : Bool) (l : at < 
   pub passes : (h : Header) → headAt s at limit marked room ≡ Item h → (next k : ℕ) → answer (valueOf room s h) ≡ Ended next k
       → answer (run room s at limit marked) ≡ plus (k + 1) (answer (run room s next limit marked))
   unfolding valueOf
-  passes h e next k p = ap answer (at-head (Item h) e) ∙ follow-passes at h (valueOf room s h .items) (valueOf room s h .how) (λ n. run room s n limit marked) next k p
+  passes h e next k p = ap answer (at-head (Item h) e)
+      ∙ follow-passes at h (valueOf room s h .items) (valueOf room s h .how) (λ n. run room s n limit marked) next k p
 
   pub breaks : (h : Header) → headAt s at limit marked room ≡ Item h → (number place k : ℕ) → answer (valueOf room s h) ≡ Refused number place k
       → answer (run room s at limit marked) ≡ Refused number place (k + 1)
   unfolding valueOf
-  breaks h e number place k p = ap answer (at-head (Item h) e) ∙ follow-breaks at h (valueOf room s h .items) (valueOf room s h .how) (λ n. run room s n limit marked) number place k p
+  breaks h e number place k p = ap answer (at-head (Item h) e)
+      ∙ follow-breaks at h (valueOf room s h .items) (valueOf room s h .how) (λ n. run room s n limit marked) number place k p
 
 pub unclosed : (room : ℕ) (s : List ℕ) (limit : ℕ) → answer (run room s limit limit true) ≡ Refused 7 limit 0
 unclosed room s limit =

@@ -1,5 +1,5 @@
 -- Laws of the walk of specs/: where a walk ends and how many items it has (`run-ok`), that the fuel of `run` is enough
--- (`fuel-enough`), and the equation of `run` with no fuel in it (`run-step`). Assumes nothing.
+-- (`fuel-enough`), and the equation of `run` with no fuel in it (`run-step`).
 use mathlib.Core.Path.{_≡_, refl, ap, _∙_}
 use mathlib.Core.Bool.{Bool, true, false, cond}
 use mathlib.Core.List.{List}
@@ -84,7 +84,10 @@ pub follow-same : (at limit : ℕ) (h : Header) → at + 2 ≤ h .start → h .b
     → EndOk (h .start) (h .bound) (count inside) e → (more other : ℕ → Walked) → SameMore at limit more other
     → follow at h inside e more ≡ follow at h inside e other
 follow-same at limit h a b inside (ends next) o more other m =
-    ap (λ (w : Walked). record { items = item at (h .code) (h .start) (pastOf (h .marked) next) inside (w .items); how = w .how }) (m next (omega arith) (omega arith))
+    ap (λ (w : Walked). record {
+      items = item at (h .code) (h .start) (pastOf (h .marked) next) inside (w .items);
+      how = w .how;
+    }) (m next (omega arith) (omega arith))
 follow-same at limit h a b inside (stops n place) o more other m = refl
 
 value-same : (b : Bool) (h : Header) (f g : Header → Walked) → f h ≡ g h → value b h f ≡ value b h g

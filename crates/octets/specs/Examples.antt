@@ -1,5 +1,4 @@
 -- The checked examples of document 01 that the walk alone decides, and those that it passes on: a stream, and what the walk tells of it.
--- Definitions only: assumes nothing.
 use Prim.Native.Nat.{ℕ, zero, suc}
 use mathlib.Core.List.{List, [], _∷_, _++_}
 use Rattle.octets.specs.Told.{Told}

@@ -1,5 +1,4 @@
 -- More of the walk: one item alone, by which the first date is defined (W-206).
--- Definitions only: assumes nothing.
 use Prim.Native.Nat.{ℕ, _+_, _-_}
 use mathlib.Core.Bool.{false}
 use mathlib.Core.List.{List}

@@ -1,6 +1,5 @@
 -- The walk a second time, as rules with no count to end it: a derivation is a tree of these. A refusal is by the conditions of 2 to 8
--- (headers, specs/Conditions). `derived` and `derives` (proofs/RulesHold) show that the rules say what `run` says. Definitions only: assumes
--- nothing.
+-- (headers, specs/Conditions). `derived` and `derives` (proofs/RulesHold) show that the rules say what `run` says.
 use Prim.Native.Nat.{ℕ, _+_, _-_, _<_}
 use mathlib.Core.Path.{_≡_}
 use mathlib.Core.Bool.{Bool, true, false}

@@ -1,4 +1,4 @@
--- The numbers that go with an outcome, for the examples and for letters in blocks (W-209). Definitions only: assumes nothing.
+-- The numbers that go with an outcome, for the examples and for letters in blocks (W-209).
 use Prim.Native.Nat.{ℕ}
 use Rattle.octets.specs.declared.Outcome.{Outcome}
 use Rattle.octets.specs.declared.Outcome.the-variants.{Ended, Refused}

@@ -1,4 +1,4 @@
--- The value of one item, as the code walks it. Definitions only: assumes nothing.
+-- The value of one item, as the code walks it.
 use Prim.Native.Nat.{ℕ, _-_}
 use mathlib.Core.List.{List}
 use Rattle.headers.specs.declared.Header.{Header}

@@ -1,6 +1,5 @@
 -- The walk of a stream: the items whose headers passed, and how the walk ended. Document 01, "Octet rules" and "Numbers given back".
 -- Items have places, and values are bounded, not copied; what they stand for, with no places, is a tree of another crate.
--- Definitions only: assumes nothing.
 use Prim.Native.Nat.{ℕ, suc, _+_, _-_, zero}
 use mathlib.Core.Bool.{Bool, cond, true, false}
 use mathlib.Core.List.{List}

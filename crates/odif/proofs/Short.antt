@@ -1,4 +1,4 @@
--- The mailroom's question, case by case: 1, the rules, and the answer of the crate that writes. Assumes nothing.
+-- The mailroom's question, case by case: 1, the rules, and the answer of the crate that writes.
 use mathlib.Core.Path.{_≡_, ap}
 use mathlib.Core.Bool.{true, false}
 use mathlib.Core.List.{List}
@@ -49,7 +49,8 @@ module _ (edition : Edition) (s : List ℕ) where
       within : ltb shortLimit (length s) ≡ false
       within = le-ltb shortLimit (length s) l
 
-      pub short-refused : (number place : ℕ) → IsRefused edition s number place → ShortOutcome edition s out (record { number = number; place = place; length = 0 }) out
+      pub short-refused : (number place : ℕ) → IsRefused edition s number place → ShortOutcome edition s out
+          (record { number = number; place = place; length = 0 }) out
       unfolding writtenShort writtenShortOutput
       short-refused number place r =
           let low = refusal-small edition s number place (r .headers) (r .judged) .low in

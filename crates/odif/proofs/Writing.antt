@@ -1,5 +1,5 @@
 -- What the rules told, as a letter or a refusal; and the writer's answer and output, case by case: the tests are those of the crate that writes,
--- in other words. Assumes nothing.
+-- in other words.
 use mathlib.Core.Path.{_≡_, ap, sym, _∙_}
 use mathlib.Core.Bool.{true, false}
 use mathlib.Core.List.{List}
@@ -41,7 +41,8 @@ module _ (edition : Edition) (s : List ℕ) where
       whole-of s (f .at) (p .headers) (f .walked)
 
 module _ (edition : Edition) (s out : List ℕ) where
-  pub writes-refused : (number place : ℕ) → IsRefused edition s number place → NormalOutcome edition s out (record { number = number; place = place; length = 0 }) out
+  pub writes-refused : (number place : ℕ) → IsRefused edition s number place → NormalOutcome edition s out
+      (record { number = number; place = place; length = 0 }) out
   unfolding written writtenOutput
   writes-refused number place r =
       let e = r .judged in

@@ -18,7 +18,7 @@ pub fn date<'a>(edition: Edition, stream: &'a [u8]) -> &'a [u8]
     &stream[first..past]
 }
 
-// The same date in numbers: where its octets stand, and its year, month and day. With a refusal they are 0.
+// The date in numbers: where its octets stand, and its year, month and day. With a refusal they are 0.
 pub fn dated(edition: Edition, stream: &[u8]) -> Dated
     ensures { λ r. ⌜ DateOutcome edition (now (stream .entry)) r ⌝ }
 {

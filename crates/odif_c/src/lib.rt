@@ -9,7 +9,6 @@ use odif::Listed;
 use odif::Match;
 use odif::Side;
 use odif::Written;
-ghost use mathlib.Core.Path.{_≡_};
 ghost use Rattle.answers.specs.Answers.{CheckOutcome, NormalOutcome, ListOutcome, LocatedOutcome, JoinedOutcome};
 
 mod arriving; // arriving.rt: a letter that arrives in blocks
@@ -18,7 +17,7 @@ mod family; // family.rt: the children of a row
 mod in_order; // in_order.rt: the order of a letter by an interchange class
 mod made; // made.rt: a letter that is made
 mod mailroom; // mailroom.rt: the normal form of a short stream
-mod whole; // whole.rt: the whole reading of a side
+mod text; // text.rt: the whole reading of a side
 
 #[no_mangle]
 pub extern "C" fn odif_check(stream: &[u8], table: &mut [u32]) -> Checked

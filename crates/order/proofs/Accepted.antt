@@ -1,5 +1,5 @@
 -- The elements of a letter are such as the order rules speak of: they do not clash and are well spelt (rules 14 and 15), and only classes and
--- objects list portions, since no other shape of either edition looks for any. Assumes nothing.
+-- objects list portions, since no other shape of either edition looks for any.
 use mathlib.Core.Path.{_≡_, refl, sym, subst}
 use mathlib.Core.Logic.{_⊎_, inl, inr}
 use mathlib.Core.Bool.{Bool, true, false, _&&_, _||_, false≢true}
@@ -18,7 +18,8 @@ use Rattle.portions.specs.Portions.{mostPortions, all, values, repeats, wellSpe
 use Rattle.elements.specs.declared.Edition.{Edition}
 use Rattle.elements.specs.declared.Edition.the-variants.{Of1988, Of1993}
 use Rattle.elements.specs.Shape.{Shape, Shapes, shapesOf, shapeIn, shapeOf}
-use Rattle.elements.specs.Judge.{Element, bodyOf, portionsOctet, runAt, elementOf, spelt, namesFit, clash, Judged, accepted, refused, refusalOf, judgeOne, judgeFrom, judge}
+use Rattle.elements.specs.Judge.{Element, bodyOf, portionsOctet, runAt, elementOf, spelt, namesFit, clash, Judged, accepted, refused, refusalOf, judgeOne}
+use Rattle.elements.specs.Judge.{judgeFrom, judge}
 use Rattle.letters.proofs.Apart.{accepted-apart}
 use Rattle.order.specs.Represents.{_∈_, speltAside, listing, FitAside, NoClash, LimitsAside}
 use Rattle.order.proofs.Tests.{both, either, member-at}

@@ -1,6 +1,6 @@
 -- The rule is over kinds and matches: a unit represents a portion exactly when the reading list of the element's side has their record; and the
 -- number that the pass for class B looks at is the element of the unit's record. What the pass for class A asks of an element after a front is
--- told by records too: whether a unit before it represents one of its portions, and what a unit represents before it. Assumes nothing.
+-- told by records too: whether a unit before it represents one of its portions, and what a unit represents before it.
 use mathlib.Core.Path.{_≡_, refl, ap, sym, _∙_, subst}
 use mathlib.Core.Logic.{_⊎_, inl, inr, _↔_}
 use mathlib.Core.Bool.{true, _&&_, false≢true}
@@ -49,7 +49,8 @@ module _ (es : List Element) (i q j : ℕ) (e : Element) (p : List ℕ) (u : Ele
       let d : m .unit ≡ u = cc in
       let f : some (m .portion) ≡ some p = sym (m .portion-there) ∙ ap (λ (x : Element). getElem? (x .portions) q) b ∙ at-p in
       let g : m .portion ≡ p = cc in
-      subst (λ (x : Element). Joined side x p u) b (subst (λ (y : List ℕ). Joined side (m .element) y u) g (subst (λ (z : Element). Joined side (m .element) (m .portion) z) d (m .joined)))
+      subst (λ (x : Element). Joined side x p u) b (subst (λ (y : List ℕ). Joined side (m .element) y u) g
+      (subst (λ (z : Element). Joined side (m .element) (m .portion) z) d (m .joined)))
 
   pub represents-match : (represents e p u ≡ true) ↔ (made i q j ∈ matches (sideOf e) es)
   represents-match = (
@@ -90,8 +91,10 @@ owner-told n (e ∷ es) u i t =
     (e, ap (getElem? (e ∷ es)) z, r .0, r .1))
     (λ o. later (owner-told (suc n) es u) i (rw o at t))
   where
-    later : ((k : ℕ) → layoutOwner (suc n) es u ≡ suc (suc n + k) → (d : Element) × (getElem? es k ≡ some d) × (isIn (d .kind) (kindsOf Layout) ≡ true) × (isAssociated d u ≡ true))
-        → (k : ℕ) → layoutOwner (suc n) es u ≡ suc (n + k) → (d : Element) × (getElem? (e ∷ es) k ≡ some d) × (isIn (d .kind) (kindsOf Layout) ≡ true) × (isAssociated d u ≡ true)
+    later : ((k : ℕ) → layoutOwner (suc n) es u ≡ suc (suc n + k) → (d : Element) × (getElem? es k ≡ some d) × (isIn (d .kind) (kindsOf Layout) ≡ true)
+        × (isAssociated d u ≡ true))
+        → (k : ℕ) → layoutOwner (suc n) es u ≡ suc (n + k) → (d : Element) × (getElem? (e ∷ es) k ≡ some d) × (isIn (d .kind) (kindsOf Layout) ≡ true)
+        × (isAssociated d u ≡ true)
     later below zero s = absurd (beyond (owner-beyond (suc n) es u))
       where
         beyond : (layoutOwner (suc n) es u ≡ 0) ⊎ (suc n < layoutOwner (suc n) es u) → ⊥
@@ -118,11 +121,14 @@ owner-match es a i j u at-u = (to, λ (q, m). from q (matches-are Layout es (mad
     from : (q : ℕ) → IsMatch Layout es (made i q j) → layoutOwner 0 es u ≡ suc i
     from q m =
         let side : sideOf (m .element) ≡ Layout = rw (m .joined .on-side) in
-        let joined : Joined (sideOf (m .element)) (m .element) (m .portion) u = joined-match es i q j (m .element) (m .portion) u (m .element-there) (m .portion-there) at-u (sideOf (m .element)) (subst (λ (s : Side). IsMatch s es (made i q j)) (sym side) m) in
-        let o : isAssociated (m .element) u ≡ true = associated-of (m .element) u (m .portion) (at-in (m .element .portions) q (m .portion) (m .portion-there)) (represents-of (m .element) (m .portion) u joined) in
+        let joined : Joined (sideOf (m .element)) (m .element) (m .portion) u = joined-match es i q j (m .element) (m .portion) u (m .element-there)
+        (m .portion-there) at-u (sideOf (m .element)) (subst (λ (s : Side). IsMatch s es (made i q j)) (sym side) m) in
+        let o : isAssociated (m .element) u ≡ true = associated-of (m .element) u (m .portion)
+        (at-in (m .element .portions) q (m .portion) (m .portion-there)) (represents-of (m .element) (m .portion) u joined) in
         let r = parted es i (m .element) (m .element-there) in
         let x = owner-exact 0 (r .pre) (m .element) (r .post) u (subst LimitsAside (r .parts) a) (layout-tabled (m .element) (m .joined .on-side)) in
-        let y : layoutOwner 0 (r .pre ++ m .element ∷ r .post) u ≡ suc (0 + length (r .pre)) = eqb-true (layoutOwner 0 (r .pre ++ m .element ∷ r .post) u) (suc (0 + length (r .pre))) (x ∙ o) in
+        let y : layoutOwner 0 (r .pre ++ m .element ∷ r .post) u ≡ suc (0 + length (r .pre)) = eqb-true
+        (layoutOwner 0 (r .pre ++ m .element ∷ r .post) u) (suc (0 + length (r .pre))) (x ∙ o) in
         let z : suc (0 + length (r .pre)) ≡ suc i = let w = r .place in omega arith in
         ap (λ (l : List Element). layoutOwner 0 l u) (r .parts) ∙ y ∙ z
 
@@ -147,7 +153,8 @@ pub record Recorded (es : List Element) (i j : ℕ) (e : Element) : Type 0 where
   pub portion : ℕ
   pub record-there : made i portion j ∈ matches (sideOf e) es
 
-associated-record : (es : List Element) (i j : ℕ) (e u : Element) → getElem? es i ≡ some e → getElem? es j ≡ some u → isAssociated e u ≡ true → Recorded es i j e
+associated-record : (es : List Element) (i j : ℕ) (e u : Element) → getElem? es i ≡ some e → getElem? es j ≡ some u → isAssociated e u ≡ true
+    → Recorded es i j e
 associated-record es i j e u at-e at-u o =
     let (p, m, w) = associated-told e u o in
     let r = member-at (e .portions) p m in
@@ -158,7 +165,8 @@ record-associated es i j e u at-u r =
     let m = matches-are (sideOf e) es (made i (r .portion) j) (r .record-there) in
     let a : some (m .element) ≡ some e = sym (m .element-there) ∙ r .there in
     let b : m .element ≡ e = cc in
-    let at-p : getElem? (e .portions) (r .portion) ≡ some (m .portion) = subst (λ (d : Element). getElem? (d .portions) (r .portion) ≡ some (m .portion)) b (m .portion-there) in
+    let at-p : getElem? (e .portions) (r .portion) ≡ some (m .portion) = subst
+    (λ (d : Element). getElem? (d .portions) (r .portion) ≡ some (m .portion)) b (m .portion-there) in
     associated-of e u (m .portion) (at-in (e .portions) (r .portion) (m .portion) at-p)
     (represents-match es i (r .portion) j e (m .portion) u (r .there) at-p at-u .1 (r .record-there))
 
@@ -190,7 +198,8 @@ module _ (front : List Element) (x : Element) (rest : List Element) where
       ↔ ((i : ℕ) × (e : Element) × (i < length front) × (isIn (e .kind) kinds ≡ true) × Recorded whole i (length front) e)
   some-match kinds = (to, λ (i, e, l, k, r). from i e l k r)
     where
-      to : representsSome kinds front x ≡ true → (i : ℕ) × (e : Element) × (i < length front) × (isIn (e .kind) kinds ≡ true) × Recorded whole i (length front) e
+      to : representsSome kinds front x ≡ true → (i : ℕ) × (e : Element) × (i < length front) × (isIn (e .kind) kinds ≡ true)
+          × Recorded whole i (length front) e
       to t =
           let (e, m, k, o) = some-told kinds front x t in
           let r = member-at front e m in
@@ -199,4 +208,5 @@ module _ (front : List Element) (x : Element) (rest : List Element) where
 
       from : (i : ℕ) (e : Element) → i < length front → isIn (e .kind) kinds ≡ true → Recorded whole i (length front) e → representsSome kinds front x ≡ true
       from i e l k r =
-          some-of kinds front x e (at-in front i e (sym (at-left front (x ∷ rest) i l) ∙ r .there)) k (record-associated whole i (length front) e x (at-here front x rest) r)
+          some-of kinds front x e (at-in front i e (sym (at-left front (x ∷ rest) i l)
+          ∙ r .there)) k (record-associated whole i (length front) e x (at-here front x rest) r)

@@ -1,5 +1,5 @@
 -- Units of one element represent as many of its portions as they are: no two the same, since they would have the same name, and none two.
--- So all are represented exactly when there are as many units as portions. Assumes nothing.
+-- So all are represented exactly when there are as many units as portions.
 use mathlib.Core.Path.{_≡_, refl, ap, sym, _∙_, subst}
 use mathlib.Core.Logic.{_⊎_, inl, inr}
 use mathlib.Core.Bool.{true, false, true≢false, or-true}
@@ -26,7 +26,8 @@ use Rattle.order.proofs.Tests.{all-in, any-of}
 use Rattle.order.proofs.Representing.{represents-told, represents-one, associated-told, represented-told, represented-of, represented-more}
 
 -- two units with one name on a side clash
-clash-named : (side : Side) (u v : Element) (bytes : List ℕ) → u .kind ≡ v .kind → nameOn side u ≡ octets bytes → nameOn side v ≡ octets bytes → clash u v ≡ true
+clash-named : (side : Side) (u v : Element) (bytes : List ℕ) → u .kind ≡ v .kind → nameOn side u ≡ octets bytes → nameOn side v ≡ octets bytes
+    → clash u v ≡ true
 unfolding clash
 clash-named Layout u v bytes k p q = rw (eq-eqb _ _ (ap nameSpaceOf k), p, q, same-refl bytes)
 clash-named Logical u v bytes k p q = rw (eq-eqb _ _ (ap nameSpaceOf k), p, q, same-refl bytes) (or-true (shares (u .identifier) (v .identifier)))
@@ -119,9 +120,17 @@ module _ (e : Element) (fit : FitAside e) where
         let r = representing us a o in
         cases (all (map (isRepresented us e) (e .portions)))
         (λ t. let every : (p : List ℕ) → p ∈ e .portions → p ∈ r .told = λ p m. r .all-told p m (all-in (isRepresented us e) (e .portions) t p m) in
-        t ∙ sym (le-leb (length (e .portions)) (length us) (omega (arith, once-fits (e .portions) (r .told) (once-list (e .portions) (fit .once)) every, r .as-many))))
+        t ∙ sym (le-leb (length (e .portions)) (length us) (omega (
+          arith,
+          once-fits (e .portions) (r .told) (once-list (e .portions) (fit .once)) every,
+          r .as-many,
+        ))))
         (λ t. let (p, m, u) = unrepresented (e .portions) t in
-        let fewer = once-fits (p ∷ r .told) (e .portions) (λ i. true≢false (sym (r .represented p i) ∙ u), r .once) (λ q i. either-listed r p m q (List·Memᴰ·cases-cons i)) in
+        let fewer = once-fits (p ∷ r .told) (e .portions) (
+          λ i. true≢false (sym (r .represented p i)
+              ∙ u),
+          r .once,
+        ) (λ q i. either-listed r p m q (List·Memᴰ·cases-cons i)) in
         t ∙ sym (lt-leb (length (e .portions)) (length us) (omega (arith, r .as-many))))
       where
         either-listed : (r : Representing e us) (p : List ℕ) → p ∈ e .portions → (q : List ℕ) → (q ≡ p) ⊎ (q ∈ r .told) → q ∈ e .portions

@@ -1,6 +1,6 @@
 -- Class A: how many portions of classes, or of objects, a unit represents is told by whether it represents one of each kind, for it represents at most
 -- one on a side. With `some-match` (AsMatches) that is told by the records of the unit. And the number of the portion by which it is ordered is
--- how many are listed before it, and one. Assumes nothing.
+-- how many are listed before it, and one.
 use mathlib.Core.Path.{_≡_, refl, ap, sym, _∙_, subst}
 use mathlib.Core.Bool.{Bool, true, false}
 use mathlib.Core.List.{List, [], _∷_, _++_, append-assoc, List·Memᴰ·head, List·Memᴰ·tail, Memᴰ·append-left, Memᴰ·append-right, Memᴰ·of-map}
@@ -64,7 +64,8 @@ module _ (front : List Element) (aside : LimitsAside front) (x : Element) where
 
   both-kinds : (a b : ℕ) → (a ≡ b → ⊥) → (ls : List Listed)
       → length (keep represented (keep (λ (l : Listed). isIn (l .by .kind) (a ∷ b ∷ [])) ls))
-      ≡ length (keep represented (keep (λ (l : Listed). isIn (l .by .kind) (a ∷ [])) ls)) + length (keep represented (keep (λ (l : Listed). isIn (l .by .kind) (b ∷ [])) ls))
+      ≡ length (keep represented (keep (λ (l : Listed). isIn (l .by .kind) (a ∷ [])) ls)) + length
+      (keep represented (keep (λ (l : Listed). isIn (l .by .kind) (b ∷ [])) ls))
   unfolding keep
   both-kinds a b differ [] = refl
   both-kinds a b differ (l ∷ ls) =
@@ -110,7 +111,8 @@ slot-at n (k ∷ ls) ks l x a side t =
     (λ u. absurd (apart-unit k l x (a .0 l (Memᴰ·append-right ls (List·Memᴰ·head refl))) (side k (List·Memᴰ·head refl)) u t))
     (λ u. rw u (more ∙ z))
 
-module _ (pre : List Element) (e : Element) (post : List Element) (ps : List (List ℕ)) (p : List ℕ) (qs : List (List ℕ)) (lists : e .portions ≡ ps ++ p ∷ qs) where
+module _ (pre : List Element) (e : Element) (post : List Element) (ps : List (List ℕ)) (p : List ℕ) (qs : List (List ℕ))
+    (lists : e .portions ≡ ps ++ p ∷ qs) where
   abbrev ofKind : Listed → Bool
   ofKind l = eqb (l .by .kind) (e .kind)
 
@@ -131,7 +133,8 @@ module _ (pre : List Element) (e : Element) (post : List Element) (ps : List (Li
       ∙ keep-append ofKind (everything pre) (listedBy e (e .portions) ++ everything post)
       ∙ ap (λ (r : List Listed). keep ofKind (everything pre) ++ r)
       (keep-append ofKind (listedBy e (e .portions)) (everything post)
-      ∙ ap (λ (r : List Listed). r ++ keep ofKind (everything post)) (keep-all ofKind (listedBy e (e .portions)) own-kind ∙ ap (listedBy e) lists ∙ listed-parts ps)
+      ∙ ap (λ (r : List Listed). r ++ keep ofKind (everything post)) (keep-all ofKind (listedBy e (e .portions)) own-kind ∙ ap (listedBy e) lists
+      ∙ listed-parts ps)
       ∙ append-assoc (listedBy e ps) (listed e p ∷ listedBy e qs) (keep ofKind (everything post)))
       ∙ sym (append-assoc (keep ofKind (everything pre)) (listedBy e ps) (listed e p ∷ (listedBy e qs ++ keep ofKind (everything post))))
 

@@ -1,9 +1,10 @@
 -- Class B: the scan cuts the elements into groups, the last of which may lack units of its own; and it finds nothing wrong with a front of
--- what is in order. Assumes nothing.
+-- what is in order.
 use mathlib.Core.Path.{_≡_, refl, ap, sym, _∙_, subst}
 use mathlib.Core.Logic.{_⊎_, inl, inr}
 use mathlib.Core.Bool.{Bool, true, false, not, _&&_, false≢true, true≢false, or-true}
-use mathlib.Core.List.{List, [], _∷_, _++_, append-assoc, append-nil, List·Memᴰ·head, List·Memᴰ·tail, List·Memᴰ·not-nil, List·Memᴰ·cases-cons, List·Memᴰ·append-cases, List·Memᴰ·eq-of-singleton, Memᴰ·append-right}
+use mathlib.Core.List.{List, [], _∷_, _++_, append-assoc, append-nil, List·Memᴰ·head, List·Memᴰ·tail, List·Memᴰ·not-nil, List·Memᴰ·cases-cons}
+use mathlib.Core.List.{List·Memᴰ·append-cases, List·Memᴰ·eq-of-singleton, Memᴰ·append-right}
 use Prim.Native.Nat.{ℕ, _<_, _≤_}
 use native.Mathlib.Omega.{arith}
 use lib.Dec.{eqb, leb, ltb}
@@ -135,7 +136,8 @@ unfolding scanB
 scan-front h us [] [] t = go-on us h t
 scan-front h us [] (m ∷ ms) t =
     cases (isUnit m)
-    (λ u. let s : isAssociated h m && scanB allRepresented h (us ++ m ∷ []) ms ≡ true = rw u at t in go-on-named us h (associated-named h m (both (isAssociated h m) _ s .0)))
+    (λ u. let s : isAssociated h m && scanB allRepresented h (us ++ m ∷ []) ms ≡ true = rw u at t in go-on-named us h
+    (associated-named h m (both (isAssociated h m) _ s .0)))
     (λ u. let s : allRepresented us h && (nextB h m && scanB allRepresented m [] ms) ≡ true = rw u at t in go-on us h (both (allRepresented us h) _ s .0))
 scan-front h us (x ∷ xs) more t =
     cases (isUnit x)
@@ -165,7 +167,8 @@ pub record Cut (done : List Element → Element → Bool) (h : Element) (us xs :
   pub above : (g : Group) → g ∈ closed ++ last ∷ [] → rankB h ≤ rankB (g .head)
   pub ascending : Ascending headRank (closed ++ last ∷ [])
 
-pub one-more : (h x : Element) (us : List Element) → isAssociated h x ≡ true → ((u : Element) → u ∈ us → isAssociated h u ≡ true) → (u : Element) → u ∈ us ++ x ∷ [] → isAssociated h u ≡ true
+pub one-more : (h x : Element) (us : List Element) → isAssociated h x ≡ true → ((u : Element) → u ∈ us → isAssociated h u ≡ true) → (u : Element)
+    → u ∈ us ++ x ∷ [] → isAssociated h u ≡ true
 one-more h x us t o u m = step (List·Memᴰ·append-cases us m)
   where
     step : (u ∈ us) ⊎ (u ∈ x ∷ []) → isAssociated h u ≡ true
@@ -234,7 +237,8 @@ cut done h us (x ∷ xs) t o s =
     cut-head (record { tabled = t; own = o; whole = r .0 }) (n .above) (cut done x [] xs (n .tabled) (λ v m. absurd (List·Memᴰ·not-nil m)) (q .1)))
 
 -- the pass meets no second profile
-pub scan-others : (done : List Element → Element → Bool) (h : Element) (us xs : List Element) → scanB done h us xs ≡ true → (y : Element) → y ∈ xs → y .kind ≡ profileKind → ⊥
+pub scan-others : (done : List Element → Element → Bool) (h : Element) (us xs : List Element) → scanB done h us xs ≡ true → (y : Element) → y ∈ xs
+    → y .kind ≡ profileKind → ⊥
 unfolding scanB
 scan-others done h us [] s y m k = List·Memᴰ·not-nil m
 scan-others done h us (x ∷ xs) s y m k =

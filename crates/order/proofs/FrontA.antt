@@ -1,9 +1,9 @@
 -- Class A: in a run in order a unit stands after all whose portions it represents, so a front sees its units as the whole does, and passes.
--- Assumes nothing.
 use mathlib.Core.Path.{_≡_, refl, ap, sym, _∙_, subst}
 use mathlib.Core.Logic.{_⊎_, inl, inr}
 use mathlib.Core.Bool.{Bool, true, false, not, _&&_, false≢true, true≢false}
-use mathlib.Core.List.{List, [], _∷_, _++_, map, append-nil, List·Memᴰ·head, List·Memᴰ·tail, List·Memᴰ·not-nil, List·Memᴰ·append-cases, Memᴰ·append-left, Memᴰ·append-right}
+use mathlib.Core.List.{List, [], _∷_, _++_, map, append-nil, List·Memᴰ·head, List·Memᴰ·tail, List·Memᴰ·not-nil, List·Memᴰ·append-cases, Memᴰ·append-left}
+use mathlib.Core.List.{Memᴰ·append-right}
 use Prim.Native.Nat.{ℕ, _<_, _≤_}
 use native.Mathlib.Omega.{arith}
 use lib.Dec.{eqb, leb, ltb}
@@ -12,13 +12,15 @@ use borrow.Table.Steps.{cases}
 use Rattle.headers.specs.Head.{isIn}
 use Rattle.portions.specs.Portions.{all, any}
 use Rattle.elements.specs.Judge.{Element}
-use Rattle.order.specs.Represents.{_∈_, Ascending, named, represents, isAssociated, isRepresented, allRepresented, profileKind, ProfileFirst, Listed, everything, keep}
+use Rattle.order.specs.Represents.{_∈_, Ascending, named, represents, isAssociated, isRepresented, allRepresented, profileKind, ProfileFirst, Listed}
+use Rattle.order.specs.Represents.{everything, keep}
 use Rattle.order.specs.ClassA.{endA, objectKinds, representsSome, rankA, orderedBy, listedOf, unitsOf, inStep, InOrderA}
 use Rattle.order.specs.declared.Class.the-variants.{A}
 use Rattle.order.specs.Begins.{Begins}
 use Rattle.order.specs.ClausesA.{profileFirst, ascends, awaited, mayCome, placedA, beginsA, orderedA}
 use Rattle.order.proofs.Tests.{both, all-in, all-of, any-of, any-in, any-none}
-use Rattle.order.proofs.Representing.{represents-unit, represents-named, associated-of, associated-unit, represented-told, represented-of, all-represented-told}
+use Rattle.order.proofs.Representing.{represents-unit, represents-named, associated-of, associated-unit, represented-told, represented-of}
+use Rattle.order.proofs.Representing.{all-represented-told}
 use Rattle.order.proofs.Lacking.{keep-in, everything-in}
 use Rattle.order.proofs.Keeping.{keep-append, keep-none, keep-same, ascending-left, ascending-cross, ascends-of, ascends-told, everything-append}
 use Rattle.order.proofs.RanksA.{some-told, some-of, owner, object-rank, awaited-object, owned-rank, owner-below, rank-same}
@@ -52,7 +54,12 @@ pub record Placed (es : List Element) : Type 0 where
 pub placed-of : (es : List Element) → Placed es → placedA es ≡ true
 unfolding placedA
 placed-of es p =
-    rw (profile-of es (p .profile), all-of (λ (e : Element). ltb (rankA es e) endA) es (λ e m. lt-ltb (rankA es e) endA (p .tabled e m)), ascends-of (rankA es) es (p .ascending), p .in-step)
+    rw (
+      profile-of es (p .profile),
+      all-of (λ (e : Element). ltb (rankA es e) endA) es (λ e m. lt-ltb (rankA es e) endA (p .tabled e m)),
+      ascends-of (rankA es) es (p .ascending),
+      p .in-step,
+    )
 
 pub placed-told : (es : List Element) → placedA es ≡ true → Placed es
 unfolding placedA
@@ -71,7 +78,12 @@ placed-told es t =
 pub ordered-of : (es : List Element) → InOrderA es → orderedA es ≡ true
 unfolding orderedA
 ordered-of es o =
-    rw (placed-of es (record { profile = o .profile; tabled = o .tabled; ascending = o .ascending; in-step = o .in-step })) (all-of (allRepresented es) es (o .whole))
+    rw (placed-of es (record {
+      profile = o .profile;
+      tabled = o .tabled;
+      ascending = o .ascending;
+      in-step = o .in-step;
+    })) (all-of (allRepresented es) es (o .whole))
 
 pub ordered-told : (es : List Element) → orderedA es ≡ true → InOrderA es
 unfolding orderedA
@@ -186,9 +198,11 @@ module _ (front more : List Element) (o : InOrderA (front ++ more)) where
 
     steps-front : steps front ≡ true
     steps-front =
-        let a : inStep (listedOf by whole) (unitsOf by whole) ≡ true = subst (λ (k : ℕ). inStep (listedOf k whole) (unitsOf k whole) ≡ true) same-order (o .in-step) in
+        let a : inStep (listedOf by whole) (unitsOf by whole) ≡ true = subst
+        (λ (k : ℕ). inStep (listedOf k whole) (unitsOf k whole) ≡ true) same-order (o .in-step) in
         let b : inStep (listedOf by front) (unitsOf by front ++ keep (representsSome (by ∷ []) whole) more) ≡ true =
-        subst (λ (us : List Element). inStep (listedOf by front) us ≡ true) same-units (subst (λ (ls : List Listed). inStep ls (unitsOf by whole) ≡ true) same-listed a) in
+        subst (λ (us : List Element). inStep (listedOf by front) us ≡ true) same-units
+        (subst (λ (ls : List Listed). inStep ls (unitsOf by whole) ≡ true) same-listed a) in
         step-left (listedOf by front) (unitsOf by front) (keep (representsSome (by ∷ []) whole) more) b
 
   steps-any : (us : List Element) → unitsOf (orderedBy front) front ≡ us → steps front ≡ true

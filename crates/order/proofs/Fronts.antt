@@ -1,5 +1,4 @@
 -- A front of what begins a run begins that run too, so once a front fails every longer one fails; and the place of 26 is determined.
--- Assumes nothing.
 use mathlib.Core.Path.{refl, sym, subst}
 use mathlib.Core.Logic.{inr}
 use mathlib.Core.List.{List, [], _∷_, _++_, append-assoc, append-nil, List·Memᴰ·not-nil, List·Memᴰ·eq-of-singleton}

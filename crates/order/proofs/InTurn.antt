@@ -1,5 +1,5 @@
 -- Where every portion is represented, that the units are in step with the portions says what 7.2 prints: they are ordered as the portions are that
--- they represent. Assumes nothing.
+-- they represent.
 use mathlib.Core.Path.{_≡_, refl, ap, sym, _∙_, subst}
 use mathlib.Core.Logic.{_⊎_, inl, inr, _↔_}
 use mathlib.Core.Bool.{Bool, true, false, false≢true, true≢false}
@@ -32,11 +32,13 @@ unfolding slotIn
 slot-later n l ls u t = rw t
 
 -- the first unit represents the first portion; the others do not
-others : (l : Listed) (u : Element) (us : List Element) → NoClash (u ∷ us) → represents (l .by) (l .portion) u ≡ true → (v : Element) → v ∈ us → represents (l .by) (l .portion) v ≡ false
+others : (l : Listed) (u : Element) (us : List Element) → NoClash (u ∷ us) → represents (l .by) (l .portion) u ≡ true → (v : Element) → v ∈ us
+    → represents (l .by) (l .portion) v ≡ false
 others l u us a t v m =
     cases (represents (l .by) (l .portion) v) (λ s. absurd (true≢false (sym (represent-clash (l .by) (l .portion) u v t s) ∙ a .0 v m))) (λ s. s)
 
-step-represents : (ls : List Listed) (us : List Element) → inStep ls us ≡ true → (v : Element) → v ∈ us → (l : Listed) × (l ∈ ls) × (represents (l .by) (l .portion) v ≡ true)
+step-represents : (ls : List Listed) (us : List Element) → inStep ls us ≡ true → (v : Element) → v ∈ us
+    → (l : Listed) × (l ∈ ls) × (represents (l .by) (l .portion) v ≡ true)
 unfolding inStep
 step-represents ls [] t v m = absurd (List·Memᴰ·not-nil m)
 step-represents [] (u ∷ us) t v m = absurd (false≢true t)
@@ -80,7 +82,8 @@ turn-step n kind [] (u ∷ us) f a = absurd (List·Memᴰ·not-nil (f .represent
 turn-step n kind (l ∷ ls) (u ∷ us) f a =
     let b : represents (l .by) (l .portion) u ≡ true = first (f .represented l (List·Memᴰ·head refl)) in
     rw b (turn-step (suc n) kind ls us (rest b)
-    (ascending-left (slotIn n (l ∷ ls)) (slotIn (suc n) ls) us [] (λ v m. slot-later n l ls v (others l u us (f .unclashing) b v m)) (subst (Ascending (slotIn n (l ∷ ls))) (sym (append-nil us)) (a .1))))
+    (ascending-left (slotIn n (l ∷ ls)) (slotIn (suc n) ls) us [] (λ v m. slot-later n l ls v (others l u us (f .unclashing) b v m))
+    (subst (Ascending (slotIn n (l ∷ ls))) (sym (append-nil us)) (a .1))))
   where
     lowest : (v : Element) → v ∈ us → represents (l .by) (l .portion) v ≡ true → represents (l .by) (l .portion) u ≡ true
     lowest v m t =
@@ -111,18 +114,21 @@ turn-step n kind (l ∷ ls) (u ∷ us) f a =
           represented = λ k m. not-by k m (f .represented k (List·Memᴰ·tail m));
         }
       where
-        not-first : (v : Element) → v ∈ us → ((k : Listed) × (k ∈ l ∷ ls) × (represents (k .by) (k .portion) v ≡ true)) → (k : Listed) × (k ∈ ls) × (represents (k .by) (k .portion) v ≡ true)
+        not-first : (v : Element) → v ∈ us → ((k : Listed) × (k ∈ l ∷ ls) × (represents (k .by) (k .portion) v ≡ true)) → (k : Listed) × (k ∈ ls)
+            × (represents (k .by) (k .portion) v ≡ true)
         not-first v m (k, i, c) = which (List·Memᴰ·cases-cons i)
           where
             which : (k ≡ l) ⊎ (k ∈ ls) → (j : Listed) × (j ∈ ls) × (represents (j .by) (j .portion) v ≡ true)
             which (inl e) = absurd (true≢false (sym (ap (λ (j : Listed). represents (j .by) (j .portion) v) (sym e) ∙ c) ∙ others l u us (f .unclashing) b v m))
             which (inr j) = (k, j, c)
 
-        not-by : (k : Listed) → k ∈ ls → ((v : Element) × (v ∈ u ∷ us) × (represents (k .by) (k .portion) v ≡ true)) → (v : Element) × (v ∈ us) × (represents (k .by) (k .portion) v ≡ true)
+        not-by : (k : Listed) → k ∈ ls → ((v : Element) × (v ∈ u ∷ us) × (represents (k .by) (k .portion) v ≡ true)) → (v : Element) × (v ∈ us)
+            × (represents (k .by) (k .portion) v ≡ true)
         not-by k m (v, i, c) = which (List·Memᴰ·cases-cons i)
           where
             which : (v ≡ u) ⊎ (v ∈ us) → (w : Element) × (w ∈ us) × (represents (k .by) (k .portion) w ≡ true)
-            which (inl e) = absurd (apart-unit l k u (f .apart .0 k m) (kind-side (l .by) (k .by) (f .of-kinds l (List·Memᴰ·head refl) ∙ sym (f .of-kinds k (List·Memᴰ·tail m)))) b
+            which (inl e) = absurd (apart-unit l k u (f .apart .0 k m) (kind-side (l .by) (k .by) (f .of-kinds l (List·Memᴰ·head refl)
+                ∙ sym (f .of-kinds k (List·Memᴰ·tail m)))) b
                 (ap (represents (k .by) (k .portion)) (sym e) ∙ c))
             which (inr j) = (v, j, c)
 
@@ -141,12 +147,19 @@ module _ (es : List Element) (aside : LimitsAside es) (whole : (e : Element) →
         apart = apart-keep test (everything es) (apart-everything es aside);
         unclashing = keep-unclashing (representsSome (kind ∷ []) es) es (aside .apart);
         representing = λ u m. let (e, i, k, o) = some-told (kind ∷ []) es u (keep-in (representsSome (kind ∷ []) es) es u m .1) in
-            let (p, j, t) = associated-told e u o in
-            (record { by = e; portion = p }, keep-of test (everything es) (record { by = e; portion = p }) (everything-of es e p i j) (eq-eqb (e .kind) kind (of-kind e kind k)), t);
+            let (p, j, t) = associated-told e u o in (
+              record { by = e; portion = p },
+              keep-of test (everything es) (record { by = e; portion = p }) (everything-of es e p i j) (eq-eqb (e .kind) kind (of-kind e kind k)),
+              t,
+            );
         represented = λ l m. let r = keep-in test (everything es) l m in
             let (i, j) = everything-in es l (r .0) in
-            let (u, n, t) = represented-told es (l .by) (l .portion) (all-represented-told es (l .by) (whole (l .by) i) (l .portion) j) in
-            (u, keep-of (representsSome (kind ∷ []) es) es u n (some-of (kind ∷ []) es u (l .by) i (kind-of (l .by) kind (eqb-true (l .by .kind) kind (r .1))) (associated-of (l .by) u (l .portion) j t)), t);
+            let (u, n, t) = represented-told es (l .by) (l .portion) (all-represented-told es (l .by) (whole (l .by) i) (l .portion) j) in (
+              u,
+              keep-of (representsSome (kind ∷ []) es) es u n (some-of (kind ∷ []) es u (l .by) i
+                  (kind-of (l .by) kind (eqb-true (l .by .kind) kind (r .1))) (associated-of (l .by) u (l .portion) j t)),
+              t,
+            );
       }
     where
       test : Listed → Bool

@@ -1,8 +1,9 @@
--- What is kept of two lists, or by two tests; and ranks that ascend, of two lists. Assumes nothing.
+-- What is kept of two lists, or by two tests; and ranks that ascend, of two lists.
 use mathlib.Core.Path.{_≡_, refl, sym, subst}
 use mathlib.Core.Logic.{_⊎_, inl, inr}
 use mathlib.Core.Bool.{Bool, true, false}
-use mathlib.Core.List.{List, [], _∷_, _++_, map, append-assoc, List·Memᴰ·head, List·Memᴰ·tail, List·Memᴰ·not-nil, List·Memᴰ·cases-cons, List·Memᴰ·append-cases, Memᴰ·append-left, Memᴰ·append-right}
+use mathlib.Core.List.{List, [], _∷_, _++_, map, append-assoc, List·Memᴰ·head, List·Memᴰ·tail, List·Memᴰ·not-nil, List·Memᴰ·cases-cons}
+use mathlib.Core.List.{List·Memᴰ·append-cases, Memᴰ·append-left, Memᴰ·append-right}
 use Prim.Native.Nat.{ℕ, _≤_}
 use lib.Dec.{leb}
 use borrow.Author.Tests.{leb-true, le-leb}
@@ -67,7 +68,11 @@ module _ {A : Type 0} where
 
   pub ascending-any : (f : A → ℕ) (xs : List A) → ((x y : A) → x ∈ xs → y ∈ xs → f x ≤ f y) → Ascending f xs
   ascending-any f [] h = tt
-  ascending-any f (x ∷ xs) h = (λ y m. h x y (List·Memᴰ·head refl) (List·Memᴰ·tail m), ascending-any f xs (λ z y m n. h z y (List·Memᴰ·tail m) (List·Memᴰ·tail n)))
+  ascending-any f (x ∷ xs) h = (
+    λ y m. h x y (List·Memᴰ·head refl) (List·Memᴰ·tail m),
+    ascending-any f xs
+        (λ z y m n. h z y (List·Memᴰ·tail m) (List·Memᴰ·tail n)),
+  )
 
   pub keep-map : {B : Type 0} (test : B → Bool) (f : A → B) (xs : List A) → keep test (map f xs) ≡ map f (keep (λ x. test (f x)) xs)
   unfolding keep

@@ -1,9 +1,10 @@
 -- With a unit for each portion that is missing the elements are still such as a letter has, limits aside: such a unit's name is unused, since
--- a unit that had it would represent the portion; and no two portions of one side have one name. Assumes nothing.
+-- a unit that had it would represent the portion; and no two portions of one side have one name.
 use mathlib.Core.Path.{_≡_, refl, ap, sym, _∙_, subst}
 use mathlib.Core.Logic.{_⊎_, inl, inr}
 use mathlib.Core.Bool.{Bool, true, false, cond, not, _&&_, false≢true, true≢false}
-use mathlib.Core.List.{List, [], _∷_, _++_, map, List·Memᴰ·head, List·Memᴰ·tail, List·Memᴰ·not-nil, List·Memᴰ·cases-cons, List·Memᴰ·append-cases, Memᴰ·append-left, Memᴰ·append-right, Memᴰ·of-map, Memᴰ·map}
+use mathlib.Core.List.{List, [], _∷_, _++_, map, List·Memᴰ·head, List·Memᴰ·tail, List·Memᴰ·not-nil, List·Memᴰ·cases-cons, List·Memᴰ·append-cases}
+use mathlib.Core.List.{Memᴰ·append-left, Memᴰ·append-right, Memᴰ·of-map, Memᴰ·map}
 use Prim.Native.Nat.{ℕ}
 use native.Mathlib.Omega.{arith}
 use lib.Dec.{eqb, leb}
@@ -21,10 +22,12 @@ use Rattle.elements.specs.Judge.{Element, clash}
 use Rattle.reading.specs.declared.Side.{Side}
 use Rattle.reading.specs.declared.Side.the-variants.{Layout, Logical}
 use Rattle.reading.specs.Match.{unitKind, nameOn}
-use Rattle.order.specs.Represents.{_∈_, present, named, sideOf, represents, isRepresented, listing, speltAside, FitAside, NoClash, LimitsAside, Listed, listedBy, everything, keep}
+use Rattle.order.specs.Represents.{_∈_, present, named, sideOf, represents, isRepresented, listing, speltAside, FitAside, NoClash, LimitsAside, Listed}
+use Rattle.order.specs.Represents.{listedBy, everything, keep}
 use Rattle.order.specs.Missing.{missing, label, unitNamed, unitFor, lacking}
 use Rattle.order.proofs.Tests.{both, all-in, any-of}
-use Rattle.order.proofs.Representing.{represents-told, represents-of, represented-of, listing-side, side-space, unit-space, Clashing, clash-told, clash-of}
+use Rattle.order.proofs.Representing.{represents-told, represents-of, represented-of, listing-side, side-space, unit-space, Clashing, clash-told}
+use Rattle.order.proofs.Representing.{clash-of}
 
 -- what is kept
 module _ {A : Type 0} (test : A → Bool) where
@@ -62,7 +65,8 @@ everything-in (e ∷ es) l m = step (everything-in es l) (List·Memᴰ·append-c
     step below (inl n) = first (Memᴰ·of-map (λ (p : List ℕ). record { by = e; portion = p }) (e .portions) n)
     step below (inr n) = let r = below n in (List·Memᴰ·tail (r .0), r .1)
 
-pub everything-of : (es : List Element) (e : Element) (p : List ℕ) → e ∈ es → p ∈ e .portions → _∈_ {A = Listed} (record { by = e; portion = p }) (everything es)
+pub everything-of : (es : List Element) (e : Element) (p : List ℕ) → e ∈ es → p ∈ e .portions
+    → _∈_ {A = Listed} (record { by = e; portion = p }) (everything es)
 unfolding everything
 everything-of [] e p m n = absurd (List·Memᴰ·not-nil m)
 everything-of (d ∷ es) e p m n = step (λ o. everything-of es e p o n) (List·Memᴰ·cases-cons m)
@@ -133,7 +137,8 @@ unfolding unitFor
 unit-for-bare l = bare-side (sideOf (l .by)) (label (l .by .identifier) (l .portion))
 
 -- the unit for a portion represents it
-pub unit-for-represents : (l : Listed) → FitAside (l .by) → l .portion ∈ l .by .portions → named (l .by) ≡ true → represents (l .by) (l .portion) (unitFor l) ≡ true
+pub unit-for-represents : (l : Listed) → FitAside (l .by) → l .portion ∈ l .by .portions → named (l .by) ≡ true
+    → represents (l .by) (l .portion) (unitFor l) ≡ true
 unfolding unitFor
 unit-for-represents l f m n =
     let r = present-told (l .by .identifier) n in
@@ -214,7 +219,8 @@ apart-everything (e ∷ es) a =
     apart-append (listedBy e (e .portions)) (everything es) (apart-listed e (e .portions) (here .portions) (here .once)) (apart-everything es later)
     (λ l k m n s bytes x y. cross here l k (Memᴰ·of-map (λ (q : List ℕ). record { by = e; portion = q }) (e .portions) m) (everything-in es k n) s bytes x y)
   where
-    cross : FitAside e → (l k : Listed) → ((q : List ℕ) × (q ∈ e .portions) × (record { by = e; portion = q } ≡ l)) → (k .by ∈ es) × (k .portion ∈ k .by .portions) → Apart l k
+    cross : FitAside e → (l k : Listed) → ((q : List ℕ) × (q ∈ e .portions) × (record { by = e; portion = q } ≡ l)) → (k .by ∈ es)
+        × (k .portion ∈ k .by .portions) → Apart l k
     cross here l k (q, n, i) (o, m) =
         subst (λ (x : Listed). Apart x k) i
         (λ s bytes x y.
@@ -264,7 +270,13 @@ unit-new es l miss f e m = cases (clash e (unitFor l)) (λ t. absurd (clashing (
         let name : nameOn (sideOf (l .by)) e ≡ octets (n .0 ++ spaceByte ∷ l .portion) =
         ap (λ (s : Side). nameOn s e) (sym (r .0)) ∙ c .left ∙ sym (r .1) ∙ ap (λ (v : Value). label v (l .portion)) (n .1) in
         let t = represents-of (l .by) (l .portion) e
-        (record { on-side = listing-side (l .by .kind) (lister-kind (l .by) f (l .portion) (miss .listed)); of-unit = unit; identifier = n .0; named = n .1; spelt = name }) in
+        (record {
+          on-side = listing-side (l .by .kind) (lister-kind (l .by) f (l .portion) (miss .listed));
+          of-unit = unit;
+          identifier = n .0;
+          named = n .1;
+          spelt = name;
+        }) in
         true≢false (sym (represented-of es (l .by) (l .portion) e m t) ∙ miss .unrepresented)
 
 pub no-clash-append : (xs ys : List Element) → NoClash xs → NoClash ys → ((x y : Element) → x ∈ xs → y ∈ ys → clash x y ≡ false) → NoClash (xs ++ ys)

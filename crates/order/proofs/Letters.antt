@@ -1,4 +1,4 @@
--- Of the elements of every accepted stream the order is as promised; and the profile alone is in both orders. Assumes nothing.
+-- Of the elements of every accepted stream the order is as promised; and the profile alone is in both orders.
 use mathlib.Core.Path.{_≡_, refl, ap, sym, _∙_, subst}
 use mathlib.Core.Logic.{_⊎_, inl, inr}
 use mathlib.Core.List.{List, [], _∷_, map, List·Memᴰ·not-nil, List·Memᴰ·eq-of-singleton}
@@ -127,7 +127,8 @@ module _ (edition : Edition) (class : Class) (s : List ℕ) where
   unfolding orderIn
   is-computed r (by-rule e) = rw e
   is-computed r (in-order {headers} {elements} e o) = by-found headers elements e Nowhere (in-order-exactly class elements (aside headers elements e) .1 o)
-  is-computed r (out-of-order {headers} {n} {elements} e f) = by-found headers elements e (At n) (fault-exactly class elements (aside headers elements e) n .1 f)
+  is-computed r (out-of-order {headers} {n} {elements} e f) = by-found headers elements e (At n)
+      (fault-exactly class elements (aside headers elements e) n .1 f)
 
   -- what is answered of a stream is as promised
   pub answered : Answered edition class s

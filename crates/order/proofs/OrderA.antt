@@ -1,9 +1,10 @@
 -- Class A: with a unit for each portion that is missing, in stream order and then portion order, a front that passes is in order; so
--- elements begin a run in order exactly when they pass. Assumes nothing.
+-- elements begin a run in order exactly when they pass.
 use mathlib.Core.Path.{_≡_, refl, ap, sym, _∙_, subst}
 use mathlib.Core.Logic.{_⊎_, inl, inr, _↔_}
 use mathlib.Core.Bool.{Bool, true, false, cond, not, _&&_, false≢true, true≢false}
-use mathlib.Core.List.{List, [], _∷_, _++_, map, append-nil, List·Memᴰ·head, List·Memᴰ·tail, List·Memᴰ·not-nil, List·Memᴰ·cases-cons, List·Memᴰ·append-cases, Memᴰ·append-left, Memᴰ·append-right}
+use mathlib.Core.List.{List, [], _∷_, _++_, map, append-nil, List·Memᴰ·head, List·Memᴰ·tail, List·Memᴰ·not-nil, List·Memᴰ·cases-cons, List·Memᴰ·append-cases}
+use mathlib.Core.List.{Memᴰ·append-left, Memᴰ·append-right}
 use Prim.Native.Nat.{ℕ, _<_, _≤_}
 use native.Mathlib.Omega.{arith}
 use lib.Dec.{eqb, leb}
@@ -17,7 +18,8 @@ use Rattle.elements.specs.Judge.{Element, clash}
 use Rattle.reading.specs.declared.Side.{Side}
 use Rattle.reading.specs.declared.Side.the-variants.{Layout, Logical}
 use Rattle.reading.specs.Match.{unitKind, kindsOf, nameOn}
-use Rattle.order.specs.Represents.{_∈_, Ascending, named, sideOf, represents, isAssociated, isRepresented, allRepresented, profileKind, ProfileFirst, NoClash, LimitsAside, Listed, everything, keep}
+use Rattle.order.specs.Represents.{_∈_, Ascending, named, sideOf, represents, isAssociated, isRepresented, allRepresented, profileKind, ProfileFirst}
+use Rattle.order.specs.Represents.{NoClash, LimitsAside, Listed, everything, keep}
 use Rattle.order.specs.Ranks.{rankIn}
 use Rattle.order.specs.ClassA.{endA, classKinds, objectKinds, representsSome, unitRank, rankA, orderedBy, listedOf, unitsOf, inStep, InOrderA}
 use Rattle.order.specs.declared.Class.the-variants.{A}
@@ -26,11 +28,16 @@ use Rattle.order.specs.ClausesA.{profileFirst, ascends, awaited, mayCome
 use Rattle.order.specs.Missing.{missing, label, unitFor, lacking}
 use Rattle.order.proofs.Tests.{both, either, all-in}
 use Rattle.order.proofs.Fronts.{begins-front, aProfile, profile-aside}
-use Rattle.order.proofs.Representing.{represents-told, represents-one, associated-told, associated-of, represented-told, represented-of, represented-more, all-represented-told, all-represented-of}
-use Rattle.order.proofs.Lacking.{keep-in, keep-of, everything-in, Missing, missing-told, missing-of, lister-kind, unit-for-kind, unit-for-bare, unit-for-represents, unit-for-side, Apart, AllApart, apart-keep, apart-everything, lacking-told, lacking-of, lacking-aside}
+use Rattle.order.proofs.Representing.{represents-told, represents-one, associated-told, associated-of, represented-told, represented-of}
+use Rattle.order.proofs.Representing.{represented-more, all-represented-told, all-represented-of}
+use Rattle.order.proofs.Lacking.{keep-in, keep-of, everything-in, Missing, missing-told, missing-of, lister-kind, unit-for-kind, unit-for-bare}
+use Rattle.order.proofs.Lacking.{unit-for-represents, unit-for-side, Apart, AllApart, apart-keep, apart-everything, lacking-told, lacking-of}
+use Rattle.order.proofs.Lacking.{lacking-aside}
 use Rattle.order.proofs.OrderB.{lacking-others}
-use Rattle.order.proofs.Keeping.{keep-append, keep-all, keep-same, keep-swap, keep-map, ascending-left, ascending-append, ascending-any, everything-append, everything-none}
-use Rattle.order.proofs.RanksA.{some-told, some-of, Owner, class, object, lister-owner, object-rank, class-not-object, awaited-class, awaited-object, unit-rank, rank-same}
+use Rattle.order.proofs.Keeping.{keep-append, keep-all, keep-same, keep-swap, keep-map, ascending-left, ascending-append, ascending-any}
+use Rattle.order.proofs.Keeping.{everything-append, everything-none}
+use Rattle.order.proofs.RanksA.{some-told, some-of, Owner, class, object, lister-owner, object-rank, class-not-object, awaited-class, awaited-object}
+use Rattle.order.proofs.RanksA.{unit-rank, rank-same}
 use Rattle.order.proofs.FrontA.{steps, Placed, placed-told, ordered-of, ordered-told, kind-of, ordered-same, whole, begins-told}
 
 -- of elements that do not clash two that would are one
@@ -45,7 +52,8 @@ no-clash-one (x ∷ es) a e f m n c d = step (λ i j. no-clash-one es (a .1) e f
     step below (inr i) (inr j) = below i j
 
 -- one unit does not represent two portions that are apart
-pub apart-unit : (l k : Listed) (u : Element) → Apart l k → sideOf (l .by) ≡ sideOf (k .by) → represents (l .by) (l .portion) u ≡ true → represents (k .by) (k .portion) u ≡ true → ⊥
+pub apart-unit : (l k : Listed) (u : Element) → Apart l k → sideOf (l .by) ≡ sideOf (k .by) → represents (l .by) (l .portion) u ≡ true
+    → represents (k .by) (k .portion) u ≡ true → ⊥
 apart-unit l k u a s t w =
     let i = represents-told (l .by) (l .portion) u t in
     let j = represents-told (k .by) (k .portion) u w in
@@ -132,7 +140,8 @@ module _ (front : List Element) (aside : LimitsAside front) (placed : Placed fro
   pub awaits : (l : Listed) → Missing front l → (named (l .by) ≡ true) × ((x : Element) → x ∈ front → rankA front x ≤ awaited (l .by))
   unfolding mayCome
   awaits l m =
-      which (either (allRepresented front (l .by)) (named (l .by) && all (map (λ (x : Element). leb (rankA front x) (awaited (l .by))) front)) (may (l .by) (m .by)))
+      which (either (allRepresented front (l .by)) (named (l .by)
+      && all (map (λ (x : Element). leb (rankA front x) (awaited (l .by))) front)) (may (l .by) (m .by)))
     where
       which : (allRepresented front (l .by) ≡ true) ⊎ (named (l .by) && all (map (λ (x : Element). leb (rankA front x) (awaited (l .by))) front) ≡ true)
           → (named (l .by) ≡ true) × ((x : Element) → x ∈ front → rankA front x ≤ awaited (l .by))
@@ -205,7 +214,8 @@ module _ (front : List Element) (aside : LimitsAside front) (placed : Placed fro
   complete-ascending : Ascending (rankA complete) complete
   complete-ascending =
       ascending-append (rankA complete) front more
-      (ascending-left (rankA front) (rankA complete) front [] (λ x m. sym (rank-complete x)) (subst (Ascending (rankA front)) (sym (append-nil front)) (placed .ascending)))
+      (ascending-left (rankA front) (rankA complete) front [] (λ x m. sym (rank-complete x))
+      (subst (Ascending (rankA front)) (sym (append-nil front)) (placed .ascending)))
       (ascending-any (rankA complete) more
       (λ x y m n. let (l, i, r) = more-rank x m in let (k, j, s) = more-rank y n in let a = awaited-one l k i j in omega arith))
       (λ x y m n. let (k, j, s) = more-rank y n in let a = awaits k j .1 x m in let b = rank-complete x in omega arith)
@@ -241,7 +251,8 @@ module _ (front : List Element) (aside : LimitsAside front) (placed : Placed fro
   unfolding listedOf
   complete-listed =
       ap (keep (λ l. eqb (l .by .kind) kindA))
-      (everything-append front more ∙ ap (λ (ls : List Listed). everything front ++ ls) (everything-none more (λ e m. more-bare e m .0)) ∙ append-nil (everything front))
+      (everything-append front more ∙ ap (λ (ls : List Listed). everything front ++ ls) (everything-none more (λ e m. more-bare e m .0))
+      ∙ append-nil (everything front))
 
   -- of what lacks, the ordered units are those for what the objects of that kind list
   lacking-units : keep (representsSome (kindA ∷ []) complete) more ≡ map unitFor (keep (open-yet front kindA) (listedOf kindA front))

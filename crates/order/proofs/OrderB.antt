@@ -1,9 +1,10 @@
 -- Class B: with a unit for each portion that is missing, a front that passes is in order; so elements begin a run in order exactly when they
--- pass. Assumes nothing.
+-- pass.
 use mathlib.Core.Path.{_≡_, refl, ap, sym, _∙_, subst}
 use mathlib.Core.Logic.{_⊎_, inl, inr, _↔_}
 use mathlib.Core.Bool.{Bool, true, false, false≢true, true≢false}
-use mathlib.Core.List.{List, [], _∷_, _++_, append-assoc, append-nil, List·Memᴰ·head, List·Memᴰ·tail, List·Memᴰ·not-nil, List·Memᴰ·cases-cons, List·Memᴰ·append-cases, List·Memᴰ·eq-of-singleton, Memᴰ·append-left, Memᴰ·append-right}
+use mathlib.Core.List.{List, [], _∷_, _++_, append-assoc, append-nil, List·Memᴰ·head, List·Memᴰ·tail, List·Memᴰ·not-nil, List·Memᴰ·cases-cons}
+use mathlib.Core.List.{List·Memᴰ·append-cases, List·Memᴰ·eq-of-singleton, Memᴰ·append-left, Memᴰ·append-right}
 use Prim.Native.Nat.{ℕ, _≤_}
 use native.Mathlib.Omega.{arith}
 use lib.Dec.{eqb}
@@ -11,7 +12,8 @@ use borrow.Author.Tests.{eqb-true, eq-eqb}
 use borrow.Table.Steps.{cases}
 use Rattle.names.specs.Names.{isPortion}
 use Rattle.elements.specs.Judge.{Element, clash}
-use Rattle.order.specs.Represents.{_∈_, Ascending, named, sideOf, represents, isAssociated, isRepresented, allRepresented, profileKind, ProfileFirst, NoClash, LimitsAside, Listed}
+use Rattle.order.specs.Represents.{_∈_, Ascending, named, sideOf, represents, isAssociated, isRepresented, allRepresented, profileKind, ProfileFirst}
+use Rattle.order.specs.Represents.{NoClash, LimitsAside, Listed}
 use Rattle.order.specs.ClassB.{rankB, Group, laid, Together, InOrderB}
 use Rattle.order.specs.declared.Class.the-variants.{B}
 use Rattle.order.specs.Begins.{Begins}
@@ -19,9 +21,11 @@ use Rattle.order.specs.ClausesB.{scanB, mayGoOn, beginsB, orderedB}
 use Rattle.order.specs.Missing.{missing, unitFor, lacking}
 use Rattle.order.proofs.Tests.{both, either, all-in}
 use Rattle.order.proofs.Fronts.{begins-front, aProfile, profile-aside}
-use Rattle.order.proofs.Representing.{represents-unit, represents-one, associated-told, associated-of, associated-unit, represented-told, represented-of, represented-more, all-represented-told, all-represented-of}
+use Rattle.order.proofs.Representing.{represents-unit, represents-one, associated-told, associated-of, associated-unit, represented-told}
+use Rattle.order.proofs.Representing.{represented-of, represented-more, all-represented-told, all-represented-of}
 use Rattle.order.proofs.Lacking.{Missing, missing-told, missing-of, unit-for-kind, unit-for-represents, lacking-told, lacking-of, lacking-aside}
-use Rattle.order.proofs.CutB.{headRank, not-unit, tabled-side, profile-tabled, unit-lists-none, laid-head, scan-whole, begins-told, Cut, cut, scan-others}
+use Rattle.order.proofs.CutB.{headRank, not-unit, tabled-side, profile-tabled, unit-lists-none, laid-head, scan-whole, begins-told, Cut, cut}
+use Rattle.order.proofs.CutB.{scan-others}
 
 -- so what passes is in order
 laid-append : (gs ks : List Group) → laid (gs ++ ks) ≡ laid gs ++ laid ks
@@ -171,9 +175,11 @@ module _ (h : Element) (xs : List Element) (aside : LimitsAside (h ∷ xs)) (c :
           let s : isRepresented front (g .head) (l .portion) ≡ true =
           represented-more (g .units) front (g .head) (l .portion) (λ u o. closed-in-front u (laid-units (c .closed) g n u o)) t in
           absurd (true≢false (sym s ∙ ap (λ (e : Element). isRepresented front e (l .portion)) (sym p) ∙ m .unrepresented))
-      by-place (follows g n p) = absurd (unit-lists-none (l .by) (aside .fit (l .by) (m .by)) (associated-unit (g .head) (l .by) (c .together g n .own (l .by) p)) (l .portion) (m .listed))
+      by-place (follows g n p) = absurd (unit-lists-none (l .by) (aside .fit (l .by) (m .by))
+          (associated-unit (g .head) (l .by) (c .together g n .own (l .by) p)) (l .portion) (m .listed))
       by-place (heads-last p) = p
-      by-place (follows-last p) = absurd (unit-lists-none (l .by) (aside .fit (l .by) (m .by)) (associated-unit head (l .by) (c .own (l .by) p)) (l .portion) (m .listed))
+      by-place (follows-last p) = absurd (unit-lists-none (l .by) (aside .fit (l .by) (m .by)) (associated-unit head (l .by) (c .own (l .by) p))
+          (l .portion) (m .listed))
 
   -- and it has an identifier
   missing-named : (p : List ℕ) → p ∈ head .portions → isRepresented front head p ≡ false → named head ≡ true
@@ -190,8 +196,10 @@ module _ (h : Element) (xs : List Element) (aside : LimitsAside (h ∷ xs)) (c :
       let r = missing-told front l m in
       let p : l .by ≡ head = missing-last l r in
       let listed : l .portion ∈ head .portions = subst (λ (e : Element). l .portion ∈ e .portions) p (r .listed) in
-      let n : named (l .by) ≡ true = ap named p ∙ missing-named (l .portion) listed (ap (λ (e : Element). isRepresented front e (l .portion)) (sym p) ∙ r .unrepresented) in
-      let o : isAssociated (l .by) (unitFor l) ≡ true = associated-of (l .by) (unitFor l) (l .portion) (r .listed) (unit-for-represents l (aside .fit (l .by) (r .by)) (r .listed) n) in
+      let n : named (l .by) ≡ true = ap named p ∙ missing-named (l .portion) listed (ap (λ (e : Element). isRepresented front e (l .portion)) (sym p)
+      ∙ r .unrepresented) in
+      let o : isAssociated (l .by) (unitFor l) ≡ true = associated-of (l .by) (unitFor l) (l .portion) (r .listed)
+      (unit-for-represents l (aside .fit (l .by) (r .by)) (r .listed) n) in
       sym (ap (λ (e : Element). isAssociated e u) p) ∙ ap (isAssociated (l .by)) (sym i) ∙ o
 
   -- no unit of another group is associated with the last head
@@ -207,7 +215,8 @@ module _ (h : Element) (xs : List Element) (aside : LimitsAside (h ∷ xs)) (c :
           let one = represents-one (g .head) head (o .0) p u s
           (all-in isPortion (g .head .portions) (aside .fit (g .head) (closed-in-front (g .head) inside) .portions) (o .0) (o .1))
           (all-in isPortion (head .portions) (aside .fit head head-in-front .portions) p m) (o .2) a in
-          absurd (true≢false (sym (one .0) ∙ no-clash-split (laid (c .closed)) (head ∷ units) (subst NoClash (c .same) (aside .apart)) (g .head) head inside (List·Memᴰ·head refl)))
+          absurd (true≢false (sym (one .0) ∙ no-clash-split (laid (c .closed)) (head ∷ units) (subst NoClash (c .same) (aside .apart))
+          (g .head) head inside (List·Memᴰ·head refl)))
       by-place u a (heads-last q) = absurd (not-unit head (c .tabled) (ap (λ (e : Element). e .kind) (sym q) ∙ represents-unit head p u a))
       by-place u a (follows-last q) = represented-of units head p u q a
 

@@ -1,4 +1,4 @@
--- The pass over numbers finds the place of 26 in class A: it stands where the definition does after every front. Assumes nothing.
+-- The pass over numbers finds the place of 26 in class A: it stands where the definition does after every front.
 use mathlib.Core.Path.{_≡_, refl, ap, sym, _∙_, subst}
 use mathlib.Core.Bool.{true, false, _&&_, false≢true, true≢false}
 use mathlib.Core.List.{List, [], _∷_, _++_, map, append-assoc, append-nil, List·Memᴰ·head, List·Memᴰ·not-nil, List·Memᴰ·eq-of-singleton}
@@ -34,7 +34,8 @@ module _ (front : List Element) (aside : LimitsAside front) (placed : Placed fro
   closed-all t e m =
       all-represented-of front e
       (λ p n. cases (isRepresented front e p) (λ u. u)
-      (λ u. absurd (none (both (eqb (s .generic) 0) (eqb (s .specific) 0) t) (record { by = e; portion = p }) (record { by = m; listed = n; unrepresented = u }) (lister-owner e (lister-kind e (aside .fit e m) p n)))))
+      (λ u. absurd (none (both (eqb (s .generic) 0) (eqb (s .specific) 0) t) (record { by = e; portion = p })
+      (record { by = m; listed = n; unrepresented = u }) (lister-owner e (lister-kind e (aside .fit e m) p n)))))
     where
       none : (eqb (s .generic) 0 ≡ true) × (eqb (s .specific) 0 ≡ true) → (l : Listed) → Missing front l → Owner (l .by) → ⊥
       none (g, c) l i (class k) = let a = open-of classKinds front l i k in let b = eqb-true (s .generic) 0 g in let d = holds .generic-is in omega arith
@@ -60,7 +61,8 @@ module _ (front : List Element) (aside : LimitsAside front) (placed : Placed fro
       absurd (true≢false (sym (and-of (eqb (s .generic) 0) (eqb (s .specific) 0) (eq-eqb (s .generic) 0 zg) (eq-eqb (s .specific) 0 zc)) ∙ t)))
       (λ u. u ∙ sym t)))
 
-pass-finds : (rest front : List Element) (s : StateA) (n : ℕ) → LimitsAside (front ++ rest) → Placed front → ((e : Element) → e ∈ front → mayCome front e ≡ true) → Holds front s
+pass-finds : (rest front : List Element) (s : StateA) (n : ℕ) → LimitsAside (front ++ rest) → Placed front
+    → ((e : Element) → e ∈ front → mayCome front e ≡ true) → Holds front s
     → n ≡ length front → passA s n (sightsA front rest) ≡ faultFrom A front rest
 unfolding passA faultFrom
 pass-finds [] front s n a p m h i = rw (end-exactly front (subst LimitsAside (append-nil front) a) p s h, i)
@@ -113,7 +115,8 @@ module _ (x : Element) (fit : FitAside x) (profile : x .kind ≡ profileKind) wh
   alone-may : (e : Element) → e ∈ alone → mayCome alone e ≡ true
   unfolding mayCome
   alone-may e m =
-      let t : allRepresented alone e ≡ true = all-represented-of alone e (λ p n. absurd (List·Memᴰ·not-nil (rw (in-alone (λ y. y .portions ≡ []) alone-bare e m) at n))) in
+      let t : allRepresented alone e ≡ true = all-represented-of alone e
+      (λ p n. absurd (List·Memᴰ·not-nil (rw (in-alone (λ y. y .portions ≡ []) alone-bare e m) at n))) in
       rw t
 
   alone-open : (kinds : List ℕ) → length (openIn kinds alone) ≡ 0
@@ -138,8 +141,10 @@ pass-exactly (x ∷ xs) a =
     cases (eqb (x .kind) profileKind)
     (λ t. let k : x .kind ≡ profileKind = eqb-true (x .kind) profileKind t in
     let fit = a .fit x (List·Memᴰ·head refl) in
-    let b : beginsA (x ∷ []) ≡ true = begins-parts [] x ∙ and-of _ _ (placed-of (x ∷ []) (alone-placed x fit k)) (all-of (mayCome (x ∷ [])) (x ∷ []) (alone-may x fit k)) in
+    let b : beginsA (x ∷ []) ≡ true = begins-parts [] x
+    ∙ and-of _ _ (placed-of (x ∷ []) (alone-placed x fit k)) (all-of (mayCome (x ∷ [])) (x ∷ []) (alone-may x fit k)) in
     rw (t, b) (pass-finds xs (x ∷ []) noneA 1 a (alone-placed x fit k) (alone-may x fit k) (alone-holds x fit k) refl))
     (λ t. let b : beginsA (x ∷ []) ≡ false =
-    cases (beginsA (x ∷ [])) (λ u. absurd (eqb-false (x .kind) profileKind t (placed-told (x ∷ []) (both (placedA (x ∷ [])) _ (sym (begins-parts [] x) ∙ u) .0) .profile .0))) (λ u. u) in
+    cases (beginsA (x ∷ [])) (λ u. absurd (eqb-false (x .kind) profileKind t (placed-told (x ∷ []) (both (placedA (x ∷ [])) _ (sym (begins-parts [] x)
+    ∙ u) .0) .profile .0))) (λ u. u) in
     rw (t, b))

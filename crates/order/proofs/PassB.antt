@@ -1,5 +1,5 @@
 -- The pass over numbers finds the place of 26 in class B: it stands where the pass over elements does, since a unit is a head's own exactly
--- when the head is its owner, and all is represented exactly when nothing is left. Assumes nothing.
+-- when the head is its owner, and all is represented exactly when nothing is left.
 use mathlib.Core.Path.{_≡_, refl, ap, sym, _∙_, subst}
 use mathlib.Core.Logic.{_⊎_, inl, inr}
 use mathlib.Core.Bool.{Bool, true, false, cond, not, _&&_, true≢false, and-assoc}
@@ -32,7 +32,8 @@ use Rattle.order.proofs.Place.{no-clash-left}
 pub owner-beyond : (n : ℕ) (es : List Element) (u : Element) → (layoutOwner n es u ≡ 0) ⊎ (n < layoutOwner n es u)
 unfolding layoutOwner
 owner-beyond n [] u = inl refl
-owner-beyond n (e ∷ es) u = cases (isIn (e .kind) (kindsOf Layout) && isAssociated e u) (λ t. rw t (inr (omega arith))) (λ t. rw t (step (owner-beyond (suc n) es u)))
+owner-beyond n (e ∷ es) u = cases (isIn (e .kind) (kindsOf Layout)
+    && isAssociated e u) (λ t. rw t (inr (omega arith))) (λ t. rw t (step (owner-beyond (suc n) es u)))
   where
     step : (layoutOwner (suc n) es u ≡ 0) ⊎ (suc n < layoutOwner (suc n) es u) → (layoutOwner (suc n) es u ≡ 0) ⊎ (n < layoutOwner (suc n) es u)
     step (inl z) = inl z
@@ -178,7 +179,11 @@ module _ (all : List Element) (aside : LimitsAside all) where
         begins-start front x ∙ c .reached mayGoOn (x ∷ []) ∙ a
 
     -- one unit more
-    stands-unit : isUnit x ≡ true → isAssociated (c .h) x ≡ true → Stands (front ++ x ∷ []) (record { rank = s .rank; head = s .head; left = s .left - 1 }) (suc n) xs
+    stands-unit : isUnit x ≡ true → isAssociated (c .h) x ≡ true → Stands (front ++ x ∷ []) (record {
+      rank = s .rank;
+      head = s .head;
+      left = s .left - 1;
+    }) (suc n) xs
     unfolding scanB
     stands-unit u o =
         record {
@@ -197,7 +202,8 @@ module _ (all : List Element) (aside : LimitsAside all) where
         }
 
     -- one head more
-    stands-head : isUnit x ≡ false → allRepresented (c .us) (c .h) ≡ true → nextB (c .h) x ≡ true → Stands (front ++ x ∷ []) (startB n (sightOf all x)) (suc n) xs
+    stands-head : isUnit x ≡ false → allRepresented (c .us) (c .h) ≡ true → nextB (c .h) x ≡ true → Stands (front ++ x ∷ [])
+        (startB n (sightOf all x)) (suc n) xs
     unfolding scanB
     stands-head u a t =
         record {
@@ -220,8 +226,10 @@ module _ (all : List Element) (aside : LimitsAside all) where
         ≡ allRepresented (c .us) (c .h) && (nextB (c .h) x && mayGoOn [] x)
     unfolding nextB
     head-test =
-        ap (λ (b : Bool). b && (not (eqb (x .kind) profileKind) && (ltb (rankB x) endB && leb (s .rank) (rankB x))) && canCome (sightOf all x)) (left-none front s n (x ∷ xs) c)
-        ∙ ap (λ (k : ℕ). allRepresented (c .us) (c .h) && (not (eqb (x .kind) profileKind) && (ltb (rankB x) endB && leb k (rankB x))) && canCome (sightOf all x)) (c .rank-is)
+        ap (λ (b : Bool). b && (not (eqb (x .kind) profileKind) && (ltb (rankB x) endB && leb (s .rank) (rankB x)))
+        && canCome (sightOf all x)) (left-none front s n (x ∷ xs) c)
+        ∙ ap (λ (k : ℕ). allRepresented (c .us) (c .h) && (not (eqb (x .kind) profileKind) && (ltb (rankB x) endB && leb k (rankB x)))
+        && canCome (sightOf all x)) (c .rank-is)
         ∙ ap (λ (b : Bool). allRepresented (c .us) (c .h) && nextB (c .h) x && b) (can-come all x)
         ∙ and-assoc (allRepresented (c .us) (c .h)) (nextB (c .h) x) (mayGoOn [] x)
 
@@ -233,7 +241,8 @@ module _ (all : List Element) (aside : LimitsAside all) where
   unfolding passB stepB faultFrom
   pass-finds [] front s n c =
       let e : orderedB front ≡ eqb (s .left) 0 =
-      ordered-start front ∙ ap (start allRepresented) (sym (append-nil front)) ∙ c .reached allRepresented [] ∙ scan-end (c .us) (c .h) ∙ sym (left-none front s n [] c) in
+      ordered-start front ∙ ap (start allRepresented) (sym (append-nil front)) ∙ c .reached allRepresented [] ∙ scan-end (c .us) (c .h)
+      ∙ sym (left-none front s n [] c) in
       rw (e, c .number-is)
   pass-finds (x ∷ xs) front s n c =
       cases (isUnit x)
@@ -272,7 +281,8 @@ module _ (all : List Element) (aside : LimitsAside all) where
       let test : eqb (x .kind) profileKind && canCome (sightOf all x) ≡ eqb (x .kind) profileKind && mayGoOn [] x =
       ap (λ (b : Bool). eqb (x .kind) profileKind && b) (can-come all x) in
       cases (eqb (x .kind) profileKind && mayGoOn [] x)
-      (λ t. rw (test ∙ t, t) (pass-finds xs (x ∷ []) (startB 0 (sightOf all x)) 1 (stands-first x xs e (eqb-true (x .kind) profileKind (both (eqb (x .kind) profileKind) (mayGoOn [] x) t .0)))))
+      (λ t. rw (test ∙ t, t) (pass-finds xs (x ∷ []) (startB 0 (sightOf all x)) 1
+      (stands-first x xs e (eqb-true (x .kind) profileKind (both (eqb (x .kind) profileKind) (mayGoOn [] x) t .0)))))
       (λ t. rw (test ∙ t, t))
 
 -- THE LAW of the pass: it finds what the definition says

@@ -1,4 +1,4 @@
--- The place of 26: it is determined, it is there exactly when the elements are not in order, and it is what is computed. Assumes nothing.
+-- The place of 26: it is determined, it is there exactly when the elements are not in order, and it is what is computed.
 use mathlib.Core.Path.{_≡_, refl, ap, sym, _∙_, subst}
 use mathlib.Core.Logic.{_⊎_, inl, inr, _↔_}
 use mathlib.Core.Bool.{Bool, true, false, true≢false}
@@ -40,7 +40,8 @@ place-determined class elements m n a b =
     end : (n : ℕ) → FaultAt class elements n → n ≤ length elements
     end n b = which (b .here)
       where
-        which : ((n < length elements) × (Begins class (take (suc n) elements) → ⊥)) ⊎ ((n ≡ length elements) × (InOrder class elements → ⊥)) → n ≤ length elements
+        which : ((n < length elements) × (Begins class (take (suc n) elements) → ⊥))
+            ⊎ ((n ≡ length elements) × (InOrder class elements → ⊥)) → n ≤ length elements
         which (inl p) = omega arith
         which (inr p) = omega arith
 
@@ -93,7 +94,10 @@ module _ (class : Class) where
       (λ t. rw t (subst (InOrder class) (sym (append-nil front)) (ordered-exactly class front .0 t)))
       (λ t. rw t (record {
         before = b;
-        here = inr (ap length (sym (append-nil front)), λ o. true≢false (sym (ordered-exactly class front .1 (subst (InOrder class) (append-nil front) o)) ∙ t));
+        here = inr (
+          ap length (sym (append-nil front)),
+          λ o. true≢false (sym (ordered-exactly class front .1 (subst (InOrder class) (append-nil front) o)) ∙ t),
+        );
       }))
   tells-from front (x ∷ xs) a b =
       let e : (front ++ x ∷ []) ++ xs ≡ front ++ x ∷ xs = append-assoc front (x ∷ []) xs in
@@ -101,7 +105,8 @@ module _ (class : Class) where
       cases (begins class (front ++ x ∷ []))
       (λ t. rw t (subst (λ (l : List Element). Tells class l (faultFrom class (front ++ x ∷ []) xs)) e
       (tells-from (front ++ x ∷ []) xs (subst LimitsAside (sym e) a)
-      (λ k l. subst (λ (es : List Element). Begins class (take (suc k) es)) (sym e) (through k (begins-exactly class (front ++ x ∷ []) aside .0 t) (shorter k l))))))
+      (λ k l. subst (λ (es : List Element). Begins class (take (suc k) es)) (sym e)
+      (through k (begins-exactly class (front ++ x ∷ []) aside .0 t) (shorter k l))))))
       (λ t. rw t (record {
         before = b;
         here = inl (longer, λ c. true≢false (sym (begins-exactly class (front ++ x ∷ []) aside .1 (subst (Begins class) (take-through front x xs) c)) ∙ t));

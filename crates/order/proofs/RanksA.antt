@@ -1,4 +1,4 @@
--- Class A: which rank an element has, and what the rank of a unit tells. Assumes nothing.
+-- Class A: which rank an element has, and what the rank of a unit tells.
 use mathlib.Core.Path.{_≡_, refl, sym, _∙_, subst}
 use mathlib.Core.Bool.{Bool, true, false, _&&_, false≢true}
 use mathlib.Core.List.{List, [], _∷_}

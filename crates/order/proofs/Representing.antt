@@ -1,5 +1,5 @@
 -- What it tells that a unit represents a portion: the element has an identifier, the unit's name on the element's side is that identifier, a
--- space and the portion; so no unit represents two portions of one side. Assumes nothing.
+-- space and the portion; so no unit represents two portions of one side.
 use mathlib.Core.Path.{_≡_, refl, ap, sym, _∙_}
 use mathlib.Core.Logic.{_⊎_, inl, inr}
 use mathlib.Core.Bool.{true, cond, _||_, false≢true}
@@ -70,11 +70,9 @@ module _ (us : List Element) (e : Element) where
   all-represented-of h = all-of (isRepresented us e) (e .portions) h
 
 -- with more units no less is represented
-pub represented-more : (us vs : List Element) (e : Element) (p : List ℕ) → ((u : Element) → u ∈ us → u ∈ vs) → isRepresented us e p ≡ true → isRepresented vs e p ≡ true
+pub represented-more : (us vs : List Element) (e : Element) (p : List ℕ) → ((u : Element) → u ∈ us → u ∈ vs) → isRepresented us e p ≡ true
+    → isRepresented vs e p ≡ true
 represented-more us vs e p i t = let r = represented-told us e p t in represented-of vs e p (r .0) (i (r .0) (r .1)) (r .2)
-
-pub all-represented-more : (us vs : List Element) (e : Element) → ((u : Element) → u ∈ us → u ∈ vs) → allRepresented us e ≡ true → allRepresented vs e ≡ true
-all-represented-more us vs e i t = all-represented-of vs e (λ p m. represented-more us vs e p i (all-represented-told us e t p m))
 
 -- who lists portions has a side, and its name space is that of classes and objects
 pub listing-side : (k : ℕ) → isIn k listing ≡ true → isIn k (kindsOf (cond (isIn k (kindsOf Layout)) Layout Logical)) ≡ true
@@ -125,14 +123,16 @@ clash-told d e t =
     let a = both (eqb (nameSpaceOf (d .kind)) (nameSpaceOf (e .kind))) (shares (d .identifier) (e .identifier) || shares (d .logical) (e .logical)) t in
     which (eqb-true _ _ (a .0)) (either (shares (d .identifier) (e .identifier)) (shares (d .logical) (e .logical)) (a .1))
   where
-    which : nameSpaceOf (d .kind) ≡ nameSpaceOf (e .kind) → (shares (d .identifier) (e .identifier) ≡ true) ⊎ (shares (d .logical) (e .logical) ≡ true) → Clashing d e
+    which : nameSpaceOf (d .kind) ≡ nameSpaceOf (e .kind) → (shares (d .identifier) (e .identifier) ≡ true)
+        ⊎ (shares (d .logical) (e .logical) ≡ true) → Clashing d e
     which s (inl u) = let r = shares-told (d .identifier) (e .identifier) u in
         record { spaced = s; side = Layout; bytes = r .0; left = r .1; right = r .2 }
     which s (inr u) = let r = shares-told (d .logical) (e .logical) u in
         record { spaced = s; side = Logical; bytes = r .0; left = r .1; right = r .2 }
 
 -- two of a name space with the same identifier clash
-pub clash-of : (d e : Element) (bytes : List ℕ) → nameSpaceOf (d .kind) ≡ nameSpaceOf (e .kind) → d .identifier ≡ octets bytes → e .identifier ≡ octets bytes → clash d e ≡ true
+pub clash-of : (d e : Element) (bytes : List ℕ) → nameSpaceOf (d .kind) ≡ nameSpaceOf (e .kind) → d .identifier ≡ octets bytes → e .identifier ≡ octets bytes
+    → clash d e ≡ true
 unfolding clash
 clash-of d e bytes s p q = rw (eq-eqb _ _ s, p, q, same-refl bytes)
 

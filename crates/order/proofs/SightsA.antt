@@ -1,4 +1,4 @@
--- Class A: what the pass looks at tells what the definition asks: counts of portions, their numbers, and what is open. Assumes nothing.
+-- Class A: what the pass looks at tells what the definition asks: counts of portions, their numbers, and what is open.
 use mathlib.Core.Path.{_≡_, refl, ap, sym, _∙_}
 use mathlib.Core.Logic.{_⊎_, inl, inr}
 use mathlib.Core.Bool.{Bool, true, false, cond, not, _&&_, _||_, false≢true, true≢false}
@@ -12,7 +12,7 @@ use borrow.Table.Steps.{cases}
 use Rattle.headers.specs.Head.{isIn}
 use Rattle.portions.specs.Portions.{all, any}
 use Rattle.elements.specs.Judge.{Element, clash}
-use Rattle.order.specs.Represents.{_∈_, named, represents, isRepresented, profileKind, Listed, everything, keep}
+use Rattle.order.specs.Represents.{_∈_, represents, isRepresented, profileKind, Listed, everything, keep}
 use Rattle.order.specs.ClassA.{endA, genericRank, specificRank, classKinds, objectKinds, representsSome, rankA, orderedBy, unitsOf, inStep}
 use Rattle.order.specs.ClausesA.{mayCome, placedA, beginsA}
 use Rattle.order.specs.PassA.{listedIn, representsOf, slotIn, SightA, StateA, rankSeen, testsA}
@@ -51,7 +51,8 @@ unfolding keep
 keep-one test x = refl
 
 -- what is listed by elements of some kinds
-pub listed-in-told : (kinds : List ℕ) (es : List Element) (l : Listed) → l ∈ listedIn kinds es → (isIn (l .by .kind) kinds ≡ true) × (l .by ∈ es) × (l .portion ∈ l .by .portions)
+pub listed-in-told : (kinds : List ℕ) (es : List Element) (l : Listed) → l ∈ listedIn kinds es
+    → (isIn (l .by .kind) kinds ≡ true) × (l .by ∈ es) × (l .portion ∈ l .by .portions)
 unfolding listedIn
 listed-in-told kinds es l m =
     let r = keep-in (λ (k : Listed). isIn (k .by .kind) kinds) (everything es) l m in
@@ -61,7 +62,8 @@ listed-in-told kinds es l m =
 listed-in-of : (kinds : List ℕ) (es : List Element) (e : Element) (p : List ℕ) → isIn (e .kind) kinds ≡ true → e ∈ es → p ∈ e .portions
     → _∈_ {A = Listed} (record { by = e; portion = p }) (listedIn kinds es)
 unfolding listedIn
-listed-in-of kinds es e p k m n = keep-of (λ (l : Listed). isIn (l .by .kind) kinds) (everything es) (record { by = e; portion = p }) (everything-of es e p m n) k
+listed-in-of kinds es e p k m n = keep-of (λ (l : Listed). isIn (l .by .kind) kinds) (everything es) (record { by = e; portion = p })
+    (everything-of es e p m n) k
 
 -- a unit represents some exactly when it represents one or more
 pub some-count : (kinds : List ℕ) (es : List Element) (x : Element) → representsSome kinds es x ≡ ltb 0 (representsOf (listedIn kinds es) x)
@@ -71,13 +73,15 @@ some-count kinds es x =
     (λ t. let (e, m, k, o) = some-told kinds es x t in
     let (p, n, a) = associated-told e x o in
     t ∙ sym (lt-ltb 0 (length (keep test (listedIn kinds es)))
-    (member-some (keep test (listedIn kinds es)) (record { by = e; portion = p }) (keep-of test (listedIn kinds es) (record { by = e; portion = p }) (listed-in-of kinds es e p k m n) a))))
+    (member-some (keep test (listedIn kinds es)) (record { by = e; portion = p })
+    (keep-of test (listedIn kinds es) (record { by = e; portion = p }) (listed-in-of kinds es e p k m n) a))))
     (λ t. t ∙ sym (ap (λ (ls : List Listed). ltb 0 (length ls)) (keep-none test (listedIn kinds es) (λ l m. none t l (listed-in-told kinds es l m)))))
   where
     test : Listed → Bool
     test l = represents (l .by) (l .portion) x
 
-    none : representsSome kinds es x ≡ false → (l : Listed) → (isIn (l .by .kind) kinds ≡ true) × (l .by ∈ es) × (l .portion ∈ l .by .portions) → represents (l .by) (l .portion) x ≡ false
+    none : representsSome kinds es x ≡ false → (l : Listed) → (isIn (l .by .kind) kinds ≡ true) × (l .by ∈ es)
+        × (l .portion ∈ l .by .portions) → represents (l .by) (l .portion) x ≡ false
     none t l (k, m, n) =
         cases (represents (l .by) (l .portion) x)
         (λ a. absurd (true≢false (sym (some-of kinds es x (l .by) m k (associated-of (l .by) x (l .portion) n a)) ∙ t))) (λ a. a)
@@ -128,7 +132,8 @@ slot-step n (l ∷ ls) (u ∷ us) x t c =
     let r = both (represents (l .by) (l .portion) u) (inStep ls us) t in
     let i : suc (suc n + length us) ≡ suc (n + suc (length us)) = omega arith in
     let other : represents (l .by) (l .portion) x ≡ false =
-    cases (represents (l .by) (l .portion) x) (λ a. absurd (true≢false (sym (represent-clash (l .by) (l .portion) u x (r .0) a) ∙ c u (List·Memᴰ·head refl)))) (λ a. a) in
+    cases (represents (l .by) (l .portion) x) (λ a. absurd (true≢false (sym (represent-clash (l .by) (l .portion) u x (r .0) a)
+    ∙ c u (List·Memᴰ·head refl)))) (λ a. a) in
     rw (r .0, other, ← i) (slot-step (suc n) ls us x (r .1) (λ v m. c v (List·Memᴰ·tail m)))
 
 pub step-more : (ls ks : List Listed) (us : List Element) → inStep ls us ≡ true → inStep (ls ++ ks) us ≡ true
@@ -147,7 +152,8 @@ openIn kinds es = keep (isOpen es) (listedIn kinds es)
 pub open-of : (kinds : List ℕ) (es : List Element) (l : Listed) → Missing es l → isIn (l .by .kind) kinds ≡ true → 0 < length (openIn kinds es)
 unfolding openIn
 open-of kinds es l m k =
-    member-some (openIn kinds es) l (keep-of (isOpen es) (listedIn kinds es) l (listed-in-of kinds es (l .by) (l .portion) k (m .by) (m .listed)) (rw (m .unrepresented)))
+    member-some (openIn kinds es) l (keep-of (isOpen es) (listedIn kinds es) l (listed-in-of kinds es (l .by) (l .portion) k (m .by) (m .listed))
+    (rw (m .unrepresented)))
 
 pub open-told : (kinds : List ℕ) (es : List Element) (l : Listed) → l ∈ openIn kinds es → Missing es l × (isIn (l .by .kind) kinds ≡ true)
 unfolding openIn
@@ -160,7 +166,8 @@ pub empty-step : (ls : List Listed) → inStep ls [] ≡ true
 unfolding inStep
 empty-step ls = refl
 
-pub begins-parts : (front : List Element) (x : Element) → beginsA (front ++ x ∷ []) ≡ placedA (front ++ x ∷ []) && all (map (mayCome (front ++ x ∷ [])) (front ++ x ∷ []))
+pub begins-parts : (front : List Element) (x : Element)
+    → beginsA (front ++ x ∷ []) ≡ placedA (front ++ x ∷ []) && all (map (mayCome (front ++ x ∷ [])) (front ++ x ∷ []))
 unfolding beginsA
 begins-parts [] x = refl
 begins-parts (y ∷ front) x = refl

@@ -1,10 +1,11 @@
 -- Class A: the tests of the pass hold of one more element exactly when it, after a front that begins, begins a run; and the state then
 -- stands where the definition does. A unit that was there before its element is told by `early`, so ranks stay as they were; what is open is
--- counted. Assumes nothing.
+-- counted.
 use mathlib.Core.Path.{_≡_, refl, ap, sym, _∙_, subst}
 use mathlib.Core.Logic.{_⊎_, inl, inr}
 use mathlib.Core.Bool.{Bool, true, false, cond, not, _&&_, _||_, true≢false, or-true}
-use mathlib.Core.List.{List, [], _∷_, _++_, map, append-assoc, append-nil, List·Memᴰ·head, List·Memᴰ·not-nil, List·Memᴰ·append-cases, List·Memᴰ·eq-of-singleton, Memᴰ·append-left, Memᴰ·append-right, Memᴰ·of-map}
+use mathlib.Core.List.{List, [], _∷_, _++_, map, append-assoc, append-nil, List·Memᴰ·head, List·Memᴰ·not-nil, List·Memᴰ·append-cases}
+use mathlib.Core.List.{List·Memᴰ·eq-of-singleton, Memᴰ·append-left, Memᴰ·append-right, Memᴰ·of-map}
 use Prim.Native.Nat.{ℕ, suc, _+_, _-_, _<_, _≤_}
 use native.Mathlib.Omega.{arith}
 use lib.Dec.{eqb, leb}
@@ -15,28 +16,35 @@ use Rattle.headers.specs.Head.{isIn}
 use Rattle.portions.specs.Portions.{all, any}
 use Rattle.elements.specs.Judge.{Element, clash}
 use Rattle.reading.specs.Match.{unitKind}
-use Rattle.order.specs.Represents.{_∈_, Ascending, named, represents, isAssociated, isRepresented, allRepresented, profileKind, ProfileFirst, LimitsAside, Listed, listedBy, everything, keep}
-use Rattle.order.specs.ClassA.{endA, genericRank, specificRank, classKinds, objectKinds, representsSome, rankA, orderedBy, listedOf, unitsOf, inStep, InOrderA}
+use Rattle.order.specs.Represents.{_∈_, Ascending, named, represents, isAssociated, isRepresented, allRepresented, profileKind, ProfileFirst}
+use Rattle.order.specs.Represents.{LimitsAside, Listed, listedBy, everything, keep}
+use Rattle.order.specs.ClassA.{endA, genericRank, specificRank, classKinds, objectKinds, representsSome, rankA, orderedBy, listedOf, unitsOf, inStep}
+use Rattle.order.specs.ClassA.{InOrderA}
 use Rattle.order.specs.ClausesA.{awaited, mayCome, placedA, beginsA}
 use Rattle.order.specs.declared.Class.the-variants.{A}
 use Rattle.order.specs.Begins.{Begins}
-use Rattle.order.specs.declared.Fault.the-variants.{Nowhere}
 use Rattle.order.specs.PassA.{listedIn, representsOf, SightA, sightA, StateA, rankSeen, testsA, countIf, nextA}
 use Rattle.order.proofs.Tests.{both, either, all-in, all-of, any-of, any-in, any-none, all-not}
-use Rattle.order.proofs.Representing.{represents-unit, associated-told, associated-of, associated-unit, represented-told, represented-of, represented-more, all-represented-told}
+use Rattle.order.proofs.Representing.{represents-unit, associated-told, associated-of, associated-unit, represented-told, represented-of}
+use Rattle.order.proofs.Representing.{represented-more, all-represented-told}
 use Rattle.order.proofs.Lacking.{keep-in, keep-of, everything-in, everything-of, Missing, lister-kind}
 use Rattle.order.proofs.CutB.{unit-lists-none}
 use Rattle.order.proofs.OrderB.{no-clash-split}
-use Rattle.order.proofs.Keeping.{keep-append, keep-none, keep-all, keep-same, ascending-left, ascending-cross, ascending-append, everything-append, everything-none}
-use Rattle.order.proofs.RanksA.{some-told, some-of, Owner, class, object, lister-owner, object-rank, awaited-class, awaited-object, owned-rank, owner-below, rank-same}
+use Rattle.order.proofs.Keeping.{keep-append, keep-none, keep-all, keep-same, ascending-left, ascending-cross, ascending-append, everything-append}
+use Rattle.order.proofs.Keeping.{everything-none}
+use Rattle.order.proofs.RanksA.{some-told, some-of, Owner, class, object, lister-owner, object-rank, awaited-class, awaited-object, owned-rank}
+use Rattle.order.proofs.RanksA.{owner-below, rank-same}
 use Rattle.order.proofs.FrontA.{steps, Placed, placed-of, placed-told, of-kind, kind-of, ordered-object, ordered-same, owner-before}
 use Rattle.order.proofs.OrderA.{awaits, begins-of}
 use Rattle.order.proofs.Counting.{represent-clash}
 use Rattle.order.proofs.Place.{aside-left}
-use Rattle.order.proofs.SightsA.{no-member, member-some, keep-split, keep-one, listed-in-told, some-count, slot-none, slot-some, slot-step, step-more, isOpen, openIn, open-of, open-told, empty-step, begins-parts, Holds, Passing, passing-told, passing-of, represented-next, not-or}
+use Rattle.order.proofs.SightsA.{no-member, member-some, keep-split, keep-one, listed-in-told, some-count, slot-none, slot-some, slot-step, step-more}
+use Rattle.order.proofs.SightsA.{isOpen, openIn, open-of, open-told, empty-step, begins-parts, Holds, Passing, passing-told, passing-of}
+use Rattle.order.proofs.SightsA.{represented-next, not-or}
 
 -- after a front that begins, one element
-module _ (front : List Element) (x : Element) (aside : LimitsAside (front ++ x ∷ [])) (placed : Placed front) (may : (e : Element) → e ∈ front → mayCome front e ≡ true) where
+module _ (front : List Element) (x : Element) (aside : LimitsAside (front ++ x ∷ [])) (placed : Placed front)
+    (may : (e : Element) → e ∈ front → mayCome front e ≡ true) where
   abbrev longer : List Element
   longer = front ++ x ∷ []
 
@@ -101,9 +109,11 @@ module _ (front : List Element) (x : Element) (aside : LimitsAside (front ++ x �
       let q = everything-in front l (r .0) in
       (eqb-true (l .by .kind) kind (r .1), q .0, q .1)
 
-  listed-kind : (kind : ℕ) (e : Element) (p : List ℕ) → e .kind ≡ kind → e ∈ front → p ∈ e .portions → _∈_ {A = Listed} (record { by = e; portion = p }) (listedOf kind front)
+  listed-kind : (kind : ℕ) (e : Element) (p : List ℕ) → e .kind ≡ kind → e ∈ front → p ∈ e .portions → _∈_ {A = Listed}
+      (record { by = e; portion = p }) (listedOf kind front)
   unfolding listedOf
-  listed-kind kind e p k m n = keep-of (λ (l : Listed). eqb (l .by .kind) kind) (everything front) (record { by = e; portion = p }) (everything-of front e p m n) (eq-eqb (e .kind) kind k)
+  listed-kind kind e p k m n = keep-of (λ (l : Listed). eqb (l .by .kind) kind) (everything front) (record { by = e; portion = p })
+      (everything-of front e p m n) (eq-eqb (e .kind) kind k)
 
   slot-zero : representsSome (kindA ∷ []) front x ≡ false → seen .slot ≡ 0
   slot-zero t =
@@ -123,12 +133,14 @@ module _ (front : List Element) (x : Element) (aside : LimitsAside (front ++ x �
         keep-append (representsSome (kind ∷ []) longer) front (x ∷ [])
         ∙ ap (λ (us : List Element). us ++ keep (representsSome (kind ∷ []) longer) (x ∷ []))
         (keep-same (representsSome (kind ∷ []) longer) (representsSome (kind ∷ []) front) front (λ y m. some-next late (kind ∷ []) y (in-longer y m)))
-        ∙ ap (λ (us : List Element). unitsOf kind front ++ us) (keep-one (representsSome (kind ∷ []) longer) x ∙ ap (λ (b : Bool). cond b (x ∷ []) []) (some-next late (kind ∷ []) x x-in))
+        ∙ ap (λ (us : List Element). unitsOf kind front ++ us) (keep-one (representsSome (kind ∷ []) longer) x
+        ∙ ap (λ (b : Bool). cond b (x ∷ []) []) (some-next late (kind ∷ []) x x-in))
 
     listed-next : (kind : ℕ) → listedOf kind longer ≡ listedOf kind front ++ listedOf kind (x ∷ [])
     unfolding listedOf
     listed-next kind =
-        ap (keep (λ l. eqb (l .by .kind) kind)) (everything-append front (x ∷ [])) ∙ keep-append (λ l. eqb (l .by .kind) kind) (everything front) (everything (x ∷ []))
+        ap (keep (λ l. eqb (l .by .kind) kind)) (everything-append front (x ∷ []))
+        ∙ keep-append (λ l. eqb (l .by .kind) kind) (everything front) (everything (x ∷ []))
 
   -- by what units are ordered: as before, unless this is the first layout object
   data Ordering : Type 0 where
@@ -141,7 +153,8 @@ module _ (front : List Element) (x : Element) (aside : LimitsAside (front ++ x �
       cases (any (map two front))
       (λ t. let r = any-in two front t in as-before (rw (t, any-of two longer (r .0) (in-longer (r .0) (r .1)) (r .2))))
       (λ t. cases (eqb (x .kind) 2)
-      (λ u. first-layout (eqb-true (x .kind) 2 u) (λ e m k. true≢false (sym (any-of two front e m (eq-eqb (e .kind) 2 k)) ∙ t)) (rw (any-of two longer x x-in u)))
+      (λ u. first-layout (eqb-true (x .kind) 2 u) (λ e m k. true≢false (sym (any-of two front e m (eq-eqb (e .kind) 2 k))
+      ∙ t)) (rw (any-of two longer x x-in u)))
       (λ u. as-before (ordered-same front (x ∷ []) (λ e m k. eqb-false (x .kind) 2 u (ap (λ (y : Element). y .kind) (sym (List·Memᴰ·eq-of-singleton m)) ∙ k)))))
     where
       two : Element → Bool
@@ -156,7 +169,8 @@ module _ (front : List Element) (x : Element) (aside : LimitsAside (front ++ x �
 
   none-listed : x .portions ≡ [] → (kind : ℕ) → listedOf kind (x ∷ []) ≡ []
   unfolding listedOf keep
-  none-listed e kind = ap (keep (λ l. eqb (l .by .kind) kind)) (everything-none (x ∷ []) (λ d m. ap (λ (y : Element). y .portions) (List·Memᴰ·eq-of-singleton m) ∙ e))
+  none-listed e kind = ap (keep (λ l. eqb (l .by .kind) kind))
+      (everything-none (x ∷ []) (λ d m. ap (λ (y : Element). y .portions) (List·Memᴰ·eq-of-singleton m) ∙ e))
 
   module _ (late : (u : Element) → u ∈ front → isAssociated x u ≡ true → ⊥) where
     abbrev slots : Bool
@@ -173,12 +187,14 @@ module _ (front : List Element) (x : Element) (aside : LimitsAside (front ++ x �
         is-some t =
             let i : suc (0 + length (unitsOf kindA front)) ≡ suc (length (unitsOf kindA front)) = omega arith in
             rw (t, ne-eqb (seen .slot) 0 (slot-not t), none-listed (unit-bare (kindA ∷ []) t) kindA, append-nil (listedOf kindA front), ← i)
-            (slot-step 0 (listedOf kindA front) (unitsOf kindA front) x (placed .in-step) (λ u m. unclashing u (keep-in (representsSome (kindA ∷ []) front) front u m .0)))
+            (slot-step 0 (listedOf kindA front) (unitsOf kindA front) x (placed .in-step)
+            (λ u m. unclashing u (keep-in (representsSome (kindA ∷ []) front) front u m .0)))
 
         is-none : representsSome (kindA ∷ []) front x ≡ false
             → inStep (listedOf kindA front ++ listedOf kindA (x ∷ [])) (unitsOf kindA front ++ cond (representsSome (kindA ∷ []) front x) (x ∷ []) []) ≡ slots
         is-none t =
-            rw (t, slot-zero t, append-nil (unitsOf kindA front)) (step-more (listedOf kindA front) (listedOf kindA (x ∷ [])) (unitsOf kindA front) (placed .in-step))
+            rw (t, slot-zero t, append-nil (unitsOf kindA front))
+            (step-more (listedOf kindA front) (listedOf kindA (x ∷ [])) (unitsOf kindA front) (placed .in-step))
 
     steps-next : steps longer ≡ slots
     steps-next = by-order ordering
@@ -191,7 +207,8 @@ module _ (front : List Element) (x : Element) (aside : LimitsAside (front ++ x �
             let units : unitsOf 2 longer ≡ [] =
             units-next late 2 ∙ ap (λ (b : Bool). unitsOf 2 front ++ cond b (x ∷ []) []) (no-units none x) ∙ append-nil (unitsOf 2 front)
             ∙ keep-none (representsSome (2 ∷ []) front) front (λ y m. no-units none y) in
-            let a : steps longer ≡ true = ap (λ (k : ℕ). inStep (listedOf k longer) (unitsOf k longer)) e ∙ ap (inStep (listedOf 2 longer)) units ∙ empty-step (listedOf 2 longer) in
+            let a : steps longer ≡ true = ap (λ (k : ℕ). inStep (listedOf k longer) (unitsOf k longer)) e ∙ ap (inStep (listedOf 2 longer)) units
+            ∙ empty-step (listedOf 2 longer) in
             a ∙ rw (slot-zero not-unit)
 
   -- a unit before it that represents a portion of it: no run begins so
@@ -218,7 +235,8 @@ module _ (front : List Element) (x : Element) (aside : LimitsAside (front ++ x �
   listed-in-next : (kinds : List ℕ) → listedIn kinds longer ≡ listedIn kinds front ++ listedIn kinds (x ∷ [])
   unfolding listedIn
   listed-in-next kinds =
-      ap (keep (λ l. isIn (l .by .kind) kinds)) (everything-append front (x ∷ [])) ∙ keep-append (λ l. isIn (l .by .kind) kinds) (everything front) (everything (x ∷ []))
+      ap (keep (λ l. isIn (l .by .kind) kinds)) (everything-append front (x ∷ []))
+      ∙ keep-append (λ l. isIn (l .by .kind) kinds) (everything front) (everything (x ∷ []))
 
   everything-one : everything (x ∷ []) ≡ listedBy x (x .portions)
   unfolding everything
@@ -229,9 +247,11 @@ module _ (front : List Element) (x : Element) (aside : LimitsAside (front ++ x �
   listed-one kinds =
       ap (λ (ls : List Listed). length (keep (λ l. isIn (l .by .kind) kinds) ls)) everything-one
       ∙ cases (isIn (x .kind) kinds)
-      (λ t. ap length (keep-all (λ (l : Listed). isIn (l .by .kind) kinds) (listedBy x (x .portions)) (λ l m. by-x l m ∙ t)) ∙ length-map (x .portions) (λ (p : List ℕ). record { by = x; portion = p })
+      (λ t. ap length (keep-all (λ (l : Listed). isIn (l .by .kind) kinds) (listedBy x (x .portions)) (λ l m. by-x l m ∙ t))
+      ∙ length-map (x .portions) (λ (p : List ℕ). record { by = x; portion = p })
       ∙ sym (ap (λ (b : Bool). countIf b (length (x .portions))) t))
-      (λ t. ap length (keep-none (λ (l : Listed). isIn (l .by .kind) kinds) (listedBy x (x .portions)) (λ l m. by-x l m ∙ t)) ∙ sym (ap (λ (b : Bool). countIf b (length (x .portions))) t))
+      (λ t. ap length (keep-none (λ (l : Listed). isIn (l .by .kind) kinds) (listedBy x (x .portions)) (λ l m. by-x l m ∙ t))
+      ∙ sym (ap (λ (b : Bool). countIf b (length (x .portions))) t))
     where
       step : (l : Listed) → ((p : List ℕ) × (p ∈ x .portions) × (record { by = x; portion = p } ≡ l)) → isIn (l .by .kind) kinds ≡ isIn (x .kind) kinds
       step l (p, n, i) = ap (λ (k : Listed). isIn (k .by .kind) kinds) (sym i)
@@ -240,7 +260,8 @@ module _ (front : List Element) (x : Element) (aside : LimitsAside (front ++ x �
       by-x l m = step l (Memᴰ·of-map (λ (p : List ℕ). record { by = x; portion = p }) (x .portions) m)
 
   open-next : ((u : Element) → u ∈ front → isAssociated x u ≡ true → ⊥) → (kinds : List ℕ)
-      → length (openIn kinds longer) ≡ length (openIn kinds front) - representsOf (listedIn kinds front) x + countIf (isIn (x .kind) kinds) (length (x .portions))
+      → length (openIn kinds longer) ≡ length (openIn kinds front) - representsOf (listedIn kinds front) x + countIf (isIn (x .kind) kinds)
+      (length (x .portions))
   unfolding openIn representsOf
   open-next late kinds =
       let a : keep (isOpen longer) (listedIn kinds longer) ≡ keep (isOpen longer) (listedIn kinds front) ++ keep (isOpen longer) (listedIn kinds (x ∷ [])) =
@@ -258,7 +279,8 @@ module _ (front : List Element) (x : Element) (aside : LimitsAside (front ++ x �
       still-open : (l : Listed) → represents (l .by) (l .portion) x ≡ true → isOpen front l ≡ true
       still-open l t =
           cases (isRepresented front (l .by) (l .portion))
-          (λ u. let (v, m, w) = represented-told front (l .by) (l .portion) u in absurd (true≢false (sym (represent-clash (l .by) (l .portion) v x w t) ∙ unclashing v m)))
+          (λ u. let (v, m, w) = represented-told front (l .by) (l .portion) u in absurd (true≢false (sym (represent-clash (l .by) (l .portion) v x w t)
+          ∙ unclashing v m)))
           (λ u. rw u)
 
       new-open : (l : Listed) → l ∈ listedIn kinds (x ∷ []) → isOpen longer l ≡ true
@@ -271,7 +293,8 @@ module _ (front : List Element) (x : Element) (aside : LimitsAside (front ++ x �
           (λ u. rw u)
 
   -- what is missing after it was missing before it
-  missing-before : (e : Element) → e ∈ front → (p : List ℕ) → p ∈ e .portions → isRepresented longer e p ≡ false → Missing front (record { by = e; portion = p })
+  missing-before : (e : Element) → e ∈ front → (p : List ℕ) → p ∈ e .portions → isRepresented longer e p ≡ false → Missing front
+      (record { by = e; portion = p })
   missing-before e m p n u =
       record {
         by = m;
@@ -307,9 +330,11 @@ module _ (front : List Element) (x : Element) (aside : LimitsAside (front ++ x �
       placed-next =
           record {
             profile = profile-more front (placed .profile) (p .other);
-            tabled = front-or {P = λ y. rankA longer y < endA} (λ y m. let a = rank-next late y (in-longer y m) in let b = placed .tabled y m in omega arith) (let a = p .tabled in omega (arith, own-rank));
+            tabled = front-or {P = λ y. rankA longer y < endA}
+                (λ y m. let a = rank-next late y (in-longer y m) in let b = placed .tabled y m in omega arith) (let a = p .tabled in omega (arith, own-rank));
             ascending = ascending-append (rankA longer) front (x ∷ [])
-                (ascending-left (rankA front) (rankA longer) front [] (λ y m. sym (rank-next late y (in-longer y m))) (subst (Ascending (rankA front)) (sym (append-nil front)) (placed .ascending)))
+                (ascending-left (rankA front) (rankA longer) front [] (λ y m. sym (rank-next late y (in-longer y m)))
+                (subst (Ascending (rankA front)) (sym (append-nil front)) (placed .ascending)))
                 (λ y m. absurd (List·Memᴰ·not-nil m), tt)
                 (λ y z m n. subst (λ (w : Element). rankA longer y ≤ rankA longer w) (sym (List·Memᴰ·eq-of-singleton n)) (below-own y m));
             in-step = steps-next late ∙ subst (λ (k : ℕ). eqb (seen .slot) 0 || eqb (seen .slot) (suc k) ≡ true) (holds .ordered-is) (p .in-slot);
@@ -329,13 +354,16 @@ module _ (front : List Element) (x : Element) (aside : LimitsAside (front ++ x �
             where
               which : (leb (rankSeen seen) specificRank ≡ true) ⊎ (eqb (s .specific) 0 ≡ true) → rankA longer x ≤ awaited (l .by)
               which (inl t) = let a = leb-true (rankSeen seen) specificRank t in let b = awaited-object (l .by) k in omega (arith, own-rank)
-              which (inr t) = let a = eqb-true (s .specific) 0 t in let b = open-of objectKinds front l m k in let c = holds .specific-is in absurd (omega arith)
+              which (inr t) = let a = eqb-true (s .specific) 0 t in let b = open-of objectKinds front l m k in let c = holds .specific-is in absurd
+                  (omega arith)
 
-      may-with : (e : Element) → (allRepresented longer e ≡ false → (named e ≡ true) × ((y : Element) → y ∈ longer → rankA longer y ≤ awaited e)) → mayCome longer e ≡ true
+      may-with : (e : Element) → (allRepresented longer e ≡ false → (named e ≡ true)
+          × ((y : Element) → y ∈ longer → rankA longer y ≤ awaited e)) → mayCome longer e ≡ true
       unfolding mayCome
       may-with e h =
           cases (allRepresented longer e) (λ t. rw t)
-          (λ t. let (n, r) = h t in rw (t, n) (all-of (λ (y : Element). leb (rankA longer y) (awaited e)) longer (λ y m. le-leb (rankA longer y) (awaited e) (r y m))))
+          (λ t. let (n, r) = h t in rw (t, n) (all-of (λ (y : Element). leb (rankA longer y) (awaited e)) longer
+          (λ y m. le-leb (rankA longer y) (awaited e) (r y m))))
 
       unrepresented : (e : Element) → allRepresented longer e ≡ false → (q : List ℕ) × (q ∈ e .portions) × (isRepresented longer e q ≡ false)
       unfolding allRepresented
@@ -346,8 +374,11 @@ module _ (front : List Element) (x : Element) (aside : LimitsAside (front ++ x �
           may-with e
           (λ t. let (q, n, u) = unrepresented e t in
           let miss = missing-before e m q n u in
-          let (named-e, low) = awaits front before placed may (record { by = e; portion = q }) miss in
-          (named-e, front-or {P = λ y. rankA longer y ≤ awaited e} (λ y i. let a = rank-next late y (in-longer y i) in let b = low y i in omega arith) (waits (record { by = e; portion = q }) miss)))
+          let (named-e, low) = awaits front before placed may (record { by = e; portion = q }) miss in (
+            named-e,
+            front-or {P = λ y. rankA longer y ≤ awaited e} (λ y i. let a = rank-next late y (in-longer y i) in let b = low y i in omega arith)
+                (waits (record { by = e; portion = q }) miss),
+          ))
 
       may-own : mayCome longer x ≡ true
       may-own =
@@ -394,7 +425,8 @@ module _ (front : List Element) (x : Element) (aside : LimitsAside (front ++ x �
               (associated-of (l .by) x (l .portion) (m .listed) w) in
               omega arith
 
-      closed-then : (kinds : List ℕ) (rank left : ℕ) → left ≡ length (openIn kinds front) → ((l : Listed) → isIn (l .by .kind) kinds ≡ true → awaited (l .by) ≡ rank)
+      closed-then : (kinds : List ℕ) (rank left : ℕ) → left ≡ length (openIn kinds front) →
+          ((l : Listed) → isIn (l .by .kind) kinds ≡ true → awaited (l .by) ≡ rank)
           → leb (rankSeen seen) rank || eqb left 0 ≡ true
       closed-then kinds rank left e h =
           cases (leb (rankSeen seen) rank) (λ t. rw t)
@@ -408,12 +440,15 @@ module _ (front : List Element) (x : Element) (aside : LimitsAside (front ++ x �
       unfolding mayCome
       comes-then =
           cases (named x) (λ t. rw t (or-true (eqb (length (x .portions)) 0)))
-          (λ t. let all-x : allRepresented longer x ≡ true = which t (either (allRepresented longer x) (named x && all (map (λ (y : Element). leb (rankA longer y) (awaited x)) longer)) (may-then x x-in)) in
+          (λ t. let all-x : allRepresented longer x ≡ true = which t (either (allRepresented longer x) (named x
+          && all (map (λ (y : Element). leb (rankA longer y) (awaited x)) longer)) (may-then x x-in)) in
           let none : x .portions ≡ [] = no-member (x .portions)
-          (λ q m. let (u, i, a) = represented-told longer x q (all-represented-told longer x all-x q m) in associated-none late-then u i (associated-of x u q m a)) in
+          (λ q m. let (u, i, a) = represented-told longer x q (all-represented-told longer x all-x q m) in associated-none late-then u i
+          (associated-of x u q m a)) in
           rw (eq-eqb (length (x .portions)) 0 (ap length none)))
         where
-          which : named x ≡ false → (allRepresented longer x ≡ true) ⊎ (named x && all (map (λ (y : Element). leb (rankA longer y) (awaited x)) longer) ≡ true) → allRepresented longer x ≡ true
+          which : named x ≡ false → (allRepresented longer x ≡ true)
+              ⊎ (named x && all (map (λ (y : Element). leb (rankA longer y) (awaited x)) longer) ≡ true) → allRepresented longer x ≡ true
           which t (inl a) = a
           which t (inr a) = absurd (true≢false (sym (both (named x) (all (map (λ (y : Element). leb (rankA longer y) (awaited x)) longer)) a .0) ∙ t))
 
@@ -429,7 +464,8 @@ module _ (front : List Element) (x : Element) (aside : LimitsAside (front ++ x �
             generic-done = closed-then classKinds genericRank (s .generic) (holds .generic-is) (λ l k. awaited-class (l .by) k);
             specific-done = closed-then objectKinds specificRank (s .specific) (holds .specific-is) (λ l k. awaited-object (l .by) k);
             comes = comes-then;
-            in-slot = subst (λ (k : ℕ). eqb (seen .slot) 0 || eqb (seen .slot) (suc k) ≡ true) (sym (holds .ordered-is)) (sym (steps-next late-then) ∙ placed-then .in-step);
+            in-slot = subst (λ (k : ℕ). eqb (seen .slot) 0 || eqb (seen .slot) (suc k) ≡ true) (sym (holds .ordered-is)) (sym (steps-next late-then)
+                ∙ placed-then .in-step);
           }
 
     -- the tests say whether it begins a run
@@ -464,7 +500,8 @@ module _ (front : List Element) (x : Element) (aside : LimitsAside (front ++ x �
             let units : unitsOf 2 longer ≡ [] =
             units-next (late p) 2 ∙ ap (λ (b : Bool). unitsOf 2 front ++ cond b (x ∷ []) []) (no-units none x) ∙ append-nil (unitsOf 2 front)
             ∙ keep-none (representsSome (2 ∷ []) front) front (λ y m. no-units none y) in
-            let before-none : unitsOf kindA front ≡ [] = no-member (unitsOf kindA front) (λ u m. too-high k u (keep-in (representsSome (kindA ∷ []) front) front u m)) in
+            let before-none : unitsOf kindA front ≡ [] = no-member (unitsOf kindA front)
+            (λ u m. too-high k u (keep-in (representsSome (kindA ∷ []) front) front u m)) in
             let zero-ordered : s .ordered ≡ 0 = holds .ordered-is ∙ ap length before-none in
             let left : s .ordered + countIf (not (eqb (seen .slot) 0)) 1 ≡ 0 = rw (slot-zero not-unit, zero-ordered) in
             left ∙ sym (ap (λ (j : ℕ). length (unitsOf j longer)) e ∙ ap length units)

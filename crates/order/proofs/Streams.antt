@@ -1,5 +1,5 @@
 -- Streams are answered as the table of them says: all is computed, from octets to number and place. So the rules accept streams in both
--- orders, in either and in neither. Assumes nothing.
+-- orders, in either and in neither.
 use mathlib.Core.Path.{_≡_, refl}
 use mathlib.Core.Bool.{xor}
 use mathlib.Core.List.{map}
@@ -10,7 +10,7 @@ use Rattle.rows.specs.Rows.{nameSpaceOf}
 use Rattle.contents.specs.Search.{amount, firstValue, firstRun, inOrder}
 use Rattle.pieces.specs.Pieces.{onlyPieces, joined}
 use Rattle.portions.specs.Portions.{allPortions, values, wellSpelt, repeats, among}
-use Rattle.elements.specs.declared.Edition.the-variants.{Of1988, Of1993}
+use Rattle.elements.specs.declared.Edition.the-variants.{Of1988}
 use Rattle.elements.specs.Shape.{shapeOf}
 use Rattle.elements.specs.Judge.{bodyOf, contentOf, elementOf, itemsInOrder, asTabled, namesFit, clash, twice, refusalOf, judgeOne, judgeFrom, judge}
 use Rattle.elements.specs.ElementRows.{placeOf}
@@ -33,8 +33,3 @@ by-class-a = refl
 pub by-class-b : map (λ (x : Stream). orderIn Of1988 B (x .stream)) streams ≡ map (λ (x : Stream). x .b) streams
 unfolding permits formAllowed bigEndianFrom misfits definiteAt indefiniteAt longAt byFirst lengthAt itemAt closingAt headAt runFor run walkOf amount firstValue firstRun inOrder onlyPieces joined allPortions values wellSpelt repeats among isDigit grouped isIdentifier allDigits isPortion same nameSpaceOf shapeOf bodyOf contentOf elementOf itemsInOrder asTabled namesFit clash twice refusalOf judgeOne judgeFrom judge placeOf letterIn xor faultFrom beginsB orderedB scanB nextB mayGoOn rankIn allRepresented isRepresented isAssociated represents joins orderIn
 by-class-b = refl
-
--- and the same by the edition of 1993
-pub by-class-b-1993 : map (λ (x : Stream). orderIn Of1993 B (x .stream)) streams ≡ map (λ (x : Stream). x .b) streams
-unfolding permits formAllowed bigEndianFrom misfits definiteAt indefiniteAt longAt byFirst lengthAt itemAt closingAt headAt runFor run walkOf amount firstValue firstRun inOrder onlyPieces joined allPortions values wellSpelt repeats among isDigit grouped isIdentifier allDigits isPortion same nameSpaceOf shapeOf bodyOf contentOf elementOf itemsInOrder asTabled namesFit clash twice refusalOf judgeOne judgeFrom judge placeOf letterIn xor faultFrom beginsB orderedB scanB nextB mayGoOn rankIn allRepresented isRepresented isAssociated represents joins orderIn
-by-class-b-1993 = refl

@@ -1,8 +1,8 @@
 -- The rule is over kinds and matches: elements of the same kinds, with identifiers where the others have them, as many portions and the same
 -- matches on both sides, have the same fault. For all that the passes look at is told by whether a unit represents a portion, and that by the
--- record of the two (AsMatches). Assumes nothing.
+-- record of the two (AsMatches).
 use mathlib.Core.Path.{_≡_, refl, ap, ap₂, sym, _∙_, subst}
-use mathlib.Core.Bool.{Bool, true, false, cond, _&&_}
+use mathlib.Core.Bool.{Bool, true, cond}
 use mathlib.Core.Option.{some}
 use mathlib.Core.List.{List, [], _∷_, _++_, map}
 use Prim.Native.Nat.{ℕ, suc}
@@ -91,7 +91,8 @@ module _ (es fs : List Element) where
     kind : l .by .kind ≡ m .by .kind
     units : SameUnits (l .by) (m .by) (l .portion) (m .portion)
 
-  listed-by-alike : (e f : Element) → e .kind ≡ f .kind → (ps qs : List (List ℕ)) → Along (SameUnits e f) ps qs → Along AlikeListed (listedBy e ps) (listedBy f qs)
+  listed-by-alike : (e f : Element) → e .kind ≡ f .kind → (ps qs : List (List ℕ)) → Along (SameUnits e f) ps qs → Along AlikeListed (listedBy e ps)
+      (listedBy f qs)
   listed-by-alike e f k [] [] r = tt
   listed-by-alike e f k [] (q ∷ qs) r = absurd r
   listed-by-alike e f k (p ∷ ps) [] r = absurd r
@@ -189,7 +190,7 @@ module _ (es fs : List Element) where
   pass-alike A r = ap placeA (sights-alike [] [] es fs tt r)
   pass-alike B r = ap placeB (seen-alike r es fs r)
 
-  -- the same matches tell it
+  -- two letters with equal matches have equal verdicts
   module _ (listed : (side : Side) → matches side es ≡ matches side fs) where
     module _ (i : ℕ) (e f : Element) (at-e : getElem? es i ≡ some e) (at-f : getElem? fs i ≡ some f) (kind : e .kind ≡ f .kind) where
       same-lists : matches (sideOf e) es ≡ matches (sideOf f) fs

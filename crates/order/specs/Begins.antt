@@ -1,4 +1,4 @@
--- To be in order, to begin a run in order, and the place of 26. W-207. Definitions only: assumes nothing.
+-- To be in order, to begin a run in order, and the place of 26. W-207.
 use Prim.Native.Nat.{ℕ, suc, _<_}
 use mathlib.Core.Path.{_≡_}
 use mathlib.Core.Logic.{_⊎_}

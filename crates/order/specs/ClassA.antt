@@ -1,5 +1,4 @@
--- The order of interchange class A: 7.2 of source document 001. Definitions only: assumes nothing.
---
+-- The order of interchange class A: 7.2 of source document 001.
 --   rank   7.2   kind
 --   0      a     0   document profile, one, first
 --   1      b     1   layout classes
@@ -15,7 +14,6 @@
 --   10     k     10  enciphered profiles (1993)
 --   11     l     11  pre-enciphered parts (1993)
 --   12     m     12  post-enciphered parts (1993)
---
 -- Any group but a may be empty; no other kind has a place, nor has a unit that represents nothing, or portions of a class and of an object. Printed and
 -- not judged: the order among the objects (T.412), and alternatives. Portions are in order as their objects are, and as they list them.
 use Prim.Native.Nat.{ℕ, _<_}

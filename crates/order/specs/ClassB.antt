@@ -1,5 +1,4 @@
--- The order of interchange class B: 7.3 of source document 001. Definitions only: assumes nothing.
---
+-- The order of interchange class B: 7.3 of source document 001.
 --   rank   7.3   kind
 --   0      a     0   document profile, one, first
 --   1      b     1   layout classes, each followed immediately by its text units
@@ -8,7 +7,6 @@
 --   4      e     9   sealed profiles (1993)
 --   5      f     10  enciphered profiles (1993)
 --   6      g     12  post-enciphered parts (1993)
---
 -- Any group but a may be empty; no other kind has a place. Printed and not judged: the order among the objects (T.412), which classes lie
 -- together.
 use Prim.Native.Nat.{ℕ, _<_}

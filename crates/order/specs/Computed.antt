@@ -1,5 +1,5 @@
 -- The order of a stream, computed, which is what the code is held to; and what is proved of the computation: it says what `InOrder`, `Begins`
--- and `FaultAt` say. proofs/Letters has a value of the record for the elements of every accepted stream. Definitions only: assumes nothing.
+-- and `FaultAt` say. proofs/Letters has a value of the record for the elements of every accepted stream.
 use Prim.Native.Nat.{ℕ}
 use mathlib.Core.Path.{_≡_}
 use mathlib.Core.Logic.{_↔_}

@@ -1,5 +1,4 @@
 -- The vectors: elements as the reader hands them on, and where each order fails, by the element's number; docs/ORDER.md speaks of some.
--- Definitions only: assumes nothing.
 use Prim.Native.Nat.{ℕ, _+_}
 use mathlib.Core.List.{List, [], _∷_}
 use Rattle.names.specs.Names.{spaceByte}
@@ -31,7 +30,7 @@ abbrev pub lister : (kind : ℕ) → (identifier : Value) → (portions : List (
 lister kind identifier portions =
     record { kind = kind; object = noType; identifier = identifier; logical = absent; portions = portions; content = single absent }
 
--- the same with the identifier "a b", which lists portion 0; one that lists nothing; one that is not named
+-- an element with the identifier "a b" that lists portion 0; one that lists nothing; one that is not named
 abbrev pub lists : (kind a b : ℕ) → Element
 lists kind a b = lister kind (name (a ∷ b ∷ [])) (spelling (0 ∷ []) ∷ [])
 

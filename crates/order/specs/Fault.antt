@@ -1,5 +1,4 @@
 -- The place of 26, computed: the first front that begins no run, or the end if the whole is not in order. proofs/ shows that it is so.
--- Definitions only: assumes nothing.
 use Prim.Native.Nat.{ℕ}
 use mathlib.Core.Path.{_≡_}
 use mathlib.Core.Bool.{Bool, cond}

@@ -1,4 +1,4 @@
--- The portions that are listed and not represented, and a text unit for each: what a front lacks of a whole. Definitions only: assumes nothing.
+-- The portions that are listed and not represented, and a text unit for each: what a front lacks of a whole.
 use Prim.Native.Nat.{ℕ}
 use mathlib.Core.Bool.{not}
 use mathlib.Core.List.{List, [], _∷_, _++_, map}

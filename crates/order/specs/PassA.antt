@@ -1,5 +1,5 @@
 -- Class A in one pass over numbers, as code does it: a few numbers of each element, and of what went before four. For the code alone; proofs/
--- shows that it finds the place of 26. Definitions only: assumes nothing.
+-- shows that it finds the place of 26.
 use Prim.Native.Nat.{ℕ, suc, _+_, _-_}
 use mathlib.Core.Bool.{Bool, cond, not, _&&_, _||_}
 use mathlib.Core.List.{List, [], _∷_, _++_, map}

@@ -1,5 +1,5 @@
 -- Class B in one pass over numbers, as code does it: of each element its kind, whether it has an identifier, how many portions it lists and
--- with whom it is associated; of what went before, three numbers. proofs/ shows that it finds the place of 26. Definitions only: assumes nothing.
+-- with whom it is associated; of what went before, three numbers. proofs/ shows that it finds the place of 26.
 use Prim.Native.Nat.{ℕ, suc, _-_}
 use mathlib.Core.Bool.{Bool, cond, not, _&&_, _||_}
 use mathlib.Core.List.{List, [], _∷_}

@@ -1,5 +1,5 @@
 -- What is promised of the order of a letter: the first page of this crate. proofs/Letters has a value of `OrderOf` for the elements of every
--- accepted stream. Definitions only: assumes nothing.
+-- accepted stream.
 use Prim.Native.Nat.{ℕ}
 use mathlib.Core.Path.{_≡_}
 use mathlib.Core.Logic.{_⊎_, _↔_}
@@ -22,7 +22,7 @@ pub record Look : Type 0 where
 abbrev pub look : Element → Look
 look e = record { kind = e .kind; named = named e; lists = length (e .portions) }
 
--- the same verdict of both: in order, or 26 at the same element
+-- both have one verdict: in order, or 26 at one element
 pub record SameVerdict (class : Class) (elements others : List Element) : Type 0 where
   pub in-order : InOrder class elements ↔ InOrder class others
   pub fault : (n : ℕ) → FaultAt class elements n ↔ FaultAt class others n

@@ -1,6 +1,6 @@
 -- The question: what is answered of a stream by the order of a class. W-207: "Refusals: 26, after 15, at the first element such that the
 -- elements through it begin no run in the asked order, limits aside; at the stream's length if only the end is missing." And what is promised
--- of the answer: a record, of which proofs/Letters has a value for every stream. Definitions only: assumes nothing.
+-- of the answer: a record, of which proofs/Letters has a value for every stream.
 use Prim.Native.Nat.{ℕ, _<_}
 use mathlib.Core.Path.{_≡_}
 use mathlib.Core.Bool.{cond}

@@ -1,4 +1,4 @@
--- The row of a kind in a table of kinds. Definitions only: assumes nothing.
+-- The row of a kind in a table of kinds.
 use Prim.Native.Nat.{ℕ, suc}
 use mathlib.Core.Bool.{cond}
 use mathlib.Core.List.{List, [], _∷_}

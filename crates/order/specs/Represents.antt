@@ -1,5 +1,5 @@
 -- What the order rules look at: an element's kind, whether it has an identifier, the portions that it lists, and which text unit represents
--- which of them. And what elements are such as a letter has, limits aside. W-207. Definitions only: assumes nothing.
+-- which of them. And what elements are such as a letter has, limits aside. W-207.
 use Prim.Native.Nat.{ℕ, _≤_}
 use mathlib.Core.Path.{_≡_}
 use mathlib.Core.Logic.{_⊎_}

@@ -1,5 +1,5 @@
 -- Streams, and what is answered of each by class A and by class B. All but the last are accepted: some are in both orders, some in one, some
--- in neither. Definitions only: assumes nothing.
+-- in neither.
 use Prim.Native.Nat.{ℕ, _+_}
 use mathlib.Core.List.{List, [], _∷_, _++_}
 use Rattle.order.specs.declared.Ordered.{Ordered}

@@ -1,4 +1,4 @@
--- Which of some portions has given octets: while they are met one by one, and what it tells when one is found, or none. Assumes nothing.
+-- Which of some portions has given octets: while they are met one by one, and what it tells when one is found, or none.
 use mathlib.Core.Path.{_≡_, refl, ap, sym, _∙_}
 use mathlib.Core.Bool.{true, false, true≢false}
 use mathlib.Core.Option.{some}
@@ -36,7 +36,8 @@ module _ {s rows : List ℕ} {row : ℕ} {left : Run} {k : ℕ} (l : Left s rows
     unfolding ownerAmong
     among-met t = next ∙ rw t
 
-    pub among-rest : same (slice first past s) bytes ≡ false → ownerAmong row k (values (treeIn s left)) bytes ≡ ownerAmong row (k + 1) (values (treeIn s rest)) bytes
+    pub among-rest : same (slice first past s) bytes ≡ false → ownerAmong row k (values (treeIn s left)) bytes ≡ ownerAmong row (k + 1)
+        (values (treeIn s rest)) bytes
     unfolding ownerAmong
     among-rest t = next ∙ rw (t, add-one k)
 
@@ -63,7 +64,11 @@ among-tells row n (p ∷ ps) bytes =
     (λ t. rw t (later t (ownerAmong row (suc n) ps bytes) (among-tells row (suc n) ps bytes)))
   where
     later : same p bytes ≡ false → (owner : Owner) → Finding row (suc n) ps bytes owner → Finding row n (p ∷ ps) bytes owner
-    later t owner (at f) = let z : suc n + f .place ≡ n + suc (f .place) = omega arith in at (record { place = suc (f .place); there = f .there; is = f .is ∙ ap (Of row) z })
+    later t owner (at f) = let z : suc n + f .place ≡ n + suc (f .place) = omega arith in at (record {
+      place = suc (f .place);
+      there = f .there;
+      is = f .is ∙ ap (Of row) z;
+    })
     later t owner (nowhere e never) = nowhere e (elsewhere t never)
       where
         elsewhere : same p bytes ≡ false → ((k : ℕ) → getElem? ps k ≡ some bytes → ⊥) → (k : ℕ) → getElem? (p ∷ ps) k ≡ some bytes → ⊥

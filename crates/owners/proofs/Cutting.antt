@@ -1,4 +1,4 @@
--- An identifier that is cut at its last space: what stands before it, the space, and what stands after it, in which there is none. Assumes nothing.
+-- An identifier that is cut at its last space: what stands before it, the space, and what stands after it, in which there is none.
 use mathlib.Core.Path.{_≡_, refl, ap, sym, _∙_}
 use mathlib.Core.List.{List, [], _∷_, _++_}
 use Prim.Native.Nat.{ℕ, _+_, _<_, _≤_}
@@ -50,6 +50,7 @@ module _ {s : List ℕ} {first past at : ℕ} (last : LastSpace s first past at)
   parts-are =
       let c = cut-told (slice first past s) (slice first at s) front-is in
       let e : getD s at 0 ∷ slice (at + 1) past s ≡ spaceByte ∷ c .after =
-      same-after (slice first at s) (getD s at 0 ∷ slice (at + 1) past s) (spaceByte ∷ c .after) (sym (slice-cut s first at past (last .after) before inside) ∙ c .spelt) in
+      same-after (slice first at s) (getD s at 0 ∷ slice (at + 1) past s) (spaceByte ∷ c .after) (sym (slice-cut s first at past (last .after) before inside)
+      ∙ c .spelt) in
       let f : c .after ≡ slice (at + 1) past s = cc in
       c .spelt ∙ ap (λ (l : List ℕ). slice first at s ++ spaceByte ∷ l) f

@@ -1,6 +1,6 @@
 -- What is found for a unit is its record: the name before the last space is that of the record's element, and no two classes or objects share a
--- name; what stands after it is the record's portion. Assumes nothing.
-use mathlib.Core.Path.{_≡_, refl, ap, sym, _∙_, subst}
+-- name; what stands after it is the record's portion.
+use mathlib.Core.Path.{_≡_, ap, sym, _∙_, subst}
 use mathlib.Core.Bool.{true, false, _&&_, true≢false, and-eq-true-iff}
 use mathlib.Core.Option.{some}
 use mathlib.Core.List.{List, _∷_, _++_}
@@ -136,7 +136,8 @@ module _ {s rows : List ℕ} {n : ℕ} {elements : List Element} (ready : RowsTe
       told = ready .tells row carrier carrier-there
 
       carrier-named : carrier .identifier ≡ octets front
-      carrier-named = told .identifier ∙ rw (lt-ltb (firstAt rows identifierColumn row) (pastAt rows identifierColumn row) (has .present)) (ap octets (has .of-bytes))
+      carrier-named = told .identifier ∙ rw (lt-ltb (firstAt rows identifierColumn row) (pastAt rows identifierColumn row) (has .present))
+          (ap octets (has .of-bytes))
 
       -- the record's element is the one that was found
       same-row : {e p : ℕ} → IsMatch side elements (matchOf e p u) → e ≡ row
@@ -188,7 +189,8 @@ module _ {s rows : List ℕ} {n : ℕ} {elements : List Element} (ready : RowsTe
         by-finding : (owner : Owner) → Finding row 0 (listedAt s rows row) after owner → OwnerIs side elements u owner
         by-finding owner (at f) =
             let z : 0 + f .place ≡ f .place = omega arith in
-            subst (OwnerIs side elements u) (sym (f .is ∙ ap (Of row) z)) (matches-all side elements (matchOf row (f .place) u) (a-record (f .place) (f .there)))
+            subst (OwnerIs side elements u) (sym (f .is
+            ∙ ap (Of row) z)) (matches-all side elements (matchOf row (f .place) u) (a-record (f .place) (f .there)))
         by-finding owner (nowhere none never) =
             subst (OwnerIs side elements u) (sym none) (λ e p m.
             let i = matches-are side elements (matchOf e p u) m in

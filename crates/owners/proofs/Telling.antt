@@ -1,5 +1,5 @@
 -- What the rows of an accepted letter tell of an element: its kind, whether it has an identifier, how many portions it lists, and that these can
--- be met. And what is known while they are met. Assumes nothing.
+-- be met. And what is known while they are met.
 use mathlib.Core.Path.{_≡_, ap, sym, _∙_}
 use mathlib.Core.Bool.{true}
 use mathlib.Core.List.{List}

@@ -1,5 +1,5 @@
 -- Which portion of which element a text unit represents, by the rows and the index that are there: the unit's record of a side, found from the unit.
--- W-207. Definitions only: assumes nothing.
+-- W-207.
 use Prim.Native.Nat.{ℕ, suc, _≤_}
 use mathlib.Core.Path.{_≡_}
 use mathlib.Core.Bool.{true, cond}
@@ -48,6 +48,6 @@ unfoldable pub ownerAmong : (row n : ℕ) → (portions : List (List ℕ)) → (
 ownerAmong row n [] bytes = Nobody
 ownerAmong row n (portion ∷ portions) bytes = cond (same portion bytes) (Of row n) (ownerAmong row (suc n) portions bytes)
 
--- the same of a row that has the name before the last space, if it is of the side
+-- the owner of a unit, by a row that has the unit's name before its last space, if that row is of the side
 abbrev pub ownerBy : Side → (s rows : List ℕ) → (row first past : ℕ) → Owner
 ownerBy side s rows row first past = cond (isIn (kindAt rows row) (kindsOf side)) (ownerAmong row 0 (listedAt s rows row) (slice first past s)) Nobody

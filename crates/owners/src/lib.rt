@@ -9,8 +9,7 @@ ghost use Prim.Native.Nat.{_+_, _*_, _<_, _≤_};
 ghost use lib.ListN.{length};
 ghost use lib.Seq.{slice};
 ghost use Rattle.rows.specs.Rows.{scratchWidth};
-ghost use Rattle.rows.specs.Columns.{identifierColumn, kindAt};
-ghost use Rattle.rows.specs.Columns.{spanAt, there};
+ghost use Rattle.rows.specs.Columns.{identifierColumn};
 ghost use Rattle.letters.specs.Scratch.{LetterRows};
 ghost use Rattle.elements.specs.declared.Edition.{Edition};
 ghost use Rattle.rows.specs.Lookup.{Filed};
@@ -76,7 +75,7 @@ fn portion_with(s: &[u8], rows: &[u32], row: usize, first: usize, past: usize) -
     }
 }
 
-// The same of a row that has the unit's name before its last space, if it is of the side.
+// The owner of a unit, by a row that has the unit's name before its last space, if that row is of the side.
 fn owner_by(s: &[u8], rows: &[u32], side: Side, row: usize, first: usize, past: usize) -> Owner
     requires { ⌜ row * scratchWidth + scratchWidth ≤ length (now rows) ⌝ }
     requires { ⌜ Meetable (now s) (now rows) row ⌝ }

@@ -1,6 +1,5 @@
 -- The children of a row are the rows whose parent it is, exactly these, in stream order and none twice: each row is tried in turn. Of any elements.
--- Assumes nothing.
-use mathlib.Core.Path.{_≡_, refl, ap, sym, _∙_}
+use mathlib.Core.Path.{_≡_, refl, ap, _∙_}
 use mathlib.Core.Bool.{Bool, true, false, false≢true}
 use mathlib.Core.List.{List, List·Memᴰ}
 use mathlib.Core.Option.{Option, none, some}
@@ -9,7 +8,7 @@ use native.Mathlib.Omega.{arith}
 use lib.ListN.{length, getElem?}
 use borrow.Author.Tests.{eqb-true, eq-eqb}
 use Rattle.elements.specs.Judge.{Element}
-use Rattle.reading.specs.Match.{forEach, only}
+use Rattle.reading.specs.Match.{only}
 use Rattle.reading.specs.Lists.{Sorted, Once}
 use Rattle.reading.proofs.Lists.{sorted-once}
 use Rattle.reading.proofs.Each.{only-in, only-out, only-sorted, each-out, each-in, each-sorted, each-few}

@@ -1,17 +1,17 @@
 -- "Climbing from any row must end, in at most 32 moves": the identifier gets shorter by two bytes at least with each move, one byte is left of it, and
--- it has 64 at most. Of any accepted letter. Assumes nothing.
-use mathlib.Core.Path.{_≡_, refl, ap, sym, _∙_}
+-- it has 64 at most. Of any accepted letter.
+use mathlib.Core.Path.{_≡_, refl, ap, _∙_}
 use mathlib.Core.Bool.{false}
 use mathlib.Core.List.{List, _∷_, _++_}
 use mathlib.Core.Option.{Option, none, some}
-use Prim.Native.Nat.{ℕ, zero, suc, _+_, _*_, _<_, _≤_}
+use Prim.Native.Nat.{ℕ, zero, suc, _+_, _*_, _≤_}
 use native.Mathlib.Omega.{arith}
 use lib.ListN.{length, getElem?, length-append}
 use Rattle.names.specs.Names.{spaceByte, longestIdentifier}
 use Rattle.contents.specs.Search.{Value, absent, octets}
 use Rattle.elements.specs.Judge.{bytesOf, Element}
 use Rattle.letters.specs.Apart.{Apart}
-use Rattle.parents.specs.Parent.{parent, IsParent, upFrom, climb, mostMoves}
+use Rattle.parents.specs.Parent.{parent, upFrom, climb, mostMoves}
 use Rattle.parents.proofs.Shorter.{not-empty}
 use Rattle.parents.proofs.Parents.{named-groups, parent-is}
 

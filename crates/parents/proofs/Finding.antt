@@ -1,18 +1,17 @@
 -- What the look-up of the shorter identifier yields is the parent: a row has it exactly when its element carries it, and no two classes or objects
--- share an identifier. Assumes nothing.
+-- share an identifier.
 use mathlib.Core.Path.{_≡_, refl, ap, sym, _∙_}
-use mathlib.Core.Bool.{true, false, cond, _&&_, false≢true, true≢false, and-eq-true-iff}
-use mathlib.Core.List.{List, [], _∷_}
+use mathlib.Core.Bool.{true, false, cond, false≢true, true≢false, and-eq-true-iff}
+use mathlib.Core.List.{List}
 use mathlib.Core.Option.{none, some}
 use Prim.Native.Nat.{ℕ, _*_, _<_, _≤_}
 use native.Mathlib.Omega.{arith}
-use lib.Dec.{eqb, ltb}
+use lib.Dec.{ltb}
 use lib.ListN.{length, getElem?}
 use lib.Seq.{slice}
 use borrow.Author.Tests.{lt-ltb, le-ltb}
 use borrow.Table.Steps.{cases}
 use Rattle.headers.specs.Head.{isIn}
-use Rattle.names.specs.Names.{same}
 use Rattle.names.proofs.Same.{same-eq, same-refl}
 use Rattle.contents.specs.declared.Span.{Span}
 use Rattle.contents.specs.Search.{Value, absent, octets}
@@ -108,7 +107,8 @@ none-shorter elements child e =
     let z : _≡_ {A = ℕ} 0 1 = cc in absurd (omega arith))
 
 -- two classes or objects of an accepted letter that have one identifier are one
-pub one-carrier : (elements : List Element) → Apart elements → (i k : ℕ) (d e : Element) (bytes : List ℕ) → getElem? elements i ≡ some d → getElem? elements k ≡ some e
+pub one-carrier : (elements : List Element) → Apart elements → (i k : ℕ) (d e : Element) (bytes : List ℕ) → getElem? elements i ≡ some d
+    → getElem? elements k ≡ some e
     → nameSpaceOf (d .kind) ≡ objectSpace → nameSpaceOf (e .kind) ≡ objectSpace → d .identifier ≡ octets bytes → e .identifier ≡ octets bytes → i ≡ k
 one-carrier elements apart i k d e bytes p q f g u v =
     one-element elements apart i k d e p q (clash-identifier d e bytes (f ∙ sym g) u v) (clash-identifier e d bytes (g ∙ sym f) v u)
@@ -201,7 +201,8 @@ module _ {s rows : List ℕ} {n : ℕ} {elements : List Element} (ready : RowsTe
       let none : firstRow (isParentOf child) elements ≡ none = none-of-kind elements child (rw kind at e) in
       rw (there, none)
 
-  module _ (first past at : ℕ) (first-is : first ≡ firstAt rows identifierColumn j) (past-is : past ≡ pastAt rows identifierColumn j) (last : LastSpace s first past at) where
+  module _ (first past at : ℕ) (first-is : first ≡ firstAt rows identifierColumn j) (past-is : past ≡ pastAt rows identifierColumn j)
+      (last : LastSpace s first past at) where
     shortened : (child : Element) → getElem? elements j ≡ some child → shorterOf (child .identifier) ≡ cond (ltb at past) (octets (slice first at s)) absent
     shortened child there =
         let pair : spanAt rows identifierColumn j ≡ record { first = first; past = past } = rw (first-is, past-is) in

@@ -1,6 +1,6 @@
--- The first element that passes a test: it passes, there is one if any passes, and it is the one that passes where no other does. Assumes nothing.
-use mathlib.Core.Path.{_≡_, refl, ap}
-use mathlib.Core.Bool.{Bool, true, false}
+-- The first element that passes a test: it passes, there is one if any passes, and it is the one that passes where no other does.
+use mathlib.Core.Path.{_≡_, refl}
+use mathlib.Core.Bool.{Bool, true}
 use mathlib.Core.List.{List, [], _∷_}
 use mathlib.Core.Option.{Option, none, some}
 use Prim.Native.Nat.{ℕ, zero, suc}
@@ -38,7 +38,8 @@ module _ (test : Element → Bool) where
       rw (u, rest))
 
   -- past one that does not pass
-  later-told : (x : Element) (xs : List Element) (k : ℕ) (o : Option ℕ) → ((i : ℕ) → o ≡ some i → Passing test xs i) → further o ≡ some k → Passing test (x ∷ xs) k
+  later-told : (x : Element) (xs : List Element) (k : ℕ) (o : Option ℕ) →
+      ((i : ℕ) → o ≡ some i → Passing test xs i) → further o ≡ some k → Passing test (x ∷ xs) k
   later-told x xs k none rest f = let z : _≡_ {A = ℕ} 0 1 = cc in absurd (omega arith)
   later-told x xs k (some i) rest f =
       let h : k ≡ suc i = cc in

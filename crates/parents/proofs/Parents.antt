@@ -1,7 +1,7 @@
--- The parent of a row is the one row that carries its shorter identifier, and none is missed. Of any accepted letter. Assumes nothing.
+-- The parent of a row is the one row that carries its shorter identifier, and none is missed. Of any accepted letter.
 use mathlib.Core.Path.{_≡_, refl, ap, sym, _∙_}
 use mathlib.Core.Bool.{true, false, _&&_, false≢true, and-eq-true-iff}
-use mathlib.Core.List.{List, [], _∷_, _++_}
+use mathlib.Core.List.{List}
 use mathlib.Core.Option.{Option, none, some}
 use Prim.Native.Nat.{ℕ, _≤_}
 use native.Mathlib.Omega.{arith}
@@ -25,7 +25,8 @@ use Rattle.parents.proofs.Firsts.{first-one, first-told}
 use Rattle.parents.proofs.Finding.{carries-told, told-carries, one-carrier}
 
 -- an identifier that is well spelt: in groups, and 64 bytes at most
-pub named-groups : (e : Element) → namesFit e ≡ true → (bytes : List ℕ) → e .identifier ≡ octets bytes → (grouped false bytes ≡ true) × (length bytes ≤ longestIdentifier)
+pub named-groups : (e : Element) → namesFit e ≡ true → (bytes : List ℕ) → e .identifier ≡ octets bytes
+    → (grouped false bytes ≡ true) × (length bytes ≤ longestIdentifier)
 unfolding namesFit isIdentifier
 named-groups e fits bytes named =
     let a = and-eq-true-iff (spelt (e .identifier)) (spelt (e .logical) && (wellSpelt (e .portions) && true)) .0 fits in

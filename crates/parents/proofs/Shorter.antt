@@ -1,5 +1,5 @@
 -- An identifier without its last group: what is before the last space, wherever it was found; and of a well spelt one, that a space and digits are
--- what is taken off. Assumes nothing.
+-- what is taken off.
 use mathlib.Core.Path.{_≡_, refl, ap, sym, _∙_}
 use mathlib.Core.Bool.{Bool, true, false, cond, _&&_, false≢true, and-eq-true-iff}
 use mathlib.Core.List.{List, [], _∷_, _++_}
@@ -8,7 +8,7 @@ use native.Mathlib.Omega.{arith}
 use lib.Dec.{eqb, ltb}
 use lib.ListN.{length}
 use lib.Seq.{slice}
-use borrow.Author.Tests.{eqb-true, ltb-true, ltb-false, le-ltb}
+use borrow.Author.Tests.{eqb-true, ltb-false, le-ltb}
 use borrow.Table.Steps.{cases}
 use Rattle.names.specs.Names.{spaceByte, isDigit, grouped, allDigits}
 use Rattle.contents.specs.Search.{Value, absent, octets}

@@ -1,4 +1,4 @@
--- What the code learns of a row's parent. Definitions only: assumes nothing.
+-- What the code learns of a row's parent.
 use Prim.Native.Nat.{ℕ, _+_, _*_, _≤_}
 use mathlib.Core.Bool.{cond}
 use mathlib.Core.List.{List}

@@ -1,7 +1,6 @@
 -- Whose child an element is (W-204): "The parent's identifier is the child's with its last space and digits taken off, among kinds 1 and 2 for
 -- layout and 5 and 6 for logical." First the parent and the children of a row; then what is promised of them, in definitions that look for
 -- nothing: what a parent is, and climbing from a row. Over what the elements say: no places, no length octets. The theorems are in proofs/.
--- Definitions only: assumes nothing.
 use Prim.Native.Nat.{ℕ, zero, suc, _≤_}
 use mathlib.Core.Bool.{Bool, cond, true, false, _&&_}
 use mathlib.Core.List.{List, [], _∷_, _++_}

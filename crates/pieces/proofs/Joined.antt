@@ -1,5 +1,4 @@
 -- The pieces of a run joined: what the item that is met gives, and then what the rest gives; and no more octets than the run has.
--- Assumes nothing.
 use mathlib.Core.Path.{_≡_, ap, _∙_}
 use mathlib.Core.Bool.{Bool, true, false}
 use mathlib.Core.List.{List, [], _++_}

@@ -1,5 +1,4 @@
 -- An item that is met has a level of its own, so the run inside it has fewer levels left: what calls itself for that run ends.
--- Assumes nothing.
 use mathlib.Core.Path.{subst}
 use mathlib.Core.Bool.{Bool}
 use mathlib.Core.List.{List}

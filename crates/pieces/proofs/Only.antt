@@ -1,4 +1,4 @@
--- Whether a run is of pieces only, told by the item that is met: a piece, one that holds pieces, or another. Assumes nothing.
+-- Whether a run is of pieces only, told by the item that is met: a piece, one that holds pieces, or another.
 use mathlib.Core.Path.{_≡_, ap, _∙_}
 use mathlib.Core.Bool.{Bool, true, false, _&&_, true≢false, false≢true}
 use mathlib.Core.List.{List}

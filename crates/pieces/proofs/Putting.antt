@@ -1,5 +1,5 @@
 -- The pieces of a run are put one after another: those that are put, and those of what is left of the run, are all of them, and a turn
--- keeps that. A turn lends the output from where the next pieces begin. Assumes nothing.
+-- keeps that. A turn lends the output from where the next pieces begin.
 use mathlib.Core.Path.{_≡_, refl, ap, sym, _∙_}
 use mathlib.Core.List.{List, [], _++_, append-assoc, append-nil}
 use Prim.Native.Nat.{ℕ, _+_, _-_, _≤_}

@@ -1,6 +1,5 @@
 -- A string in pieces. X.209 lets an octet string and a bit string be constructed; W-201: "the octet string is constructed, 24, holding 04 and
 -- 24 items down to the level limit. .. The content is the pieces joined in order." Over the tree: places and length octets are no part of it.
--- Definitions only: assumes nothing.
 use Prim.Native.Nat.{ℕ}
 use mathlib.Core.Bool.{Bool, true, _&&_}
 use mathlib.Core.List.{List, [], _++_}

@@ -1,4 +1,4 @@
--- The pass over the elements: what is put, and then the pages that are left, is all. Assumes nothing.
+-- The pass over the elements: what is put, and then the pages that are left, is all.
 use mathlib.Core.Path.{_≡_, refl, ap, sym, _∙_}
 use mathlib.Core.List.{List, [], _++_}
 use Prim.Native.Nat.{ℕ, suc, _+_, _*_, _≤_, _<_}

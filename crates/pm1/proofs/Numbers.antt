@@ -1,31 +1,30 @@
--- The pages by the numbers of a finished table are the pages of the letter: row j has the kind and the object type of item j. Assumes nothing.
+-- The pages by the numbers of a finished table are the pages of the letter: row j has the kind and the object type of item j.
 use mathlib.Core.Path.{_≡_, refl, ap, sym, _∙_}
-use mathlib.Core.Bool.{Bool, true, false, cond}
-use mathlib.Core.List.{List, [], _∷_, _++_}
+use mathlib.Core.Bool.{false}
+use mathlib.Core.List.{List, _∷_, _++_}
 use mathlib.Core.Option.{some}
-use Prim.Native.Nat.{ℕ, zero, suc, _+_, _*_, _≤_}
+use Prim.Native.Nat.{ℕ, suc, _+_, _*_, _≤_}
 use native.Mathlib.Omega.{arith}
 use lib.ListN.{length, getD, drop, getElem?}
 use lib.Seq.{slice}
 use borrow.Table.Steps.{cases}
 use Rattle.headers.specs.Head.{constructed, typeField}
-use Rattle.octets.specs.Walk.{Items, noItems, item, deepest, startOf}
+use Rattle.octets.specs.Walk.{Items, noItems, deepest, startOf}
 use Rattle.tree.specs.Tree.{Tree, plain, formed}
 use Rattle.elements.specs.declared.Edition.{Edition}
 use Rattle.elements.specs.declared.Row.{Row}
 use Rattle.elements.specs.Shape.{shapeOf}
 use Rattle.elements.specs.ElementRows.{cells, rowOf, rowsOf}
 use Rattle.letters.specs.Letter.{itemsOfStream, rowsIn}
-use Rattle.reading.specs.Match.{forEach, only}
-use Rattle.answers.specs.Table.{tableWidth, rowNumbers, tableNumbers}
+use Rattle.reading.specs.Match.{forEach}
+use Rattle.answers.specs.Table.{tableWidth, tableNumbers}
 use Rattle.answers.specs.Answers.{elementsIn, tableOf}
 use Rattle.answers.proofs.Tabling.{cell-there}
-use Rattle.demands.specs.Refusals.{TopItem, topItems, saysIn}
-use Rattle.demands.proofs.Telling.{Proper, no-more, more}
-use Rattle.dimensions.specs.Dimensions.{verdictOf}
-use Rattle.pm1.specs.Pages.{Page, isPage, pageOf, pagesIn}
+use Rattle.promises.specs.Refusals.{TopItem, topItems, saysIn}
+use Rattle.promises.proofs.Telling.{Proper, no-more, more}
+use Rattle.pm1.specs.Pages.{Page, pageOf, pagesIn}
 use Rattle.pm1.specs.ByTable.{kindAt, objectAt, pageAt, pagesAt}
-use Rattle.demands.proofs.Accepted.{Accepted, items-proper, finished}
+use Rattle.promises.proofs.Accepted.{Accepted, items-proper}
 
 module _ (edition : Edition) (s table : List ℕ) where
   -- the table tells the kind and the object type of rows of which the first is row j
@@ -57,7 +56,8 @@ module _ (edition : Edition) (s table : List ℕ) where
   pages-told no-more j t = refl
   pages-told (more {at = at} {code} {start} {past} {inside} {after} there n nothing-in codes p q) j t =
       let row : Row = rowOf (shapeOf edition (typeField code)) s at (startOf (length s) after) inside in
-      let own : pageAt table j (plain s inside) ≡ pageOf edition j (itemWith code inside) = row-page j code at (startOf (length s) after) inside row refl (t 0 row refl) in
+      let own : pageAt table j (plain s inside) ≡ pageOf edition j (itemWith code inside) = row-page j code at
+      (startOf (length s) after) inside row refl (t 0 row refl) in
       let others : pagesAt s table (suc j) after ≡ forEach (suc j) (topItems (plain s after)) (pageOf edition) =
       pages-told q (suc j) (λ k other e. let z : suc j + k ≡ j + suc k = omega arith in rw z (t (suc k) other e)) in
       ap (λ (l : List Page). l ++ pagesAt s table (suc j) after) own ∙ ap (λ (l : List Page). pageOf edition j (itemWith code inside) ++ l) others
@@ -68,13 +68,16 @@ module _ {edition : Edition} {s table : List ℕ} (a : Accepted edition s table)
   cell : (k : ℕ) (row : Row) → getElem? (rowsIn edition s) k ≡ some row → (c : ℕ) → c ≤ 1 → getD after (k * tableWidth + c) 0 ≡ getD (cells row) c 0
   cell k row there c l =
       ap (λ (t : List ℕ). getD t (k * tableWidth + c) 0) e
-      ∙ cell-there (elementsIn edition s) 0 (rowsIn edition s) (drop (length (tableNumbers (elementsIn edition s) (rowsIn edition s))) table) k row there c (omega arith)
+      ∙ cell-there (elementsIn edition s) 0 (rowsIn edition s)
+      (drop (length (tableNumbers (elementsIn edition s) (rowsIn edition s))) table) k row there c (omega arith)
 
   tells : Tells edition s after 0 (rowsIn edition s)
   tells k row there =
       let z : k * tableWidth + 0 ≡ k * tableWidth = omega arith in
-      let y : 0 + k ≡ k = omega arith in
-      (ap (kindAt after) y ∙ ap (λ (n : ℕ). getD after n 0) (sym z) ∙ cell k row there 0 (omega arith), ap (objectAt after) y ∙ cell k row there 1 (omega arith))
+      let y : 0 + k ≡ k = omega arith in (
+        ap (kindAt after) y ∙ ap (λ (n : ℕ). getD after n 0) (sym z) ∙ cell k row there 0 (omega arith),
+        ap (objectAt after) y ∙ cell k row there 1 (omega arith),
+      )
 
   pub pages-by-table : pagesAt s after 0 (itemsOfStream s) ≡ pagesIn edition s
   pages-by-table = pages-told edition s after (items-proper a) 0 tells

@@ -1,8 +1,8 @@
--- The question's answer, table and list, case by case: what the check answered decides them, and how many pages there are. Assumes nothing.
-use mathlib.Core.Path.{_≡_, refl, ap, sym, _∙_}
+-- The question's answer, table and list, case by case: what the check answered decides them, and how many pages there are.
+use mathlib.Core.Path.{_≡_, ap, sym, _∙_}
 use mathlib.Core.Bool.{true, false}
 use mathlib.Core.List.{List, _++_}
-use Prim.Native.Nat.{ℕ, _<_, _≤_, _+_, _*_, _/_}
+use Prim.Native.Nat.{ℕ, _<_, _≤_, _+_, _*_}
 use native.Mathlib.Omega.{arith}
 use lib.Dec.{eqb, ltb}
 use lib.ListN.{length, drop}
@@ -13,11 +13,10 @@ use Rattle.elements.specs.declared.Edition.{Edition}
 use Rattle.answers.specs.declared.Checked.{Checked}
 use Rattle.answers.specs.Table.{tableWidth}
 use Rattle.answers.specs.Answers.{onto, tableOf, checked, checkedTable, CheckOutcome}
-use Rattle.pm1.specs.declared.Paged.{Paged}
-use Rattle.pm1.specs.Pages.{Page, pagesIn, pageWidth, pageNumbers}
+use Rattle.pm1.specs.Pages.{Page, pagesIn, pageNumbers}
 use Rattle.pm1.specs.Answers.{pagesLent, paged, pagedTable, pagedList, PagesOutcome}
 use Rattle.pm1.specs.ByTable.{pagesAmong, pagesBy, Ready}
-use Rattle.demands.proofs.Accepted.{Accepted, accepts, check-high, fine, as-many, few, finished}
+use Rattle.promises.proofs.Accepted.{Accepted, accepts, check-high, fine, as-many, few, finished}
 use Rattle.pm1.proofs.Numbers.{pages-by-table}
 use Rattle.pm1.proofs.Counting.{among-listed}
 use Rattle.pm1.proofs.Putting.{length-numbers}
@@ -66,7 +65,12 @@ module _ {edition : Edition} {s table : List ℕ} {answer : Checked} {after : Li
       many : length (pagesIn edition s) ≡ count
       many = ap length (sym all) ∙ listed-are
 
-      pub pages-30 : pagesLent list < count → PagesOutcome edition s table list (record { number = 30; place = 0; elements = answer .elements; pages = 0 }) after list
+      pub pages-30 : pagesLent list < count → PagesOutcome edition s table list (record {
+        number = 30;
+        place = 0;
+        elements = answer .elements;
+        pages = 0;
+      }) after list
       unfolding paged pagedTable pagedList
       pages-30 short =
           let a = o .answered in

@@ -1,4 +1,4 @@
--- The list as numbers, two a record: what is put of an element. Assumes nothing.
+-- The list as numbers, two a record: what is put of an element.
 use mathlib.Core.Path.{_≡_, refl}
 use mathlib.Core.Bool.{Bool, true, false}
 use mathlib.Core.List.{List, [], _∷_, _++_}

@@ -1,4 +1,4 @@
--- The tests of a page, one after the other. Assumes nothing.
+-- The tests of a page, one after the other.
 use mathlib.Core.Path.{_≡_, refl}
 use mathlib.Core.Bool.{Bool, true, false, cond, _&&_}
 use Prim.Native.Nat.{ℕ}

@@ -1,5 +1,5 @@
 -- The question of the PM1 desk (W-210): what it answers, and what it leaves in the table and the list that it was lent. "Refusals, after 15, place 0,
--- list untouched: 16 for its lent table; 30 verdict list shorter than the pages, table finished." Definitions only: assumes nothing.
+-- list untouched: 16 for its lent table; 30 verdict list shorter than the pages, table finished."
 use mathlib.Core.Path.{_≡_}
 use Prim.Native.Nat.{ℕ, _/_}
 use mathlib.Core.Bool.{cond}

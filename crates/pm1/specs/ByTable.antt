@@ -1,4 +1,4 @@
--- What the code behind the question learns: the pages by the numbers of a finished table, and what is put of them. Definitions only: assumes nothing.
+-- What the code behind the question learns: the pages by the numbers of a finished table, and what is put of them.
 use mathlib.Core.Path.{_≡_}
 use mathlib.Core.Bool.{cond}
 use mathlib.Core.List.{List, [], _++_}

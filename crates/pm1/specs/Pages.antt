@@ -1,5 +1,5 @@
 -- The pages of a letter, with the verdict on each. W-210: "For each layout page (type 2) and page class"; "Verdicts lie in stream order." Over the tree
--- of the letter: places and length octets are no part of it. Definitions only: assumes nothing.
+-- of the letter: places and length octets are no part of it.
 use Prim.Native.Nat.{ℕ}
 use mathlib.Core.Bool.{Bool, _&&_}
 use mathlib.Core.List.{List, [], _∷_}
@@ -8,7 +8,7 @@ use Rattle.headers.specs.Head.{isIn}
 use Rattle.tree.specs.Tree.{Tree, treeOf}
 use Rattle.elements.specs.declared.Edition.{Edition}
 use Rattle.reading.specs.Match.{forEach, only}
-use Rattle.demands.specs.Refusals.{TopItem, topItems, saysIn}
+use Rattle.promises.specs.Refusals.{TopItem, topItems, saysIn}
 use Rattle.dimensions.specs.Dimensions.{verdictOf}
 
 -- a record of the list: a row of the table, and the verdict on it

@@ -1,6 +1,6 @@
--- What a reading decides of the portions: whether they are well spelt, and whether one stands twice. Assumes nothing.
+-- What a reading decides of the portions: whether they are well spelt, and whether one stands twice.
 use mathlib.Core.Path.{_≡_, ap, sym, _∙_}
-use mathlib.Core.Bool.{Bool, true, false, not, _&&_, Bool·not-not}
+use mathlib.Core.Bool.{true, false, not, _&&_, Bool·not-not}
 use mathlib.Core.List.{List}
 use Prim.Native.Nat.{ℕ, _*_, _≤_}
 use lib.Dec.{leb}

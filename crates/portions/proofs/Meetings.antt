@@ -1,4 +1,4 @@
--- What an item that is met says of the run: whether it is a portion, and then its value and what the rest says. Assumes nothing.
+-- What an item that is met says of the run: whether it is a portion, and then its value and what the rest says.
 use mathlib.Core.Path.{_≡_, refl, ap, sym, _∙_}
 use mathlib.Core.Bool.{true, false, false≢true}
 use mathlib.Core.List.{List, [], _∷_}

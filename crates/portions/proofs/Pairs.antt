@@ -1,5 +1,5 @@
 -- Numbers that bound values begin with the first value's pair, so what is asked of the values goes on with those after it; and a pair
--- stored at their end is a value more. Assumes nothing.
+-- stored at their end is a value more.
 use mathlib.Core.Path.{_≡_, refl, ap, _∙_, subst}
 use mathlib.Core.Bool.{false, _||_}
 use mathlib.Core.List.{List, [], _∷_, _++_, append-assoc}

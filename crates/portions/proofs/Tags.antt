@@ -1,5 +1,5 @@
 -- Values that are told apart by their tags, from the last to the first: where whatever is among those that are done has its tag marked, a
--- value whose tag is not marked is not among them. Assumes nothing.
+-- value whose tag is not marked is not among them.
 use mathlib.Core.Path.{_≡_, refl, ap, sym, _∙_, subst}
 use mathlib.Core.Bool.{Bool, true, false, _||_, false≢true}
 use mathlib.Core.List.{List}

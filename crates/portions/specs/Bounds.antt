@@ -1,5 +1,5 @@
 -- Values by their bounds: two numbers a value, first and past, one value after another. Document 01, "Table, list, part, normal form":
--- "All pairs but the element's bound a value." Definitions only: assumes nothing.
+-- "All pairs but the element's bound a value."
 use Prim.Native.Nat.{ℕ, _+_, _*_, _≤_}
 use mathlib.Core.List.{List, [], _∷_}
 use lib.ListN.{length, getD}

@@ -1,4 +1,4 @@
--- What one reading of the portions tells of them. Definitions only: assumes nothing.
+-- What one reading of the portions tells of them.
 use mathlib.Core.Path.{_≡_}
 use mathlib.Core.Bool.{false, not}
 use mathlib.Core.List.{List, map}

@@ -1,5 +1,5 @@
 -- The portions of an element. Document 01, "Element rules": "portions, every item in it 12", "A portion number is 1 to 16 digits; one
--- element has at most 64", "no element lists a portion twice". Definitions only: assumes nothing.
+-- element has at most 64", "no element lists a portion twice".
 use Prim.Native.Nat.{ℕ}
 use mathlib.Core.Bool.{Bool, true, false, _&&_, _||_}
 use mathlib.Core.List.{List, [], _∷_, map}

@@ -1,5 +1,5 @@
 -- A tag of a value, a number below 64, by which two values are told apart without comparing them. Any function would do: no answer depends
--- on it, only how soon values are known to differ. Definitions only: assumes nothing.
+-- on it, only how soon values are known to differ.
 use Prim.Native.Nat.{ℕ, _+_, _*_, _%_}
 use mathlib.Core.List.{List, [], _∷_}
 

@@ -127,7 +127,7 @@ fn is_among(s: &[u8], bounds: &[u32], k: usize, count: usize) -> bool
     false
 }
 
-// The same, by the mark of its tag: where that is 0, no value after it has the tag.
+// Whether the value k stands again, by the mark of its tag: where that is 0, no value after it has the tag.
 fn is_again(s: &[u8], bounds: &[u32], k: usize, count: usize, mark: u8) -> bool
     requires { ⌜ (k < count) × (2 * count ≤ length (now bounds)) × Inside (now s) (slice (2 * k) (2 * count) (now bounds)) ⌝ }
     requires { ⌜ (mark ≡ 0 → among (boundedAt (now s) (now bounds) k) (bounded (now s) (slice (2 * (k + 1)) (2 * count) (now bounds))) ≡ false) ⌝ }

@@ -1,4 +1,4 @@
--- Matches of small letters, those among them that were got wrong before: one table with one statement. Assumes nothing.
+-- Matches of small letters, those among them that were got wrong before: one table with one statement.
 use mathlib.Core.Path.{_≡_, refl}
 use mathlib.Core.List.{List, [], _∷_, map}
 use Prim.Native.Nat.{ℕ}
@@ -65,6 +65,10 @@ examples =
     }
     ∷ []
 
-pub as-listed : map (λ (e : Example). record { elements = e .elements; layout = matches Layout (e .elements); logical = matches Logical (e .elements) }) examples ≡ examples
+pub as-listed : map (λ (e : Example). record {
+  elements = e .elements;
+  layout = matches Layout (e .elements);
+  logical = matches Logical (e .elements);
+}) examples ≡ examples
 unfolding same joins forEach portionMatches elementMatches matches
 as-listed = refl

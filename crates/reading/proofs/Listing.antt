@@ -1,5 +1,4 @@
 -- What is known while the portions of an element are listed: what is put, and then what the portions that are left yield, is all.
--- Assumes nothing.
 use mathlib.Core.Path.{_≡_, refl, ap, sym, _∙_, subst}
 use mathlib.Core.Bool.{true, false, _&&_, true≢false, and-eq-true-iff}
 use mathlib.Core.Option.{some}
@@ -87,12 +86,14 @@ module _ (s rows : List ℕ) (n element : ℕ) (below : element < n) (elements :
   unfolding elementMatches
   all-to-come side = ap (λ (vs : List (List ℕ)). forEach 0 vs (portionMatches side elements element (elementAt elements element))) (element-told .portions)
 
-module _ {side : Side} {s rows : List ℕ} {n element : ℕ} {of-letter : List Element} (known : RowsTell s rows n of-letter) (below : element < n) (is-listed : isListed side rows element ≡ true) where
+module _ {side : Side} {s rows : List ℕ} {n element : ℕ} {of-letter : List Element} (known : RowsTell s rows n of-letter) (below : element < n)
+    (is-listed : isListed side rows element ≡ true) where
   abbrev named : Named side rows n element
   named = listed-named side rows n element below is-listed
 
   -- at the start all are left
-  pub listing-all : (flat : List ℕ) (count : ℕ) → Room side s rows n element flat count → Listing side s rows n element flat count flat (portionsAt rows element) 0 count
+  pub listing-all : (flat : List ℕ) (count : ℕ) → Room side s rows n element flat count → Listing side s rows n element flat count flat
+      (portionsAt rows element) 0 count
   listing-all flat count room =
       let there = element-told s rows n element (named .below) of-letter known in
       let spelt = known .apart .spelt element (elementAt of-letter element) (element-there s rows n element (named .below) of-letter known) in
@@ -102,16 +103,19 @@ module _ {side : Side} {s rows : List ℕ} {n element : ℕ} {of-letter : List E
         placed = omega (arith, ap length (there .portions), few-portions (elementAt of-letter element) spelt);
         kept = refl;
         room = λ elements ready. rw (all-to-come s rows n element (named .below) elements ready side) (room elements ready);
-        goes-on = λ elements ready after end p. subst (λ (ms : List Match). PutsRecords flat count ms after end) (all-to-come s rows n element (named .below) elements ready side) p;
+        goes-on = λ elements ready after end p. subst (λ (ms : List Match). PutsRecords flat count ms after end)
+            (all-to-come s rows n element (named .below) elements ready side) p;
       }
 
-  module _ {flat₀ : List ℕ} {count : ℕ} {flat : List ℕ} {left : Run} {place total : ℕ} (listing : Listing side s rows n element flat₀ count flat left place total) where
+  module _ {flat₀ : List ℕ} {count : ℕ} {flat : List ℕ} {left : Run} {place total : ℕ}
+      (listing : Listing side s rows n element flat₀ count flat left place total) where
     -- at the end all are put
     pub listing-none : itemsOf s left ≡ noItems → PutsElement side s rows n element flat₀ count flat total
     unfolding forEach
     listing-none e elements ready =
         listing .goes-on elements ready flat total
-        (subst (λ (vs : List (List ℕ)). PutsRecords flat total (forEach place vs (portionMatches side elements element (elementAt elements element))) flat total)
+        (subst (λ (vs : List (List ℕ)). PutsRecords flat total
+        (forEach place vs (portionMatches side elements element (elementAt elements element))) flat total)
         (sym (values-end s left e)) (puts-none flat total))
 
     module _ {code from to : ℕ} {inner rest : Run} (met : Meeting s left code from to inner rest) (found : RowFound)
@@ -149,7 +153,8 @@ module _ {side : Side} {s rows : List ℕ} {n element : ℕ} {of-letter : List E
       small-place = omega (arith, listing .placed, some-left)
 
       pub found-small : FoundBelow 4294967296 found
-      found-small = smaller found (finds-below s rows (columnOf side) n unitSpace (bytesIn s (spanAt rows identifierColumn element) ++ spaceByte ∷ slice from to s) found finds)
+      found-small = smaller found (finds-below s rows (columnOf side) n unitSpace
+          (bytesIn s (spanAt rows identifierColumn element) ++ spaceByte ∷ slice from to s) found finds)
         where
           smaller : (f : RowFound) → FoundBelow n f → FoundBelow 4294967296 f
           smaller (At u) b = omega (arith, known .counted, known .apart .few)
@@ -197,7 +202,11 @@ module _ (side : Side) (s rows : List ℕ) (n e : ℕ) (below : e < n) (elements
   unfolding elementMatches forEach
   no-portion t =
       let fine = told .portions-fine in
-      let at : firstAt rows portionsColumn e ≡ pastAt rows portionsColumn e = omega (arith, ltb-false (firstAt rows portionsColumn e) (pastAt rows portionsColumn e) t, fine .order) in
+      let at : firstAt rows portionsColumn e ≡ pastAt rows portionsColumn e = omega (
+        arith,
+        ltb-false (firstAt rows portionsColumn e) (pastAt rows portionsColumn e) t,
+        fine .order,
+      ) in
       let empty : itemsOf s (portionsAt rows e) ≡ noItems = ap (λ (w : Walked). w .items) (sym (derived (at-limit at))) in
       let none-left : x .portions ≡ [] = sym (told .portions) ∙ values-end s (portionsAt rows e) empty in
       rw none-left

@@ -1,5 +1,5 @@
 -- Looking a joined name up among the text units yields the matches of a portion: a row has the name exactly when its element joins, and
--- no two units have it. Assumes nothing.
+-- no two units have it.
 use mathlib.Core.Path.{_≡_, refl, ap, sym, _∙_}
 use mathlib.Core.Bool.{Bool, true, false}
 use mathlib.Core.Option.{some}
@@ -97,7 +97,8 @@ module _ {s rows : List ℕ} {n : ℕ} {elements : List Element} (ready : RowsTe
       has-joined has =
           let tells = ready .tells j unit there in
           let name : nameOn side unit ≡ octets bytes =
-          name-told side j unit tells ∙ rw (lt-ltb (firstAt rows (columnOf side) j) (pastAt rows (columnOf side) j) (has .present)) (ap octets (has .of-bytes)) in
+          name-told side j unit tells ∙ rw (lt-ltb (firstAt rows (columnOf side) j) (pastAt rows (columnOf side) j) (has .present))
+          (ap octets (has .of-bytes)) in
           record {
             on-side = on-side;
             of-unit = sym (tells .kind) ∙ unit-kind (kindAt rows j) (has .of-space);
@@ -128,11 +129,13 @@ module _ {s rows : List ℕ} {n : ℕ} {elements : List Element} (ready : RowsTe
       found-nowhere none = none-passes (joins side element portion) made 0 elements (λ k unit there t. none k (joins-has k unit there t))
 
       -- the matches of a portion are what the look-up of its joined name yields
-      pub found-matches : (found : RowFound) → FindsRow s rows (columnOf side) n unitSpace bytes found → portionMatches side elements e element p portion ≡ foundMatches e p found
+      pub found-matches : (found : RowFound) → FindsRow s rows
+          (columnOf side) n unitSpace bytes found → portionMatches side elements e element p portion ≡ foundMatches e p found
       found-matches (At u) finds = found-there u (finds .0)
       found-matches Nothing finds = found-nowhere finds
 
 -- a unit that is found is one of the first n rows
-pub finds-below : (s rows : List ℕ) (column n nameSpace : ℕ) (bytes : List ℕ) (found : RowFound) → FindsRow s rows column n nameSpace bytes found → FoundBelow n found
+pub finds-below : (s rows : List ℕ) (column n nameSpace : ℕ) (bytes : List ℕ) (found : RowFound) → FindsRow s rows column n nameSpace bytes found
+    → FoundBelow n found
 finds-below s rows column n nameSpace bytes (At u) finds = finds .0 .below
 finds-below s rows column n nameSpace bytes Nothing finds = tt

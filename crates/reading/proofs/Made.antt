@@ -1,4 +1,4 @@
--- The list that `fill` has made after k turns: the first k records, and then what was there. Assumes nothing.
+-- The list that `fill` has made after k turns: the first k records, and then what was there.
 use mathlib.Core.Path.{_≡_, refl, sym, ap, _∙_}
 use mathlib.Core.List.{List, [], _∷_, _++_}
 use Prim.Native.Nat.{ℕ, zero, suc, _+_, _≤_, _<_}

@@ -1,8 +1,8 @@
 -- The reading list holds a record exactly when it is a match, in stream order and then portion order, and so none twice: it is listed for
--- each element, each of its portions and each unit in their order. Of any elements. Assumes nothing.
+-- each element, each of its portions and each unit in their order. Of any elements.
 use mathlib.Core.Path.{_≡_, refl, ap, sym, _∙_}
 use mathlib.Core.Logic.{inl, inr}
-use mathlib.Core.Bool.{true, false, _&&_, false≢true, and-eq-true-iff}
+use mathlib.Core.Bool.{true, _&&_, false≢true, and-eq-true-iff}
 use mathlib.Core.List.{List, _∷_, _++_, List·Memᴰ}
 use Prim.Native.Nat.{ℕ, _+_}
 use native.Mathlib.Omega.{arith}
@@ -38,7 +38,8 @@ module _ (side : Side) (element : Element) (portion : List ℕ) (unit : Element)
   pub joins-told : joins side element portion unit ≡ true → Joined side element portion unit
   unfolding joins
   joins-told e =
-      let p = and-eq-true-iff (isIn (element .kind) (kindsOf side) && eqb (unit .kind) unitKind) (spells (nameOn side unit) (element .identifier) portion) .0 e in
+      let p = and-eq-true-iff (isIn (element .kind) (kindsOf side)
+      && eqb (unit .kind) unitKind) (spells (nameOn side unit) (element .identifier) portion) .0 e in
       let q = and-eq-true-iff (isIn (element .kind) (kindsOf side)) (eqb (unit .kind) unitKind) .0 (p .0) in
       let w = spells-told (nameOn side unit) (element .identifier) portion (p .1) in
       record { on-side = q .0; of-unit = eqb-true (unit .kind) unitKind (q .1); identifier = w .bytes; named = w .named; spelt = w .spelt }

@@ -1,4 +1,4 @@
--- In an accepted letter a portion has one place, and a name one element; and portions are well spelt, at most 64. Assumes nothing.
+-- In an accepted letter a portion has one place, and a name one element; and portions are well spelt, at most 64.
 use mathlib.Core.Path.{_≡_, ap, sym, _∙_}
 use mathlib.Core.Bool.{true, false, _&&_, true≢false, and-eq-true-iff}
 use mathlib.Core.Option.{some}

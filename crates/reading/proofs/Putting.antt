@@ -1,5 +1,5 @@
 -- Records are put one after another, three numbers each, so what is put in two goes is put in one; and the records are read back from
--- their numbers. Assumes nothing.
+-- their numbers.
 use mathlib.Core.Path.{_≡_, refl, ap, sym, _∙_}
 use mathlib.Core.List.{List, [], _∷_, _++_}
 use Prim.Native.Nat.{ℕ, zero, suc, _+_, _*_, _<_, _≤_}

@@ -1,4 +1,4 @@
--- What is put by the rows of a letter is its reading list. Assumes nothing.
+-- What is put by the rows of a letter is its reading list.
 use mathlib.Core.Path.{_≡_, ap, sym, _∙_}
 use mathlib.Core.List.{List, _++_}
 use Prim.Native.Nat.{ℕ, _*_, _≤_}

@@ -1,8 +1,8 @@
 -- In an accepted letter a portion has one unit at most, since no two units share an identifier; and a unit one match at most on a side,
 -- since a portion number is all after the last space, so that the unit's identifier tells the element's and the portion. So there are no
--- more matches than units, nor than portions. Assumes nothing.
+-- more matches than units, nor than portions.
 use mathlib.Core.Path.{_≡_, refl, ap, sym, _∙_, subst}
-use mathlib.Core.Bool.{true, false, cond, false≢true, true≢false, or-true}
+use mathlib.Core.Bool.{true, cond, false≢true, true≢false, or-true}
 use mathlib.Core.Option.{some}
 use mathlib.Core.List.{List, [], _∷_, _++_, map, List·Memᴰ, List·Memᴰ·head, List·Memᴰ·tail, Memᴰ·of-map}
 use Prim.Native.Nat.{ℕ, zero, suc, _+_, _≤_}
@@ -39,12 +39,14 @@ side-space Logical kind e =
     (λ t. cases (eqb kind 6) (λ u. rw (eqb-true kind 6 u)) (λ u. absurd (false≢true (rw (t, u) at e))))
 
 -- two of a name space that have the same name clash: by their identifiers, or by the name of a side
-pub clash-identifier : (d e : Element) (bytes : List ℕ) → nameSpaceOf (d .kind) ≡ nameSpaceOf (e .kind) → d .identifier ≡ octets bytes → e .identifier ≡ octets bytes
+pub clash-identifier : (d e : Element) (bytes : List ℕ) → nameSpaceOf (d .kind) ≡ nameSpaceOf (e .kind) → d .identifier ≡ octets bytes
+    → e .identifier ≡ octets bytes
     → clash d e ≡ true
 unfolding clash
 clash-identifier d e bytes s p q = rw (eq-eqb _ _ s, p, q, same-refl bytes)
 
-clash-side : (side : Side) (d e : Element) (bytes : List ℕ) → nameSpaceOf (d .kind) ≡ nameSpaceOf (e .kind) → nameOn side d ≡ octets bytes → nameOn side e ≡ octets bytes
+clash-side : (side : Side) (d e : Element) (bytes : List ℕ) → nameSpaceOf (d .kind) ≡ nameSpaceOf (e .kind) → nameOn side d ≡ octets bytes
+    → nameOn side e ≡ octets bytes
     → clash d e ≡ true
 unfolding clash
 clash-side Layout d e bytes s p q = rw (eq-eqb _ _ s, p, q, same-refl bytes)
@@ -171,7 +173,8 @@ module _ (elements : List Element) (apart : Apart elements) (side : Side) where
   unfolding elementMatches
   by-portions e element = each-few (portionMatches side elements e element) (portion-few e element) 0 (element .portions)
 
-  element-few : (e : ℕ) (element : Element) → length (elementMatches side elements e element) ≤ cond (isIn (element .kind) (kindsOf side)) (length (element .portions)) 0
+  element-few : (e : ℕ) (element : Element) → length (elementMatches side elements e element) ≤ cond (isIn (element .kind) (kindsOf side))
+      (length (element .portions)) 0
   element-few e element =
       cases (isIn (element .kind) (kindsOf side))
       (λ t. rw t (by-portions e element))

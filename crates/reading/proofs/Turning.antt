@@ -1,5 +1,5 @@
 -- What is known while the elements are taken in turn: what is put, and then what the elements that are left yield, is all. There is room,
--- since there are no more matches than elements. Assumes nothing.
+-- since there are no more matches than elements.
 use mathlib.Core.Path.{_≡_, refl, ap, sym, _∙_, subst}
 use mathlib.Core.List.{List, _++_}
 use Prim.Native.Nat.{ℕ, _+_, _*_, _<_, _≤_}
@@ -56,9 +56,11 @@ module _ {side : Side} {s rows : List ℕ} {n : ℕ} {flat₀ flat : List ℕ} {
         ∙ rw (add-one element)
 
     lengths : (elements : List Element) → RowsTell s rows n elements
-        → length (left side elements element) ≡ length (elementMatches side elements element (elementAt elements element)) + length (left side elements (element + 1))
+        → length (left side elements element) ≡ length (elementMatches side elements element (elementAt elements element)) + length
+        (left side elements (element + 1))
     lengths elements ready =
-        ap length (one-more elements ready) ∙ length-append (elementMatches side elements element (elementAt elements element)) (left side elements (element + 1))
+        ap length (one-more elements ready) ∙ length-append (elementMatches side elements element (elementAt elements element))
+        (left side elements (element + 1))
 
     -- there is room for the next,
     pub room-for-element : Room side s rows n element flat count

@@ -1,5 +1,5 @@
 -- What the contract of the list rules out: no list of two answers, none with no record though there is a match, none with one though
--- there are two. Assumes nothing.
+-- there are two.
 use mathlib.Core.Path.{_≡_, ap, sym, _∙_}
 use mathlib.Core.List.{List, [], _∷_, _++_, List·Memᴰ, List·Memᴰ·not-nil, List·Memᴰ·eq-of-singleton}
 use Prim.Native.Nat.{ℕ, _*_, _<_}

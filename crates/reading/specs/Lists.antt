@@ -1,4 +1,4 @@
--- Lists in order, and lists with nothing twice. Definitions only: assumes nothing.
+-- Lists in order, and lists with nothing twice.
 use mathlib.Core.List.{List, [], _∷_, List·Memᴰ}
 
 module _ {A : Type 0} where

@@ -2,7 +2,7 @@
 -- portions and a unit, where the unit's layout identifier is the element's identifier, one space, the portion. The logical side takes kinds
 -- 5 and 6 and the logical identifier." First the reading list; then what is promised of it, in definitions that look at no list: what a
 -- match is, which of two stands first, and how many text units and portions there are. Over what the elements say: no places, no length
--- octets. The theorems are in proofs/. Definitions only: assumes nothing.
+-- octets. The theorems are in proofs/.
 use Prim.Native.Nat.{ℕ, suc, _<_, _+_}
 use mathlib.Core.Bool.{Bool, cond, false, _&&_, true}
 use mathlib.Core.List.{List, [], _∷_, _++_}

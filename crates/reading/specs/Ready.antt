@@ -1,4 +1,4 @@
--- The matches that are looked up by the rows of a letter, of any edition. Definitions only: assumes nothing.
+-- The matches that are looked up by the rows of a letter, of any edition.
 use mathlib.Core.Bool.{Bool, _&&_}
 use mathlib.Core.List.{List, [], _∷_}
 use Prim.Native.Nat.{ℕ, _+_, _*_, _<_, _≤_}

@@ -1,5 +1,5 @@
 -- The lent list as numbers. Document 01, "Table, list, part, normal form": "The lent list is a run of records of three numbers: element,
--- portion place, unit, all from 0. Records past the count keep theirs." Definitions only: assumes nothing.
+-- portion place, unit, all from 0. Records past the count keep theirs."
 use mathlib.Core.Path.{_≡_}
 use mathlib.Core.List.{List, [], _∷_, _++_}
 use Prim.Native.Nat.{ℕ, zero, suc, _+_, _*_, _≤_}

@@ -29,7 +29,6 @@ ghost use Rattle.elements.specs.Says.{Placed};
 ghost use Rattle.letters.specs.Scratch.{LetterRows};
 ghost use Rattle.reading.specs.Match.{kindsOf};
 ghost use Rattle.reading.specs.Records.{recordAt, records, PutsRecords};
-ghost use Rattle.rows.specs.Columns.{spanAt, there, portionsAt};
 ghost use Rattle.reading.specs.Ready.{columnOf, unitSpace, isListed, Room, PutsElement, PutsAll, ListsLetter};
 ghost use Rattle.reading.specs.Ready.{foundMatches, FoundBelow};
 

@@ -1,4 +1,4 @@
--- A row more: without a value there it changes nothing; with one it goes before the others of its bucket. Assumes nothing.
+-- A row more: without a value there it changes nothing; with one it goes before the others of its bucket.
 use mathlib.Core.Path.{_≡_, refl, sym, _∙_, subst}
 use mathlib.Core.List.{List}
 use mathlib.Core.Logic.{inl, inr}

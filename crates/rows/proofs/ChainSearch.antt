@@ -1,4 +1,4 @@
--- A turn along a chain leaves no row behind that has the bytes, since each next row is the newest of its bucket before. Assumes nothing.
+-- A turn along a chain leaves no row behind that has the bytes, since each next row is the newest of its bucket before.
 use mathlib.Core.Path.{_≡_, sym, ap, _∙_, subst}
 use mathlib.Core.Bool.{Bool, true, false, false≢true, true≢false}
 use mathlib.Core.List.{List}

@@ -1,4 +1,4 @@
--- Look-up sees only the rows below n, so what is written from row n on leaves it as it was; and the look-up of no rows. Assumes nothing.
+-- Look-up sees only the rows below n, so what is written from row n on leaves it as it was; and the look-up of no rows.
 use mathlib.Core.Path.{_≡_, sym, _∙_, subst}
 use mathlib.Core.List.{List}
 use Prim.Native.Nat.{ℕ, _+_, _*_, _<_, _≤_}
@@ -44,7 +44,8 @@ module _ (s rows rows' : List ℕ) (column n : ℕ) (in-row : column + 1 < scrat
   }
 
 -- row n, written whole
-pub row-filed : (s rows : List ℕ) (n : ℕ) (cells : List ℕ) → length cells ≡ scratchWidth → n * scratchWidth + scratchWidth ≤ length rows → (column : ℕ) → column + 1 < scratchWidth
+pub row-filed : (s rows : List ℕ) (n : ℕ) (cells : List ℕ) → length cells ≡ scratchWidth → n * scratchWidth + scratchWidth ≤ length rows → (column : ℕ)
+    → column + 1 < scratchWidth
     → (head next : List ℕ) → Filed s rows column head next n → Filed s (sets rows (n * scratchWidth) cells) column head next n
 row-filed s rows n cells whole long column in-row head next x =
     filed-kept s rows (sets rows (n * scratchWidth) cells) column n in-row (row-kept s rows n cells whole long) head next x

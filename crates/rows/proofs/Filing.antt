@@ -1,4 +1,4 @@
--- A row more in either way: the links of the rows in chains stay, and so does the mark, except where a chain would grow long. Assumes nothing.
+-- A row more in either way: the links of the rows in chains stay, and so does the mark, except where a chain would grow long.
 use mathlib.Core.Path.{_≡_, refl, sym, ap, _∙_, subst}
 use mathlib.Core.List.{List}
 use mathlib.Core.Logic.{_⊎_, inl, inr}
@@ -108,12 +108,14 @@ module _ {s rows : List ℕ} {column : ℕ} {head next : List ℕ} {n : ℕ} (x 
         }
 
     module _ (unmarked : mark ≡ 0) where
-      module _ {head' next' : List ℕ} {own : ℕ} (links : Links head next head' next' own n) (low : own < length head) (few : AtMost next 7 (getD head own 0)) where
+      module _ {head' next' : List ℕ} {own : ℕ} (links : Links head next head' next' own n) (low : own < length head)
+          (few : AtMost next 7 (getD head own 0)) where
         kept : (j : ℕ) → j < n → getD next' j 0 ≡ getD next j 0
         kept j l = links .other-links j (λ e. absurd (omega arith))
 
         -- the chain of the row's bucket has it in front, or stays
-        own-short : (getD head' own 0 ≡ getD head own 0) ⊎ ((getD head' own 0 ≡ n + 1) × (getD next' n 0 ≡ getD head own 0)) → AtMost next' longestChain (getD head' own 0)
+        own-short : (getD head' own 0 ≡ getD head own 0)
+            ⊎ ((getD head' own 0 ≡ n + 1) × (getD next' n 0 ≡ getD head own 0)) → AtMost next' longestChain (getD head' own 0)
         own-short (inl e) = subst (AtMost next' longestChain) (sym e) (short-kept (by-hash-all unmarked) next' kept longestChain own low (x .short own low))
         own-short (inr e) =
             let r : getD head' own 0 - 1 ≡ n = omega (arith, e .0) in
@@ -128,7 +130,8 @@ module _ {s rows : List ℕ} {column : ℕ} {head next : List ℕ} {n : ℕ} (x 
             (λ t. subst (AtMost next' longestChain) (sym (links .other-heads b (eqb-false b own t)))
             (short-kept (by-hash-all unmarked) next' kept longestChain b l (x .short b l)))
 
-      pub filed-by-hash : {head' next' : List ℕ} {b own : ℕ} → Indexed s rows column head' next' (n + 1) → length head' ≡ length head → length next' ≡ length next
+      pub filed-by-hash : {head' next' : List ℕ} {b own : ℕ} → Indexed s rows column head' next'
+          (n + 1) → length head' ≡ length head → length next' ≡ length next
           → Links head next head' next' own n → b ≡ own → b < length head → AtMost next 7 (getD head b 0) → Filed s rows column head' next' (n + 1)
       filed-by-hash {head'} {next'} {b} {own} y heads size links e low few =
           let few' : AtMost next 7 (getD head own 0) = subst (λ (a : ℕ). AtMost next 7 (getD head a 0)) e few in

@@ -1,4 +1,4 @@
--- Rows with one name stand next to each other, the last of them last; a search in order ends right after it. Assumes nothing.
+-- Rows with one name stand next to each other, the last of them last; a search in order ends right after it.
 use mathlib.Core.Path.{_≡_, refl, sym, ap, _∙_, subst}
 use mathlib.Core.Bool.{Bool, true, false, _&&_, false≢true, true≢false}
 use mathlib.Core.List.{List, _∷_}
@@ -46,7 +46,13 @@ module _ {s rows : List ℕ} {column : ℕ} {next : List ℕ} {from n : ℕ} (b 
       let of-bytes : valueAt s rows column j ≡ bytes = cc in
       let size : length (valueAt s rows column j) ≡ length (valueAt s rows column k) = ap length (of-bytes ∙ sym (h .of-bytes)) in record {
         below = l;
-        present = omega (arith, size, length-slice (firstAt rows column j) (pastAt rows column j) s (b .inside j l), length-slice (firstAt rows column k) (pastAt rows column k) s (b .inside k (h .below)), h .present);
+        present = omega (
+          arith,
+          size,
+          length-slice (firstAt rows column j) (pastAt rows column j) s (b .inside j l),
+          length-slice (firstAt rows column k) (pastAt rows column k) s (b .inside k (h .below)),
+          h .present,
+        );
         of-space = of-space;
         of-bytes = of-bytes;
       }

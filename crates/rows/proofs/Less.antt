@@ -1,4 +1,4 @@
--- The order of a dictionary is total, and is told from the front and in parts. Assumes nothing.
+-- The order of a dictionary is total, and is told from the front and in parts.
 use mathlib.Core.Path.{_≡_, refl, sym, _∙_}
 use mathlib.Core.Bool.{true, false, cond, false≢true, true≢false}
 use mathlib.Core.List.{List, [], _∷_, _++_}
@@ -25,11 +25,6 @@ less-self (x ∷ xs) = rw (eq-eqb x x refl) (less-self xs)
 less-first : (x y : ℕ) (xs ys : List ℕ) → x < y → less (x ∷ xs) (y ∷ ys) ≡ true
 unfolding less
 less-first x y xs ys l = rw (ne-eqb x y (λ e. absurd (omega arith)), lt-ltb x y l)
-
--- and if they don't, the rest does
-less-rest : (x : ℕ) (xs ys : List ℕ) → less (x ∷ xs) (x ∷ ys) ≡ less xs ys
-unfolding less
-less-rest x xs ys = rw (eq-eqb x x refl)
 
 -- of two that are neither before the other, the one is the other
 pub less-equal : (xs ys : List ℕ) → less xs ys ≡ false → less ys xs ≡ false → xs ≡ ys
@@ -126,7 +121,8 @@ less-once (x ∷ xs) (y ∷ ys) t =
     rw (ne-eqb y x (λ e. eqb-false x y v (sym e)), le-ltb y x (omega arith)))
 
 -- a name of two parts, compared with a part of the stream
-module _ (s : List ℕ) (asked : Asked) (within : AskedWithin s asked) (joined : asked .joined ≡ true) (from to : ℕ) (order : from ≤ to) (inside : to ≤ length s) where
+module _ (s : List ℕ) (asked : Asked) (within : AskedWithin s asked) (joined : asked .joined ≡ true) (from to : ℕ) (order : from ≤ to)
+    (inside : to ≤ length s) where
   abbrev size : ℕ
   size = asked .past - asked .first
 

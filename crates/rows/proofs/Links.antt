@@ -1,4 +1,4 @@
--- A walk along the links of an index comes to rows alone, and a chain is as long as it was while its links stay. Assumes nothing.
+-- A walk along the links of an index comes to rows alone, and a chain is as long as it was while its links stay.
 use mathlib.Core.Path.{_≡_, refl, sym, subst}
 use Prim.Native.Nat.{ℕ, zero, suc, _-_, _<_, _≤_}
 use mathlib.Core.List.{List}

@@ -1,4 +1,4 @@
--- An index sees only the rows below n, so what is written from row n on leaves it as it was; and an index of no rows. Assumes nothing.
+-- An index sees only the rows below n, so what is written from row n on leaves it as it was; and an index of no rows.
 use mathlib.Core.Path.{_≡_, refl, sym, ap, _∙_}
 use mathlib.Core.List.{List, [], _∷_, _++_}
 use Prim.Native.Nat.{ℕ, suc, _+_, _-_, _*_, _<_, _≤_}
@@ -94,7 +94,8 @@ module _ (s rows : List ℕ) (n : ℕ) (cells : List ℕ) (whole : length cells 
   pub row-cell : (c : ℕ) → c < scratchWidth → getD written (n * scratchWidth + c) 0 ≡ getD cells c 0
   row-cell c l =
       let front : length (take (n * scratchWidth) rows) ≡ n * scratchWidth = length-take-le (n * scratchWidth) rows (omega arith) in
-      let both : length (take (n * scratchWidth) rows ++ cells) ≡ n * scratchWidth + scratchWidth = length-append (take (n * scratchWidth) rows) cells ∙ rw (front, whole) in
+      let both : length (take (n * scratchWidth) rows ++ cells) ≡ n * scratchWidth + scratchWidth = length-append (take (n * scratchWidth) rows) cells
+      ∙ rw (front, whole) in
       ap (λ (t : List ℕ). getD t (n * scratchWidth + c) 0) (sets-eq cells rows (n * scratchWidth) (omega arith))
       ∙ List·getD-append (take (n * scratchWidth) rows ++ cells) (drop (n * scratchWidth + length cells) rows) 0 (n * scratchWidth + c) (omega arith)
       ∙ ap (λ (i : ℕ). getD (take (n * scratchWidth) rows ++ cells) (i + c) 0) (sym front)

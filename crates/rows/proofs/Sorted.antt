@@ -1,5 +1,4 @@
 -- A search among rows in order keeps half of them at each turn; a row more goes to the place of its key, the later ones one further.
--- Assumes nothing.
 use mathlib.Core.Path.{_≡_, refl, sym, _∙_, subst}
 use mathlib.Core.Bool.{true, false, true≢false}
 use mathlib.Core.List.{List}

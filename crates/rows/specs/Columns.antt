@@ -1,5 +1,4 @@
 -- What the code reads of a row of the scratch. Document 01, "Table, list, part, normal form". Says nothing of the other columns.
--- Definitions only: assumes nothing.
 use mathlib.Core.Bool.{Bool}
 use mathlib.Core.List.{List}
 use Prim.Native.Nat.{ℕ, _≤_, _*_, _+_, _<_}

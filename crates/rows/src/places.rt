@@ -6,7 +6,6 @@ use super::space_of;
 use super::wide16;
 use super::wide32;
 use names::Asked;
-ghost use mathlib.Core.Path.{_≡_};
 ghost use mathlib.Core.List.{_∷_};
 ghost use Prim.Native.Nat.{_+_, _<_, _≤_};
 ghost use lib.ListN.{length};

@@ -1,5 +1,5 @@
 -- A value of primitive items read again, as a definite run from its first octet to its last, has the same items: a primitive item is
--- definite, and its header depends on nothing around it but that its value is within the limit and a level is left. Assumes nothing.
+-- definite, and its header depends on nothing around it but that its value is within the limit and a level is left.
 use mathlib.Core.Path.{_≡_, refl, ap, sym, _∙_, subst}
 use mathlib.Core.Bool.{Bool, true, false, cond, not, _&&_, false≢true}
 use mathlib.Core.List.{List}
@@ -11,8 +11,9 @@ use borrow.Author.Tests.{le-leb, lt-ltb, le-ltb, eq-eqb, ne-eqb}
 use Rattle.headers.specs.declared.Header.{Header}
 use Rattle.headers.specs.declared.Head.{Head}
 use Rattle.headers.specs.declared.Head.the-variants.{Item, ClosingMark, Refusal}
-use Rattle.headers.specs.Head.{numberBits, constructed, misfits, bigEndian, octetAt, definiteAt, indefiniteAt, longAt, byFirst, lengthAt, closingAt, itemAt, headAt}
-use Rattle.octets.specs.Walk.{Items, noItems, item, End, ends, Walked, pastOf, run}
+use Rattle.headers.specs.Head.{numberBits, constructed, misfits, bigEndian, octetAt, definiteAt, indefiniteAt, longAt, byFirst, lengthAt, closingAt, itemAt}
+use Rattle.headers.specs.Head.{headAt}
+use Rattle.octets.specs.Walk.{Items, End, ends, Walked, pastOf, run}
 use Rattle.octets.specs.Rules.{Runs, at-limit, unclosed, closes, refuses, primitive, passes, breaks}
 use Rattle.headers.proofs.Lies.{FieldRead, in-one, in-two, in-three, item-holds}
 use Rattle.laws.proofs.Tests.{cond-holds}

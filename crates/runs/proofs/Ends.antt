@@ -1,4 +1,4 @@
--- Where a run ends: an unmarked one at its limit, a marked one past a closing mark, by the rules of the walk. Assumes nothing.
+-- Where a run ends: an unmarked one at its limit, a marked one past a closing mark, by the rules of the walk.
 use mathlib.Core.Path.{_≡_, refl, ap}
 use mathlib.Core.Bool.{Bool, true, false, cond, false≢true}
 use mathlib.Core.List.{List}

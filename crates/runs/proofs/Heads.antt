@@ -1,5 +1,5 @@
 -- What reading at a position tells: the code of an item is not 0, and small, and a closing mark is only where an indefinite item is
--- innermost. Each test of `headAt` is taken apart in turn. Assumes nothing.
+-- innermost. Each test of `headAt` is taken apart in turn.
 use mathlib.Core.Path.{_≡_, refl, subst}
 use mathlib.Core.Bool.{Bool, true}
 use mathlib.Core.List.{List}

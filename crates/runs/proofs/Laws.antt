@@ -1,5 +1,5 @@
 -- What a caller needs of runs: the whole stream's run is fine once the stream was walked, a run begins at its place, what is met is
--- the tree's first item, and how many items there can be. Assumes nothing.
+-- the tree's first item, and how many items there can be.
 use mathlib.Core.Path.{_≡_, refl, ap, sym, _∙_}
 use mathlib.Core.Bool.{Bool, true, false, cond, false≢true}
 use mathlib.Core.List.{List}

@@ -1,4 +1,4 @@
--- What is met where a header passed: the item that the walk has there, for the walk is known to have ended. Assumes nothing.
+-- What is met where a header passed: the item that the walk has there, for the walk is known to have ended.
 use mathlib.Core.Path.{_≡_, refl, ap, sym, _∙_, subst}
 use mathlib.Core.Bool.{Bool, true, false, false≢true}
 use mathlib.Core.List.{List}
@@ -144,7 +144,8 @@ module _ (s : List ℕ) (r : Run) (fine : Fine s r) (l : r .at < r .limit) (h : 
 
     pub next-within : (r .at < next) × (next ≤ r .limit)
     next-within =
-        let n = passed-ok (r .room) s (r .at) (r .limit) (r .marked) h e next (count (valueOf (r .room) s h .items)) (ap (outcomeOf (count (valueOf (r .room) s h .items))) v) in
+        let n = passed-ok (r .room) s (r .at) (r .limit) (r .marked) h e next (count (valueOf (r .room) s h .items))
+        (ap (outcomeOf (count (valueOf (r .room) s h .items))) v) in
         (omega arith, omega arith)
 
     -- a closing mark is two octets
@@ -161,7 +162,8 @@ module _ (s : List ℕ) (r : Run) (fine : Fine s r) (l : r .at < r .limit) (h : 
     pub ends-after : walkIn s r .how ≡ run (r .room) s next (r .limit) (r .marked) .how
     ends-after = ap (λ (w : Walked). w .how) followed ∙ rw v
 
-    items-met : itemsOf s r ≡ item (r .at) (h .code) (h .start) (pastOf (h .marked) next) (valueOf (r .room) s h .items) (run (r .room) s next (r .limit) (r .marked) .items)
+    items-met : itemsOf s r ≡ item (r .at) (h .code) (h .start) (pastOf (h .marked) next) (valueOf (r .room) s h .items)
+        (run (r .room) s next (r .limit) (r .marked) .items)
     items-met = ap (λ (w : Walked). w .items) followed ∙ rw v
 
     spans : constructed (h .code) ≡ true → Spans s (insideOf h (r .room)) (h .start) (pastOf (h .marked) next)

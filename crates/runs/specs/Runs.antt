@@ -1,7 +1,7 @@
 -- A run of items as a value, and what is met at its start. Document 01, "Octet rules": "a constructed value is a run of items, each with
 -- a value of its own. The run ends exactly at the definite length, or at the closing mark."
 -- After this crate nobody but the normal form's writer looks at headers, limits or closing marks: a pass asks what is met, and goes on.
--- Only runs that were walked without a refusal are met (`Fine`). Definitions only: assumes nothing.
+-- Only runs that were walked without a refusal are met (`Fine`).
 use mathlib.Core.Path.{_≡_}
 use mathlib.Core.Bool.{Bool, cond, false, true, not, _&&_}
 use mathlib.Core.List.{List}

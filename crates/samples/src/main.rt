@@ -217,7 +217,7 @@ fn x209() {
     item(b"A003", b"0101FF");
     // BIT STRING 0A3B5F291CD, primitive
     item(b"A009", b"0307040A3B5F291CD0");
-    // the same, constructed and indefinite
+    // that bit string, constructed and indefinite
     item(b"A010", b"23800303000A3B0305045F291CD00000");
     // NULL
     item(b"A002", b"0500");
@@ -227,7 +227,7 @@ fn x209() {
     item(b"A00C", b"300A1605536D6974680101FF");
     // VisibleString "Jones"
     item(b"A007", b"1A054A6F6E6573");
-    // the same under [APPLICATION 3] IMPLICIT
+    // "Jones" under [APPLICATION 3] IMPLICIT
     item(b"A007", b"43054A6F6E6573");
     // that under [2]
     item(b"A009", b"A20743054A6F6E6573");
@@ -288,7 +288,7 @@ fn editions() {
     both(b"A000A9054701310400");
     // a text unit without content
     both(b"A000A300");
-    // the same with attributes
+    // a text unit with attributes and no content
     both(b"A000A3053103400130");
     // tiles with nothing in them
     both(b"A000A306300404000400");

@@ -1,4 +1,4 @@
--- Arrays of zeros are the scratch that the judge asks for. Assumes nothing.
+-- Arrays of zeros are the scratch that the judge asks for.
 use mathlib.Core.Path.{_≡_, ap, _∙_}
 use mathlib.Core.List.{List}
 use Prim.Native.Nat.{ℕ, _+_, _-_, _*_, _/_, _<_, _≤_}

@@ -29,18 +29,23 @@ module _ {M : Type 1} (𝓤 : URA M) (H : Heap 𝓤) (A : Atoms 𝓤) (W : Given
   abbrev pub arrayTy : Ty
   arrayTy = tyArray (lone (R .mir)) n
 
-  pub to-cells : Single (R .mir) → (xs : List (R .Denot)) (v : Val) (b : ℕ) → ent 𝓤 (sep 𝓤 (sem 𝓤 H A (fat fullShare arrayTy b 0 v)) (sem 𝓤 H A (Array R n .own xs (v ∷ [])))) (sem 𝓤 H A (cells (mem R) xs b 0))
+  pub to-cells : Single (R .mir) → (xs : List (R .Denot)) (v : Val) (b : ℕ) → ent 𝓤
+      (sep 𝓤 (sem 𝓤 H A (fat fullShare arrayTy b 0 v)) (sem 𝓤 H A (Array R n .own xs (v ∷ [])))) (sem 𝓤 H A (cells (mem R) xs b 0))
   unfolding partOf
   to-cells s xs v b =
-      qed W (‵ (fat fullShare arrayTy b 0 v) ∷ ‵ (Array R n .own xs (v ∷ [])) ∷ []) ∵ use1 W (‵ (cellAt fullShare (arrayTy ∷ []) (v ∷ []) b 0)) (W .laws .at-raw fullShare arrayTy b 0 v) $ fjoin ! $
+      qed W (‵ (fat fullShare arrayTy b 0 v) ∷ ‵ (Array R n .own xs (v ∷ [])) ∷ []) ∵ use1 W (‵ (cellAt fullShare (arrayTy ∷ []) (v ∷ []) b 0))
+      (W .laws .at-raw fullShare arrayTy b 0 v) $ fjoin ! $
       fpack ! (List Val) (λ vs. fsep (cellAt fullShare (arrayTy ∷ []) vs b 0) (Array R n .own xs vs)) (v ∷ []) $
-      use1 W (‵ (arr-parts (shares R) n .part fullShare xs b 0)) (array-apart 𝓤 H A W R fullShare s n xs b 0) $ fsplit ! $ drop ! $ use1 W (‵ (cells (mem R) xs b 0)) (whole-in 𝓤 H A W R xs b 0) $ done !
+      use1 W (‵ (arr-parts (shares R) n .part fullShare xs b 0)) (array-apart 𝓤 H A W R fullShare s n xs b 0) $ fsplit ! $ drop ! $
+      use1 W (‵ (cells (mem R) xs b 0)) (whole-in 𝓤 H A W R xs b 0) $ done !
 
   pub to-parts : (zs : List (R .Denot)) (b : ℕ) → ent 𝓤 (sem 𝓤 H A (Arr (mem R) n .lies zs b 0)) (sem 𝓤 H A (arr-parts (shares R) n .part fullShare zs b 0))
   to-parts zs b =
-      qed W (‵ (Arr (mem R) n .lies zs b 0) ∷ []) ∵ fsplit ! $ feqL ! (λ l. use1 W (‵ (row R fullShare zs b 0)) (whole-out 𝓤 H A W R zs b 0) $ feqI ! ℕ (length zs) n l $ fjoin ! $ done !)
+      qed W (‵ (Arr (mem R) n .lies zs b 0) ∷ []) ∵ fsplit ! $
+      feqL ! (λ l. use1 W (‵ (row R fullShare zs b 0)) (whole-out 𝓤 H A W R zs b 0) $ feqI ! ℕ (length zs) n l $ fjoin ! $ done !)
 
-  pub from-parts : (zs : List (R .Denot)) (b : ℕ) → ent 𝓤 (sem 𝓤 H A (arr-parts (shares R) n .part fullShare zs b 0)) (sem 𝓤 H A (partAt (Array R n) fullShare zs b 0))
+  pub from-parts : (zs : List (R .Denot)) (b : ℕ) → ent 𝓤 (sem 𝓤 H A (arr-parts (shares R) n .part fullShare zs b 0))
+      (sem 𝓤 H A (partAt (Array R n) fullShare zs b 0))
   from-parts zs b = array-whole 𝓤 H A W R fullShare n zs b 0
 
 module _ {M : Type 1} {𝓤 : URA M} {H : Heap 𝓤} {A : Atoms 𝓤} {K : Type 0} {W : Given 𝓤 H A} {Γ : List (Item 𝓤)} {E : Env 𝓤 H} where

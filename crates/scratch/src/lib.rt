@@ -15,12 +15,12 @@ ghost use Rattle.answers.specs.Questions.{Leaves, Roomy};
 
 mod frames; // frames.rt: the arrays of either size
 mod list; // list.rt: the reading list of a side
-mod whole; // whole.rt: the whole reading of a side
+mod text; // text.rt: the whole reading of a side
 
 pub use list::list_few;
 pub use list::list_many;
-pub use whole::text_few;
-pub use whole::text_many;
+pub use text::text_few;
+pub use text::text_many;
 
 // Scratch for so many elements is soon cleared, and most letters have no more.
 const FEW: usize = 512;
@@ -44,7 +44,7 @@ fn is_few(stream: &[u8], headers: usize) -> bool
     !letters::has_more(stream, FEW)
 }
 
-// The same for a stream that was walked: what the walk refused needs none.
+// Whether a stream that was walked needs few rows: what the walk refused needs none.
 pub fn needs_few(stream: &[u8], walked: Outcome) -> bool
     requires { ⌜ walkOf (now stream) ≡ walked ⌝ }
     ensures { λ r. ⌜ Sized (now (stream .entry)) walked (cond r 512 4096) ⌝ }

@@ -1,4 +1,4 @@
--- What is coded so the walk accepts: by induction on `Codes`, each case of which is a rule of the walk (`complete`). Assumes nothing.
+-- What is coded so the walk accepts: by induction on `Codes`, each case of which is a rule of the walk (`complete`).
 use mathlib.Core.Path.{_≡_, refl, ap, _∙_, subst}
 use mathlib.Core.Bool.{Bool, true, false, false≢true}
 use mathlib.Core.List.{List, [], _∷_, _++_}
@@ -10,11 +10,13 @@ use borrow.Author.Tests.{le-leb, lt-ltb, le-ltb, eq-eqb, ne-eqb, eqb-true}
 use Rattle.headers.specs.declared.Header.{Header}
 use Rattle.headers.specs.declared.Head.the-variants.{Item, ClosingMark}
 use Rattle.headers.specs.declared.Field.the-variants.{Read}
-use Rattle.headers.specs.Head.{numberBits, constructed, permits, formAllowed, codeOf, typeField, typeNumber, misfits, bigEndian, octetAt, definiteAt, indefiniteAt, longAt, byFirst, lengthAt, fieldAt, closingAt, itemAt, headAt}
+use Rattle.headers.specs.Head.{numberBits, constructed, permits, formAllowed, codeOf, typeField, typeNumber, misfits, bigEndian, octetAt, definiteAt}
+use Rattle.headers.specs.Head.{indefiniteAt, longAt, byFirst, lengthAt, fieldAt, closingAt, itemAt, headAt}
 use Rattle.headers.proofs.Fields.{above-thirty}
 use Rattle.octets.specs.Walk.{Items, noItems, item, End, ends, pastOf}
 use Rattle.octets.specs.Rules.{Runs, at-limit, closes, primitive, passes}
-use Rattle.tree.specs.Tree.{Tree, empty, leaf, branch, plain, TypeField, oneOctet, twoOctets, threeOctets, Length, short, long, Codes, nothing, primitive as leaf-coding, definite, indefinite}
+use Rattle.tree.specs.Tree.{Tree, empty, leaf, branch, plain, TypeField, oneOctet, twoOctets, threeOctets, Length, short, long, Codes, nothing}
+use Rattle.tree.specs.Tree.{primitive as leaf-coding, definite, indefinite}
 use Rattle.tree.proofs.Here.{Here, first, second, tail, octet-at, taken, sliced, moved, item-length, apart}
 use Rattle.tree.proofs.Types.{field-of, form-of, field-some}
 
@@ -97,7 +99,13 @@ module _ (s : List ℕ) (at limit room : ℕ) (marked : Bool) {type : List ℕ} 
   unfolding byFirst
   short-is n l = rw (lt-ltb n 0x80 l)
 
-  marked-is : constructed code ≡ true → byFirst s code at from 0x80 limit ≡ Item (record { code = code; number = typeNumber code; start = from + 1; bound = limit; marked = true })
+  marked-is : constructed code ≡ true → byFirst s code at from 0x80 limit ≡ Item (record {
+    code = code;
+    number = typeNumber code;
+    start = from + 1;
+    bound = limit;
+    marked = true;
+  })
   unfolding byFirst indefiniteAt
   marked-is c = rw c
 
@@ -106,7 +114,13 @@ module _ (s : List ℕ) (at limit room : ℕ) (marked : Bool) {type : List ℕ} 
   unfolding byFirst longAt
   long-is k a b l =
       let e : 0x80 + k - 0x80 ≡ k = omega arith in
-      rw (le-ltb (0x80 + k) 0x80 (omega arith), ne-eqb (0x80 + k) 0x80 (λ z. omega arith), lt-ltb (0x80 + k) 0x85 (omega arith), e, le-leb (from + 1 + k) limit l)
+      rw (
+        le-ltb (0x80 + k) 0x80 (omega arith),
+        ne-eqb (0x80 + k) 0x80 (λ z. omega arith),
+        lt-ltb (0x80 + k) 0x85 (omega arith),
+        e,
+        le-leb (from + 1 + k) limit l,
+      )
 
   -- the header of an item with a definite length
   headed : {n : ℕ} {len : List ℕ} → Length n len → Here s at (type ++ len) → (start : ℕ) → start ≡ at + length (type ++ len)

@@ -1,5 +1,4 @@
 -- What a header that was read tells of the octets that stand there: each refusal that was passed over is a fact (`head-tells`).
--- Assumes nothing.
 use mathlib.Core.Path.{_≡_, refl, ap, sym, _∙_, subst}
 use mathlib.Core.Bool.{Bool, true, false}
 use mathlib.Core.List.{List, [], _∷_, _++_, append-assoc}
@@ -11,7 +10,8 @@ use borrow.Author.Tests.{leb-true, ltb-true, ltb-false, eqb-true, eqb-false}
 use Rattle.headers.specs.declared.Header.{Header}
 use Rattle.headers.specs.declared.Head.{Head}
 use Rattle.headers.specs.declared.Head.the-variants.{Item, ClosingMark, Refusal}
-use Rattle.headers.specs.Head.{constructed, codeOf, typeField, misfits, bigEndian, octetAt, definiteAt, indefiniteAt, longAt, byFirst, lengthAt, closingAt, itemAt, headAt}
+use Rattle.headers.specs.Head.{constructed, codeOf, typeField, misfits, bigEndian, octetAt, definiteAt, indefiniteAt, longAt, byFirst, lengthAt, closingAt}
+use Rattle.headers.specs.Head.{itemAt, headAt}
 use Rattle.headers.proofs.Fields.{field-one}
 use Rattle.headers.proofs.Lies.{FieldRead, in-one, in-two, in-three, item-holds}
 use Rattle.tree.specs.Tree.{TypeField, oneOctet, twoOctets, threeOctets, Length, short, long}

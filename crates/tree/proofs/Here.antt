@@ -1,4 +1,4 @@
--- That octets stand at a place of a stream, and what can be read there. Assumes nothing.
+-- That octets stand at a place of a stream, and what can be read there.
 use mathlib.Core.Path.{_≡_, refl, ap, sym, _∙_, subst}
 use mathlib.Core.List.{List, [], _∷_, _++_, append-assoc, append-nil}
 use Prim.Native.Nat.{ℕ, zero, suc, _+_, _<_, _≤_}
@@ -67,7 +67,7 @@ module _ (s : List ℕ) (at : ℕ) (head value rest : List ℕ) (start bound : �
   pub three-length : at + length (head ++ (value ++ rest)) ≡ bound + length rest
   three-length = simp length-append (omega arith)
 
--- the same, where what stands before the value is a type field and length octets
+-- an item whose value stands after a type field and length octets
 module _ (s : List ℕ) (at : ℕ) (type len value rest : List ℕ) (start bound : ℕ)
     (p : start ≡ at + length (type ++ len)) (q : bound ≡ start + length value) where
   pub item-here : Here s at (type ++ len) → Here s start value → Here s bound rest → Here s at (type ++ (len ++ (value ++ rest)))

@@ -1,9 +1,10 @@
--- Items and runs apart say what `Codes` says: an item is coded with whatever follows it, by induction on both. Assumes nothing.
+-- Items and runs apart say what `Codes` says: an item is coded with whatever follows it, by induction on both.
 use mathlib.Core.Path.{_≡_, refl, ap, sym, _∙_}
 use mathlib.Core.List.{List, [], _∷_, _++_, append-assoc}
 use Prim.Native.Nat.{ℕ}
 use Rattle.tree.specs.Tree.{Tree, empty, leaf, branch, Codes, nothing as no-items, primitive as leaf-coding, definite, indefinite}
-use Rattle.tree.specs.ItemAndRun.{Item, Run, primitive, constructed, none, more, ItemCodes, RunCodes, primitively, definitely, indefinitely, nothing, further}
+use Rattle.tree.specs.ItemAndRun.{Item, Run, primitive, constructed, none, more, ItemCodes, RunCodes, primitively, definitely, indefinitely, nothing}
+use Rattle.tree.specs.ItemAndRun.{further}
 
 -- the tree of a run, and of an item with what follows it
 abbrev mutual

@@ -1,5 +1,5 @@
 -- The walk accepts a stream exactly when it is coded as X.209 says and within the limit, and then with the tree that it codes: `sound` and
--- `complete` at the whole stream. Assumes nothing.
+-- `complete` at the whole stream.
 use mathlib.Core.Path.{_≡_, refl, ap, sym, _∙_, subst}
 use mathlib.Core.Bool.{Bool, true, false, cond}
 use mathlib.Core.List.{List, [], append-nil}

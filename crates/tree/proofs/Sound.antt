@@ -1,4 +1,4 @@
--- What the walk accepts is coded so: by induction on the rules of the walk, each of which is a case of `Codes` (`sound`). Assumes nothing.
+-- What the walk accepts is coded so: by induction on the rules of the walk, each of which is a case of `Codes` (`sound`).
 use mathlib.Core.Path.{_≡_, refl, ap, sym, _∙_, subst}
 use mathlib.Core.Bool.{Bool, true, false, false≢true}
 use mathlib.Core.List.{List, [], _∷_, _++_}

@@ -1,10 +1,9 @@
--- One class, form and number has one type field, and it is the shortest: the octets are told by the three, case by case. Assumes nothing.
-use mathlib.Core.Path.{_≡_, refl, ap, sym, _∙_, subst}
+-- One class, form and number has one type field, and it is the shortest: the octets are told by the three, case by case.
+use mathlib.Core.Path.{_≡_, ap, sym, _∙_, subst}
 use mathlib.Core.Bool.{Bool, true, false}
 use mathlib.Core.List.{List, [], _∷_}
 use Prim.Native.Nat.{ℕ, _+_, _*_, _/_, _%_, _<_, _≤_}
 use native.Mathlib.Omega.{arith}
-use lib.Dec.{eqb}
 use lib.ListN.{length}
 use borrow.Author.Tests.{eqb-true, eqb-false, eq-eqb, ne-eqb, lt-ltb, le-ltb}
 use Rattle.headers.specs.Head.{numberBits, constructed, codeOf, typeNumber}
@@ -125,7 +124,8 @@ spells : (type : List ℕ) (form : Bool) → TypeField type form → Spells type
 spells _ form (oneOctet {octet} l t p) = subst (Spells (octet ∷ [])) (sym (one-is octet l)) (in-one l)
 spells _ form (twoOctets {first} {second} k q a b) =
     let (_, f, n) = above-thirty first k in
-    let e : sevensFrom 0 (second ∷ []) ≡ typeNumber (codeOf (first ∷ second ∷ [])) = (let z : 0 * 128 + second % 128 ≡ second = omega arith in z) ∙ sym (two-is first second f n b) in
+    let e : sevensFrom 0 (second ∷ []) ≡ typeNumber (codeOf (first ∷ second ∷ [])) = (let z : 0 * 128 + second % 128 ≡ second = omega arith in z)
+    ∙ sym (two-is first second f n b) in
     subst (Spells (first ∷ second ∷ [])) e (in-more n)
 spells _ form (threeOctets {first} {second} {third} k q a b d) =
     let (_, f, n) = above-thirty first k in

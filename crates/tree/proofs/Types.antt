@@ -1,5 +1,4 @@
 -- A type field and the code that an item holds of it: one tells the other. And a type field of several octets is no tabled octet.
--- Assumes nothing.
 use mathlib.Core.Path.{_≡_, ap, _∙_, subst}
 use mathlib.Core.Bool.{Bool}
 use mathlib.Core.List.{List, [], _∷_}

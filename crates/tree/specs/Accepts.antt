@@ -1,5 +1,5 @@
 -- What it is for a stream to be accepted by rules 1 to 8, and with which tree. Document 01, "Numbers given back".
--- Rules 9 to 15 are no part of it. Definitions only: assumes nothing.
+-- Rules 9 to 15 are no part of it.
 use Prim.Native.Nat.{ℕ}
 use mathlib.Core.Path.{_≡_}
 use mathlib.Core.List.{List}

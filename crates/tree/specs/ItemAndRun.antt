@@ -1,6 +1,5 @@
 -- X.209's account a second time and in its own shape, items and runs apart: an item is its type field, its length octets and its contents,
 -- and a run is item after item. `run-codes` and `codes-run` (proofs/ItemAndRun) show that it says what `Codes` says.
--- Definitions only: assumes nothing.
 use Prim.Native.Nat.{ℕ, suc}
 use mathlib.Core.Path.{_≡_}
 use mathlib.Core.Bool.{true, false}

@@ -2,7 +2,7 @@
 -- number with its value octets, if primitive, or its run in order, if constructed; length octets and closing marks are no part of it."
 -- Then which octets code a tree: X.209's own account (6.1 to 6.5), within document 01's levels. It has no positions, nothing that counts
 -- down to an end, and no limit. That the walk accepts exactly the streams that it relates to a tree, is `means` and `accepts`
--- (proofs/Meaning). Definitions only: assumes nothing.
+-- (proofs/Meaning).
 use Prim.Native.Nat.{ℕ, _≤_, _<_, _+_, suc}
 use mathlib.Core.Bool.{Bool, true, false}
 use mathlib.Core.List.{List, [], _∷_, _++_}

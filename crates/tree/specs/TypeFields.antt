@@ -1,7 +1,7 @@
 -- What a type field says: document 01's "class, form and number" of an item. One class, form and number has one type field, and no shorter one:
 -- `type-fields` (proofs/TypeFields) is a value of the record below. So the tree of items, which holds type fields, holds "for each item its
--- class, form and number", and W-211's equal trees are equal in these. Definitions only: assumes nothing.
-use Prim.Native.Nat.{ℕ, _+_, _*_, _/_, _%_, _<_, _≤_}
+-- class, form and number", and W-211's equal trees are equal in these.
+use Prim.Native.Nat.{ℕ, _+_, _*_, _/_, _%_, _≤_}
 use mathlib.Core.Path.{_≡_}
 use mathlib.Core.Bool.{Bool}
 use mathlib.Core.List.{List, [], _∷_}

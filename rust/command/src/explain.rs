@@ -81,7 +81,7 @@ pub fn answer<T>(source: &Source<'_>, verdict: &Result<T, Refusal>, more: impl S
     answer_as("accepted", source, verdict, more)
 }
 
-/// The same with another word for what is not refused.
+/// A file's answer as JSON, with another word for what is not refused.
 pub fn answer_as<T>(
     word: &'static str,
     source: &Source<'_>,

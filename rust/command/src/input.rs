@@ -54,7 +54,7 @@ pub fn each_of(
     each_front_of(entries, files, json, |_| Ok(None), &mut answer)
 }
 
-/// The same, where the front of a file may be enough: `front` tells what it has read, if that is so.
+/// Asks of each file, where its front may be enough: `front` tells what it has read, if that is so.
 pub fn each_front(
     files: &Files,
     json: bool,

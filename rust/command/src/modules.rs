@@ -21,7 +21,7 @@ pub enum Value {
     Number,
     /// A number whose values, from 0, have names.
     Named(&'static [&'static str]),
-    /// The same, where 1988 and 1993 have names of their own.
+    /// A number whose values have names, where 1988 and 1993 have names of their own.
     NamedBy([&'static [&'static str]; 2]),
     Text,
     Object,

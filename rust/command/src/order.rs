@@ -56,7 +56,7 @@ impl Orders {
         self.0.iter().filter(|(_, order)| order.is_ok()).map(|(class, _)| *class).collect()
     }
 
-    /// The same in a word, for a column.
+    /// The classes in a word, for a column.
     pub fn word(&self) -> &'static str {
         match self.classes()[..] {
             [] => "neither",

@@ -15,7 +15,7 @@ pub fn escaped(octets: &[u8]) -> String {
     text
 }
 
-/// The same, but line ends stay.
+/// Octets as text for a terminal, as `escaped` gives it, but line ends stay.
 pub fn escaped_lines(octets: &[u8]) -> String {
     let mut text = String::with_capacity(octets.len());
     for &octet in octets {

@@ -116,7 +116,7 @@ impl How {
         Ok(Text { octets, side, units, shown: whole.lines().len(), places, whole, assumed })
     }
 
-    /// The same in words, to tell one way from another: every field that changes a text.
+    /// The way in words, to tell one way from another: every field that changes a text.
     pub fn words(&self, edition: Edition) -> String {
         self.words_by(self.utf8, edition)
     }

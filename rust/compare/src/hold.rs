@@ -26,7 +26,7 @@ impl Holder {
         }
     }
 
-    /// The same, and the block engine on the stream cut at every place.
+    /// Every question, and the block engine on the stream cut at every place.
     pub fn hold_and_cut(&mut self, stream: &[u8], origin: Origin, rng: &mut Rng) {
         blocks::hold_everywhere(stream, &origin, &mut self.tally);
         self.hold(stream, origin, rng);

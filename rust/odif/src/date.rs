@@ -56,7 +56,7 @@ pub fn first_date(stream: &[u8]) -> FirstDate {
     first_date_in(Edition::Of1988, stream)
 }
 
-/// The same, by an edition: they differ in which octets begin an element, and so in whether 10 or 11 refuses the first one.
+/// As [`first_date`], by an edition: the editions differ in which octets begin an element, and so in whether 10 or 11 refuses the first one.
 pub fn first_date_in(edition: Edition, stream: &[u8]) -> FirstDate {
     let answer = raw::first_date_in(edition, stream);
     FirstDate { date: Date::of(answer.date), unread: answer.unread != 0 }

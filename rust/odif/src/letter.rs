@@ -179,7 +179,7 @@ pub fn check(stream: &[u8]) -> Checked {
     check_in(Edition::Of1988, stream)
 }
 
-/// The same, by an edition.
+/// As [`check`], by an edition.
 pub fn check_in(edition: Edition, stream: &[u8]) -> Checked {
     check_with_table(edition, stream, &mut new_table(stream))
 }
@@ -196,7 +196,7 @@ pub fn content(stream: &[u8], element: usize) -> Result<Cow<'_, [u8]>, Refusal> 
     content_in(Edition::Of1988, stream, element)
 }
 
-/// The same, by an edition. Tiles are joined in order, and a unit without content has an empty one.
+/// As [`content`], by an edition. Tiles are joined in order, and a unit without content has an empty one.
 pub fn content_in(edition: Edition, stream: &[u8], element: usize) -> Result<Cow<'_, [u8]>, Refusal> {
     let element = u32::try_from(element).unwrap_or(u32::MAX);
     let answer = raw::content_in(edition, stream, element);
@@ -221,7 +221,7 @@ pub fn normal_form(stream: &[u8]) -> Result<Vec<u8>, Refusal> {
     normal_form_in(Edition::Of1988, stream)
 }
 
-/// The same, by an edition.
+/// As [`normal_form`], by an edition.
 pub fn normal_form_in(edition: Edition, stream: &[u8]) -> Result<Vec<u8>, Refusal> {
     // An item's header grows by at most one octet, and only where its value is over 65,535 octets.
     let longest = (stream.len() + stream.len() / 4_096 + 16).min(STREAM_LIMIT);
@@ -238,7 +238,7 @@ pub fn short_normal_form(stream: &[u8]) -> Result<Vec<u8>, Refusal> {
     short_normal_form_in(Edition::Of1988, stream)
 }
 
-/// The same, by an edition.
+/// As [`short_normal_form`], by an edition.
 pub fn short_normal_form_in(edition: Edition, stream: &[u8]) -> Result<Vec<u8>, Refusal> {
     let mut out = vec![0; stream.len().min(SHORT_LIMIT)];
     let answer = raw::normal_short_in(edition, stream, &mut out);
@@ -271,7 +271,7 @@ impl<'a> Letter<'a> {
         Letter::read_in(Edition::Of1988, stream)
     }
 
-    /// The same, by an edition, by which the letter then answers everything.
+    /// Checks a stream and takes up its elements by an edition, by which the letter then answers everything.
     pub fn read_in(edition: Edition, stream: &'a [u8]) -> Result<Self, Refusal> {
         let mut table = new_table(stream);
         let checked = check_with_table(edition, stream, &mut table);

@@ -38,7 +38,7 @@ pub fn order(class: Class, stream: &[u8]) -> Result<(), Refusal> {
     order_in(Edition::Of1988, class, stream)
 }
 
-/// The same, by an edition. Protected parts, which 1993 has, have their places in both orders, but those enciphered before
+/// As [`order`], by an edition. Protected parts, which 1993 has, have their places in both orders, but those enciphered before
 /// the layout have none in that of class B.
 pub fn order_in(edition: Edition, class: Class, stream: &[u8]) -> Result<(), Refusal> {
     let answer = raw::order_in(edition, class, stream);

@@ -79,7 +79,7 @@ pub fn pages(stream: &[u8]) -> Result<Vec<Page>, Refusal> {
     pages_in(Edition::Of1988, stream)
 }
 
-/// The same, by an edition.
+/// As [`pages`], by an edition.
 pub fn pages_in(edition: Edition, stream: &[u8]) -> Result<Vec<Page>, Refusal> {
     // An element has at least two octets.
     ask(edition, stream, (stream.len() / 2).min(MOST_ELEMENTS))

@@ -142,7 +142,7 @@ pub struct Match {
 /// The answer of [`layout_text`] and [`logical_text`].
 #[repr(C)]
 #[derive(Clone, Copy, Debug, Default, PartialEq, Eq)]
-pub struct Shown {
+pub struct TextRead {
     /// 0, or the number of the refusal.
     pub number: u32,
     /// The place of the refusal.
@@ -235,25 +235,31 @@ twins! {
     pub first_date first_date_in = odif_first_date odif_first_date_1993() -> FirstDated;
     /// [`layout_text`] with the lines as numbers, those of a [`Line`] each; an incomplete last line is not used.
     pub layout_text_numbers layout_text_numbers_in =
-        odif_layout_text_numbers odif_layout_text_numbers_1993(table: u32, lines: u32, out: u8) -> Shown;
+        odif_layout_text_numbers odif_layout_text_numbers_1993(table: u32, lines: u32, out: u8) -> TextRead;
     /// [`logical_text`] with the lines as numbers, those of a [`Line`] each; an incomplete last line is not used.
     pub logical_text_numbers logical_text_numbers_in =
-        odif_logical_text_numbers odif_logical_text_numbers_1993(table: u32, lines: u32, out: u8) -> Shown;
+        odif_logical_text_numbers odif_logical_text_numbers_1993(table: u32, lines: u32, out: u8) -> TextRead;
 }
 
 /// Fills the table, and puts the text of the layout side into the output and its lines: of each match of the list, in that
 /// order, the joined content of its unit. An output as long as the stream is always enough.
-pub fn layout_text(stream: &[u8], table: &mut [u32], lines: &mut [Line], out: &mut [u8]) -> Shown {
+pub fn layout_text(stream: &[u8], table: &mut [u32], lines: &mut [Line], out: &mut [u8]) -> TextRead {
     layout_text_numbers(stream, table, numbers_of(lines), out)
 }
 
 /// Fills the table, and puts the text of the logical side into the output and its lines, as [`layout_text`] does.
-pub fn logical_text(stream: &[u8], table: &mut [u32], lines: &mut [Line], out: &mut [u8]) -> Shown {
+pub fn logical_text(stream: &[u8], table: &mut [u32], lines: &mut [Line], out: &mut [u8]) -> TextRead {
     logical_text_numbers(stream, table, numbers_of(lines), out)
 }
 
 /// [`layout_text`] by an edition.
-pub fn layout_text_in(edition: Edition, stream: &[u8], table: &mut [u32], lines: &mut [Line], out: &mut [u8]) -> Shown {
+pub fn layout_text_in(
+    edition: Edition,
+    stream: &[u8],
+    table: &mut [u32],
+    lines: &mut [Line],
+    out: &mut [u8],
+) -> TextRead {
     layout_text_numbers_in(edition, stream, table, numbers_of(lines), out)
 }
 
@@ -264,7 +270,7 @@ pub fn logical_text_in(
     table: &mut [u32],
     lines: &mut [Line],
     out: &mut [u8],
-) -> Shown {
+) -> TextRead {
     logical_text_numbers_in(edition, stream, table, numbers_of(lines), out)
 }
 

@@ -71,7 +71,7 @@ pub fn text(stream: &[u8], side: Side) -> Result<Text, Refusal> {
     text_in(Edition::Of1988, stream, side)
 }
 
-/// The same, by an edition.
+/// As [`text`], by an edition.
 pub fn text_in(edition: Edition, stream: &[u8], side: Side) -> Result<Text, Refusal> {
     let most = most_elements(stream);
     let mut table = vec![0; most * ROW_WIDTH];

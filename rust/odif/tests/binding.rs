@@ -133,7 +133,7 @@ fn the_text_of_a_side() {
 #[test]
 fn the_question_behind_text() {
     let (mut table, mut lines, mut out) = ([9; 3 * odif::ROW_WIDTH], [raw::Line::default(); 2], *b"....");
-    let counts = |shown: raw::Shown| [shown.number, shown.place, shown.elements, shown.lines, shown.length];
+    let counts = |shown: raw::TextRead| [shown.number, shown.place, shown.elements, shown.lines, shown.length];
     let shown = raw::layout_text(LETTER, &mut table, &mut lines, &mut out);
     assert_eq!(counts(shown), [0, 0, 3, 1, 2]);
     assert_eq!(lines, [raw::Line { element: 1, portion: 0, unit: 2, first: 0, past: 2 }, raw::Line::default()]);

@@ -44,7 +44,7 @@ static void print_1993(void) {
            brief.length);
 }
 
-static void print_shown(const char *name, odif_shown shown) {
+static void print_shown(const char *name, odif_text_read shown) {
     printf("%s %" PRIu32 " %" PRIu32 " %" PRIu32 " %" PRIu32 " %" PRIu32, name, shown.number, shown.place, shown.elements,
            shown.lines, shown.length);
 }
@@ -62,8 +62,8 @@ static void print_texts(void) {
     print_shown("\ntoo few lines", odif_layout_text(letter, length, table, numbers, NULL, 0, out, 4));
     print_shown("\ntoo short a text", odif_layout_text(letter, length, table, numbers, &line, 1, out, 1));
     length = sizeof letter_1993 - 1;
-    odif_shown layout = odif_layout_text_1993(letter_1993, length, table, numbers, NULL, 0, NULL, 0);
-    odif_shown logical = odif_logical_text_1993(letter_1993, length, table, numbers, NULL, 0, NULL, 0);
+    odif_text_read layout = odif_layout_text_1993(letter_1993, length, table, numbers, NULL, 0, NULL, 0);
+    odif_text_read logical = odif_logical_text_1993(letter_1993, length, table, numbers, NULL, 0, NULL, 0);
     printf("\ntext 1993 %" PRIu32 " %" PRIu32 " %" PRIu32 " %" PRIu32 " %" PRIu32 " %" PRIu32 "\n", layout.number,
            layout.elements, layout.lines, logical.number, logical.elements, logical.lines);
 }
@@ -90,7 +90,7 @@ static void print_order(void) {
 typedef char sizes_are_as_they_should_be[
     sizeof(odif_checked) == 16 && sizeof(odif_written) == 12 && sizeof(odif_listed) == 16 && sizeof(odif_found) == 16
     && sizeof(odif_copied) == 12 && sizeof(odif_match) == 12 && sizeof(odif_dated) == 28
-    && sizeof(odif_first_dated) == 32 && sizeof(odif_line) == 20 && sizeof(odif_shown) == 20 && sizeof(odif_entry) == 24
+    && sizeof(odif_first_dated) == 32 && sizeof(odif_line) == 20 && sizeof(odif_text_read) == 20 && sizeof(odif_entry) == 24
     && sizeof(odif_related) == 16 && sizeof(odif_ordered) == 8 ? 1 : -1];
 
 int main(void) {

@@ -25,7 +25,7 @@ pub fn hold(stream: &[u8], reading: &Reading<'_>, origin: &Origin, tally: &mut T
     hold_cut(everywhere, stream, reading, origin, tally, rng);
 }
 
-/// The same, cut at every place, however long the stream is.
+/// The block engine on a stream cut at every place, however long the stream is.
 pub fn hold_everywhere(stream: &[u8], origin: &Origin, tally: &mut Tally) {
     hold_cut(true, stream, &Reading::of(stream), origin, tally, &mut Rng::new(209));
 }

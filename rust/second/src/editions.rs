@@ -47,7 +47,7 @@ struct Answers {
     lists: [(raw::Listed, Vec<raw::Match>); 2],
     normal: (raw::Written, Vec<u8>),
     short: (raw::Written, Vec<u8>),
-    texts: [(raw::Shown, Vec<raw::Line>, Vec<u8>); 2],
+    texts: [(raw::TextRead, Vec<raw::Line>, Vec<u8>); 2],
     contents: Vec<(raw::Found, raw::Copied, Vec<u8>)>,
 }
 

@@ -176,7 +176,7 @@ fn ask(
     table: &mut [u32],
     lines: &mut [raw::Line],
     out: &mut [u8],
-) -> raw::Shown {
+) -> raw::TextRead {
     match side {
         Side::Layout => raw::layout_text_in(edition, stream, table, lines, out),
         Side::Logical => raw::logical_text_in(edition, stream, table, lines, out),
@@ -184,7 +184,7 @@ fn ask(
 }
 
 /// What the library says of the text of both sides: the answer, the lines and the octets.
-pub fn told(edition: Edition, stream: &[u8]) -> [(raw::Shown, Vec<raw::Line>, Vec<u8>); 2] {
+pub fn told(edition: Edition, stream: &[u8]) -> [(raw::TextRead, Vec<raw::Line>, Vec<u8>); 2] {
     let most = (stream.len() / 2).min(MOST_ELEMENTS);
     [Side::Layout, Side::Logical].map(|side| {
         let (mut lines, mut out) = (vec![raw::Line::default(); most], vec![0; stream.len()]);

@@ -1,4 +1,4 @@
--- `answers::check_judged` meets its contract: what the judge left says what the letter is, and the rest is the check of that. Assumes nothing.
+-- `answers::check_judged` meets its contract: what the judge left says what the letter is, and the rest is the check of that.
 use mathlib.Core.Path.{_∙_}
 use borrow.Author.Needs.{needs}
 use native.Mathlib.Omega.{arith}
@@ -9,14 +9,12 @@ use Rattle.answers.proofs.Tabling.{table-filled}
 use Rattle.answers.proofs.check_judged.Statement.{statement}
 use Rattle.answers.proofs.check_judged.Tie as tie
 
-refused-check-requires : tie.Need-refused-check-requires
-refused-check-requires c κs = search needs
-
 returns : tie.Need-returns
 returns c =
     let a = c .before .before .before .before .before .before .before in
     let l = accepted-judged (a .pre .0) (a .pre .1 .0) in
-    let r = checks-16 (a .args .edition) (now (a .args .stream)) (now (a .args .table)) (a .args .headers) (l .held .elements) (l .judged) (omega (arith, l .held .holds .counted)) in
+    let r = checks-16 (a .args .edition) (now (a .args .stream)) (now (a .args .table)) (a .args .headers) (l .held .elements) (l .judged)
+    (omega (arith, l .held .holds .counted)) in
     record { answered = c .refused-check .ensures ∙ r .answered; tabled = r .tabled }
 
 fill-requires : tie.Need-fill-requires
@@ -31,15 +29,13 @@ cast-t15 c =
     let l = accepted-judged (a .pre .0) (a .pre .1 .0) in
     omega (arith, l .few)
 
-same-length : tie.Need-same-length
-same-length c = search needs
-
 returns-2 : tie.Need-returns-2
 returns-2 c =
     let a = c .before .before .before .before .before .before .before .before .before .before in
     let l = accepted-judged (a .pre .0) (a .pre .1 .0) in
     let table = now (a .args .table) in
-    let r = checks-letter (a .args .edition) (now (a .args .stream)) table (a .args .headers) _ (l .held .elements) (l .judged) (l .held .holds .counted) (omega arith) in
+    let r = checks-letter (a .args .edition) (now (a .args .stream)) table (a .args .headers) _ (l .held .elements) (l .judged)
+    (l .held .holds .counted) (omega arith) in
     record {
       answered = r .answered;
       tabled = table-filled (l .held) (l .judged) table _ (c .before .before .fill .ensures) ∙ r .tabled;
@@ -47,11 +43,4 @@ returns-2 c =
 
 pub check-judged-spec : {M : Type 1} → statement M
 check-judged-spec =
-    tie.close
-    (tie.spec
-    refused-check-requires
-    returns
-    fill-requires
-    cast-t15
-    same-length
-    returns-2)
+    tie.close (tie.spec (λ c κs. search needs) returns fill-requires cast-t15 (λ c. search needs) returns-2)

@@ -1,4 +1,4 @@
--- `answers::tell_refused` meets its contract: number and place of each question, and the headers of the check. Assumes nothing.
+-- `answers::tell_refused` meets its contract: number and place of each question, and the headers of the check.
 use mathlib.Core.Path.{_∙_, ap}
 use borrow.Author.Needs.{needs}
 use Rattle.answers.specs.Questions.{checkTold}
@@ -8,54 +8,6 @@ use Rattle.answers.proofs.tell_refused.Tie as tie
 
 enum-told : tie.Need-enum-told
 enum-told c = search needs
-
-refused-check-requires : tie.Need-refused-check-requires
-refused-check-requires c κs = search needs
-
-tell-checked-requires : tie.Need-tell-checked-requires
-tell-checked-requires c κs = search needs
-
-enum-told-2 : tie.Need-enum-told-2
-enum-told-2 c = search needs
-
-tell-reason-requires : tie.Need-tell-reason-requires
-tell-reason-requires c κs = search needs
-
-enum-told-3 : tie.Need-enum-told-3
-enum-told-3 c = search needs
-
-tell-reason-requires-2 : tie.Need-tell-reason-requires-2
-tell-reason-requires-2 c κs = search needs
-
-enum-told-4 : tie.Need-enum-told-4
-enum-told-4 c = search needs
-
-tell-reason-requires-3 : tie.Need-tell-reason-requires-3
-tell-reason-requires-3 c κs = search needs
-
-enum-told-5 : tie.Need-enum-told-5
-enum-told-5 c = search needs
-
-tell-reason-requires-4 : tie.Need-tell-reason-requires-4
-tell-reason-requires-4 c κs = search needs
-
-enum-told-6 : tie.Need-enum-told-6
-enum-told-6 c = search needs
-
-tell-reason-requires-5 : tie.Need-tell-reason-requires-5
-tell-reason-requires-5 c κs = search needs
-
-enum-told-7 : tie.Need-enum-told-7
-enum-told-7 c = search needs
-
-tell-reason-requires-6 : tie.Need-tell-reason-requires-6
-tell-reason-requires-6 c κs = search needs
-
-enum-told-8 : tie.Need-enum-told-8
-enum-told-8 c = search needs
-
-tell-reason-requires-7 : tie.Need-tell-reason-requires-7
-tell-reason-requires-7 c κs = search needs
 
 returns : tie.Need-returns
 returns c = refused-as _ _ _ (c .before .before .enum-told .given .1) (c .tell-checked .ensures ∙ ap checkTold (c .before .refused-check .ensures))
@@ -83,30 +35,7 @@ returns-8 c = refused-as _ _ _ (c .before .enum-told8 .given .1) (c .tell-reason
 
 pub tell-refused-spec : {M : Type 1} → statement M
 tell-refused-spec =
-    tie.close
-    (tie.spec
-    enum-told
-    refused-check-requires
-    tell-checked-requires
-    enum-told-2
-    tell-reason-requires
-    enum-told-3
-    tell-reason-requires-2
-    enum-told-4
-    tell-reason-requires-3
-    enum-told-5
-    tell-reason-requires-4
-    enum-told-6
-    tell-reason-requires-5
-    enum-told-7
-    tell-reason-requires-6
-    enum-told-8
-    tell-reason-requires-7
-    returns
-    returns-2
-    returns-3
-    returns-4
-    returns-5
-    returns-6
-    returns-7
-    returns-8)
+    tie.close (tie.spec enum-told (λ c κs. search needs) (λ c κs. search needs) (λ c. search needs) (λ c κs. search needs)
+    (λ c. search needs) (λ c κs. search needs) (λ c. search needs) (λ c κs. search needs) (λ c. search needs) (λ c κs. search needs)
+    (λ c. search needs) (λ c κs. search needs) (λ c. search needs) (λ c κs. search needs) (λ c. search needs) (λ c κs. search needs)
+    returns returns-2 returns-3 returns-4 returns-5 returns-6 returns-7 returns-8)

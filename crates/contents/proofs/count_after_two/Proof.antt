@@ -1,4 +1,4 @@
--- `contents::count_after_two` meets its contract: what is met decides. Assumes nothing.
+-- `contents::count_after_two` meets its contract: what is met decides.
 use mathlib.Core.Path.{refl}
 use borrow.Author.Needs.{needs}
 use Rattle.contents.specs.Opening.{ends-here, goes-on}
@@ -12,9 +12,6 @@ meet-requires c κs = c .before .pre
 enum-told : tie.Need-enum-told
 enum-told c = search needs
 
-enum-told-2 : tie.Need-enum-told-2
-enum-told-2 c = search needs
-
 returns : tie.Need-returns
 returns c =
     let a = c .before .before .before .before .args in
@@ -26,4 +23,4 @@ returns-2 c =
     goes-on _ _ refl (met (a .s .now) (a .last) (c .before .before .meet .ensures) (c .enum-told2 .given .1))
 
 pub count-after-two-spec : {M : Type 1} → statement M
-count-after-two-spec = tie.close (tie.spec meet-requires enum-told enum-told-2 returns returns-2)
+count-after-two-spec = tie.close (tie.spec meet-requires enum-told (λ c. search needs) returns returns-2)

@@ -1,4 +1,4 @@
--- `contents::counted_with` meets its contract: the test that it makes is the one counted. Assumes nothing.
+-- `contents::counted_with` meets its contract: the test that it makes is the one counted.
 use native.Mathlib.Omega.{arith}
 use borrow.Author.Tests.{eq-eqb, ne-eqb}
 use Rattle.contents.proofs.counted_with.Statement.{statement}

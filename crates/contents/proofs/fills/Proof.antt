@@ -1,4 +1,4 @@
--- `contents::fills` meets its contract: it answers by the count of the opening, as `in-order` does. Assumes nothing.
+-- `contents::fills` meets its contract: it answers by the count of the opening, as `in-order` does.
 use mathlib.Core.Path.{_∙_}
 use borrow.Author.Tests.{eq-eqb, ne-eqb}
 use Rattle.contents.proofs.Orders.{filled-more, in-order}
@@ -41,5 +41,4 @@ returns-6 c s r k =
 
 pub fills-spec : {M : Type 1} → statement M
 fills-spec =
-    tie.close
-    (tie.spec returns returns-2 fills-either-requires returns-3 returns-4 returns-5 returns-6)
+    tie.close (tie.spec returns returns-2 fills-either-requires returns-3 returns-4 returns-5 returns-6)

@@ -1,4 +1,4 @@
--- `contents::fills_either` meets its contract: each return has the tests that decide. Assumes nothing.
+-- `contents::fills_either` meets its contract: each return has the tests that decide.
 use borrow.Author.Tests.{eq-eqb, ne-eqb}
 use Rattle.contents.proofs.fills_either.Statement.{statement}
 use Rattle.contents.proofs.fills_either.Tie as tie

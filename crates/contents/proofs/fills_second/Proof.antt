@@ -1,4 +1,4 @@
--- `contents::fills_second` meets its contract, by its one test. Assumes nothing.
+-- `contents::fills_second` meets its contract, by its one test.
 
 use Rattle.contents.proofs.fills_second.Statement.{statement}
 use Rattle.contents.proofs.fills_second.Tie as tie

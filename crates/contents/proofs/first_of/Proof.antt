@@ -1,4 +1,4 @@
--- `contents::first_of` meets its contract, by its one test. Assumes nothing.
+-- `contents::first_of` meets its contract, by its one test.
 use borrow.Author.Tests.{ne-eqb}
 use Rattle.contents.proofs.first_of.Statement.{statement}
 use Rattle.contents.proofs.first_of.Tie as tie

@@ -1,5 +1,5 @@
 -- `contents::first_with` meets its contract. The loop's invariant: a search from the start is one from here. The measure is what is left of
--- the run. Assumes nothing.
+-- the run.
 use Prim.Native.Nat.{_-_}
 use borrow.Author.Needs.{needs}
 use Rattle.runs.specs.Runs.{Fine}
@@ -20,9 +20,11 @@ abbrev part : tie.After-known-told Inv-loop μ-loop → Part
 part c = let g = c .before .code .given .0 in record { code = g .0; first = g .1 .0; past = g .1 .1 .0; inner = g .1 .1 .1 .0 }
 
 meeting : (c : tie.After-known-told Inv-loop μ-loop) →
-    Begins (c .before .before .before .before .before .before .args .s .now) (c .before .before .before .before .loop .cur) (part c) (c .before .code .given .0 .1 .1 .1 .1 .0)
+    Begins (c .before .before .before .before .before .before .args .s .now) (c .before .before .before .before .loop .cur) (part c)
+    (c .before .code .given .0 .1 .1 .1 .1 .0)
 meeting c =
-    met (c .before .before .before .before .before .before .args .s .now) (c .before .before .before .before .loop .cur) (c .before .before .before .meet .ensures) (c .before .code .given .1)
+    met (c .before .before .before .before .before .before .args .s .now) (c .before .before .before .before .loop .cur)
+    (c .before .before .before .meet .ensures) (c .before .code .given .1)
 
 loop-holds : tie.Need-loop-holds Inv-loop μ-loop
 loop-holds c = let a = c .before .args in (c .before .pre, same-search (a .s .now) (a .sought) (a .r))
@@ -39,9 +41,6 @@ returns c =
     let l = c .before .before .before .loop in
     let none-left = met (a .s .now) (l .cur) (c .before .before .meet .ensures) (c .enum-told .given .1) in
     lacks-before (l .inv .1) (lacks-at-end (a .s .now) (a .sought) (l .cur) none-left)
-
-enum-known-code : tie.Need-enum-known-code Inv-loop μ-loop
-enum-known-code c = search needs
 
 part-of-requires : tie.Need-part-of-requires Inv-loop μ-loop
 part-of-requires c κs = tt
@@ -67,16 +66,5 @@ loop-again c =
 
 pub first-with-spec : {M : Type 1} → statement M
 first-with-spec =
-    tie.close
-    (tie.spec
-    Inv-loop
-    μ-loop
-    loop-holds
-    meet-requires
-    enum-told
-    returns
-    enum-known-code
-    part-of-requires
-    returns-2
-    loop-less
+    tie.close (tie.spec Inv-loop μ-loop loop-holds meet-requires enum-told returns (λ c. search needs) part-of-requires returns-2 loop-less
     loop-again)

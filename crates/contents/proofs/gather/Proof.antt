@@ -1,5 +1,5 @@
 -- `contents::gather` meets its contract. The loop's invariant: what was gathered is what stood from the start up to here.
--- The measure is what is left of the run. Assumes nothing.
+-- The measure is what is left of the run.
 use Prim.Native.Nat.{ℕ, _+_, _-_, _<_, _≤_, _^_}
 use native.Mathlib.Omega.{arith}
 use borrow.Author.Needs.{needs}
@@ -21,10 +21,12 @@ abbrev μ-loop : tie.MeasureT-loop
 
 -- the item that is met
 meeting : (c : tie.After-part-of Inv-loop μ-loop) →
-    Begins (c .before .before .before .before .before .before .before .before .args .s .now) (c .before .before .before .before .before .loop .cur) (c .part-of .result) (c .before .before .code .given .0 .1 .1 .1 .1 .0)
+    Begins (c .before .before .before .before .before .before .before .before .args .s .now) (c .before .before .before .before .before .loop .cur)
+    (c .part-of .result) (c .before .before .code .given .0 .1 .1 .1 .1 .0)
 meeting c =
     rw (c .part-of .ensures)
-    (met (c .before .before .before .before .before .before .before .before .args .s .now) (c .before .before .before .before .before .loop .cur) (c .before .before .before .before .meet .ensures) (c .before .before .code .given .1))
+    (met (c .before .before .before .before .before .before .before .before .args .s .now) (c .before .before .before .before .before .loop .cur)
+    (c .before .before .before .before .meet .ensures) (c .before .before .code .given .1))
 
 -- an item has two octets at least, so no count can pass the stream's length
 fits : (c : tie.After-part-of Inv-loop μ-loop) (n : ℕ) →
@@ -32,7 +34,15 @@ fits : (c : tie.After-part-of Inv-loop μ-loop) (n : ℕ) →
     n + (cur .limit - cur .at) ≤ length (c .before .before .before .before .before .before .before .before .args .s .now) → n + 2 < 2 ^ 64
 fits c n b =
     let m = meeting c in
-    omega (arith, m .starts, m .value-order, m .value-before, m .rest-limit, m .rest-fine .order, c .before .before .before .before .before .before .before .before .good)
+    omega (
+      arith,
+      m .starts,
+      m .value-order,
+      m .value-before,
+      m .rest-limit,
+      m .rest-fine .order,
+      c .before .before .before .before .before .before .before .before .good,
+    )
 
 unseen-yet-requires : tie.Need-unseen-yet-requires Inv-loop μ-loop
 unseen-yet-requires c κs = tt
@@ -58,9 +68,6 @@ returns c =
     (gathering-end (a .s .now) (a .sought) (a .r) (l .cur) _ _ _ _ (l .inv)
     (met (a .s .now) (l .cur) (c .before .before .before .meet .ensures) (c .before .enum-told .given .1)))
 
-enum-known-code : tie.Need-enum-known-code Inv-loop μ-loop
-enum-known-code c = search needs
-
 part-of-requires : tie.Need-part-of-requires Inv-loop μ-loop
 part-of-requires c κs = tt
 
@@ -74,16 +81,23 @@ seen-with-requires-2 c κs =
 
 seen-with-requires-3 : tie.Need-seen-with-requires-3 Inv-loop μ-loop
 seen-with-requires-3 c κs =
-    let l = c .before .before .before .before .before .before .before .loop in omega (arith, fits (c .before .before) (l .portions .amount) (l .inv .portions-seen .bound))
+    let l = c .before .before .before .before .before .before .before .loop in omega (
+      arith,
+      fits (c .before .before) (l .portions .amount) (l .inv .portions-seen .bound),
+    )
 
 counted-with-requires : tie.Need-counted-with-requires Inv-loop μ-loop
 counted-with-requires c κs =
-    let l = c .before .before .before .before .before .before .before .before .loop in omega (arith, fits (c .before .before .before) (l .barred) (l .inv .bound))
+    let l = c .before .before .before .before .before .before .before .before .loop in omega (
+      arith,
+      fits (c .before .before .before) (l .barred) (l .inv .bound),
+    )
 
 counted-with-requires-2 : tie.Need-counted-with-requires-2 Inv-loop μ-loop
 counted-with-requires-2 c κs =
     let l = c .before .before .before .before .before .before .before .before .before .loop in
-    let b = at-most-one (eqb (c .before .before .before .before .part-of .result .code) (c .before .before .before .before .before .before .before .before .before .before .before .before .args .sought .never)) in
+    let b = at-most-one (eqb (c .before .before .before .before .part-of .result .code)
+    (c .before .before .before .before .before .before .before .before .before .before .before .before .args .sought .never)) in
     omega (arith, c .counted-with .ensures, b, fits (c .before .before .before .before) (l .barred) (l .inv .bound))
 
 loop-less : tie.Need-loop-less Inv-loop μ-loop
@@ -94,27 +108,17 @@ loop-again c =
     let a = c .before .before .before .before .before .before .before .before .before .before .before .before .before .args in
     let l = c .before .before .before .before .before .before .before .before .before .before .loop in
     let p = c .before .before .before .before .before .part-of .result in
-    rw (c .before .before .before .before .seen-with .ensures, c .before .before .before .seen-with2 .ensures, c .before .before .seen-with3 .ensures, c .counted-with2 .ensures, c .before .counted-with .ensures)
+    rw (
+      c .before .before .before .before .seen-with .ensures,
+      c .before .before .before .seen-with2 .ensures,
+      c .before .before .seen-with3 .ensures,
+      c .counted-with2 .ensures,
+      c .before .counted-with .ensures,
+    )
     (gathering-more (a .s .now) (a .sought) (a .r) (l .cur) _ _ _ _ (l .inv) p _ (meeting (c .before .before .before .before .before)))
 
 pub gather-spec : {M : Type 1} → statement M
 gather-spec =
-    tie.close
-    (tie.spec
-    Inv-loop
-    μ-loop
-    unseen-yet-requires
-    loop-holds
-    meet-requires
-    enum-told
-    gathered-from-requires
-    returns
-    enum-known-code
-    part-of-requires
-    seen-with-requires
-    seen-with-requires-2
-    seen-with-requires-3
-    counted-with-requires
-    counted-with-requires-2
-    loop-less
-    loop-again)
+    tie.close (tie.spec Inv-loop μ-loop unseen-yet-requires loop-holds meet-requires enum-told gathered-from-requires returns
+    (λ c. search needs) part-of-requires seen-with-requires seen-with-requires-2 seen-with-requires-3 counted-with-requires
+    counted-with-requires-2 loop-less loop-again)

@@ -1,4 +1,4 @@
--- `contents::gathered_from` meets its contract, field by field. Assumes nothing.
+-- `contents::gathered_from` meets its contract, field by field.
 
 use Rattle.contents.proofs.gathered_from.Statement.{statement}
 use Rattle.contents.proofs.gathered_from.Tie as tie

@@ -1,4 +1,4 @@
--- `contents::opening_after` meets its contract: what is met after the first item decides. Assumes nothing.
+-- `contents::opening_after` meets its contract: what is met after the first item decides.
 use mathlib.Core.Path.{refl}
 use borrow.Author.Needs.{needs}
 use Rattle.contents.specs.Opening.{single, several}
@@ -15,12 +15,10 @@ enum-told c = search needs
 no-part-requires : tie.Need-no-part-requires
 no-part-requires c κs = tt
 
-enum-known-code : tie.Need-enum-known-code
-enum-known-code c = search needs
-
 count-after-two-requires : tie.Need-count-after-two-requires
 count-after-two-requires c κs =
-    let a = c .before .before .before .before .before .args in met (a .s .now) (a .rest) (c .before .before .before .meet .ensures) (c .before .code .given .1) .rest-fine
+    let a = c .before .before .before .before .before .args in met (a .s .now) (a .rest) (c .before .before .before .meet .ensures)
+    (c .before .code .given .1) .rest-fine
 
 part-of-requires : tie.Need-part-of-requires
 part-of-requires c κs = tt
@@ -34,18 +32,11 @@ returns-2 : tie.Need-returns-2
 returns-2 c r m =
     let a = c .before .before .before .before .before .before .before .args in
     several (a .rest) (c .before .before .before .code .given .0 .1 .1 .1 .1 .0) m
-    (rw (c .part-of .ensures) (met (a .s .now) (a .rest) (c .before .before .before .before .before .meet .ensures) (c .before .before .before .code .given .1)))
+    (rw (c .part-of .ensures) (met (a .s .now) (a .rest) (c .before .before .before .before .before .meet .ensures)
+    (c .before .before .before .code .given .1)))
     (c .before .count-after-two .ensures)
 
 pub opening-after-spec : {M : Type 1} → statement M
 opening-after-spec =
-    tie.close
-    (tie.spec
-    meet-requires
-    enum-told
-    no-part-requires
-    enum-known-code
-    count-after-two-requires
-    part-of-requires
-    returns
+    tie.close (tie.spec meet-requires enum-told no-part-requires (λ c. search needs) count-after-two-requires part-of-requires returns
     returns-2)

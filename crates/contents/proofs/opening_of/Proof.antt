@@ -1,4 +1,4 @@
--- `contents::opening_of` meets its contract: what is met at the start decides. Assumes nothing.
+-- `contents::opening_of` meets its contract: what is met at the start decides.
 use mathlib.Core.Path.{refl}
 use borrow.Author.Needs.{needs}
 use Rattle.contents.specs.Opening.{nothing}
@@ -18,15 +18,13 @@ no-part-requires c κs = tt
 no-part-requires-2 : tie.Need-no-part-requires-2
 no-part-requires-2 c κs = tt
 
-enum-known-code : tie.Need-enum-known-code
-enum-known-code c = search needs
-
 part-of-requires : tie.Need-part-of-requires
 part-of-requires c κs = tt
 
 opening-after-requires : tie.Need-opening-after-requires
 opening-after-requires c κs =
-    let a = c .before .before .before .before .before .before .args in met (a .s .now) (a .r) (c .before .before .before .before .meet .ensures) (c .before .before .code .given .1) .rest-fine
+    let a = c .before .before .before .before .before .before .args in met (a .s .now) (a .r) (c .before .before .before .before .meet .ensures)
+    (c .before .before .code .given .1) .rest-fine
 
 returns : tie.Need-returns
 returns c =
@@ -37,18 +35,10 @@ returns-2 : tie.Need-returns-2
 returns-2 c =
     let a = c .before .before .before .before .before .before .before .args in
     c .opening-after .ensures (a .r)
-    (rw (c .before .part-of .ensures) (met (a .s .now) (a .r) (c .before .before .before .before .before .meet .ensures) (c .before .before .before .code .given .1)))
+    (rw (c .before .part-of .ensures) (met (a .s .now) (a .r) (c .before .before .before .before .before .meet .ensures)
+    (c .before .before .before .code .given .1)))
 
 pub opening-of-spec : {M : Type 1} → statement M
 opening-of-spec =
-    tie.close
-    (tie.spec
-    meet-requires
-    enum-told
-    no-part-requires
-    no-part-requires-2
-    enum-known-code
-    part-of-requires
-    opening-after-requires
-    returns
-    returns-2)
+    tie.close (tie.spec meet-requires enum-told no-part-requires no-part-requires-2 (λ c. search needs) part-of-requires
+    opening-after-requires returns returns-2)

@@ -1,4 +1,4 @@
--- `contents::part_with` meets its contract: the tests that it makes are those of the laws of an opening. Assumes nothing.
+-- `contents::part_with` meets its contract: the tests that it makes are those of the laws of an opening.
 use native.Mathlib.Omega.{arith}
 use Rattle.contents.proofs.Parts.{one-holds, two-holds, neither-holds}
 use Rattle.contents.proofs.part_with.Statement.{statement}
@@ -22,7 +22,8 @@ returns-3 c s r =
 returns-4 : tie.Need-returns-4
 returns-4 c s r k l =
     let a = c .before .before .before .before .before .before .before .before .args in
-    two-holds (a .octet) (a .o) s r (c .before .before .before .before .before .if1 .left) (c .before .before .if3 .left) (c .before .before .before .if2 .left) (c .if4 .taken) k
+    two-holds (a .octet) (a .o) s r (c .before .before .before .before .before .if1 .left) (c .before .before .if3 .left)
+    (c .before .before .before .if2 .left) (c .if4 .taken) k
 
 returns-5 : tie.Need-returns-5
 returns-5 c s r =

@@ -1,4 +1,4 @@
--- `contents::seen_with` meets its contract: its test is that of `seenWith`. Assumes nothing.
+-- `contents::seen_with` meets its contract: its test is that of `seenWith`.
 use native.Mathlib.Omega.{arith}
 use borrow.Author.Tests.{eq-eqb, ne-eqb}
 use Rattle.contents.specs.Gather.{seenWith}

@@ -1,4 +1,4 @@
--- `contents::unseen_yet` meets its contract: its part is `noPart`. Assumes nothing.
+-- `contents::unseen_yet` meets its contract: its part is `noPart`.
 
 use Rattle.contents.proofs.unseen_yet.Statement.{statement}
 use Rattle.contents.proofs.unseen_yet.Tie as tie

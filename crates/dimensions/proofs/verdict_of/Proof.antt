@@ -1,4 +1,4 @@
--- `dimensions::verdict_of` meets its contract: a page without a descriptor has no dimensions. Assumes nothing.
+-- `dimensions::verdict_of` meets its contract: a page without a descriptor has no dimensions.
 use mathlib.Core.Path.{_∙_}
 use native.Mathlib.Omega.{arith}
 use borrow.Author.Needs.{needs}
@@ -26,11 +26,4 @@ returns-2 c =
 
 pub verdict-of-spec : {M : Type 1} → statement M
 verdict-of-spec =
-    tie.close
-    (tie.spec
-    (λ c κs. search needs)
-    (λ c. search needs)
-    (λ c. search needs)
-    verdict-of-body-requires
-    returns
-    returns-2)
+    tie.close (tie.spec (λ c κs. search needs) (λ c. search needs) (λ c. search needs) verdict-of-body-requires returns returns-2)

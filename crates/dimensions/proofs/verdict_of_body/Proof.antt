@@ -1,4 +1,4 @@
--- `dimensions::verdict_of_body` meets its contract: how many A4 there are decides. Assumes nothing.
+-- `dimensions::verdict_of_body` meets its contract: how many A4 there are decides.
 use mathlib.Core.Path.{refl, _∙_}
 use mathlib.Core.Logic.{inr}
 use borrow.Author.Needs.{needs}
@@ -21,9 +21,9 @@ returns-3 c =
     let a = c .before .before .before .before .before .before .before .args in
     let gathered = c .before .before .before .before .before .gather in
     c .verdict-of-items .ensures
-    ∙ one-a4 (a .s .now) (a .r) (gathered .ensures .portions .amount-is) (c .before .if2 .left) (gathered .result .list) (gathered .ensures .list-tree (inr refl))
+    ∙ one-a4 (a .s .now) (a .r) (gathered .ensures .portions .amount-is) (c .before .if2 .left) (gathered .result .list)
+    (gathered .ensures .list-tree (inr refl))
 
 pub verdict-of-body-spec : {M : Type 1} → statement M
 verdict-of-body-spec =
-    tie.close
-    (tie.spec (λ c κs. search needs) returns returns-2 (λ c κs. search needs) returns-3)
+    tie.close (tie.spec (λ c κs. search needs) returns returns-2 (λ c κs. search needs) returns-3)

@@ -1,4 +1,4 @@
--- `elements::listed_of` meets its contract: where there is no list there are no items to read. Assumes nothing.
+-- `elements::listed_of` meets its contract: where there is no list there are no items to read.
 use mathlib.Core.Path.{_≡_}
 use mathlib.Core.Bool.{false}
 use mathlib.Core.List.{List}
@@ -33,14 +33,5 @@ returns c =
     let a = c .before .before .before .before .args in
     λ nothing. none-listed (a .s .now) (a .g .list) (a .bounds .now) (nothing (c .if1 .taken))
 
-read-portions-requires : tie.Need-read-portions-requires
-read-portions-requires c κs = search needs
-
-same-length : tie.Need-same-length
-same-length c = search needs
-
-returns-2 : tie.Need-returns-2
-returns-2 c = search needs
-
 pub listed-of-spec : {M : Type 1} → statement M
-listed-of-spec = tie.close (tie.spec returns read-portions-requires same-length returns-2)
+listed-of-spec = tie.close (tie.spec returns (λ c κs. search needs) (λ c. search needs) (λ c. search needs))

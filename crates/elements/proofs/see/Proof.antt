@@ -1,5 +1,5 @@
 -- `elements::see` meets its contract: items that do not stand in order, and another item among the pieces of the content or of a seal, are
--- refused by 12, and what the others hold is looked into. Assumes nothing.
+-- refused by 12, and what the others hold is looked into.
 use mathlib.Core.Path.{sym, _∙_, subst}
 use borrow.Author.Needs.{needs}
 use borrow.Author.Tests.{not-true, not-false}
@@ -18,12 +18,6 @@ framed c =
     let frame = c .before .before .frame-of in
     frame .ensures .framed (not-false (frame .result .fits) (c .if1 .left))
 
-frame-of-requires : tie.Need-frame-of-requires
-frame-of-requires c κs = search needs
-
-refused-requires : tie.Need-refused-requires
-refused-requires c κs = search needs
-
 returns : tie.Need-returns
 returns c =
     let a = c .before .before .before .before .before .before .args in
@@ -35,9 +29,6 @@ returns c =
 pieces-alone-requires : tie.Need-pieces-alone-requires
 pieces-alone-requires c κs = framed c .content .fine
 
-refused-requires-2 : tie.Need-refused-requires-2
-refused-requires-2 c κs = search needs
-
 returns-2 : tie.Need-returns-2
 returns-2 c =
     let at-alone = c .before .before in
@@ -48,12 +39,6 @@ returns-2 c =
     ∙ not-true (alone .result) (c .before .if2 .taken) in
     subst (SeesSlots (a .s .now) (a .shape) (a .r) (a .first) (a .past) _) (sym (c .refused2 .ensures))
     (sees-others (a .s .now) (a .shape) (a .r) (a .first) (a .past) _ others)
-
-seal-alone-requires : tie.Need-seal-alone-requires
-seal-alone-requires c κs = search needs
-
-refused-requires-3 : tie.Need-refused-requires-3
-refused-requires-3 c κs = search needs
 
 returns-3 : tie.Need-returns-3
 returns-3 c =
@@ -80,9 +65,6 @@ see-body-requires c κs =
       start .pre .5,
     )
 
-same-length : tie.Need-same-length
-same-length c = search needs
-
 returns-4 : tie.Need-returns-4
 returns-4 c =
     let at-body = c .before .before in
@@ -99,5 +81,5 @@ returns-4 c =
 
 pub see-spec : {M : Type 1} → statement M
 see-spec =
-    tie.close (tie.spec frame-of-requires refused-requires returns pieces-alone-requires refused-requires-2 returns-2 seal-alone-requires
-    refused-requires-3 returns-3 see-body-requires same-length returns-4)
+    tie.close (tie.spec (λ c κs. search needs) (λ c κs. search needs) returns pieces-alone-requires (λ c κs. search needs) returns-2
+    (λ c κs. search needs) (λ c κs. search needs) returns-3 see-body-requires (λ c. search needs) returns-4)

@@ -1,4 +1,4 @@
--- `elements::see_body` meets its contract: what was found of the element decides. Assumes nothing.
+-- `elements::see_body` meets its contract: what was found of the element decides.
 use mathlib.Core.Path.{_∙_, subst}
 use borrow.Author.Needs.{needs}
 use Rattle.runs.specs.Runs.{treeIn}
@@ -11,36 +11,6 @@ use Rattle.elements.proofs.Findings.{Findings, elementIn, identifier-bo
 use Rattle.elements.proofs.Seeing.{sees-by}
 use Rattle.elements.proofs.see_body.Statement.{statement}
 use Rattle.elements.proofs.see_body.Tie as tie
-
-sought-of-requires : tie.Need-sought-of-requires
-sought-of-requires c κs = search needs
-
-gather-requires : tie.Need-gather-requires
-gather-requires c κs = search needs
-
-listed-of-requires : tie.Need-listed-of-requires
-listed-of-requires c κs = search needs
-
-object-type-requires : tie.Need-object-type-requires
-object-type-requires c κs = search needs
-
-is-tabled-requires : tie.Need-is-tabled-requires
-is-tabled-requires c κs = search needs
-
-are-spelt-requires : tie.Need-are-spelt-requires
-are-spelt-requires c κs = search needs
-
-refusal-of-requires : tie.Need-refusal-of-requires
-refusal-of-requires c κs = search needs
-
-row-of-requires : tie.Need-row-of-requires
-row-of-requires c κs = search needs
-
-seen-by-requires : tie.Need-seen-by-requires
-seen-by-requires c κs = search needs
-
-same-length : tie.Need-same-length
-same-length c = search needs
 
 returns : tie.Need-returns
 returns c =
@@ -84,16 +54,5 @@ returns c =
 
 pub see-body-spec : {M : Type 1} → statement M
 see-body-spec =
-    tie.close
-    (tie.spec
-    sought-of-requires
-    gather-requires
-    listed-of-requires
-    object-type-requires
-    is-tabled-requires
-    are-spelt-requires
-    refusal-of-requires
-    row-of-requires
-    seen-by-requires
-    same-length
-    returns)
+    tie.close (tie.spec (λ c κs. search needs) (λ c κs. search needs) (λ c κs. search needs) (λ c κs. search needs) (λ c κs. search needs)
+    (λ c κs. search needs) (λ c κs. search needs) (λ c κs. search needs) (λ c κs. search needs) (λ c. search needs) returns)

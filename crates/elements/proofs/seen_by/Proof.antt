@@ -1,11 +1,8 @@
--- `elements::seen_by` meets its contract. Assumes nothing.
+-- `elements::seen_by` meets its contract.
 use borrow.Author.Needs.{needs}
 use borrow.Author.Tests.{eq-eqb, ne-eqb}
 use Rattle.elements.proofs.seen_by.Statement.{statement}
 use Rattle.elements.proofs.seen_by.Tie as tie
-
-refused-requires : tie.Need-refused-requires
-refused-requires c κs = search needs
 
 returns : tie.Need-returns
 returns c = rw (ne-eqb (c .before .before .args .number) 0 (c .before .if1 .taken)) (c .refused .ensures)
@@ -14,4 +11,4 @@ returns-2 : tie.Need-returns-2
 returns-2 c = rw (eq-eqb (c .before .args .number) 0 (c .if1 .left))
 
 pub seen-by-spec : {M : Type 1} → statement M
-seen-by-spec = tie.close (tie.spec refused-requires returns returns-2)
+seen-by-spec = tie.close (tie.spec (λ c κs. search needs) returns returns-2)

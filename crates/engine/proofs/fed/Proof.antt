@@ -1,19 +1,15 @@
--- `fed`: what is left to take of the block stays the same, turn by turn, and at its end is nothing. Assumes nothing.
+-- `fed`: what is left to take of the block stays the same, turn by turn, and at its end is nothing.
 use mathlib.Core.Path.{_≡_, refl, ap, sym, _∙_}
 use mathlib.Core.List.{[]}
-use Prim.Native.Nat.{ℕ, _+_, _-_, _<_, _≤_}
+use Prim.Native.Nat.{ℕ, _+_, _-_, _≤_}
 use native.Mathlib.Omega.{arith}
 use lib.ListN.{length, drop}
 use lib.Seq.{drop-length}
-use Rattle.blocks.specs.Engine.{State, feed}
+use Rattle.blocks.specs.Engine.{feed}
 use Rattle.engine.specs.Stored.{stateOf}
-use Rattle.engine.specs.Skimming.{FineIfReading, Fine, Turns}
+use Rattle.engine.specs.Skimming.{FineIfReading}
 use Rattle.engine.proofs.fed.Statement.{statement}
 use Rattle.engine.proofs.fed.Tie as tie
-use Rattle.engine.proofs.fed.Reads as reads
-use Rattle.engine.proofs.fed.Lts as lts
-use Rattle.engine.proofs.skim.skim_block.Reads as skim-block-reads
-use Rattle.engine.proofs.turn.turn.Reads as turn-reads
 
 abbrev Inv-loop : tie.InvT-loop
 Inv-loop block n s₀ i₀ s i =
@@ -74,14 +70,4 @@ returns c =
 
 pub fed-spec : {M : Type 1} → statement M
 fed-spec =
-    tie.close
-    (tie.spec
-    Inv-loop
-    μ-loop
-    skim-block-requires
-    loop-holds
-    turn-requires
-    skim-block-requires-2
-    loop-less
-    loop-again
-    returns)
+    tie.close (tie.spec Inv-loop μ-loop skim-block-requires loop-holds turn-requires skim-block-requires-2 loop-less loop-again returns)

@@ -1,4 +1,4 @@
--- `is_sound`: its tests are those of `sound`. Assumes nothing.
+-- `is_sound`: its tests are those of `sound`.
 use native.Mathlib.Omega.{arith}
 use borrow.Author.Tests.{eq-eqb, ne-eqb, le-leb, lt-leb}
 use borrow.Author.Needs.{needs}
@@ -25,29 +25,30 @@ returns-4 c =
     let b = c .before .before .before .before .before .before .before .before .args .b in
     rw (le-leb (b .number) 8 (omega arith), eq-eqb (b .number) 0 (omega arith), le-leb (b .level) 16 (omega arith), lt-leb (b .have) 7 (omega arith))
 
-wide-requires : tie.Need-wide-requires
-wide-requires c κs = search needs
-
 returns-5 : tie.Need-returns-5
 returns-5 c =
     let b = c .before .before .before .before .before .before .before .before .before .before .before .args .b in
     let wide = c .before .before .wide .ensures in
-    rw (le-leb (b .number) 8 (omega arith), eq-eqb (b .number) 0 (omega arith), le-leb (b .level) 16 (omega arith), le-leb (b .have) 7 (omega arith), lt-leb (b .headers) (b .taken) (omega arith))
+    rw (
+      le-leb (b .number) 8 (omega arith),
+      eq-eqb (b .number) 0 (omega arith),
+      le-leb (b .level) 16 (omega arith),
+      le-leb (b .have) 7 (omega arith),
+      lt-leb (b .headers) (b .taken) (omega arith),
+    )
 
 returns-6 : tie.Need-returns-6
 returns-6 c =
     let b = c .before .before .before .before .before .before .before .before .before .before .before .before .args .b in
     let wide = c .before .before .before .wide .ensures in
-    rw (le-leb (b .number) 8 (omega arith), eq-eqb (b .number) 0 (omega arith), le-leb (b .level) 16 (omega arith), le-leb (b .have) 7 (omega arith), le-leb (b .headers) (b .taken) (omega arith))
+    rw (
+      le-leb (b .number) 8 (omega arith),
+      eq-eqb (b .number) 0 (omega arith),
+      le-leb (b .level) 16 (omega arith),
+      le-leb (b .have) 7 (omega arith),
+      le-leb (b .headers) (b .taken) (omega arith),
+    )
 
 pub is-sound-spec : {M : Type 1} → statement M
 is-sound-spec =
-    tie.close
-    (tie.spec
-    returns
-    returns-2
-    returns-3
-    returns-4
-    wide-requires
-    returns-5
-    returns-6)
+    tie.close (tie.spec returns returns-2 returns-3 returns-4 (λ c κs. search needs) returns-5 returns-6)

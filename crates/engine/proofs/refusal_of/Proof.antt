@@ -1,8 +1,7 @@
--- `refusal_of`: its test is that of `start`. Assumes nothing.
+-- `refusal_of`: its test is that of `start`.
 use native.Mathlib.Omega.{arith}
 use borrow.Author.Tests.{le-leb, lt-leb}
 use Rattle.blocks.specs.Blocks.{start}
-use borrow.Author.Needs.{needs}
 use Rattle.engine.proofs.refusal_of.Statement.{statement}
 use Rattle.engine.proofs.refusal_of.Tie as tie
 
@@ -16,7 +15,4 @@ returns-2 c = let n = c .before .args .total in rw (le-leb n 1048576 (omega arit
 
 pub refusal-of-spec : {M : Type 1} → statement M
 refusal-of-spec =
-    tie.close
-    (tie.spec
-    returns
-    returns-2)
+    tie.close (tie.spec returns returns-2)

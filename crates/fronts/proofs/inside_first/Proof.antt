@@ -1,4 +1,4 @@
--- `fronts::inside_first` meets its contract: the run of the first item alone is fine, and has that item and no other. Assumes nothing.
+-- `fronts::inside_first` meets its contract: the run of the first item alone is fine, and has that item and no other.
 use mathlib.Core.Path.{sym, _∙_}
 use native.Mathlib.Omega.{arith}
 use borrow.Author.Needs.{needs}
@@ -20,9 +20,6 @@ meet-requires c κs =
 enum-told : tie.Need-enum-told
 enum-told c = search needs
 
-enum-known-code : tie.Need-enum-known-code
-enum-known-code c = search needs
-
 returns : tie.Need-returns
 returns c =
     let a = c .before .before .before .before .args in
@@ -39,4 +36,4 @@ returns-2 c =
     first-met s (a .next) (p .0) (p .1) (met s (definiteRun 0 (a .next) deepest) (c .before .before .before .meet .ensures) (c .before .code .given .1))
 
 pub inside-first-spec : {M : Type 1} → statement M
-inside-first-spec = tie.close (tie.spec meet-requires enum-told enum-known-code returns returns-2)
+inside-first-spec = tie.close (tie.spec meet-requires enum-told (λ c. search needs) returns returns-2)

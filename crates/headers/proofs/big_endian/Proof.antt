@@ -1,5 +1,5 @@
 -- `big_endian` meets its contract: after i turns n is the number of the first i octets. That an octet is below 256 is known of `other` too, the
--- octet as far from the end: so a program that reads them the other way round is refused at the order alone. Assumes nothing.
+-- octet as far from the end: so a program that reads them the other way round is refused at the order alone.
 use mathlib.Core.Path.{_≡_, refl, ap, sym, _∙_, subst}
 use Prim.Native.Nat.{ℕ, _+_, _-_, _^_, _≤_, _<_}
 use borrow.Author.Needs.{needs}
@@ -9,9 +9,6 @@ use Rattle.headers.specs.Head.{bigEndian, bigEndianFrom}
 use Rattle.headers.proofs.Lengths.{be-more, be-grows, be-small, shift-is}
 use Rattle.headers.proofs.big_endian.Statement.{statement}
 use Rattle.headers.proofs.big_endian.Tie as tie
-use Rattle.headers.proofs.big_endian.Reads as reads
-use Rattle.headers.proofs.big_endian.Lts as lts
-use Rattle.headers.proofs.wide.Reads as wide-reads
 
 abbrev Inv-loop : tie.InvT-loop
 Inv-loop s from k n₀ i₀ n i = (i ≤ k) × (n ≡ bigEndian (take i (drop from s))) × (n < 256 ^ i)
@@ -28,9 +25,6 @@ add-wide c = omega arith
 
 shared-slice-read-wide : tie.Need-shared-slice-read-wide Inv-loop μ-loop
 shared-slice-read-wide c = omega arith
-
-wide-requires : tie.Need-wide-requires Inv-loop μ-loop
-wide-requires c κs = search needs
 
 add-n : tie.Need-add-n Inv-loop μ-loop
 add-n c =
@@ -67,16 +61,5 @@ returns c =
 
 pub big-endian-spec : {M : Type 1} → statement M
 big-endian-spec =
-    tie.close
-    (tie.spec
-    Inv-loop
-    μ-loop
-    loop-holds
-    add-wide
-    shared-slice-read-wide
-    wide-requires
-    add-n
-    add-i
-    loop-less
-    loop-again
+    tie.close (tie.spec Inv-loop μ-loop loop-holds add-wide shared-slice-read-wide (λ c κs. search needs) add-n add-i loop-less loop-again
     returns)

@@ -1,18 +1,9 @@
 -- `octets::closing` meets its contract: at each return the tests that led there say which case of `closingAt` holds.
--- Assumes nothing.
 use borrow.Author.Needs.{needs}
 use borrow.Author.Tests.{le-ltb, lt-ltb, eq-eqb, ne-eqb}
 use Rattle.headers.specs.Head.{closingAt}
 use Rattle.headers.proofs.closing_at.Statement.{statement}
 use Rattle.headers.proofs.closing_at.Tie as tie
-use Rattle.headers.proofs.closing_at.Reads as reads
-use Rattle.headers.proofs.closing_at.Lts as lts
-
-add-next : tie.Need-add-next
-add-next c = search needs
-
-shared-slice-read-if3 : tie.Need-shared-slice-read-if3
-shared-slice-read-if3 c = search needs
 
 returns : tie.Need-returns
 unfolding closingAt
@@ -32,4 +23,4 @@ returns-4 c = simp (c .if1 .left)
 
 pub closing-at-spec : {M : Type 1} → statement M
 closing-at-spec =
-    tie.close (tie.spec add-next shared-slice-read-if3 returns returns-2 returns-3 returns-4)
+    tie.close (tie.spec (λ c. search needs) (λ c. search needs) returns returns-2 returns-3 returns-4)

@@ -1,4 +1,4 @@
--- `headers::definite_at` meets its contract: the tests that led to each return say which case of `definiteAt` holds. Assumes nothing.
+-- `headers::definite_at` meets its contract: the tests that led to each return say which case of `definiteAt` holds.
 use Prim.Native.Nat.{_+_, _≤_, _<_}
 use mathlib.Core.Path.{_∙_, sym}
 use borrow.Author.Needs.{needs}
@@ -8,9 +8,6 @@ use Rattle.headers.specs.Head.{definiteAt}
 use Rattle.headers.proofs.definite_at.Statement.{statement}
 use Rattle.headers.proofs.definite_at.Tie as tie
 
-sub-if1 : tie.Need-sub-if1
-sub-if1 c = search needs
-
 returns : tie.Need-returns
 unfolding definiteAt
 returns c =
@@ -18,21 +15,12 @@ returns c =
     let h : a .limit < a .start + a .len = omega arith in
     simp (lt-leb _ _ h)
 
-is-misfit-requires : tie.Need-is-misfit-requires
-is-misfit-requires c κs = search needs
-
 returns-2 : tie.Need-returns-2
 unfolding definiteAt
 returns-2 c =
     let a = c .before .before .before .args in
     let h : a .start + a .len ≤ a .limit = omega arith in
     simp (le-leb _ _ h, sym (c .before .is-misfit .ensures) ∙ c .if2 .taken)
-
-number-of-requires : tie.Need-number-of-requires
-number-of-requires c κs = search needs
-
-add-t9 : tie.Need-add-t9
-add-t9 c = search needs
 
 returns-3 : tie.Need-returns-3
 unfolding definiteAt
@@ -43,5 +31,4 @@ returns-3 c =
 
 pub definite-at-spec : {M : Type 1} → statement M
 definite-at-spec =
-    tie.close
-    (tie.spec sub-if1 returns is-misfit-requires returns-2 number-of-requires add-t9 returns-3)
+    tie.close (tie.spec (λ c. search needs) returns (λ c κs. search needs) returns-2 (λ c κs. search needs) (λ c. search needs) returns-3)

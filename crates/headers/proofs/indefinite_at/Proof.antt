@@ -1,4 +1,4 @@
--- `headers::indefinite_at` meets its contract: its test is that of `indefiniteAt`. Assumes nothing.
+-- `headers::indefinite_at` meets its contract: its test is that of `indefiniteAt`.
 use borrow.Author.Needs.{needs}
 use borrow.Author.Tests.{eq-eqb, ne-eqb}
 use Rattle.headers.specs.Head.{indefiniteAt}
@@ -9,15 +9,9 @@ returns : tie.Need-returns
 unfolding indefiniteAt
 returns c = simp (ne-eqb _ _ (c .if1 .taken))
 
-number-of-requires : tie.Need-number-of-requires
-number-of-requires c κs = search needs
-
-add-t6 : tie.Need-add-t6
-add-t6 c = search needs
-
 returns-2 : tie.Need-returns-2
 unfolding indefiniteAt
 returns-2 c = simp (eq-eqb _ _ (c .before .if1 .left), c .number-of .ensures)
 
 pub indefinite-at-spec : {M : Type 1} → statement M
-indefinite-at-spec = tie.close (tie.spec returns number-of-requires add-t6 returns-2)
+indefinite-at-spec = tie.close (tie.spec returns (λ c κs. search needs) (λ c. search needs) returns-2)

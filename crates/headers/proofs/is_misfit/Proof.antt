@@ -1,4 +1,4 @@
--- `octets::misfit` meets its contract: each arm is a case of `misfits`. Assumes nothing.
+-- `octets::misfit` meets its contract: each arm is a case of `misfits`.
 use mathlib.Core.Path.{_≡_}
 use mathlib.Core.Logic.{_⊎_, inl, inr}
 use Prim.Native.Nat.{ℕ}
@@ -7,8 +7,6 @@ use borrow.Author.Tests.{ne-eqb}
 use Rattle.headers.specs.Head.{misfits}
 use Rattle.headers.proofs.is_misfit.Statement.{statement}
 use Rattle.headers.proofs.is_misfit.Tie as tie
-use Rattle.headers.proofs.is_misfit.Reads as reads
-use Rattle.headers.proofs.is_misfit.Lts as lts
 
 two-or-ten : (o n : ℕ) → (o ≡ 2) ⊎ (o ≡ 10) → eqb n 0 ≡ misfits o n
 unfolding misfits
@@ -29,7 +27,12 @@ returns-3 c = two-or-ten (c .before .args .code) (c .before .args .len) (c .matc
 
 returns-4 : tie.Need-returns-4
 unfolding misfits
-returns-4 c = simp (ne-eqb _ _ (c .match .rest .0 .0 .1), ne-eqb _ _ (c .match .rest .0 .1), ne-eqb _ _ (λ e. c .match .rest .1 (inl e)), ne-eqb _ _ (λ e. c .match .rest .1 (inr e)))
+returns-4 c = simp (
+  ne-eqb _ _ (c .match .rest .0 .0 .1),
+  ne-eqb _ _ (c .match .rest .0 .1),
+  ne-eqb _ _ (λ e. c .match .rest .1 (inl e)),
+  ne-eqb _ _ (λ e. c .match .rest .1 (inr e)),
+)
 
 pub is-misfit-spec : {M : Type 1} → statement M
 is-misfit-spec = tie.close (tie.spec returns returns-2 returns-3 returns-4)

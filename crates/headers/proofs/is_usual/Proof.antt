@@ -1,4 +1,4 @@
--- `octets::is_usual` meets its contract: each octet that it lets through has its law in `Usual`. Assumes nothing.
+-- `octets::is_usual` meets its contract: each octet that it lets through has its law in `Usual`.
 use mathlib.Core.Bool.{false≢true}
 use native.Mathlib.Omega.{arith}
 use borrow.Author.Needs.{needs}
@@ -8,9 +8,6 @@ use Rattle.headers.proofs.is_usual.Tie as tie
 
 returns : tie.Need-returns
 returns c = λ e. absurd (false≢true e)
-
-wide-requires : tie.Need-wide-requires
-wide-requires c κs = search needs
 
 returns-2 : tie.Need-returns-2
 returns-2 c = λ e. absurd (false≢true e)
@@ -41,16 +38,5 @@ returns-10 c = λ e. (omega arith, omega arith, omega arith, good-sequence _ _ (
 
 pub is-usual-spec : {M : Type 1} → statement M
 is-usual-spec =
-    tie.close
-    (tie.spec
-    returns
-    wide-requires
-    returns-2
-    returns-3
-    returns-4
-    returns-5
-    returns-6
-    returns-7
-    returns-8
-    returns-9
+    tie.close (tie.spec returns (λ c κs. search needs) returns-2 returns-3 returns-4 returns-5 returns-6 returns-7 returns-8 returns-9
     returns-10)

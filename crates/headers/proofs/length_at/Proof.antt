@@ -1,4 +1,4 @@
--- `headers::length_at` meets its contract: each arm of the match on the first length octet is a case of `byFirst`. Assumes nothing.
+-- `headers::length_at` meets its contract: each arm of the match on the first length octet is a case of `byFirst`.
 use borrow.Author.Needs.{needs}
 use borrow.Author.Tests.{lt-ltb, le-ltb, ne-eqb}
 use Rattle.headers.specs.Head.{lengthAt, byFirst}
@@ -8,27 +8,6 @@ use Rattle.headers.proofs.length_at.Tie as tie
 returns : tie.Need-returns
 unfolding lengthAt
 returns c = simp (le-ltb _ _ (c .if1 .taken))
-
-shared-slice-read-first : tie.Need-shared-slice-read-first
-shared-slice-read-first c = search needs
-
-indefinite-at-requires : tie.Need-indefinite-at-requires
-indefinite-at-requires c κs = search needs
-
-add-definite-at : tie.Need-add-definite-at
-add-definite-at c = search needs
-
-wide-requires : tie.Need-wide-requires
-wide-requires c κs = search needs
-
-definite-at-requires : tie.Need-definite-at-requires
-definite-at-requires c κs = search needs
-
-wide-requires-2 : tie.Need-wide-requires-2
-wide-requires-2 c κs = search needs
-
-long-at-requires : tie.Need-long-at-requires
-long-at-requires c κs = search needs
 
 returns-2 : tie.Need-returns-2
 unfolding lengthAt byFirst
@@ -61,17 +40,5 @@ returns-5 c =
 
 pub length-at-spec : {M : Type 1} → statement M
 length-at-spec =
-    tie.close
-    (tie.spec
-    returns
-    shared-slice-read-first
-    indefinite-at-requires
-    add-definite-at
-    wide-requires
-    definite-at-requires
-    wide-requires-2
-    long-at-requires
-    returns-2
-    returns-3
-    returns-4
-    returns-5)
+    tie.close (tie.spec returns (λ c. search needs) (λ c κs. search needs) (λ c. search needs) (λ c κs. search needs) (λ c κs. search needs)
+    (λ c κs. search needs) (λ c κs. search needs) returns-2 returns-3 returns-4 returns-5)

@@ -1,4 +1,4 @@
--- `headers::long_at` meets its contract: its test is that of `longAt`, turned round so that nothing overflows. Assumes nothing.
+-- `headers::long_at` meets its contract: its test is that of `longAt`, turned round so that nothing overflows.
 use Prim.Native.Nat.{_+_, _≤_, _<_}
 use borrow.Author.Needs.{needs}
 use borrow.Author.Tests.{le-leb, lt-leb}
@@ -7,27 +7,12 @@ use Rattle.headers.specs.Head.{longAt}
 use Rattle.headers.proofs.long_at.Statement.{statement}
 use Rattle.headers.proofs.long_at.Tie as tie
 
-add-first : tie.Need-add-first
-add-first c = search needs
-
-sub-if1 : tie.Need-sub-if1
-sub-if1 c = search needs
-
 returns : tie.Need-returns
 unfolding longAt
 returns c =
     let a = c .before .before .args in
     let h : a .limit < a .from + 1 + a .k = omega arith in
     simp (lt-leb _ _ h)
-
-add-definite-at : tie.Need-add-definite-at
-add-definite-at c = search needs
-
-big-endian-requires : tie.Need-big-endian-requires
-big-endian-requires c κs = search needs
-
-definite-at-requires : tie.Need-definite-at-requires
-definite-at-requires c κs = search needs
 
 returns-2 : tie.Need-returns-2
 unfolding longAt
@@ -38,12 +23,5 @@ returns-2 c =
 
 pub long-at-spec : {M : Type 1} → statement M
 long-at-spec =
-    tie.close
-    (tie.spec
-    add-first
-    sub-if1
-    returns
-    add-definite-at
-    big-endian-requires
-    definite-at-requires
+    tie.close (tie.spec (λ c. search needs) (λ c. search needs) returns (λ c. search needs) (λ c κs. search needs) (λ c κs. search needs)
     returns-2)

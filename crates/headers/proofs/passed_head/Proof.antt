@@ -1,4 +1,4 @@
--- `headers::passed_head` meets its contract: what is not refused is what the octets say, and `read_head` answers for the rest. Assumes nothing.
+-- `headers::passed_head` meets its contract: what is not refused is what the octets say, and `read_head` answers for the rest.
 use mathlib.Core.Path.{_≡_, sym, _∙_}
 use mathlib.Core.List.{List}
 use Prim.Native.Nat.{ℕ, _+_, _<_}
@@ -15,9 +15,6 @@ use Rattle.headers.proofs.passed_head.Reads as reads
 use Rattle.headers.proofs.passed_head.Lts as lts
 use Rattle.headers.proofs.read_head.Reads as read-head-reads
 use Rattle.headers.proofs.wide.Reads as wide-reads
-
-shared-slice-read-octet : tie.Need-shared-slice-read-octet
-shared-slice-read-octet c = search needs
 
 returns : tie.Need-returns
 returns c =
@@ -41,26 +38,8 @@ module _ (c : lts.Then2 calls reads.Pre reads.Post) where
       let a = c .before .before .before .before .args in
       passed-decided s (a .at) (a .limit) (a .marked) (a .room) (c .before .before .before .before .pre .2) (c .before .if1 .left) (c .if2 .taken)
 
-add-next : tie.Need-add-next
-add-next c = search needs
-
 shared-slice-read-len : tie.Need-shared-slice-read-len
 shared-slice-read-len c = omega (arith, decided (c .before) .1)
-
-add-start : tie.Need-add-start
-add-start c = search needs
-
-wide-requires : tie.Need-wide-requires
-wide-requires c κs = search needs
-
-wide-requires-2 : tie.Need-wide-requires-2
-wide-requires-2 c κs = search needs
-
-wide-requires-3 : tie.Need-wide-requires-3
-wide-requires-3 c κs = search needs
-
-add-bound : tie.Need-add-t20
-add-bound c = search needs
 
 returns-2 : tie.Need-returns-2
 returns-2 c =
@@ -71,12 +50,6 @@ returns-2 c =
     let f = passed-short (s p) (octetAt (s p) (a .at)) (a .at) (a .at + 1) (a .limit) _ (c .before .before .before .if3 .taken) q .0 in
     rw (c .before .before .wide .ensures, c .before .wide2 .ensures, c .wide3 .ensures) (sym (e ∙ f ∙ rw one))
 
-wide-requires-4 : tie.Need-wide-requires-4
-wide-requires-4 c κs = search needs
-
-wide-requires-5 : tie.Need-wide-requires-5
-wide-requires-5 c κs = search needs
-
 returns-3 : tie.Need-returns-3
 returns-3 c =
     let p = c .before .before .before .before .before in
@@ -86,28 +59,8 @@ returns-3 c =
     let f = passed-open (s p) (octetAt (s p) (a .at)) (a .at) (a .at + 1) (a .limit) _ (c .before .before .if4 .taken) q in
     rw (c .before .wide4 .ensures, c .wide5 .ensures) (sym (e ∙ f ∙ rw one))
 
-read-head-requires : tie.Need-read-head-requires
-read-head-requires c κs = search needs
-
-returns-4 : tie.Need-returns-4
-returns-4 c = search needs
-
 pub passed-head-spec : {M : Type 1} → statement M
 passed-head-spec =
-    tie.close
-    (tie.spec
-    shared-slice-read-octet
-    returns
-    add-next
-    shared-slice-read-len
-    add-start
-    wide-requires
-    wide-requires-2
-    wide-requires-3
-    add-bound
-    returns-2
-    wide-requires-4
-    wide-requires-5
-    returns-3
-    read-head-requires
-    returns-4)
+    tie.close (tie.spec (λ c. search needs) returns (λ c. search needs) shared-slice-read-len (λ c. search needs) (λ c κs. search needs)
+    (λ c κs. search needs) (λ c κs. search needs) (λ c. search needs) returns-2 (λ c κs. search needs) (λ c κs. search needs) returns-3
+    (λ c κs. search needs) (λ c. search needs))

@@ -1,4 +1,4 @@
--- `headers::read_head` meets its contract: the tests that led to each return say which case of `headAt` holds. Assumes nothing.
+-- `headers::read_head` meets its contract: the tests that led to each return say which case of `headAt` holds.
 use mathlib.Core.Path.{_∙_, sym, subst}
 use native.Mathlib.Omega.{arith}
 use denote.Ref.{now}
@@ -9,12 +9,6 @@ use Rattle.headers.proofs.Lies.{FieldEnds, field-ends}
 use Rattle.headers.proofs.read_head.Statement.{statement}
 use Rattle.headers.proofs.read_head.Tie as tie
 
-shared-slice-read-octet : tie.Need-shared-slice-read-octet
-shared-slice-read-octet c = search needs
-
-closing-at-requires : tie.Need-closing-at-requires
-closing-at-requires c κs = search needs
-
 returns : tie.Need-returns
 unfolding headAt itemAt
 returns c = simp (eq-eqb _ _ (c .before .if1 .taken), c .closing-at .ensures)
@@ -23,12 +17,6 @@ returns-2 : tie.Need-returns-2
 unfolding headAt itemAt
 returns-2 c = simp (ne-eqb _ _ (c .before .if1 .left), eq-eqb _ _ (c .if2 .taken))
 
-field-at-requires : tie.Need-field-at-requires
-field-at-requires c κs = search needs
-
-enum-known-code : tie.Need-enum-known-code
-enum-known-code c = search needs
-
 length-at-requires : tie.Need-length-at-requires
 length-at-requires c κs =
     let told = sym (c .before .before .before .field-at .ensures) ∙ c .before .code .given .1 in
@@ -36,14 +24,16 @@ length-at-requires c κs =
     let ends = subst (FieldEnds (a .at)) told (field-ends (now (a .s)) (octetAt (now (a .s)) (a .at)) (a .at) (a .limit)) in
     omega arith
 
-enum-known-number : tie.Need-enum-known-number
-enum-known-number c = search needs
-
 returns-3 : tie.Need-returns-3
 unfolding headAt itemAt
 returns-3 c =
     let told = sym (c .before .before .before .before .field-at .ensures) ∙ c .before .before .code .given .1 in
-    simp (ne-eqb _ _ (c .before .before .before .before .before .before .if1 .left), ne-eqb _ _ (c .before .before .before .before .before .if2 .left), told, c .length-at .ensures)
+    simp (
+      ne-eqb _ _ (c .before .before .before .before .before .before .if1 .left),
+      ne-eqb _ _ (c .before .before .before .before .before .if2 .left),
+      told,
+      c .length-at .ensures,
+    )
 
 returns-4 : tie.Need-returns-4
 unfolding headAt itemAt
@@ -53,15 +43,5 @@ returns-4 c =
 
 pub read-head-spec : {M : Type 1} → statement M
 read-head-spec =
-    tie.close
-    (tie.spec
-    shared-slice-read-octet
-    closing-at-requires
-    returns
-    returns-2
-    field-at-requires
-    enum-known-code
-    length-at-requires
-    enum-known-number
-    returns-3
-    returns-4)
+    tie.close (tie.spec (λ c. search needs) (λ c κs. search needs) returns returns-2 (λ c κs. search needs) (λ c. search needs)
+    length-at-requires (λ c. search needs) returns-3 returns-4)

@@ -1,4 +1,4 @@
--- `is_over` meets its contract: the tests are the definition's. Assumes nothing.
+-- `is_over` meets its contract: the tests are the definition's.
 use borrow.Author.Needs.{needs}
 use borrow.Author.Tests.{eq-eqb, ne-eqb}
 use Rattle.hexlister.proofs.is_over.Statement.{statement}
@@ -7,11 +7,8 @@ use Rattle.hexlister.proofs.is_over.Tie as tie
 returns : tie.Need-returns
 returns c = rw (eq-eqb _ _ (c .if1 .taken))
 
-is-stopped-requires : tie.Need-is-stopped-requires
-is-stopped-requires c κs = search needs
-
 returns-2 : tie.Need-returns-2
 returns-2 c = rw (ne-eqb _ _ (c .before .if1 .left)) (c .is-stopped .ensures)
 
 pub is-over-spec : {M : Type 1} → statement M
-is-over-spec = tie.close (tie.spec returns is-stopped-requires returns-2)
+is-over-spec = tie.close (tie.spec returns (λ c κs. search needs) returns-2)

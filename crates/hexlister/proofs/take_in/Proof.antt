@@ -1,4 +1,4 @@
--- `take_in` meets its contract: the sign of what `read` answered is tested, and what it counts is read on. Assumes nothing.
+-- `take_in` meets its contract: the sign of what `read` answered is tested, and what it counts is read on.
 use mir.Facts.{toZ-ofZ}
 use borrow.Author.Needs.{needs}
 use Rattle.hexlister.proofs.Inputs.{broke, took-on, took-last}
@@ -7,18 +7,6 @@ use Rattle.hexlister.proofs.take_in.Tie as tie
 
 returns : tie.Need-returns
 returns c = broke (c .before .before .args .got) (toZ-ofZ (c .before .before .fits .got)) (c .if1 .taken)
-
-count-requires : tie.Need-count-requires
-count-requires c κs = search needs
-
-slice-aggregate-feed : tie.Need-slice-aggregate-feed
-slice-aggregate-feed c = search needs
-
-feed-requires : tie.Need-feed-requires
-feed-requires c κs = search needs
-
-is-over-requires : tie.Need-is-over-requires
-is-over-requires c κs = search needs
 
 returns-2 : tie.Need-returns-2
 returns-2 c =
@@ -36,12 +24,4 @@ returns-3 c =
 
 pub take-in-spec : {M : Type 1} → statement M
 take-in-spec =
-    tie.close
-    (tie.spec
-    returns
-    count-requires
-    slice-aggregate-feed
-    feed-requires
-    is-over-requires
-    returns-2
-    returns-3)
+    tie.close (tie.spec returns (λ c κs. search needs) (λ c. search needs) (λ c κs. search needs) (λ c κs. search needs) returns-2 returns-3)

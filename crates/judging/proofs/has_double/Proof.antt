@@ -1,4 +1,4 @@
--- `judging::has_double` meets its contract: each look-up is a part of rule 15, and so are the portions. Assumes nothing.
+-- `judging::has_double` meets its contract: each look-up is a part of rule 15, and so are the portions.
 use mathlib.Core.Path.{_≡_, sym, ap, _∙_, subst}
 use mathlib.Core.Bool.{Bool, true, false}
 use Prim.Native.Nat.{ℕ}
@@ -19,19 +19,20 @@ identifier-taken : (c : tie.After-is-taken) (b : Bool) → c .is-taken .result �
     Taken (a .s .now) (a .rows .now) identifierColumn (a .n) (nameSpaceOf (a .seen .row .kind)) (bytesIn (a .s .now) (a .seen .row .identifier)) b
 identifier-taken c b e =
     let a = c .before .before .before .before .before .before .before .before .before .before .args in
-    subst (λ (k : ℕ). Taken (a .s .now) (a .rows .now) identifierColumn (a .n) k (bytesIn (a .s .now) (a .seen .row .identifier)) b) (c .before .space-of .ensures)
-    (subst (Taken (a .s .now) (a .rows .now) identifierColumn (a .n) (c .before .space-of .result) (bytesIn (a .s .now) (a .seen .row .identifier))) e (c .is-taken .ensures))
+    subst (λ (k : ℕ). Taken (a .s .now) (a .rows .now) identifierColumn (a .n) k (bytesIn (a .s .now) (a .seen .row .identifier)) b)
+    (c .before .space-of .ensures)
+    (subst (Taken (a .s .now) (a .rows .now) identifierColumn (a .n) (c .before .space-of .result)
+    (bytesIn (a .s .now) (a .seen .row .identifier))) e (c .is-taken .ensures))
 
 logical-taken : (c : tie.After-is-taken2) (b : Bool) → c .is-taken2 .result ≡ b →
     let a = c .before .before .before .before .before .before .before .before .before .before .before .before .args in
     Taken (a .s .now) (a .rows .now) logicalColumn (a .n) (nameSpaceOf (a .seen .row .kind)) (bytesIn (a .s .now) (a .seen .row .logical)) b
 logical-taken c b e =
     let a = c .before .before .before .before .before .before .before .before .before .before .before .before .args in
-    subst (λ (k : ℕ). Taken (a .s .now) (a .rows .now) logicalColumn (a .n) k (bytesIn (a .s .now) (a .seen .row .logical)) b) (c .before .before .before .space-of .ensures)
-    (subst (Taken (a .s .now) (a .rows .now) logicalColumn (a .n) (c .before .before .before .space-of .result) (bytesIn (a .s .now) (a .seen .row .logical))) e (c .is-taken2 .ensures))
-
-space-of-requires : tie.Need-space-of-requires
-space-of-requires c κs = search needs
+    subst (λ (k : ℕ). Taken (a .s .now) (a .rows .now) logicalColumn (a .n) k (bytesIn (a .s .now) (a .seen .row .logical)) b)
+    (c .before .before .before .space-of .ensures)
+    (subst (Taken (a .s .now) (a .rows .now) logicalColumn (a .n) (c .before .before .before .space-of .result)
+    (bytesIn (a .s .now) (a .seen .row .logical))) e (c .is-taken2 .ensures))
 
 is-taken-requires : tie.Need-is-taken-requires
 is-taken-requires c κs =
@@ -51,25 +52,16 @@ is-taken-requires-2 c κs =
 returns-2 : tie.Need-returns-2
 returns-2 c =
     λ table done e holds says stored.
-    sym (logical-twice holds says (identifier-taken (c .before .before .before) false (c .before .before .if1 .left)) (logical-taken (c .before) true (c .if2 .taken)))
-
-has-repeats-requires : tie.Need-has-repeats-requires
-has-repeats-requires c κs = search needs
+    sym (logical-twice holds says (identifier-taken (c .before .before .before) false (c .before .before .if1 .left))
+    (logical-taken (c .before) true (c .if2 .taken)))
 
 returns-3 : tie.Need-returns-3
 returns-3 c =
     λ table done e holds says stored.
     c .has-repeats .ensures ∙ ap repeats stored
-    ∙ sym (portions-twice holds says (identifier-taken (c .before .before .before .before) false (c .before .before .before .if1 .left)) (logical-taken (c .before .before) false (c .before .if2 .left)))
+    ∙ sym (portions-twice holds says (identifier-taken (c .before .before .before .before) false (c .before .before .before .if1 .left))
+    (logical-taken (c .before .before) false (c .before .if2 .left)))
 
 pub has-double-spec : {M : Type 1} → statement M
 has-double-spec =
-    tie.close
-    (tie.spec
-    space-of-requires
-    is-taken-requires
-    returns
-    is-taken-requires-2
-    returns-2
-    has-repeats-requires
-    returns-3)
+    tie.close (tie.spec (λ c κs. search needs) is-taken-requires returns is-taken-requires-2 returns-2 (λ c κs. search needs) returns-3)

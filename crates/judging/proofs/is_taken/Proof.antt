@@ -1,4 +1,4 @@
--- `judging::is_taken` meets its contract: an empty name is no row's, and any other is looked up. Assumes nothing.
+-- `judging::is_taken` meets its contract: an empty name is no row's, and any other is looked up.
 use native.Mathlib.Omega.{arith}
 use Rattle.judging.proofs.Clash.{found-taken, nothing-taken, empty-untaken}
 use borrow.Author.Needs.{needs}
@@ -24,9 +24,6 @@ find-requires c κs =
 enum-told : tie.Need-enum-told
 enum-told c = search needs
 
-enum-told-2 : tie.Need-enum-told-2
-enum-told-2 c = search needs
-
 returns-2 : tie.Need-returns-2
 returns-2 c = found-taken (c .before .before .find .ensures) _ (c .enum-told .given .1)
 
@@ -35,4 +32,4 @@ returns-3 c = nothing-taken (c .before .before .find .ensures) (c .enum-told2 .g
 
 pub is-taken-spec : {M : Type 1} → statement M
 is-taken-spec =
-    tie.close (tie.spec returns find-requires enum-told enum-told-2 returns-2 returns-3)
+    tie.close (tie.spec returns find-requires enum-told (λ c. search needs) returns-2 returns-3)

@@ -1,4 +1,4 @@
--- `judging::judge_element` meets its contract: a run that is over has no items. Assumes nothing.
+-- `judging::judge_element` meets its contract: a run that is over has no items.
 use mathlib.Core.Path.{sym, _∙_}
 use native.Mathlib.Omega.{arith}
 use borrow.Author.Needs.{needs}
@@ -11,9 +11,6 @@ use Rattle.judging.proofs.judge_element.Tie as tie
 is-over-requires : tie.Need-is-over-requires
 is-over-requires c κs = c .before .before .before .before .before .before .before .pre .1 .1 .0
 
-may-be-bare-requires : tie.Need-may-be-bare-requires
-may-be-bare-requires c κs = search needs
-
 judge-bare-requires : tie.Need-judge-bare-requires
 judge-bare-requires c κs = (c .before .may-be-bare .ensures (c .if2 .taken), omega arith)
 
@@ -25,23 +22,7 @@ returns c =
     let none-there = no-tops items (eqb-true (tops items) 0 (sym (at-test .before .is-over .ensures) ∙ at-test .if1 .taken)) in
     c .judge-bare .ensures _ _ _ none-there (start .pre .1 .1 .3)
 
-judge-any-requires : tie.Need-judge-any-requires
-judge-any-requires c κs = search needs
-
-same-length : tie.Need-same-length
-same-length c = search needs
-
-returns-2 : tie.Need-returns-2
-returns-2 c = search needs
-
 pub judge-element-spec : {M : Type 1} → statement M
 judge-element-spec =
-    tie.close
-    (tie.spec
-    is-over-requires
-    may-be-bare-requires
-    judge-bare-requires
-    returns
-    judge-any-requires
-    same-length
-    returns-2)
+    tie.close (tie.spec is-over-requires (λ c κs. search needs) judge-bare-requires returns (λ c κs. search needs) (λ c. search needs)
+    (λ c. search needs))

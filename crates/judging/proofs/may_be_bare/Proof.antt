@@ -1,4 +1,4 @@
--- `judging::may_be_bare` meets its contract: the rules are computed for each of the octets that it lets through, in each edition. Assumes nothing.
+-- `judging::may_be_bare` meets its contract: the rules are computed for each of the octets that it lets through, in each edition.
 use mathlib.Core.Path.{_≡_, refl, sym, subst}
 use mathlib.Core.Bool.{false≢true}
 use mathlib.Core.Logic.{_⊎_, inl, inr}

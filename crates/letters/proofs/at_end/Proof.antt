@@ -1,4 +1,4 @@
--- `letters::at_end` meets its contract: the test decides. Assumes nothing.
+-- `letters::at_end` meets its contract: the test decides.
 use borrow.Author.Tests.{eq-eqb, ne-eqb}
 use Rattle.letters.proofs.at_end.Statement.{statement}
 use Rattle.letters.proofs.at_end.Tie as tie

@@ -1,5 +1,5 @@
 -- `letters::has_more` meets its contract: the elements of the stream and those that may still be passed are as many as those asked for and
--- those of the rest. Assumes nothing.
+-- those of the rest.
 use mathlib.Core.Path.{_≡_, sym, ap, subst}
 use mathlib.Core.List.{List}
 use Prim.Native.Nat.{ℕ, _+_, _-_}
@@ -34,9 +34,6 @@ same-tops : (c : tie.After-whole-stream Inv-loop μ-loop) →
     let s = c .before .before .args .s .now in topsIn s (c .whole-stream .result) ≡ topsIn s (wholeStream s)
 same-tops c = ap (topsIn (c .before .before .args .s .now)) (c .whole-stream .ensures)
 
-whole-stream-requires : tie.Need-whole-stream-requires Inv-loop μ-loop
-whole-stream-requires c κs = search needs
-
 loop-holds : tie.Need-loop-holds Inv-loop μ-loop
 loop-holds c =
     let s = c .before .before .args .s .now in (subst (Fine s) (sym (c .whole-stream .ensures)) (c .before .before .pre), omega arith)
@@ -55,19 +52,19 @@ returns c =
     let none-left = met s (l .cur) (c .before .before .meet .ensures) (c .enum-told .given .1) in
     sym (le-ltb (a .most) (topsIn s (wholeStream s)) (omega (arith, l .inv .1, ap tops none-left, same-tops (c .before .before .before .before))))
 
-enum-known-rest : tie.Need-enum-known-rest Inv-loop μ-loop
-enum-known-rest c = search needs
-
 returns-2 : tie.Need-returns-2 Inv-loop μ-loop
 returns-2 c =
     let m = meeting (c .before) in
     let l = c .before .before .before .before .before .loop in
     let a = c .before .before .before .before .before .before .before .before .args in
     let s = a .s .now in
-    sym (lt-ltb (a .most) (topsIn s (wholeStream s)) (omega (arith, l .inv .1, ap tops (m .tree), c .if1 .taken, same-tops (c .before .before .before .before .before .before))))
-
-sub-left : tie.Need-sub-left Inv-loop μ-loop
-sub-left c = search needs
+    sym (lt-ltb (a .most) (topsIn s (wholeStream s)) (omega (
+      arith,
+      l .inv .1,
+      ap tops (m .tree),
+      c .if1 .taken,
+      same-tops (c .before .before .before .before .before .before),
+    )))
 
 loop-less : tie.Need-loop-less Inv-loop μ-loop
 loop-less c = meeting (c .before) .less
@@ -80,17 +77,5 @@ loop-again c =
 
 pub has-more-spec : {M : Type 1} → statement M
 has-more-spec =
-    tie.close
-    (tie.spec
-    Inv-loop
-    μ-loop
-    whole-stream-requires
-    loop-holds
-    meet-requires
-    enum-told
-    returns
-    enum-known-rest
-    returns-2
-    sub-left
-    loop-less
-    loop-again)
+    tie.close (tie.spec Inv-loop μ-loop (λ c κs. search needs) loop-holds meet-requires enum-told returns (λ c. search needs) returns-2
+    (λ c. search needs) loop-less loop-again)

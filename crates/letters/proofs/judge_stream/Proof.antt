@@ -1,5 +1,5 @@
 -- `letters::judge_stream` meets its contract: the judge stands between two elements at each turn, and all that is lent keeps its
--- length. Assumes nothing.
+-- length.
 use mathlib.Core.Path.{_≡_, refl, sym, subst}
 use Prim.Native.Nat.{_-_}
 use native.Mathlib.Omega.{arith}
@@ -25,8 +25,10 @@ abbrev μ-loop : tie.MeasureT-loop
 -- an element is met
 meeting : (c : tie.After-known-told Inv-loop μ-loop) →
     let g = c .before .code .given .0 in
-    Meeting (c .before .before .before .before .before .before .before .before .before .before .before .before .before .args .s .now) (c .before .before .before .before .loop .cur) (g .0) (g .1 .0) (g .1 .1 .0) (g .1 .1 .1 .0) (g .1 .1 .1 .1 .0)
-meeting c = met (c .before .before .before .before .before .before .before .before .before .before .before .before .before .args .s .now) (c .before .before .before .before .loop .cur) (c .before .before .before .meet .ensures) (c .before .code .given .1)
+    Meeting (c .before .before .before .before .before .before .before .before .before .before .before .before .before .args .s .now)
+    (c .before .before .before .before .loop .cur) (g .0) (g .1 .0) (g .1 .1 .0) (g .1 .1 .1 .0) (g .1 .1 .1 .1 .0)
+meeting c = met (c .before .before .before .before .before .before .before .before .before .before .before .before .before .args .s .now)
+    (c .before .before .before .before .loop .cur) (c .before .before .before .meet .ensures) (c .before .code .given .1)
 
 abbrev item : tie.After-known-told Inv-loop μ-loop → PlacedItem
 item c =
@@ -46,15 +48,13 @@ passing : (c : tie.After-known-told3 Inv-loop μ-loop) →
     Passing (c .before .before .before .before .before .before .before .before .before .before .before .before .before .before .before .before .before .before .before .before .before .before .before .before .before .args .edition) (c .before .before .before .before .before .before .before .before .before .before .before .before .before .before .before .before .before .before .before .before .before .before .before .before .before .args .s .now) (c .before .before .before .before .before .before .before .before .before .before .before .before .before .before .before .before .loop .inv .0 .done) (item (c .before .before .before .before .before .before .before .before .before .before .before .before)) (p .0) (p .1 .0)
 passing c = judged (c .before .before .before .before .before) _ (c .before .row .given .1)
 
-whole-stream-requires : tie.Need-whole-stream-requires Inv-loop μ-loop
-whole-stream-requires c κs = search needs
-
 loop-holds : tie.Need-loop-holds Inv-loop μ-loop
 loop-holds c =
     let start = c .before .before .before .before .before .before .before .before in
     let a = start .args in (
       subst (Judging (a .edition) (a .s .now) (a .rows .now) (a .head .now) (a .next .now) (a .head2 .now) (a .next2 .now) 0) (sym (c .whole-stream .ensures))
-          (judging-none (a .edition) (a .s .now) (a .rows .now) (a .head .now) (a .next .now) (a .head2 .now) (a .next2 .now) (a .bounds .now) (start .pre .1) (start .pre .0 .0)),
+          (judging-none (a .edition) (a .s .now) (a .rows .now) (a .head .now) (a .next .now) (a .head2 .now) (a .next2 .now) (a .bounds .now)
+          (start .pre .1) (start .pre .0 .0)),
       refl,
       refl,
       refl,
@@ -69,36 +69,12 @@ meet-requires c κs = c .loop .inv .0 .fine
 enum-told : tie.Need-enum-told Inv-loop μ-loop
 enum-told c = search needs
 
-at-end-requires : tie.Need-at-end-requires Inv-loop μ-loop
-at-end-requires c κs = search needs
-
-same-length : tie.Need-same-length Inv-loop μ-loop
-same-length c = search needs
-
-same-length-2 : tie.Need-same-length-2 Inv-loop μ-loop
-same-length-2 c = search needs
-
-same-length-3 : tie.Need-same-length-3 Inv-loop μ-loop
-same-length-3 c = search needs
-
-same-length-4 : tie.Need-same-length-4 Inv-loop μ-loop
-same-length-4 c = search needs
-
-same-length-5 : tie.Need-same-length-5 Inv-loop μ-loop
-same-length-5 c = search needs
-
-same-length-6 : tie.Need-same-length-6 Inv-loop μ-loop
-same-length-6 c = search needs
-
 returns : tie.Need-returns Inv-loop μ-loop
 returns c =
     let s = c .before .before .before .before .before .before .before .before .before .before .before .before .before .args .s .now in
     let l = c .before .before .before .before .loop in
     let end = met s (l .cur) (c .before .before .before .meet .ensures) (c .before .enum-told .given .1) in
     rw (c .at-end .ensures) (end-gives (l .inv .0) end)
-
-enum-known-code : tie.Need-enum-known-code Inv-loop μ-loop
-enum-known-code c = search needs
 
 judge-element-requires : tie.Need-judge-element-requires Inv-loop μ-loop
 judge-element-requires c κs =
@@ -118,34 +94,11 @@ judge-element-requires c κs =
       ),
     )
 
-enum-known-number : tie.Need-enum-known-number Inv-loop μ-loop
-enum-known-number c = search needs
-
-same-length-7 : tie.Need-same-length-7 Inv-loop μ-loop
-same-length-7 c = search needs
-
-same-length-8 : tie.Need-same-length-8 Inv-loop μ-loop
-same-length-8 c = search needs
-
-same-length-9 : tie.Need-same-length-9 Inv-loop μ-loop
-same-length-9 c = search needs
-
-same-length-10 : tie.Need-same-length-10 Inv-loop μ-loop
-same-length-10 c = search needs
-
-same-length-11 : tie.Need-same-length-11 Inv-loop μ-loop
-same-length-11 c = search needs
-
-same-length-12 : tie.Need-same-length-12 Inv-loop μ-loop
-same-length-12 c = search needs
-
 returns-2 : tie.Need-returns-2 Inv-loop μ-loop
 returns-2 c =
     let l = c .before .before .before .before .before .before .before .before .before .before .before .before .before .before .before .before .loop in
-    refused-at (l .inv .0) (meeting (c .before .before .before .before .before .before .before .before .before .before .before .before)) _ (judged (c .before .before .before .before .before) _ (c .before .number .given .1))
-
-enum-known-row : tie.Need-enum-known-row Inv-loop μ-loop
-enum-known-row c = search needs
+    refused-at (l .inv .0) (meeting (c .before .before .before .before .before .before .before .before .before .before .before .before)) _
+    (judged (c .before .before .before .before .before) _ (c .before .number .given .1))
 
 add-row-requires : tie.Need-add-row-requires Inv-loop μ-loop
 add-row-requires c κs =
@@ -170,7 +123,10 @@ add-row-requires c κs =
     )
 
 add-n : tie.Need-add-n Inv-loop μ-loop
-add-n c = omega (arith, few (c .before .before .before .before .before .before .before .before .before .before .before .before .before .before .before .before .before .before .before .before .before .before .before .before .before .before .before .before .before .before .before .before .loop .inv .0) (meeting (c .before .before .before .before .before .before .before .before .before .before .before .before .before .before .before .before .before .before .before .before .before .before .before .before .before .before .before .before)) (passing (c .before .before .before .before .before .before .before .before .before .before .before .before .before .before .before .before)))
+add-n c = omega (
+  arith,
+  few (c .before .before .before .before .before .before .before .before .before .before .before .before .before .before .before .before .before .before .before .before .before .before .before .before .before .before .before .before .before .before .before .before .loop .inv .0) (meeting (c .before .before .before .before .before .before .before .before .before .before .before .before .before .before .before .before .before .before .before .before .before .before .before .before .before .before .before .before)) (passing (c .before .before .before .before .before .before .before .before .before .before .before .before .before .before .before .before)),
+)
 
 loop-less : tie.Need-loop-less Inv-loop μ-loop
 loop-less c = meeting (c .before .before .before .before .before .before .before .before .before .before .before .before .before .before .before .before .before .before .before .before .before .before .before .before .before .before .before .before) .less
@@ -190,34 +146,7 @@ loop-again c =
 
 pub judge-stream-spec : {M : Type 1} → statement M
 judge-stream-spec =
-    tie.close
-    (tie.spec
-    Inv-loop
-    μ-loop
-    whole-stream-requires
-    loop-holds
-    meet-requires
-    enum-told
-    at-end-requires
-    same-length
-    same-length-2
-    same-length-3
-    same-length-4
-    same-length-5
-    same-length-6
-    returns
-    enum-known-code
-    judge-element-requires
-    enum-known-number
-    same-length-7
-    same-length-8
-    same-length-9
-    same-length-10
-    same-length-11
-    same-length-12
-    returns-2
-    enum-known-row
-    add-row-requires
-    add-n
-    loop-less
-    loop-again)
+    tie.close (tie.spec Inv-loop μ-loop (λ c κs. search needs) loop-holds meet-requires enum-told (λ c κs. search needs) (λ c. search needs)
+    (λ c. search needs) (λ c. search needs) (λ c. search needs) (λ c. search needs) (λ c. search needs) returns (λ c. search needs)
+    judge-element-requires (λ c. search needs) (λ c. search needs) (λ c. search needs) (λ c. search needs) (λ c. search needs)
+    (λ c. search needs) (λ c. search needs) returns-2 (λ c. search needs) add-row-requires add-n loop-less loop-again)

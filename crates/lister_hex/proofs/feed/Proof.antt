@@ -1,4 +1,5 @@
--- `lister_hex::feed` meets its contract. The loop's invariant: feeding what is left of the block from here is feeding the whole block from the start. The measure is what is left. Assumes nothing.
+-- `lister_hex::feed` meets its contract. The loop's invariant: feeding what is left of the block from here is feeding the whole block from the start.
+-- The measure is what is left.
 use native.Mathlib.Omega.{arith}
 use Prim.Native.Nat.{_≤_, _<_, _-_}
 use mathlib.Core.Path.{_≡_, refl, sym, _∙_}
@@ -46,14 +47,4 @@ returns c =
 
 pub feed-spec : {M : Type 1} → statement M
 feed-spec =
-    tie.close
-    (tie.spec
-    Inv-loop
-    μ-loop
-    loop-holds
-    shared-slice-read-step
-    step-requires
-    add-i
-    loop-less
-    loop-again
-    returns)
+    tie.close (tie.spec Inv-loop μ-loop loop-holds shared-slice-read-step step-requires add-i loop-less loop-again returns)

@@ -1,4 +1,4 @@
--- `lister_hex::read_second` meets its contract: each return stands behind the tests that pick its case in the definition. Assumes nothing.
+-- `lister_hex::read_second` meets its contract: each return stands behind the tests that pick its case in the definition.
 use Prim.Native.Nat.{_≤_, _<_}
 use native.Mathlib.Omega.{arith}
 use borrow.Author.Needs.{needs}
@@ -6,12 +6,6 @@ use borrow.Author.Tests.{lt-ltb, le-ltb}
 use Rattle.lister_hex.specs.Lines.{inputLimit}
 use Rattle.lister_hex.proofs.read_second.Statement.{statement}
 use Rattle.lister_hex.proofs.read_second.Tie as tie
-
-value-requires : tie.Need-value-requires
-value-requires c κs = search needs
-
-value-requires-2 : tie.Need-value-requires-2
-value-requires-2 c κs = search needs
 
 returns : tie.Need-returns
 returns c = rw (← c .before .before .value .ensures, le-ltb _ _ (c .if1 .taken))
@@ -30,18 +24,6 @@ returns-3 c =
     let low = c .before .before .before .value2 .ensures in
     rw (← high, lt-ltb _ _ (c .before .before .if1 .left), ← low, lt-ltb _ _ (c .before .if2 .left), le-ltb length inputLimit full)
 
-mul-out : tie.Need-mul-out
-mul-out c = search needs
-
-add-out : tie.Need-add-out
-add-out c = search needs
-
-element-write-out : tie.Need-element-write-out
-element-write-out c = search needs
-
-add-t13 : tie.Need-add-t13
-add-t13 c = search needs
-
 returns-4 : tie.Need-returns-4
 returns-4 c =
     let length = c .before .before .before .before .before .args .length in
@@ -52,15 +34,5 @@ returns-4 c =
 
 pub read-second-spec : {M : Type 1} → statement M
 read-second-spec =
-    tie.close
-    (tie.spec
-    value-requires
-    value-requires-2
-    returns
-    returns-2
-    returns-3
-    mul-out
-    add-out
-    element-write-out
-    add-t13
-    returns-4)
+    tie.close (tie.spec (λ c κs. search needs) (λ c κs. search needs) returns returns-2 returns-3 (λ c. search needs) (λ c. search needs)
+    (λ c. search needs) (λ c. search needs) returns-4)

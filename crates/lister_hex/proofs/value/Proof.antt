@@ -1,13 +1,10 @@
--- `lister_hex::value` meets its contract: each arm's tests are those of the definition. Assumes nothing.
+-- `lister_hex::value` meets its contract: each arm's tests are those of the definition.
 use borrow.Author.Needs.{needs}
 use borrow.Author.Tests.{le-leb, lt-leb}
 use native.Mathlib.Omega.{arith}
 use Rattle.lister_hex.specs.Lines.{digitValue}
 use Rattle.lister_hex.proofs.value.Statement.{statement}
 use Rattle.lister_hex.proofs.value.Tie as tie
-
-add-result : tie.Need-add-result
-add-result c = search needs
 
 returns : tie.Need-returns
 unfolding digitValue
@@ -40,4 +37,4 @@ returns-5 c =
     simp (le-leb 48 b (omega arith), lt-leb b 57 (omega arith), le-leb 65 b (omega arith), lt-leb b 70 (omega arith))
 
 pub value-spec : {M : Type 1} → statement M
-value-spec = tie.close (tie.spec add-result returns returns-2 returns-3 returns-4 returns-5)
+value-spec = tie.close (tie.spec (λ c. search needs) returns returns-2 returns-3 returns-4 returns-5)

@@ -1,4 +1,4 @@
--- `lister_text::put_number` meets its contract: it follows the two equations of a decimal number. Its measure is the number, whose tenth is less. Assumes nothing.
+-- `lister_text::put_number` meets its contract: it follows the two equations of a decimal number. Its measure is the number, whose tenth is less.
 use Prim.Native.Nat.{ℕ, _/_, _%_, _<_}
 use borrow.Fn.Kinds.{In}
 use borrow.Fn.PlainCycle.{Measures, is, falls, and}
@@ -54,7 +54,8 @@ module _ (t : ℕ) where
   add-out-2 c = omega arith
 
   -- there is room for the last digit
-  last-within : (c : put-number-lts.After-slice-known2 (calls t) (now-at t) put-number.Post) → c .before .before .put-number .result < length (c .before .before .put-number .last .0)
+  last-within : (c : put-number-lts.After-slice-known2 (calls t) (now-at t) put-number.Post) → c .before .before .put-number .result < length
+      (c .before .before .put-number .last .0)
   last-within c =
       let n = c .before .before .before .before .before .before .args .n in
       let put = c .before .before .put-number in
@@ -81,4 +82,5 @@ module _ (t : ℕ) where
 pub +put-number-spec : {M : Type 1} → statement M
 +put-number-spec =
     close μ λ t.
-    put-number-lts.spec (calls t) (now-at t) put-number.Post (cast-out t) (add-out t) (slice-write-out t) (add-result t) (same-length t) (returns t) (put-number-requires t) (cast-out-2 t) (add-out-2 t) (slice-write-out-2 t) (add-result-2 t) (same-length-2 t) (returns-2 t)
+    put-number-lts.spec (calls t) (now-at t) put-number.Post (cast-out t) (add-out t) (slice-write-out t) (add-result t) (same-length t) (returns t)
+    (put-number-requires t) (cast-out-2 t) (add-out-2 t) (slice-write-out-2 t) (add-result-2 t) (same-length-2 t) (returns-2 t)

@@ -1,4 +1,4 @@
--- `lister_text::put_element` meets its contract: the number, of at most 10 digits, and the rest are stored one after the other. Assumes nothing.
+-- `lister_text::put_element` meets its contract: the number, of at most 10 digits, and the rest are stored one after the other.
 use native.Mathlib.Omega.{arith}
 use native.Mathlib.Nat.{zero-add}
 use mathlib.Core.Path.{_∙_}
@@ -11,16 +11,11 @@ use borrow.Author.Needs.{needs}
 use Rattle.lister_text.proofs.put_element.Statement.{statement}
 use Rattle.lister_text.proofs.put_element.Tie as tie
 
-put-number-requires : tie.Need-put-number-requires
-put-number-requires c κs = search needs
-
-slice-aggregate-put-rest : tie.Need-slice-aggregate-put-rest
-slice-aggregate-put-rest c = search needs
-
 put-rest-requires : tie.Need-put-rest-requires
 put-rest-requires c κs =
+    let put-number = c .before .before .put-number in
     let n = c .before .before .before .before .args .number in
-    omega (arith, c .before .before .put-number .ensures .0, c .before .before .put-number .kept .0, decimal-short 9 n (omega arith))
+    omega (arith, put-number .ensures .0, put-number .kept .0, decimal-short 9 n (omega arith))
 
 returns : tie.Need-returns
 returns c =
@@ -31,4 +26,4 @@ returns c =
 
 pub put-element-spec : {M : Type 1} → statement M
 put-element-spec =
-    tie.close (tie.spec put-number-requires slice-aggregate-put-rest put-rest-requires returns)
+    tie.close (tie.spec (λ c κs. search needs) (λ c. search needs) put-rest-requires returns)

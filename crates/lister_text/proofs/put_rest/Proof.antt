@@ -1,4 +1,5 @@
--- `lister_text::put_rest` meets its contract. The loop's invariant: storing what is left of the line from here is storing the whole rest of it from the start, and there is room for it. The measure is how many numbers are left. Assumes nothing.
+-- `lister_text::put_rest` meets its contract. The loop's invariant: storing what is left of the line from here is storing the whole rest of it from
+-- the start, and there is room for it. The measure is how many numbers are left.
 use Prim.Native.Nat.{_+_, _*_, _-_, _≤_, _<_}
 use native.Mathlib.Omega.{arith}
 use mathlib.Core.Path.{_≡_, refl, _∙_}
@@ -48,16 +49,17 @@ loop-less c = omega arith
 
 loop-again : tie.Need-loop-again Inv-loop μ-loop
 loop-again c =
+    let put-number = c .before .before .put-number in
     let l = c .before .before .before .before .before .before .loop in
     let a = c .before .before .before .before .before .before .before .before .before .args in
     let numbers = now (a .numbers) in
-    let put = c .before .before .put-number .ensures in
+    let put = put-number .ensures in
     let within : l .i < length numbers = c .before .before .before .before .before .loop-test .taken in
     let fits = c .before .before .before .shared-slice-known2 .given (l .i) in
     let short = decimal-short 19 (getD numbers (l .i) 0) (omega (arith, fits)) in (
       omega arith,
       omega (arith, put .0, short),
-      c .before .before .put-number .kept .0 ∙ simp length-set (l .inv .2),
+      put-number .kept .0 ∙ simp length-set (l .inv .2),
       rw (put .0) (rest-length numbers (l .i) within (l .here) ∙ l .inv .3),
       rw (put .1, put .0) (rest-stores numbers (l .i) within (l .out) (l .here) ∙ l .inv .4),
     )
@@ -79,20 +81,5 @@ returns c =
 
 pub put-rest-spec : {M : Type 1} → statement M
 put-rest-spec =
-    tie.close
-    (tie.spec
-    Inv-loop
-    μ-loop
-    loop-holds
-    slice-write-out
-    add-put-number
-    mul-put-number
-    shared-slice-read-put-number
-    put-number-requires
-    add-i
-    loop-less
-    loop-again
-    slice-write-out-2
-    add-result
-    same-length
-    returns)
+    tie.close (tie.spec Inv-loop μ-loop loop-holds slice-write-out add-put-number mul-put-number shared-slice-read-put-number
+    put-number-requires add-i loop-less loop-again slice-write-out-2 add-result same-length returns)

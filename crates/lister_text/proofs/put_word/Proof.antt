@@ -1,4 +1,5 @@
--- `lister_text::put_word` meets its contract. The loop's invariant: storing what is left of the word from here is storing the whole word from the start. The measure is what is left. Assumes nothing.
+-- `lister_text::put_word` meets its contract. The loop's invariant: storing what is left of the word from here is storing the whole word from the
+-- start. The measure is what is left.
 use Prim.Native.Nat.{_≤_, _<_, _-_}
 use native.Mathlib.Omega.{arith}
 use mathlib.Core.Path.{_≡_, refl, sym, _∙_}
@@ -48,15 +49,4 @@ returns c =
 
 pub put-word-spec : {M : Type 1} → statement M
 put-word-spec =
-    tie.close
-    (tie.spec
-    Inv-loop
-    μ-loop
-    loop-holds
-    shared-slice-read-out
-    slice-write-out
-    add-i
-    loop-less
-    loop-again
-    same-length
-    returns)
+    tie.close (tie.spec Inv-loop μ-loop loop-holds shared-slice-read-out slice-write-out add-i loop-less loop-again same-length returns)

@@ -1,11 +1,11 @@
--- `measures::integer_of` meets its contract: no integer, one that is not under 0, and one that is. Assumes nothing.
-use mathlib.Core.Path.{_≡_, refl, sym, ap, _∙_}
-use mathlib.Core.Bool.{Bool, true, false}
+-- `measures::integer_of` meets its contract: no integer, one that is not under 0, and one that is.
+use mathlib.Core.Path.{_≡_, sym, ap, _∙_}
+use mathlib.Core.Bool.{true}
 use mathlib.Core.List.{List}
 use native.Mathlib.Omega.{arith}
-use borrow.Author.Tests.{le-leb, lt-leb, eq-eqb, ne-eqb, not-true, not-false}
-use Prim.Native.Nat.{ℕ, _≤_, _<_}
-use lib.ListN.{length, getD, take, drop}
+use borrow.Author.Tests.{not-true, not-false}
+use Prim.Native.Nat.{ℕ}
+use lib.ListN.{length, take, drop}
 use lib.Seq.{take-length}
 use Rattle.headers.specs.Head.{bigEndian}
 use Rattle.measures.specs.Integers.{isInteger}
@@ -13,18 +13,10 @@ use Rattle.measures.proofs.Octets.{octets-bounded, no-integer, not-unde
 use borrow.Author.Needs.{needs}
 use Rattle.measures.proofs.integer_of.Statement.{statement}
 use Rattle.measures.proofs.integer_of.Tie as tie
-use Rattle.measures.proofs.integer_of.Reads as reads
-use Rattle.measures.proofs.integer_of.Lts as lts
-use Rattle.measures.proofs.is_integer.Reads as is-integer-reads
-use Rattle.measures.proofs.power.Reads as power-reads
-use Rattle.measures.proofs.wide.Reads as wide-reads
 
 -- all octets are those of the whole
 whole : (v : List ℕ) → bigEndian (take (length v) (drop 0 v)) ≡ bigEndian v
 whole v = ap bigEndian (take-length v)
-
-is-integer-requires : tie.Need-is-integer-requires
-is-integer-requires c κs = search needs
 
 returns : tie.Need-returns
 returns c =
@@ -41,13 +33,11 @@ shared-slice-read-wide c =
     let v = c .before .before .before .before .before .args .v .now in
     omega (arith, octets-bounded v (sym (c .before .before .before .is-integer .ensures) ∙ not-false _ (c .before .before .if1 .left)) .0)
 
-wide-requires : tie.Need-wide-requires
-wide-requires c κs = search needs
-
 returns-2 : tie.Need-returns-2
 returns-2 c =
     let v = c .before .before .before .before .before .before .before .args .v .now in
-    let e : isInteger v ≡ true = sym (c .before .before .before .before .before .is-integer .ensures) ∙ not-false _ (c .before .before .before .before .if1 .left) in
+    let e : isInteger v ≡ true = sym (c .before .before .before .before .before .is-integer .ensures)
+    ∙ not-false _ (c .before .before .before .before .if1 .left) in
     not-under v e _ (c .before .before .before .big-endian .ensures .0 ∙ whole v) (omega (arith, c .before .wide .ensures))
 
 power-requires : tie.Need-power-requires
@@ -63,19 +53,12 @@ sub-t9 c =
 returns-3 : tie.Need-returns-3
 returns-3 c =
     let v = c .before .before .before .before .before .before .before .before .args .v .now in
-    let e : isInteger v ≡ true = sym (c .before .before .before .before .before .before .is-integer .ensures) ∙ not-false _ (c .before .before .before .before .before .if1 .left) in
-    under-zero v e _ (c .before .before .before .before .big-endian .ensures .0 ∙ whole v) (omega (arith, c .before .before .wide .ensures)) _ (c .power .ensures)
+    let e : isInteger v ≡ true = sym (c .before .before .before .before .before .before .is-integer .ensures)
+    ∙ not-false _ (c .before .before .before .before .before .if1 .left) in
+    under-zero v e _ (c .before .before .before .before .big-endian .ensures .0
+    ∙ whole v) (omega (arith, c .before .before .wide .ensures)) _ (c .power .ensures)
 
 pub integer-of-spec : {M : Type 1} → statement M
 integer-of-spec =
-    tie.close
-    (tie.spec
-    is-integer-requires
-    returns
-    big-endian-requires
-    shared-slice-read-wide
-    wide-requires
-    returns-2
-    power-requires
-    sub-t9
-    returns-3)
+    tie.close (tie.spec (λ c κs. search needs) returns big-endian-requires shared-slice-read-wide (λ c κs. search needs) returns-2
+    power-requires sub-t9 returns-3)

@@ -1,18 +1,13 @@
--- `measures::is_integer` meets its contract, test by test. Assumes nothing.
-use mathlib.Core.Path.{_≡_, refl, sym, ap, _∙_}
-use mathlib.Core.Bool.{Bool, true, false}
+-- `measures::is_integer` meets its contract, test by test.
+use mathlib.Core.Path.{_≡_, sym}
 use native.Mathlib.Omega.{arith}
-use borrow.Author.Tests.{le-leb, lt-leb, eq-eqb, ne-eqb, not-true, not-false}
 use Rattle.measures.specs.Integers.{nineBits}
 use Rattle.measures.proofs.Octets.{no-octets, too-many, one-octet, all-zeros, not-zeros}
 use lib.ListN.{length, getD}
-use Prim.Native.Nat.{ℕ, _≤_}
+use Prim.Native.Nat.{_≤_}
 use borrow.Author.Needs.{needs}
 use Rattle.measures.proofs.is_integer.Statement.{statement}
 use Rattle.measures.proofs.is_integer.Tie as tie
-use Rattle.measures.proofs.is_integer.Reads as reads
-use Rattle.measures.proofs.is_integer.Lts as lts
-use Rattle.measures.proofs.wide.Reads as wide-reads
 
 returns : tie.Need-returns
 returns c =
@@ -29,53 +24,38 @@ returns-3 c =
     let v = c .before .before .before .before .args .v .now in
     sym (one-octet v (c .if3 .taken))
 
-shared-slice-read-wide : tie.Need-shared-slice-read-wide
-shared-slice-read-wide c = search needs
-
-wide-requires : tie.Need-wide-requires
-wide-requires c κs = search needs
-
 mul-nine : tie.Need-mul-nine
 mul-nine c = omega (arith, c .wide .ensures, c .before .shared-slice-known2 .given 0)
 
-shared-slice-read-wide-2 : tie.Need-shared-slice-read-wide-2
-shared-slice-read-wide-2 c = search needs
-
-wide-requires-2 : tie.Need-wide-requires-2
-wide-requires-2 c κs = search needs
-
 add-nine : tie.Need-add-nine
 add-nine c =
-    omega (arith, c .wide2 .ensures, c .before .shared-slice-known3 .given 1, c .before .before .wide .ensures, c .before .before .before .shared-slice-known2 .given 0)
+    omega (
+      arith,
+      c .wide2 .ensures,
+      c .before .shared-slice-known3 .given 1,
+      c .before .before .wide .ensures,
+      c .before .before .before .shared-slice-known2 .given 0,
+    )
 
 returns-4 : tie.Need-returns-4
 returns-4 c =
+    let wide = c .before .before .before .wide in
     let v = c .before .before .before .before .before .before .before .before .before .args .v .now in
     let two : 2 ≤ length v = omega arith in
     let four : length v ≤ 4 = omega arith in
-    let e : nineBits (c .before .before .before .wide .result) (c .before .wide2 .result) ≡ nineBits (getD v 0 0) (getD v 1 0) = rw (c .before .before .before .wide .ensures, c .before .wide2 .ensures) in
+    let e : nineBits (wide .result) (c .before .wide2 .result) ≡ nineBits (getD v 0 0) (getD v 1 0) = rw (wide .ensures, c .before .wide2 .ensures) in
     all-zeros v two four _ e (c .if4 .taken)
 
 returns-5 : tie.Need-returns-5
 returns-5 c =
+    let wide = c .before .before .before .wide in
     let v = c .before .before .before .before .before .before .before .before .before .args .v .now in
     let two : 2 ≤ length v = omega arith in
     let four : length v ≤ 4 = omega arith in
-    let e : nineBits (c .before .before .before .wide .result) (c .before .wide2 .result) ≡ nineBits (getD v 0 0) (getD v 1 0) = rw (c .before .before .before .wide .ensures, c .before .wide2 .ensures) in
+    let e : nineBits (wide .result) (c .before .wide2 .result) ≡ nineBits (getD v 0 0) (getD v 1 0) = rw (wide .ensures, c .before .wide2 .ensures) in
     not-zeros v two four _ e (c .if4 .left)
 
 pub is-integer-spec : {M : Type 1} → statement M
 is-integer-spec =
-    tie.close
-    (tie.spec
-    returns
-    returns-2
-    returns-3
-    shared-slice-read-wide
-    wide-requires
-    mul-nine
-    shared-slice-read-wide-2
-    wide-requires-2
-    add-nine
-    returns-4
-    returns-5)
+    tie.close (tie.spec returns returns-2 returns-3 (λ c. search needs) (λ c κs. search needs) mul-nine (λ c. search needs)
+    (λ c κs. search needs) add-nine returns-4 returns-5)

@@ -1,9 +1,7 @@
--- `measures::is_not_over` meets its contract, by its two tests. Assumes nothing.
-use borrow.Author.Tests.{le-leb, lt-leb, eq-eqb, ne-eqb, not-true, not-false}
+-- `measures::is_not_over` meets its contract, by its two tests.
+use borrow.Author.Tests.{le-leb, lt-leb}
 use Rattle.measures.proofs.is_not_over.Statement.{statement}
 use Rattle.measures.proofs.is_not_over.Tie as tie
-use Rattle.measures.proofs.is_not_over.Reads as reads
-use Rattle.measures.proofs.is_not_over.Lts as lts
 
 returns : tie.Need-returns
 returns c = rw (lt-leb _ _ (c .if1 .taken))

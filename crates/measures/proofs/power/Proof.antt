@@ -1,12 +1,8 @@
--- `measures::power` meets its contract: four cases. Assumes nothing.
-use Prim.Native.Nat.{ℕ}
-use mathlib.Core.Path.{_≡_, refl, sym, ap, _∙_}
-use mathlib.Core.Bool.{Bool, true, false}
+-- `measures::power` meets its contract: four cases.
+use mathlib.Core.Path.{_≡_}
 use native.Mathlib.Omega.{arith}
 use Rattle.measures.proofs.power.Statement.{statement}
 use Rattle.measures.proofs.power.Tie as tie
-use Rattle.measures.proofs.power.Reads as reads
-use Rattle.measures.proofs.power.Lts as lts
 
 returns : tie.Need-returns
 returns c = rw (c .match .keys1)

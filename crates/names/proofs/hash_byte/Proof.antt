@@ -1,4 +1,4 @@
--- `names::hash_byte` meets its contract: the shift is the product, and the rest is the same. Assumes nothing.
+-- `names::hash_byte` meets its contract: the shift is the product, and the rest is the same.
 use mathlib.Core.Path.{_≡_}
 use Prim.Native.Nat.{_+_, _^_, _<_}
 use native.Mathlib.Omega.{arith}
@@ -6,18 +6,6 @@ use borrow.Author.Needs.{needs}
 use Rattle.names.proofs.Hashing.{shift-is}
 use Rattle.names.proofs.hash_byte.Statement.{statement}
 use Rattle.names.proofs.hash_byte.Tie as tie
-
-wide-requires : tie.Need-wide-requires
-wide-requires c κs = search needs
-
-add-sum : tie.Need-add-sum
-add-sum c = search needs
-
-add-result : tie.Need-add-result
-add-result c = search needs
-
-add-result-2 : tie.Need-add-result-2
-add-result-2 c = search needs
 
 returns : tie.Need-returns
 returns c =
@@ -27,4 +15,4 @@ returns c =
     (rw (e, shift-is (a .h + a .byte) l), omega arith)
 
 pub hash-byte-spec : {M : Type 1} → statement M
-hash-byte-spec = tie.close (tie.spec wide-requires add-sum add-result add-result-2 returns)
+hash-byte-spec = tie.close (tie.spec (λ c κs. search needs) (λ c. search needs) (λ c. search needs) (λ c. search needs) returns)

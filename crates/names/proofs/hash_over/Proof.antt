@@ -1,4 +1,4 @@
--- `names::hash_over` meets its contract: the hash so far, after what is left, is the hash of the whole. Assumes nothing.
+-- `names::hash_over` meets its contract: the hash so far, after what is left, is the hash of the whole.
 use mathlib.Core.Path.{_≡_, refl, sym, _∙_}
 use Prim.Native.Nat.{_-_, _<_, _≤_}
 use native.Mathlib.Omega.{arith}
@@ -33,8 +33,11 @@ loop-less c = omega arith
 loop-again : tie.Need-loop-again Inv-loop μ-loop
 loop-again c =
     let a = c .before .before .before .before .before .args in
-    let l = c .before .before .before .loop in
-    (omega arith, c .hash-byte .ensures .1, l .inv .2 ∙ rw (c .hash-byte .ensures .0) (hash-more (a .s .now) (l .i) (a .past) (l .r) (omega arith) (omega arith)))
+    let l = c .before .before .before .loop in (
+      omega arith,
+      c .hash-byte .ensures .1,
+      l .inv .2 ∙ rw (c .hash-byte .ensures .0) (hash-more (a .s .now) (l .i) (a .past) (l .r) (omega arith) (omega arith)),
+    )
 
 returns : tie.Need-returns Inv-loop μ-loop
 unfolding hashFrom
@@ -46,14 +49,4 @@ returns c =
 
 pub hash-over-spec : {M : Type 1} → statement M
 hash-over-spec =
-    tie.close
-    (tie.spec
-    Inv-loop
-    μ-loop
-    loop-holds
-    shared-slice-read-hash-byte
-    hash-byte-requires
-    add-i
-    loop-less
-    loop-again
-    returns)
+    tie.close (tie.spec Inv-loop μ-loop loop-holds shared-slice-read-hash-byte hash-byte-requires add-i loop-less loop-again returns)

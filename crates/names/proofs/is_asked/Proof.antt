@@ -1,5 +1,4 @@
 -- `names::is_asked` meets its contract: a joined name is as long as its parts and the space, and is compared part by part.
--- Assumes nothing.
 use mathlib.Core.Path.{_≡_, sym, _∙_}
 use mathlib.Core.Bool.{_&&_}
 use Prim.Native.Nat.{_+_, _-_}
@@ -25,79 +24,40 @@ parts : (c : tie.Else2) →
     && same (slice (a .asked .from) (a .asked .to) (a .s .now)) (slice (at + 1) (at + 1 + (a .asked .to - a .asked .from)) (a .s .now))))
 parts c =
     let a = c .before .before .before .before .before .before .args in
-    joined-same (a .s .now) (a .asked) (c .before .before .before .before .before .before .pre .0) (not-false (a .asked .joined) (c .before .before .before .if1 .left)) (a .first) (a .past) (omega arith) (c .if2 .left)
-
-is-same-requires : tie.Need-is-same-requires
-is-same-requires c κs = search needs
+    joined-same (a .s .now) (a .asked) (c .before .before .before .before .before .before .pre .0)
+    (not-false (a .asked .joined) (c .before .before .before .if1 .left)) (a .first) (a .past) (omega arith) (c .if2 .left)
 
 returns : tie.Need-returns
 returns c =
     rw (not-true (c .before .before .before .before .args .asked .joined) (c .before .if1 .taken)) (c .is-same .ensures)
 
-sub-size : tie.Need-sub-size
-sub-size c = search needs
-
-sub-if2 : tie.Need-sub-if2
-sub-if2 c = search needs
-
-add-if2 : tie.Need-add-if2
-add-if2 c = search needs
-
-sub-if2-2 : tie.Need-sub-if2-2
-sub-if2-2 c = search needs
-
-add-if2-2 : tie.Need-add-if2-2
-add-if2-2 c = search needs
-
 returns-2 : tie.Need-returns-2
 returns-2 c =
     let a = c .before .before .before .before .before .before .args in
-    sym (joined-other (a .s .now) (a .asked) (c .before .before .before .before .before .before .pre .0) (not-false (a .asked .joined) (c .before .before .before .if1 .left)) (a .first) (a .past) (omega arith) (c .if2 .taken))
-
-add-at : tie.Need-add-at
-add-at c = search needs
-
-stands-at-requires : tie.Need-stands-at-requires
-stands-at-requires c κs = search needs
+    sym (joined-other (a .s .now) (a .asked) (c .before .before .before .before .before .before .pre .0)
+    (not-false (a .asked .joined) (c .before .before .before .if1 .left)) (a .first) (a .past) (omega arith) (c .if2 .taken))
 
 returns-3 : tie.Need-returns-3
 returns-3 c =
     sym (parts (c .before .before) ∙ rw (sym (c .before .stands-at .ensures) ∙ not-true _ (c .if3 .taken)))
 
-shared-slice-read-if4 : tie.Need-shared-slice-read-if4
-shared-slice-read-if4 c = search needs
-
 returns-4 : tie.Need-returns-4
 returns-4 c =
-    sym (parts (c .before .before .before .before) ∙ rw (sym (c .before .before .before .stands-at .ensures) ∙ not-false _ (c .before .before .if3 .left), ne-eqb _ _ (λ e. c .if4 .taken (sym e))))
-
-add-stands-at : tie.Need-add-stands-at
-add-stands-at c = search needs
-
-stands-at-requires-2 : tie.Need-stands-at-requires-2
-stands-at-requires-2 c κs = search needs
+    sym (parts (c .before .before .before .before) ∙ rw (
+      sym (c .before .before .before .stands-at .ensures) ∙ not-false _ (c .before .before .if3 .left),
+      ne-eqb _ _ (λ e. c .if4 .taken (sym e)),
+    ))
 
 returns-5 : tie.Need-returns-5
 returns-5 c =
-    sym (parts (c .before .before .before .before .before) ∙ rw (sym (c .before .before .before .before .stands-at .ensures) ∙ not-false _ (c .before .before .before .if3 .left), eq-eqb _ _ (sym (c .before .if4 .left)), c .stands-at2 .ensures))
+    sym (parts (c .before .before .before .before .before) ∙ rw (
+      sym (c .before .before .before .before .stands-at .ensures) ∙ not-false _ (c .before .before .before .if3 .left),
+      eq-eqb _ _ (sym (c .before .if4 .left)),
+      c .stands-at2 .ensures,
+    ))
 
 pub is-asked-spec : {M : Type 1} → statement M
 is-asked-spec =
-    tie.close
-    (tie.spec
-    is-same-requires
-    returns
-    sub-size
-    sub-if2
-    add-if2
-    sub-if2-2
-    add-if2-2
-    returns-2
-    add-at
-    stands-at-requires
-    returns-3
-    shared-slice-read-if4
-    returns-4
-    add-stands-at
-    stands-at-requires-2
-    returns-5)
+    tie.close (tie.spec (λ c κs. search needs) returns (λ c. search needs) (λ c. search needs) (λ c. search needs) (λ c. search needs)
+    (λ c. search needs) returns-2 (λ c. search needs) (λ c κs. search needs) returns-3 (λ c. search needs) returns-4 (λ c. search needs)
+    (λ c κs. search needs) returns-5)

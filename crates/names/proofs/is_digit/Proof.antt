@@ -1,4 +1,4 @@
--- `names::is_digit` meets its contract: the two tests are the definition's. Assumes nothing.
+-- `names::is_digit` meets its contract: the two tests are the definition's.
 use borrow.Author.Tests.{le-leb, lt-leb}
 use Rattle.names.specs.Names.{isDigit}
 use Rattle.names.proofs.is_digit.Statement.{statement}

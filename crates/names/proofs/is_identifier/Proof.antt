@@ -1,5 +1,4 @@
 -- `names::is_identifier` meets its contract. The loop's invariant: the whole is an identifier exactly if what is left goes on well grouped.
--- Assumes nothing.
 use mathlib.Core.Path.{_≡_, sym, _∙_}
 use mathlib.Core.Bool.{true, false, cond, _&&_}
 use Prim.Native.Nat.{_+_, _-_, _≤_}
@@ -51,9 +50,6 @@ shared-slice-read-byte c = omega arith
 add-i : tie.Need-add-i Inv-loop μ-loop
 add-i c = omega arith
 
-is-digit-requires : tie.Need-is-digit-requires Inv-loop μ-loop
-is-digit-requires c κs = search needs
-
 loop-less : tie.Need-loop-less Inv-loop μ-loop
 loop-less c = omega arith
 
@@ -67,14 +63,24 @@ returns-2 c =
 
 returns-3 : tie.Need-returns-3 Inv-loop μ-loop
 returns-3 c =
-    sym (turn (c .before .before .before .before .before) ∙ rw (sym (c .before .before .before .is-digit .ensures) ∙ c .before .before .if2 .left, eq-eqb _ _ (c .before .if3 .left), not-true (c .before .before .before .before .before .before .loop .in-group) (c .if4 .taken)))
+    sym (turn (c .before .before .before .before .before) ∙ rw (
+      sym (c .before .before .before .is-digit .ensures) ∙ c .before .before .if2 .left,
+      eq-eqb _ _ (c .before .if3 .left),
+      not-true (c .before .before .before .before .before .before .loop .in-group) (c .if4 .taken),
+    ))
 
 loop-less-2 : tie.Need-loop-less-2 Inv-loop μ-loop
 loop-less-2 c = omega arith
 
 loop-again-2 : tie.Need-loop-again-2 Inv-loop μ-loop
-loop-again-2 c =
-    (omega arith, turn (c .before .before .before .before .before) ∙ rw (sym (c .before .before .before .is-digit .ensures) ∙ c .before .before .if2 .left, eq-eqb _ _ (c .before .if3 .left), not-false (c .before .before .before .before .before .before .loop .in-group) (c .if4 .left)))
+loop-again-2 c = (
+  omega arith,
+  turn (c .before .before .before .before .before) ∙ rw (
+    sym (c .before .before .before .is-digit .ensures) ∙ c .before .before .if2 .left,
+    eq-eqb _ _ (c .before .if3 .left),
+    not-false (c .before .before .before .before .before .before .loop .in-group) (c .if4 .left),
+  ),
+)
 
 returns-4 : tie.Need-returns-4 Inv-loop μ-loop
 unfolding grouped
@@ -86,20 +92,5 @@ returns-4 c =
 
 pub is-identifier-spec : {M : Type 1} → statement M
 is-identifier-spec =
-    tie.close
-    (tie.spec
-    Inv-loop
-    μ-loop
-    sub-if1
-    returns
-    loop-holds
-    shared-slice-read-byte
-    add-i
-    is-digit-requires
-    loop-less
-    loop-again
-    returns-2
-    returns-3
-    loop-less-2
-    loop-again-2
-    returns-4)
+    tie.close (tie.spec Inv-loop μ-loop sub-if1 returns loop-holds shared-slice-read-byte add-i (λ c κs. search needs) loop-less loop-again
+    returns-2 returns-3 loop-less-2 loop-again-2 returns-4)

@@ -1,5 +1,4 @@
 -- `names::is_portion` meets its contract. The loop's invariant: the whole is a portion number exactly if what is left are digits.
--- Assumes nothing.
 use mathlib.Core.Path.{_≡_, sym, _∙_}
 use mathlib.Core.Bool.{_&&_}
 use Prim.Native.Nat.{_+_, _-_, _≤_}
@@ -51,9 +50,6 @@ loop-holds c =
 shared-slice-read-is-digit : tie.Need-shared-slice-read-is-digit Inv-loop μ-loop
 shared-slice-read-is-digit c = omega arith
 
-is-digit-requires : tie.Need-is-digit-requires Inv-loop μ-loop
-is-digit-requires c κs = search needs
-
 returns-3 : tie.Need-returns-3 Inv-loop μ-loop
 returns-3 c =
     sym (turn (c .before .before .before) ∙ rw (sym (c .before .is-digit .ensures) ∙ not-true _ (c .if3 .taken)))
@@ -78,18 +74,5 @@ returns-4 c =
 
 pub is-portion-spec : {M : Type 1} → statement M
 is-portion-spec =
-    tie.close
-    (tie.spec
-    Inv-loop
-    μ-loop
-    returns
-    sub-if2
-    returns-2
-    loop-holds
-    shared-slice-read-is-digit
-    is-digit-requires
-    returns-3
-    add-i
-    loop-less
-    loop-again
-    returns-4)
+    tie.close (tie.spec Inv-loop μ-loop returns sub-if2 returns-2 loop-holds shared-slice-read-is-digit (λ c κs. search needs) returns-3
+    add-i loop-less loop-again returns-4)

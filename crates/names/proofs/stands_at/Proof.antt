@@ -1,5 +1,4 @@
 -- `names::stands_at` meets its contract. The loop's invariant: the whole is the same on both sides exactly if what is left is.
--- Assumes nothing.
 use mathlib.Core.Path.{_≡_, refl, sym, _∙_}
 use mathlib.Core.Bool.{_&&_}
 use Prim.Native.Nat.{_+_, _-_, _≤_}
@@ -70,16 +69,5 @@ returns-2 c =
 
 pub stands-at-spec : {M : Type 1} → statement M
 stands-at-spec =
-    tie.close
-    (tie.spec
-    Inv-loop
-    μ-loop
-    loop-holds
-    shared-slice-read-if1
-    shared-slice-read-if1-2
-    returns
-    add-i
-    add-j
-    loop-less
-    loop-again
+    tie.close (tie.spec Inv-loop μ-loop loop-holds shared-slice-read-if1 shared-slice-read-if1-2 returns add-i add-j loop-less loop-again
     returns-2)

@@ -1,5 +1,5 @@
 -- The proof of the cycle of calls {measure_item, measure_run}, which ends as `walk_item` and `walk_run` do: 2 room + 1 for `measure_run`,
--- 2 room for `measure_item`. The invariant of the loop is `Counted`. Assumes nothing.
+-- 2 room for `measure_item`. The invariant of the loop is `Counted`.
 use mathlib.Core.Path.{_≡_, ap, sym, _∙_}
 use Prim.Native.Nat.{ℕ, _+_, _-_, _*_, _<_, _≤_}
 use native.Mathlib.Omega.{arith}
@@ -130,7 +130,8 @@ module _ (t : ℕ) where
       let h = c .before .before .h .given .0 .0 in
       let u = met-item (c .before) in
       let k = turned (a .room) (now (a .s)) (l .at) (a .limit) (a .marked) h u (m .result) (m .ensures) in
-      let b = bounded (a .room) (now (a .s)) (a .from) (a .limit) (a .marked) (l .at) (l .size) (l .shortest) (l .inv) h u (m .result) (m .ensures) (c .before .before .before .before .before .before .before .pre .1) in
+      let b = bounded (a .room) (now (a .s)) (a .from) (a .limit) (a .marked) (l .at) (l .size) (l .shortest) (l .inv) h u (m .result) (m .ensures)
+      (c .before .before .before .before .before .before .before .pre .1) in
       (k .0, k .1, b)
 
   header-size-requires : run-lts.Need-header-size-requires (run-calls t) (run-at t) measure-run.Post Inv μ
@@ -152,7 +153,10 @@ module _ (t : ℕ) where
   loop-again c =
       let a = c .before .before .before .before .before .before .before .before .before .before .args in
       let l = c .before .before .before .before .before .before .before .before .loop in
-      let octets : Octets (now (a .s)) = λ i. omega (arith, c .before .before .before .before .before .before .before .before .before .shared-slice-known .given i) in
+      let octets : Octets (now (a .s)) = λ i. omega (
+        arith,
+        c .before .before .before .before .before .before .before .before .before .shared-slice-known .given i,
+      ) in
       let m = c .before .before .before .measure-item in
       let h = c .before .before .before .before .before .h .given .0 .0 in
       let head = c .before .before .header-size in

@@ -1,4 +1,4 @@
--- `normal::put_digits` meets its contract: the digits above the last are written, and then the last. It ends as k falls. Assumes nothing.
+-- `normal::put_digits` meets its contract: the digits above the last are written, and then the last. It ends as k falls.
 use borrow.Author.Needs.{needs}
 use native.Mathlib.Omega.{arith}
 use lib.ListN.{length-set}

@@ -1,5 +1,5 @@
 -- The proof of the cycle of calls {put_item, put_run}, which ends as `walk_item` and `walk_run` do: 2 room + 1 for `put_run`, 2 room for
--- `put_item`. The invariant of the loop is `PutSoFar`. Assumes nothing.
+-- `put_item`. The invariant of the loop is `PutSoFar`.
 use mathlib.Core.Path.{_≡_, ap, sym, _∙_}
 use Prim.Native.Nat.{ℕ, _+_, _-_, _*_, _<_, _≤_}
 use native.Mathlib.Omega.{arith}
@@ -135,7 +135,8 @@ module _ (t : ℕ) where
       let l = c .before .before .before .before .before .loop in
       let h = c .before .before .h .given .0 .0 in
       let m = c .measure-item .result in
-      (l .at + 2 ≤ m .next) × (m .next ≤ a .limit) × (l .pos + (headerSize (h .code) (m .size) + m .size) ≤ length (l .out)) × (m .size ≤ 3 * length (now (a .s)))
+      (l .at + 2 ≤ m .next) × (m .next ≤ a .limit) × (l .pos + (headerSize (h .code) (m .size) + m .size) ≤ length (l .out))
+      × (m .size ≤ 3 * length (now (a .s)))
   next c =
       let a = c .before .before .before .before .before .before .before .before .args in
       let l = c .before .before .before .before .before .loop in
@@ -143,7 +144,8 @@ module _ (t : ℕ) where
       let h = c .before .before .h .given .0 .0 in
       let u = met-item (c .before) in
       let k = turned (a .room) (now (a .s)) (l .at) (a .limit) (a .marked) h u (m .result) (m .ensures) in
-      let f = fits (a .room) (now (a .s)) (a .from) (a .limit) (a .marked) (now (a .out)) (a .begin) (l .at) (l .pos) (l .out) (l .inv) h u (m .result) (m .ensures)
+      let f = fits (a .room) (now (a .s)) (a .from) (a .limit) (a .marked) (now (a .out)) (a .begin) (l .at) (l .pos) (l .out) (l .inv) h u
+      (m .result) (m .ensures)
       (c .before .before .before .before .before .before .before .before .pre .1 .1) in
       (k .0, k .1, f .0, f .1)
 
@@ -179,8 +181,10 @@ module _ (t : ℕ) where
       let h = c .before .before .before .before .before .before .before .h .given .0 .0 in
       let p = c .before .before .before .put-header in
       let r = c .before .before .before .before .before .before .before .before .before .before .before .before .before .pre in
-      let size = length-append (typeField (h .code)) (lengthOctets (m .result .size)) in
-      (omega (arith, r .0), (u .inside, m .ensures, omega (arith, n .2, p .ensures .to, p .kept .0, m .ensures .measures .size, size, length-length (m .result .size))))
+      let size = length-append (typeField (h .code)) (lengthOctets (m .result .size)) in (
+        omega (arith, r .0),
+        (u .inside, m .ensures, omega (arith, n .2, p .ensures .to, p .kept .0, m .ensures .measures .size, size, length-length (m .result .size))),
+      )
 
   loop-less : run-lts.Need-loop-less (run-calls t) (run-at t) put-run.Post Inv μ
   loop-less c = let n = next (c .before .before .before .before .before .before .before .before) in omega (arith, n .0, n .1)

@@ -1,4 +1,4 @@
--- `normal::further_octets` meets its contract: each test of the zeros is a test of the number. Assumes nothing.
+-- `normal::further_octets` meets its contract: each test of the zeros is a test of the number.
 use borrow.Author.Tests.{lt-ltb, le-ltb}
 use native.Mathlib.Omega.{arith}
 use Rattle.normal.proofs.Lengths.{zeros-lt, zeros-ge}

@@ -1,4 +1,4 @@
--- `normal::meet` meets its contract: each arm is a case of `aheadBy`. Assumes nothing.
+-- `normal::meet` meets its contract: each arm is a case of `aheadBy`.
 use mathlib.Core.Path.{_≡_, sym, _∙_}
 use mathlib.Core.Bool.{Bool}
 use mathlib.Core.List.{List}
@@ -29,17 +29,8 @@ passed-head-requires c κs =
     let a = c .before .before .args in
     (omega arith, omega arith, passed (a .room) (now (a .s)) (a .at) (a .limit) (a .marked) (omega arith) (c .before .before .pre .whole))
 
-enum-known-h : tie.Need-enum-known-h
-enum-known-h c = search needs
-
 enum-told : tie.Need-enum-told
 enum-told c = search needs
-
-add-t10 : tie.Need-add-t10
-add-t10 c = search needs
-
-enum-told-2 : tie.Need-enum-told-2
-enum-told-2 c = search needs
 
 returns-2 : tie.Need-returns-2
 returns-2 c =
@@ -61,14 +52,5 @@ returns-4 c =
 
 pub meet-spec : {M : Type 1} → statement M
 meet-spec =
-    tie.close
-    (tie.spec
-    returns
-    passed-head-requires
-    enum-known-h
-    enum-told
-    add-t10
-    enum-told-2
-    returns-2
-    returns-3
-    returns-4)
+    tie.close (tie.spec returns passed-head-requires (λ c. search needs) enum-told (λ c. search needs) (λ c. search needs) returns-2
+    returns-3 returns-4)

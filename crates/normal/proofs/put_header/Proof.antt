@@ -1,4 +1,4 @@
--- `normal::put_header` meets its contract: the type field is written, and then the length octets. Assumes nothing.
+-- `normal::put_header` meets its contract: the type field is written, and then the length octets.
 use mathlib.Core.Path.{ap, sym, _∙_}
 use mathlib.Core.List.{List}
 use Prim.Native.Nat.{ℕ}
@@ -12,12 +12,6 @@ use Rattle.laws.proofs.Writes.{sets-append}
 use Rattle.normal.proofs.put_header.Statement.{statement}
 use Rattle.normal.proofs.put_header.Tie as tie
 
-put-field-requires : tie.Need-put-field-requires
-put-field-requires c κs = search needs
-
-cast-put-length : tie.Need-cast-put-length
-cast-put-length c = search needs
-
 put-length-requires : tie.Need-put-length-requires
 put-length-requires c κs =
     let f = c .before .before .before .put-field in
@@ -28,17 +22,18 @@ same-length c = c .before .before .put-length .kept .0 ∙ c .before .before .be
 
 returns : tie.Need-returns
 returns c =
+    let put-field = c .before .before .before .before .before .before .put-field in
     let a = c .before .before .before .before .before .before .before .before .before .args in
-    let f = c .before .before .before .before .before .before .put-field .ensures in
+    let f = put-field .ensures in
     let p = c .before .before .put-length .ensures in
     let type = typeField (a .code) in
     let len = lengthOctets (a .size) in
     record {
       to = omega (arith, p .to, f .to, length-append type len);
-      written = p .written ∙ ap (λ (l : List ℕ). sets l (c .before .before .before .before .before .before .put-field .result) len) (f .written)
+      written = p .written ∙ ap (λ (l : List ℕ). sets l (put-field .result) len) (f .written)
           ∙ ap (λ (k : ℕ). sets (sets (a .out .now) (a .begin) type) k len) (f .to) ∙ sym (sets-append (a .out .now) (a .begin) type len);
     }
 
 pub put-header-spec : {M : Type 1} → statement M
 put-header-spec =
-    tie.close (tie.spec put-field-requires cast-put-length put-length-requires same-length returns)
+    tie.close (tie.spec (λ c κs. search needs) (λ c. search needs) put-length-requires same-length returns)

@@ -1,4 +1,4 @@
--- `normal::put_length` meets its contract: the first length octet is written, and then the others. Assumes nothing.
+-- `normal::put_length` meets its contract: the first length octet is written, and then the others.
 use mathlib.Core.Path.{_≡_, sym, _∙_}
 use borrow.Author.Needs.{needs}
 use native.Mathlib.Omega.{arith}
@@ -9,41 +9,14 @@ use Rattle.normal.proofs.Lengths.{length-length, further-le, put-short,
 use Rattle.normal.proofs.put_length.Statement.{statement}
 use Rattle.normal.proofs.put_length.Tie as tie
 
-further-octets-requires : tie.Need-further-octets-requires
-further-octets-requires c κs = search needs
-
-cast-out : tie.Need-cast-out
-cast-out c = search needs
-
-slice-write-out : tie.Need-slice-write-out
-slice-write-out c = search needs
-
-add-result : tie.Need-add-result
-add-result c = search needs
-
 cast-out-2 : tie.Need-cast-out-2
 cast-out-2 c = omega (arith, further-le (c .before .before .before .args .len))
 
 add-out : tie.Need-add-out
 add-out c = omega (arith, further-le (c .before .before .before .args .len))
 
-slice-write-out-2 : tie.Need-slice-write-out-2
-slice-write-out-2 c = search needs
-
-add-put-digits : tie.Need-add-put-digits
-add-put-digits c = search needs
-
 put-digits-requires : tie.Need-put-digits-requires
 put-digits-requires c κs = simp length-set (omega arith)
-
-add-result-2 : tie.Need-add-result-2
-add-result-2 c = search needs
-
-add-result-3 : tie.Need-add-result-3
-add-result-3 c = search needs
-
-same-length : tie.Need-same-length
-same-length c = search needs
 
 returns : tie.Need-returns
 returns c =
@@ -60,25 +33,12 @@ returns-2 c =
     let k = c .before .before .before .before .before .further-octets in
     record {
       to = omega (arith, length-length (a .len));
-      written = c .before .before .put-digits .ensures ∙ put-long (now (a .out)) (a .at) (a .len) (k .result) (k .ensures) (c .before .before .before .before .if1 .left);
+      written = c .before .before .put-digits .ensures
+          ∙ put-long (now (a .out)) (a .at) (a .len) (k .result) (k .ensures) (c .before .before .before .before .if1 .left);
     }
 
 pub put-length-spec : {M : Type 1} → statement M
 put-length-spec =
-    tie.close
-    (tie.spec
-    further-octets-requires
-    cast-out
-    slice-write-out
-    add-result
-    cast-out-2
-    add-out
-    slice-write-out-2
-    add-put-digits
-    put-digits-requires
-    add-result-2
-    add-result-3
-    same-length
-    returns
-    same-length-2
-    returns-2)
+    tie.close (tie.spec (λ c κs. search needs) (λ c. search needs) (λ c. search needs) (λ c. search needs) cast-out-2 add-out
+    (λ c. search needs) (λ c. search needs) put-digits-requires (λ c. search needs) (λ c. search needs) (λ c. search needs) returns
+    same-length-2 returns-2)

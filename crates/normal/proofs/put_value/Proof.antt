@@ -1,5 +1,5 @@
 -- `normal::put_value` meets its contract: what is left to write from `at` on makes of the output what all of it made of the output as it
--- was. Assumes nothing.
+-- was.
 use mathlib.Core.Path.{_≡_, refl, ap, sym, _∙_}
 use mathlib.Core.List.{[]}
 use Prim.Native.Nat.{_+_, _-_, _≤_}
@@ -62,16 +62,5 @@ returns c =
 
 pub put-value-spec : {M : Type 1} → statement M
 put-value-spec =
-    tie.close
-    (tie.spec
-    Inv-loop
-    μ-loop
-    loop-holds
-    shared-slice-read-out
-    slice-write-out
-    add-at
-    add-pos
-    loop-less
-    loop-again
-    same-length
+    tie.close (tie.spec Inv-loop μ-loop loop-holds shared-slice-read-out slice-write-out add-at add-pos loop-less loop-again same-length
     returns)

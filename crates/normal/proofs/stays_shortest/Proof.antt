@@ -1,4 +1,4 @@
--- `normal::stays_shortest` meets its contract: the one path that does not answer false has passed each test. Assumes nothing.
+-- `normal::stays_shortest` meets its contract: the one path that does not answer false has passed each test.
 use mathlib.Core.Bool.{false≢true}
 use borrow.Author.Needs.{needs}
 use native.Mathlib.Omega.{arith}
@@ -7,9 +7,6 @@ use Rattle.normal.proofs.stays_shortest.Tie as tie
 
 returns : tie.Need-returns
 returns c e = absurd (false≢true e)
-
-sub-if3 : tie.Need-sub-if3
-sub-if3 c = search needs
 
 returns-2 : tie.Need-returns-2
 returns-2 c e = (e, c .before .before .if1 .left, c .before .if2 .taken, omega arith)
@@ -21,4 +18,4 @@ returns-4 : tie.Need-returns-4
 returns-4 c e = absurd (false≢true e)
 
 pub stays-shortest-spec : {M : Type 1} → statement M
-stays-shortest-spec = tie.close (tie.spec returns sub-if3 returns-2 returns-3 returns-4)
+stays-shortest-spec = tie.close (tie.spec returns (λ c. search needs) returns-2 returns-3 returns-4)

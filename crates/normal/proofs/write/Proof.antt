@@ -1,5 +1,5 @@
 -- `normal::write` meets its contract: its tests are those of `answerOf`, and what is written is the normal form, copied if it is the stream's
--- own octets. Assumes nothing.
+-- own octets.
 use mathlib.Core.Path.{_≡_}
 use mathlib.Core.Bool.{true, false}
 use Prim.Native.Nat.{_≤_}
@@ -59,18 +59,12 @@ put-value-requires c κs =
 put-run-requires : tie.Need-put-run-requires
 put-run-requires c κs = (ends (c .before .before .before .before .before .before), search needs)
 
-same-length : tie.Need-same-length
-same-length c = search needs
-
 returns-3 : tie.Need-returns-3
 returns-3 c =
     let a = c .before .before .before .before .before .before .before .before .before .before .args in
     let (e, own) = measured (c .before .before .before .before .before .before .before) in
     let form = own (c .before .before .before .before .if3 .taken) .1 in
     gives-form (normalForm (now (a .s))) (now (a .out)) (omega arith) (omega arith) _ e _ form _ _ (c .before .before .put-value .ensures)
-
-same-length-2 : tie.Need-same-length-2
-same-length-2 c = search needs
 
 returns-4 : tie.Need-returns-4
 returns-4 c =
@@ -80,14 +74,5 @@ returns-4 c =
 
 pub write-spec : {M : Type 1} → statement M
 write-spec =
-    tie.close
-    (tie.spec
-    measure-run-requires
-    returns
-    returns-2
-    put-value-requires
-    put-run-requires
-    same-length
-    returns-3
-    same-length-2
-    returns-4)
+    tie.close (tie.spec measure-run-requires returns returns-2 put-value-requires put-run-requires (λ c. search needs) returns-3
+    (λ c. search needs) returns-4)

@@ -1,7 +1,6 @@
 -- The proof of the cycle of calls {walk_item, walk_run}. `walk_run` at room calls `walk_item` at the same room, and that calls `walk_run` at
 -- room - 1, so `walk_item`'s measure lies between: 2 room + 1 for `walk_run`, 2 room for `walk_item`.
 -- The invariant of the loop: the answer of the run from its start is the answer of the run from `at`, with the items counted so far.
--- Assumes nothing.
 use mathlib.Core.Path.{_≡_, sym, _∙_, ap}
 use mathlib.Core.Bool.{Bool, true, false}
 use Prim.Native.Nat.{ℕ, _+_, _-_, _<_, _≤_}
@@ -125,7 +124,8 @@ module _ (t : ℕ) where
         o .0,
         o .1,
         l .inv .2
-            ∙ ap (plus (l .count)) (passes (a .room) (now (a .s)) (l .at) (a .limit) (a .marked) (c .before .before .before .before .before .loop-test .taken) (h .0 .0) e next k v)
+            ∙ ap (plus (l .count)) (passes (a .room) (now (a .s)) (l .at) (a .limit) (a .marked)
+            (c .before .before .before .before .before .loop-test .taken) (h .0 .0) e next k v)
             ∙ plus-plus (l .count) (k + 1) rest
             ∙ ap (λ (n : ℕ). plus n rest) (omega arith),
       )
@@ -143,7 +143,8 @@ module _ (t : ℕ) where
       let v : answer (valueOf (a .room) (now (a .s)) (h .0 .0)) ≡ Refused number place k = sym (c .walk-item .ensures) ∙ w in (
         broken-ok (a .room) (now (a .s)) (l .at) (a .limit) (a .marked) (h .0 .0) e number place k v,
         l .inv .2
-            ∙ ap (plus (l .count)) (breaks (a .room) (now (a .s)) (l .at) (a .limit) (a .marked) (c .before .before .before .before .before .loop-test .taken) (h .0 .0) e number place k v)
+            ∙ ap (plus (l .count)) (breaks (a .room) (now (a .s)) (l .at) (a .limit) (a .marked)
+            (c .before .before .before .before .before .loop-test .taken) (h .0 .0) e number place k v)
             ∙ ap (Refused number place) (omega arith),
       )
 
@@ -159,14 +160,19 @@ module _ (t : ℕ) where
   add-t18 : run-lts.Need-add-t18 (run-calls t) (run-at t) walk-run.Post Inv μ
   add-t18 c =
       let a = c .before .before .before .before .before .before .args in
-      omega (arith, mark-ok (now (a .s)) (c .before .before .before .before .loop .at) (a .limit) (a .room) (a .marked) (read (c .before .before) ClosingMark (c .enum-told .given .1)))
+      omega (
+        arith,
+        mark-ok (now (a .s)) (c .before .before .before .before .loop .at) (a .limit) (a .room) (a .marked)
+            (read (c .before .before) ClosingMark (c .enum-told .given .1)),
+      )
 
   returns : run-lts.Need-returns (run-calls t) (run-at t) walk-run.Post Inv μ
   returns c =
       let a = c .before .before .before .before .before .before .args in
       let l = c .before .before .before .before .loop in
       sym (l .inv .2
-      ∙ ap (plus (l .count)) (closes (a .room) (now (a .s)) (l .at) (a .limit) (a .marked) (c .before .before .before .loop-test .taken) (read (c .before .before) ClosingMark (c .enum-told .given .1)))
+      ∙ ap (plus (l .count)) (closes (a .room) (now (a .s)) (l .at) (a .limit) (a .marked) (c .before .before .before .loop-test .taken)
+      (read (c .before .before) ClosingMark (c .enum-told .given .1)))
       ∙ ap (Ended (l .at + 2)) (add-zero (l .count)))
 
   enum-known-number : run-lts.Need-enum-known-number (run-calls t) (run-at t) walk-run.Post Inv μ
@@ -178,7 +184,8 @@ module _ (t : ℕ) where
       let l = c .before .before .before .before .before .loop in
       let v = c .before .number .given in
       sym (l .inv .2
-      ∙ ap (plus (l .count)) (refuses (a .room) (now (a .s)) (l .at) (a .limit) (a .marked) (c .before .before .before .before .loop-test .taken) (v .0 .0) (v .0 .1 .0) (read (c .before .before .before) (Refusal (v .0 .0) (v .0 .1 .0)) (v .1)))
+      ∙ ap (plus (l .count)) (refuses (a .room) (now (a .s)) (l .at) (a .limit) (a .marked) (c .before .before .before .before .loop-test .taken)
+      (v .0 .0) (v .0 .1 .0) (read (c .before .before .before) (Refusal (v .0 .0) (v .0 .1 .0)) (v .1)))
       ∙ ap (Refused (v .0 .0) (v .0 .1 .0)) (add-zero (l .count)))
 
   enum-known-h : run-lts.Need-enum-known-h (run-calls t) (run-at t) walk-run.Post Inv μ
@@ -188,7 +195,8 @@ module _ (t : ℕ) where
   walk-item-requires c κs =
       let a = c .before .before .before .before .before .before .before .args in
       let h = c .before .h .given in
-      let o = header-ok (now (a .s)) (c .before .before .before .before .before .loop .at) (a .limit) (a .room) (a .marked) (h .0 .0) (read (c .before .before .before) (Item (h .0 .0)) (h .1)) in
+      let o = header-ok (now (a .s)) (c .before .before .before .before .before .loop .at) (a .limit) (a .room) (a .marked) (h .0 .0)
+      (read (c .before .before .before) (Item (h .0 .0)) (h .1)) in
       (omega arith, (omega arith, omega arith, omega arith))
 
   enum-known-next : run-lts.Need-enum-known-next (run-calls t) (run-at t) walk-run.Post Inv μ
@@ -244,7 +252,8 @@ module _ (t : ℕ) where
 pub +walk-item+walk-run-spec : {M : Type 1} → statement M
 +walk-item+walk-run-spec =
     close μ-item μ-run
-    (λ t. item-lts.spec (item-calls t) (item-at t) walk-item.Post (item-sub-walk-run t) (item-walk-run-requires t) (item-returns t) (item-returns-2 t) (item-returns-3 t) (item-returns-4 t))
+    (λ t. item-lts.spec (item-calls t) (item-at t) walk-item.Post (item-sub-walk-run t) (item-walk-run-requires t) (item-returns t)
+    (item-returns-2 t) (item-returns-3 t) (item-returns-4 t))
     (λ t. run-lts.spec (run-calls t) (run-at t) walk-run.Post Inv μ
     (loop-holds t) (head-at-requires t) (enum-told t) (add-t18 t) (returns t) (enum-known-number t) (returns-2 t)
     (enum-known-h t) (walk-item-requires t) (enum-known-next t) (add-count t) (add-count-2 t) (loop-less t) (loop-again t)

@@ -1,4 +1,4 @@
--- `odif::content` meets its contract: the part is what the bounds bound, and empty if they are 0 and 0. Assumes nothing.
+-- `odif::content` meets its contract: the part is what the bounds bound, and empty if they are 0 and 0.
 use mathlib.Core.Path.{_∙_}
 use borrow.Author.Needs.{needs}
 use native.Mathlib.Omega.{arith}
@@ -6,15 +6,6 @@ use denote.Ref.{now}
 use Rattle.pieces.proofs.Putting.{part-slice}
 use Rattle.odif.proofs.content.Statement.{statement}
 use Rattle.odif.proofs.content.Tie as tie
-
-locate-requires : tie.Need-locate-requires
-locate-requires c κs = search needs
-
-cast-first : tie.Need-cast-first
-cast-first c = search needs
-
-cast-past : tie.Need-cast-past
-cast-past c = search needs
 
 sub-result : tie.Need-sub-result
 sub-result c = let f = c .before .before .locate .ensures .1 in omega (arith, f .order)
@@ -32,12 +23,4 @@ returns c =
 
 pub content-spec : {M : Type 1} → statement M
 content-spec =
-    tie.close
-    (tie.spec
-    locate-requires
-    cast-first
-    cast-past
-    sub-result
-    part-result-start
-    part-result-end
-    returns)
+    tie.close (tie.spec (λ c κs. search needs) (λ c. search needs) (λ c. search needs) sub-result part-result-start part-result-end returns)

@@ -1,17 +1,8 @@
--- `odif::locate` meets its contract: it is what the question's work left. Assumes nothing.
+-- `odif::locate` meets its contract: it is what the question's work left.
 use borrow.Author.Needs.{needs}
 use Rattle.answers.proofs.Working.{content-left}
 use Rattle.odif.proofs.locate.Statement.{statement}
 use Rattle.odif.proofs.locate.Tie as tie
-
-slice-aggregate-ask : tie.Need-slice-aggregate-ask
-slice-aggregate-ask c = search needs
-
-slice-aggregate-ask-2 : tie.Need-slice-aggregate-ask-2
-slice-aggregate-ask-2 c = search needs
-
-slice-aggregate-ask-3 : tie.Need-slice-aggregate-ask-3
-slice-aggregate-ask-3 c = search needs
 
 ask-requires : tie.Need-ask-requires
 ask-requires c κs = tt
@@ -21,10 +12,4 @@ returns c = let f = content-left (c .before .before .before .ask .ensures) in (f
 
 pub locate-spec : {M : Type 1} → statement M
 locate-spec =
-    tie.close
-    (tie.spec
-    slice-aggregate-ask
-    slice-aggregate-ask-2
-    slice-aggregate-ask-3
-    ask-requires
-    returns)
+    tie.close (tie.spec (λ c. search needs) (λ c. search needs) (λ c. search needs) ask-requires returns)

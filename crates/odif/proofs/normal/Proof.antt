@@ -1,4 +1,4 @@
--- `odif::normal` meets its contract: what is refused by rules 1 to 15 is refused, and of a letter the writer's answer is given. Assumes nothing.
+-- `odif::normal` meets its contract: what is refused by rules 1 to 15 is refused, and of a letter the writer's answer is given.
 use mathlib.Core.Path.{ap, sym, _∙_, subst}
 use borrow.Author.Needs.{needs}
 use denote.Ref.{now}
@@ -8,9 +8,6 @@ use Rattle.answers.proofs.Working.{IsLetter}
 use Rattle.odif.proofs.Writing.{Fits, refused, passed, letter-whole, writes-refused, writes-letter}
 use Rattle.odif.proofs.normal.Statement.{statement}
 use Rattle.odif.proofs.normal.Tie as tie
-
-refused-by-requires : tie.Need-refused-by-requires
-refused-by-requires c κs = search needs
 
 returns : tie.Need-returns
 returns c =
@@ -32,10 +29,8 @@ written-as-requires : tie.Need-written-as-requires
 written-as-requires c κs =
     let a = c .before .before .before .before .before .before .before .before .before .args in
     let p = letter-by (c .before .before .before .before) in
-    subst (λ (x : Answer). Fits (writtenAs x)) (sym (c .before .before .write .ensures .answered)) (writes-letter (a .edition) (now (a .stream)) (now (a .out)) p .1)
-
-same-length : tie.Need-same-length
-same-length c = search needs
+    subst (λ (x : Answer). Fits (writtenAs x)) (sym (c .before .before .write .ensures .answered))
+    (writes-letter (a .edition) (now (a .stream)) (now (a .out)) p .1)
 
 returns-2 : tie.Need-returns-2
 returns-2 c =
@@ -46,4 +41,4 @@ returns-2 c =
     record { answered = c .written-as .ensures ∙ ap writtenAs (g .answered) ∙ w .answered; put = g .output ∙ w .put }
 
 pub normal-spec : {M : Type 1} → statement M
-normal-spec = tie.close (tie.spec refused-by-requires returns write-requires written-as-requires same-length returns-2)
+normal-spec = tie.close (tie.spec (λ c κs. search needs) returns write-requires written-as-requires (λ c. search needs) returns-2)

@@ -1,4 +1,4 @@
--- `odif::written_as` meets its contract: each case of the writer's answer, in numbers that fit. Assumes nothing.
+-- `odif::written_as` meets its contract: each case of the writer's answer, in numbers that fit.
 use mathlib.Core.Path.{ap, sym, subst}
 use borrow.Author.Needs.{needs}
 use native.Mathlib.Omega.{arith}
@@ -8,16 +8,10 @@ use Rattle.odif.proofs.Writing.{Fits}
 use Rattle.odif.proofs.written_as.Statement.{statement}
 use Rattle.odif.proofs.written_as.Tie as tie
 
-enum-known-answer : tie.Need-enum-known-answer
-enum-known-answer c = search needs
-
 cast-t6 : tie.Need-cast-t6
 cast-t6 c =
     let fits = subst (λ (x : Answer). Fits (writtenAs x)) (c .before .answer .given .1) (c .before .before .before .pre) in
     omega (arith, fits .1 .1)
-
-enum-known-answer-2 : tie.Need-enum-known-answer-2
-enum-known-answer-2 c = search needs
 
 cast-t7 : tie.Need-cast-t7
 cast-t7 c =
@@ -36,4 +30,4 @@ returns-2 : tie.Need-returns-2
 returns-2 c = sym (ap writtenAs (c .before .answer2 .given .1))
 
 pub written-as-spec : {M : Type 1} → statement M
-written-as-spec = tie.close (tie.spec enum-known-answer cast-t6 enum-known-answer-2 cast-t7 cast-t8 returns returns-2)
+written-as-spec = tie.close (tie.spec (λ c. search needs) cast-t6 (λ c. search needs) cast-t7 cast-t8 returns returns-2)

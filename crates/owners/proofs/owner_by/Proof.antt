@@ -1,4 +1,4 @@
--- `owners::owner_by` meets its contract: the kind is tested, and the portions of a row of the side are looked through. Assumes nothing.
+-- `owners::owner_by` meets its contract: the kind is tested, and the portions of a row of the side are looked through.
 use mathlib.Core.Path.{_≡_, ap, sym, _∙_}
 use Prim.Native.Nat.{ℕ}
 use borrow.Author.Needs.{needs}
@@ -9,12 +9,6 @@ use Rattle.reading.specs.Match.{kindsOf}
 use Rattle.owners.proofs.owner_by.Statement.{statement}
 use Rattle.owners.proofs.owner_by.Tie as tie
 
-kind-at-requires : tie.Need-kind-at-requires
-kind-at-requires c κs = search needs
-
-is-read-requires : tie.Need-is-read-requires
-is-read-requires c κs = search needs
-
 -- the kind was tested
 kind-read : (c : tie.After-is-read) →
     let a = c .before .before .before .before .args in
@@ -24,12 +18,9 @@ kind-read c = ap (λ (k : ℕ). isIn k (kindsOf (c .before .before .before .befo
 returns : tie.Need-returns
 returns c = rw (kind-read (c .before) ∙ not-true _ (c .if1 .taken))
 
-portion-with-requires : tie.Need-portion-with-requires
-portion-with-requires c κs = search needs
-
 returns-2 : tie.Need-returns-2
 returns-2 c = rw (kind-read (c .before .before) ∙ not-false _ (c .before .if1 .left)) (c .portion-with .ensures)
 
 pub owner-by-spec : {M : Type 1} → statement M
 owner-by-spec =
-    tie.close (tie.spec kind-at-requires is-read-requires returns portion-with-requires returns-2)
+    tie.close (tie.spec (λ c κs. search needs) (λ c κs. search needs) returns (λ c κs. search needs) returns-2)

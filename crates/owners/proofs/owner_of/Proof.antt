@@ -1,4 +1,4 @@
--- `owners::owner_of` meets its contract: each answer is the unit's record, or tells that there is none. Assumes nothing.
+-- `owners::owner_of` meets its contract: each answer is the unit's record, or tells that there is none.
 use mathlib.Core.Path.{_≡_, ap, sym, _∙_, subst}
 use Prim.Native.Nat.{ℕ, _<_, _≤_}
 use native.Mathlib.Omega.{arith}
@@ -8,8 +8,8 @@ use lib.ListN.{length}
 use lib.Seq.{slice}
 use Rattle.contents.specs.declared.Span.{Span}
 use Rattle.rows.specs.declared.RowFound.{RowFound}
-use Rattle.rows.specs.declared.RowFound.the-variants.{At, Nothing}
-use Rattle.rows.specs.Columns.{identifierColumn, firstAt, pastAt, Bounded}
+use Rattle.rows.specs.declared.RowFound.the-variants.{At}
+use Rattle.rows.specs.Columns.{identifierColumn, firstAt, pastAt}
 use Rattle.rows.specs.Chains.{Has, FindsRow}
 use Rattle.rows.specs.Columns.{spanAt}
 use Rattle.reading.specs.Ready.{columnOf}
@@ -30,17 +30,19 @@ returns c elements ready =
     let a = c .before .before .before .before .before .before .args in
     no-unit ready (a .side) (a .u) (λ k. c .if1 .taken (c .before .kind-at .ensures ∙ k))
 
-column-of-requires : tie.Need-column-of-requires
-column-of-requires c κs = search needs
-
 bounds-at-requires : tie.Need-bounds-at-requires
 bounds-at-requires c κs =
-    let start = c .before .before .before .before .before .before .before in
-    (rw (c .column-of .ensures) (bounded-on (start .pre .0 .1) (start .args .side) .in-row), omega (arith, start .pre .1 .1, start .pre .0 .1 .holds .identifiers .in-table))
+    let start = c .before .before .before .before .before .before .before in (
+      rw (c .column-of .ensures) (bounded-on (start .pre .0 .1) (start .args .side) .in-row),
+      omega (arith, start .pre .1 .1, start .pre .0 .1 .holds .identifiers .in-table),
+    )
 
 -- the unit's name of the side
-name-is : (c : tie.After-bounds-at) → let a = c .before .before .before .before .before .before .before .before .args in c .bounds-at .result ≡ spanAt (a .rows .now) (columnOf (a .side)) (a .u)
-name-is c = let a = c .before .before .before .before .before .before .before .before .args in c .bounds-at .ensures ∙ ap (λ (k : ℕ). spanAt (a .rows .now) k (a .u)) (c .before .column-of .ensures)
+name-is : (c : tie.After-bounds-at)
+    → let a = c .before .before .before .before .before .before .before .before .args in c .bounds-at .result ≡ spanAt (a .rows .now)
+    (columnOf (a .side)) (a .u)
+name-is c = let a = c .before .before .before .before .before .before .before .before .args in c .bounds-at .ensures
+    ∙ ap (λ (k : ℕ). spanAt (a .rows .now) k (a .u)) (c .before .column-of .ensures)
 
 within : (c : tie.After-bounds-at) → let a = c .before .before .before .before .before .before .before .before .args in
     (c .bounds-at .result .first ≤ c .bounds-at .result .past) × (c .bounds-at .result .past ≤ length (a .s .now))
@@ -55,7 +57,8 @@ last-space-requires c κs = within c
 -- where it is cut
 last : (c : tie.After-last-space) → let a = c .before .before .before .before .before .before .before .before .before .args in
     LastSpace (a .s .now) (firstAt (a .rows .now) (columnOf (a .side)) (a .u)) (pastAt (a .rows .now) (columnOf (a .side)) (a .u)) (c .last-space .result)
-last c = let a = c .before .before .before .before .before .before .before .before .before .args in subst (λ (v : Span). LastSpace (a .s .now) (v .first) (v .past) (c .last-space .result)) (name-is (c .before)) (c .last-space .ensures)
+last c = let a = c .before .before .before .before .before .before .before .before .before .args in subst
+    (λ (v : Span). LastSpace (a .s .now) (v .first) (v .past) (c .last-space .result)) (name-is (c .before)) (c .last-space .ensures)
 
 returns-2 : tie.Need-returns-2
 returns-2 c elements ready =
@@ -72,14 +75,19 @@ carrier-requires c κs =
 strict : (a b : ℕ) → a ≤ b → (a ≡ b → ⊥) → a < b
 strict a b l n = omega arith
 
-cut-before : (c : tie.After-carrier) → let a = c .before .before .before .before .before .before .before .before .before .before .before .before .args in c .before .before .before .last-space .result < pastAt (a .rows .now) (columnOf (a .side)) (a .u)
+cut-before : (c : tie.After-carrier)
+    → let a = c .before .before .before .before .before .before .before .before .before .before .before .before .args in c .before .before .before .last-space .result < pastAt (a .rows .now) (columnOf (a .side)) (a .u)
 cut-before c =
+    let last-space = c .before .before .before .last-space in
     let name = c .before .before .before .before in
-    subst (λ (v : Span). c .before .before .before .last-space .result < v .past) (name-is name)
-    (strict (c .before .before .before .last-space .result) (name .bounds-at .result .past) (c .before .before .before .last-space .ensures .before) (c .before .if2 .left))
+    subst (λ (v : Span). last-space .result < v .past) (name-is name)
+    (strict (last-space .result) (name .bounds-at .result .past) (last-space .ensures .before) (c .before .if2 .left))
 
-inside : (c : tie.After-carrier) → let a = c .before .before .before .before .before .before .before .before .before .before .before .before .args in pastAt (a .rows .now) (columnOf (a .side)) (a .u) ≤ length (a .s .now)
-inside c = let start = c .before .before .before .before .before .before .before .before .before .before .before .before in bounded-on (start .pre .0 .1) (start .args .side) .inside (start .args .u) (start .pre .1 .1)
+inside : (c : tie.After-carrier)
+    → let a = c .before .before .before .before .before .before .before .before .before .before .before .before .args in pastAt (a .rows .now)
+    (columnOf (a .side)) (a .u) ≤ length (a .s .now)
+inside c = let start = c .before .before .before .before .before .before .before .before .before .before .before .before in bounded-on
+    (start .pre .0 .1) (start .args .side) .inside (start .args .u) (start .pre .1 .1)
 
 -- who carries what stands before it
 finds : (c : tie.After-carrier) → let a = c .before .before .before .before .before .before .before .before .before .before .before .before .args in
@@ -87,7 +95,8 @@ finds : (c : tie.After-carrier) → let a = c .before .before .before .before .b
     (slice (firstAt (a .rows .now) (columnOf (a .side)) (a .u)) (c .before .before .before .last-space .result) (a .s .now)) (c .carrier .result)
 finds c =
     let a = c .before .before .before .before .before .before .before .before .before .before .before .before .args in
-    subst (λ (v : Span). FindsRow (a .s .now) (a .rows .now) identifierColumn (a .n) objectSpace (slice (v .first) (c .before .before .before .last-space .result) (a .s .now)) (c .carrier .result))
+    subst (λ (v : Span). FindsRow (a .s .now) (a .rows .now) identifierColumn (a .n) objectSpace
+    (slice (v .first) (c .before .before .before .last-space .result) (a .s .now)) (c .carrier .result))
     (name-is (c .before .before .before .before)) (c .carrier .ensures)
 
 found-at : (s rows : List ℕ) (n : ℕ) (bytes : List ℕ) (found : RowFound) (row : ℕ) → FindsRow s rows identifierColumn n objectSpace bytes found → found ≡ At row
@@ -97,18 +106,18 @@ found-at s rows n bytes found row f e = subst (FindsRow s rows identifierColumn 
 enum-told : tie.Need-enum-told
 enum-told c = search needs
 
-enum-known-row : tie.Need-enum-known-row
-enum-known-row c = search needs
-
 add-owner-by : tie.Need-add-owner-by
 add-owner-by c = omega (arith, cut-before (c .before .before .before), inside (c .before .before .before))
 
-has-row : (c : tie.After-known-told) → let a = c .before .before .before .before .before .before .before .before .before .before .before .before .before .before .before .args in
+has-row : (c : tie.After-known-told)
+    → let a = c .before .before .before .before .before .before .before .before .before .before .before .before .before .before .before .args in
     Has (a .s .now) (a .rows .now) identifierColumn (a .n) objectSpace
-    (slice (firstAt (a .rows .now) (columnOf (a .side)) (a .u)) (c .before .before .before .before .before .before .last-space .result) (a .s .now)) (c .before .row .given .0 .0)
+    (slice (firstAt (a .rows .now) (columnOf (a .side)) (a .u)) (c .before .before .before .before .before .before .last-space .result) (a .s .now))
+    (c .before .row .given .0 .0)
 has-row c =
     let a = c .before .before .before .before .before .before .before .before .before .before .before .before .before .before .before .args in
-    found-at (a .s .now) (a .rows .now) (a .n) _ (c .before .before .before .carrier .result) (c .before .row .given .0 .0) (finds (c .before .before .before)) (c .before .row .given .1)
+    found-at (a .s .now) (a .rows .now) (a .n) _ (c .before .before .before .carrier .result) (c .before .row .given .0 .0)
+    (finds (c .before .before .before)) (c .before .row .given .1)
 
 owner-by-requires : tie.Need-owner-by-requires
 owner-by-requires c κs =
@@ -136,24 +145,13 @@ returns-4 c elements ready =
     let a = start .args in
     let told = c .before in
     let at = told .before .before .before in
-    let unit = sym (c .before .before .before .before .before .before .before .before .before .before .before .kind-at .ensures) ∙ c .before .before .before .before .before .before .before .before .before .before .if1 .left in
-    let by = by-carrier ready (a .side) (a .u) (last (at .before .before .before)) (cut-before at) (inside at) (told .before .row .given .0 .0) (has-row told) unit (start .pre .1 .1) in
+    let unit = sym (c .before .before .before .before .before .before .before .before .before .before .before .kind-at .ensures)
+    ∙ c .before .before .before .before .before .before .before .before .before .before .if1 .left in
+    let by = by-carrier ready (a .side) (a .u) (last (at .before .before .before)) (cut-before at) (inside at) (told .before .row .given .0 .0)
+    (has-row told) unit (start .pre .1 .1) in
     subst (OwnerIs (a .side) elements (a .u)) (sym (rw (name-is (at .before .before .before .before)) at (c .owner-by .ensures))) by
 
 pub owner-of-spec : {M : Type 1} → statement M
 owner-of-spec =
-    tie.close
-    (tie.spec
-    kind-at-requires
-    returns
-    column-of-requires
-    bounds-at-requires
-    last-space-requires
-    returns-2
-    carrier-requires
-    enum-told
-    enum-known-row
-    add-owner-by
-    owner-by-requires
-    returns-3
-    returns-4)
+    tie.close (tie.spec kind-at-requires returns (λ c κs. search needs) bounds-at-requires last-space-requires returns-2 carrier-requires
+    enum-told (λ c. search needs) add-owner-by owner-by-requires returns-3 returns-4)

@@ -1,4 +1,4 @@
--- `owners::portion_with` meets its contract. The loop's invariant: the answer among all portions is that among those that are left. Assumes nothing.
+-- `owners::portion_with` meets its contract. The loop's invariant: the answer among all portions is that among those that are left.
 use mathlib.Core.Path.{_≡_, refl, sym, _∙_, subst}
 use Prim.Native.Nat.{_-_}
 use native.Mathlib.Omega.{arith}
@@ -23,11 +23,10 @@ abbrev μ-loop : tie.MeasureT-loop
 -- the portion that is met
 meeting : (c : tie.After-known-told Inv-loop μ-loop) →
     let g = c .before .from .given .0 in
-    Meeting (c .before .before .before .before .before .before .before .before .args .s .now) (c .before .before .before .before .loop .left) (g .0) (g .1 .0) (g .1 .1 .0) (g .1 .1 .1 .0) (g .1 .1 .1 .1 .0)
-meeting c = subst (Meets (c .before .before .before .before .before .before .before .before .args .s .now) (c .before .before .before .before .loop .left)) (c .before .from .given .1) (c .before .before .before .meet .ensures)
-
-portions-at-requires : tie.Need-portions-at-requires Inv-loop μ-loop
-portions-at-requires c κs = search needs
+    Meeting (c .before .before .before .before .before .before .before .before .args .s .now) (c .before .before .before .before .loop .left) (g .0)
+    (g .1 .0) (g .1 .1 .0) (g .1 .1 .1 .0) (g .1 .1 .1 .1 .0)
+meeting c = subst (Meets (c .before .before .before .before .before .before .before .before .args .s .now)
+    (c .before .before .before .before .loop .left)) (c .before .from .given .1) (c .before .before .before .meet .ensures)
 
 loop-holds : tie.Need-loop-holds Inv-loop μ-loop
 loop-holds c = rw (c .portions-at .ensures) (left-all (c .before .before .before .pre .1 .0), refl)
@@ -45,9 +44,6 @@ returns c =
     sym (l .inv .1 ∙ among-none (l .inv .0) (slice (a .first) (a .past) (a .s .now))
     (subst (Meets (a .s .now) (l .left)) (c .enum-told .given .1) (c .before .before .meet .ensures)))
 
-enum-known-from : tie.Need-enum-known-from Inv-loop μ-loop
-enum-known-from c = search needs
-
 is-same-requires : tie.Need-is-same-requires Inv-loop μ-loop
 is-same-requires c κs =
     let m = meeting c in
@@ -58,12 +54,16 @@ returns-2 : tie.Need-returns-2 Inv-loop μ-loop
 returns-2 c =
     let a = c .before .before .before .before .before .before .before .before .before .before .args in
     let l = c .before .before .before .before .before .before .loop in
-    sym (l .inv .1 ∙ among-met (l .inv .0) (slice (a .first) (a .past) (a .s .now)) (meeting (c .before .before)) (sym (c .before .is-same .ensures) ∙ c .if1 .taken))
+    sym (l .inv .1 ∙ among-met (l .inv .0) (slice (a .first) (a .past) (a .s .now)) (meeting (c .before .before)) (sym (c .before .is-same .ensures)
+    ∙ c .if1 .taken))
 
 add-portion : tie.Need-add-portion Inv-loop μ-loop
 add-portion c =
     let l = c .before .before .before .before .before .before .loop in
-    omega (arith, left-small (l .inv .0) (meeting (c .before .before)) (c .before .before .before .before .before .before .before .before .before .before .pre .1 .0))
+    omega (
+      arith,
+      left-small (l .inv .0) (meeting (c .before .before)) (c .before .before .before .before .before .before .before .before .before .before .pre .1 .0),
+    )
 
 loop-less : tie.Need-loop-less Inv-loop μ-loop
 loop-less c = meeting (c .before .before) .less
@@ -79,18 +79,5 @@ loop-again c =
 
 pub portion-with-spec : {M : Type 1} → statement M
 portion-with-spec =
-    tie.close
-    (tie.spec
-    Inv-loop
-    μ-loop
-    portions-at-requires
-    loop-holds
-    meet-requires
-    enum-told
-    returns
-    enum-known-from
-    is-same-requires
-    returns-2
-    add-portion
-    loop-less
-    loop-again)
+    tie.close (tie.spec Inv-loop μ-loop (λ c κs. search needs) loop-holds meet-requires enum-told returns (λ c. search needs)
+    is-same-requires returns-2 add-portion loop-less loop-again)

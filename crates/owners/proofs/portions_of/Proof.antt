@@ -1,4 +1,4 @@
--- `owners::portions_of` meets its contract: each portion that is met is counted. Assumes nothing.
+-- `owners::portions_of` meets its contract: each portion that is met is counted.
 use mathlib.Core.Path.{subst}
 use Prim.Native.Nat.{_-_}
 use native.Mathlib.Omega.{arith}
@@ -17,11 +17,10 @@ abbrev μ-loop : tie.MeasureT-loop
 -- the portion that is met
 meeting : (c : tie.After-known-told Inv-loop μ-loop) →
     let g = c .before .rest .given .0 in
-    Meeting (c .before .before .before .before .before .before .before .before .args .s .now) (c .before .before .before .before .loop .left) (g .0) (g .1 .0) (g .1 .1 .0) (g .1 .1 .1 .0) (g .1 .1 .1 .1 .0)
-meeting c = subst (Meets (c .before .before .before .before .before .before .before .before .args .s .now) (c .before .before .before .before .loop .left)) (c .before .rest .given .1) (c .before .before .before .meet .ensures)
-
-portions-at-requires : tie.Need-portions-at-requires Inv-loop μ-loop
-portions-at-requires c κs = search needs
+    Meeting (c .before .before .before .before .before .before .before .before .args .s .now) (c .before .before .before .before .loop .left) (g .0)
+    (g .1 .0) (g .1 .1 .0) (g .1 .1 .1 .0) (g .1 .1 .1 .1 .0)
+meeting c = subst (Meets (c .before .before .before .before .before .before .before .before .args .s .now)
+    (c .before .before .before .before .loop .left)) (c .before .rest .given .1) (c .before .before .before .meet .ensures)
 
 loop-holds : tie.Need-loop-holds Inv-loop μ-loop
 loop-holds c = rw (c .portions-at .ensures) (left-all (c .before .before .before .pre .1))
@@ -35,13 +34,14 @@ enum-told c = search needs
 returns : tie.Need-returns Inv-loop μ-loop
 returns c =
     let l = c .before .before .before .loop in
-    left-none (l .inv) (subst (Meets (c .before .before .before .before .before .before .before .args .s .now) (l .left)) (c .enum-told .given .1) (c .before .before .meet .ensures))
-
-enum-known-rest : tie.Need-enum-known-rest Inv-loop μ-loop
-enum-known-rest c = search needs
+    left-none (l .inv) (subst (Meets (c .before .before .before .before .before .before .before .args .s .now) (l .left)) (c .enum-told .given .1)
+    (c .before .before .meet .ensures))
 
 add-count : tie.Need-add-count Inv-loop μ-loop
-add-count c = omega (arith, left-small (c .before .before .before .before .loop .inv) (meeting c) (c .before .before .before .before .before .before .before .before .pre .1))
+add-count c = omega (
+  arith,
+  left-small (c .before .before .before .before .loop .inv) (meeting c) (c .before .before .before .before .before .before .before .before .pre .1),
+)
 
 loop-less : tie.Need-loop-less Inv-loop μ-loop
 loop-less c = meeting c .less
@@ -51,16 +51,5 @@ loop-again c = left-more (c .before .before .before .before .loop .inv) (meeting
 
 pub portions-of-spec : {M : Type 1} → statement M
 portions-of-spec =
-    tie.close
-    (tie.spec
-    Inv-loop
-    μ-loop
-    portions-at-requires
-    loop-holds
-    meet-requires
-    enum-told
-    returns
-    enum-known-rest
-    add-count
-    loop-less
-    loop-again)
+    tie.close (tie.spec Inv-loop μ-loop (λ c κs. search needs) loop-holds meet-requires enum-told returns (λ c. search needs) add-count
+    loop-less loop-again)

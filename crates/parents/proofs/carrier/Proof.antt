@@ -1,11 +1,7 @@
--- `parents::carrier` meets its contract: the name is hashed and looked up. Assumes nothing.
-use native.Mathlib.Omega.{arith}
+-- `parents::carrier` meets its contract: the name is hashed and looked up.
 use borrow.Author.Needs.{needs}
 use Rattle.parents.proofs.carrier.Statement.{statement}
 use Rattle.parents.proofs.carrier.Tie as tie
-
-hash-over-requires : tie.Need-hash-over-requires
-hash-over-requires c κs = search needs
 
 find-requires : tie.Need-find-requires
 find-requires c κs =
@@ -21,8 +17,5 @@ find-requires c κs =
       ),
     )
 
-returns : tie.Need-returns
-returns c = search needs
-
 pub carrier-spec : {M : Type 1} → statement M
-carrier-spec = tie.close (tie.spec hash-over-requires find-requires returns)
+carrier-spec = tie.close (tie.spec (λ c κs. search needs) find-requires (λ c. search needs))

@@ -1,25 +1,13 @@
--- `parents::is_parent_kind` meets its contract: the kinds of either side, by cases of the definition. Assumes nothing.
-use mathlib.Core.Path.{_≡_, sym, _∙_}
+-- `parents::is_parent_kind` meets its contract: the kinds of either side, by cases of the definition.
+use mathlib.Core.Path.{sym, _∙_}
 use borrow.Author.Needs.{needs}
 use Rattle.parents.specs.Parent.{parentKinds}
 use Rattle.parents.proofs.is_parent_kind.Statement.{statement}
 use Rattle.parents.proofs.is_parent_kind.Tie as tie
 
-is-either-requires : tie.Need-is-either-requires
-is-either-requires c κs = search needs
-
-is-either-requires-2 : tie.Need-is-either-requires-2
-is-either-requires-2 c κs = search needs
-
 returns : tie.Need-returns
 unfolding parentKinds
 returns c = rw (sym (c .before .before .is-either .ensures) ∙ c .before .if1 .taken) (c .is-either2 .ensures)
-
-is-either-requires-3 : tie.Need-is-either-requires-3
-is-either-requires-3 c κs = search needs
-
-is-either-requires-4 : tie.Need-is-either-requires-4
-is-either-requires-4 c κs = search needs
 
 returns-2 : tie.Need-returns-2
 unfolding parentKinds
@@ -37,12 +25,5 @@ returns-3 c =
 
 pub is-parent-kind-spec : {M : Type 1} → statement M
 is-parent-kind-spec =
-    tie.close
-    (tie.spec
-    is-either-requires
-    is-either-requires-2
-    returns
-    is-either-requires-3
-    is-either-requires-4
-    returns-2
+    tie.close (tie.spec (λ c κs. search needs) (λ c κs. search needs) returns (λ c κs. search needs) (λ c κs. search needs) returns-2
     returns-3)

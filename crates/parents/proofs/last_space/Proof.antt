@@ -1,10 +1,9 @@
--- `parents::last_space` meets its contract. The loop's invariant: no space stands in what is passed. Assumes nothing.
-use mathlib.Core.Path.{_≡_, refl, ap, sym, _∙_}
+-- `parents::last_space` meets its contract. The loop's invariant: no space stands in what is passed.
+use mathlib.Core.Path.{_≡_, ap, sym, _∙_}
 use mathlib.Core.List.{_∷_, _++_}
 use Prim.Native.Nat.{ℕ, _+_, _-_, _<_, _≤_}
 use native.Mathlib.Omega.{arith}
 use borrow.Author.Tests.{ne-eqb, lt-ltb, le-ltb}
-use lib.ListN.{length}
 use lib.Seq.{slice, slice-empty}
 use Rattle.names.proofs.Parts.{slice-more, slice-cut}
 use Rattle.contents.specs.Search.{absent}
@@ -72,14 +71,4 @@ returns-2 c =
 
 pub last-space-spec : {M : Type 1} → statement M
 last-space-spec =
-    tie.close
-    (tie.spec
-    Inv-loop
-    μ-loop
-    loop-holds
-    sub-at
-    shared-slice-read-if1
-    returns
-    loop-less
-    loop-again
-    returns-2)
+    tie.close (tie.spec Inv-loop μ-loop loop-holds sub-at shared-slice-read-if1 returns loop-less loop-again returns-2)

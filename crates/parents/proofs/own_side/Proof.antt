@@ -1,22 +1,15 @@
--- `parents::own_side` meets its contract: the row that was found is tested by its kind. Assumes nothing.
+-- `parents::own_side` meets its contract: the row that was found is tested by its kind.
 use mathlib.Core.Path.{_≡_, ap, sym, _∙_, subst}
 use Prim.Native.Nat.{ℕ, _+_, _*_, _≤_}
 use native.Mathlib.Omega.{arith}
 use lib.ListN.{length}
 use borrow.Author.Needs.{needs}
 use Rattle.headers.specs.Head.{isIn}
-use Rattle.rows.specs.declared.RowFound.{RowFound}
 use Rattle.rows.specs.Rows.{scratchWidth}
 use Rattle.parents.specs.Parent.{parentKinds}
 use Rattle.parents.specs.Lookup.{FoundIn, onSide}
 use Rattle.parents.proofs.own_side.Statement.{statement}
 use Rattle.parents.proofs.own_side.Tie as tie
-
-enum-told : tie.Need-enum-told
-enum-told c = search needs
-
-enum-known-found : tie.Need-enum-known-found
-enum-known-found c = search needs
 
 -- the row that was found is one of the rows
 in-rows : (c : tie.After-known-told) → c .before .found .given .0 .0 * scratchWidth + scratchWidth ≤ length (c .before .before .before .before .args .rows .now)
@@ -30,12 +23,6 @@ mul-wide-2 c = let l = in-rows c in search needs
 
 shared-slice-read-wide : tie.Need-shared-slice-read-wide
 shared-slice-read-wide c = omega (arith, in-rows (c .before))
-
-wide-requires : tie.Need-wide-requires
-wide-requires c κs = search needs
-
-is-parent-kind-requires : tie.Need-is-parent-kind-requires
-is-parent-kind-requires c κs = search needs
 
 -- its kind was tested
 tested : (c : tie.After-is-parent-kind) →
@@ -51,9 +38,6 @@ returns c =
     let t = ap (λ (k : ℕ). isIn k (parentKinds (a .kind))) (sym kind) ∙ tested (c .before) ∙ c .if1 .taken in
     sym (ap (onSide (a .rows .now) (a .kind)) (found .1) ∙ rw t)
 
-returns-2 : tie.Need-returns-2
-returns-2 c = search needs
-
 returns-3 : tie.Need-returns-3
 returns-3 c =
     let a = c .before .before .before .before .before .before .before .before .args in
@@ -64,15 +48,5 @@ returns-3 c =
 
 pub own-side-spec : {M : Type 1} → statement M
 own-side-spec =
-    tie.close
-    (tie.spec
-    enum-told
-    enum-known-found
-    mul-wide
-    mul-wide-2
-    shared-slice-read-wide
-    wide-requires
-    is-parent-kind-requires
-    returns
-    returns-2
-    returns-3)
+    tie.close (tie.spec (λ c. search needs) (λ c. search needs) mul-wide mul-wide-2 shared-slice-read-wide (λ c κs. search needs)
+    (λ c κs. search needs) returns (λ c. search needs) returns-3)

@@ -1,5 +1,5 @@
--- `parents::parent_of` meets its contract: each test is a case of the definition, and what was looked up is the parent. Assumes nothing.
-use mathlib.Core.Path.{_≡_, ap, sym, _∙_, subst}
+-- `parents::parent_of` meets its contract: each test is a case of the definition, and what was looked up is the parent.
+use mathlib.Core.Path.{ap, sym, _∙_, subst}
 use Prim.Native.Nat.{ℕ, _≤_}
 use native.Mathlib.Omega.{arith}
 use lib.Seq.{slice}
@@ -11,54 +11,12 @@ use borrow.Author.Needs.{needs}
 use Rattle.parents.proofs.parent_of.Statement.{statement}
 use Rattle.parents.proofs.parent_of.Tie as tie
 
-mul-at : tie.Need-mul-at
-mul-at c = search needs
-
-mul-wide : tie.Need-mul-wide
-mul-wide c = search needs
-
-shared-slice-read-wide : tie.Need-shared-slice-read-wide
-shared-slice-read-wide c = search needs
-
-wide-requires : tie.Need-wide-requires
-wide-requires c κs = search needs
-
-is-parent-kind-requires : tie.Need-is-parent-kind-requires
-is-parent-kind-requires c κs = search needs
-
 returns : tie.Need-returns
 returns c =
     let start = c .before .before .before .before .before .before .before .before in
     let kind = c .before .before .wide .ensures in
     let t = ap (λ (k : ℕ). isIn k (parentKinds k)) (sym kind) ∙ sym (c .before .is-parent-kind .ensures) ∙ not-true _ (c .if1 .taken) in
     record { small = omega arith; is = λ elements ready. parent-other ready (start .args .j) (start .pre .1 .1 .0) t }
-
-add-wide : tie.Need-add-wide
-add-wide c = search needs
-
-mul-wide-2 : tie.Need-mul-wide-2
-mul-wide-2 c = search needs
-
-shared-slice-read-wide-2 : tie.Need-shared-slice-read-wide-2
-shared-slice-read-wide-2 c = search needs
-
-wide-requires-2 : tie.Need-wide-requires-2
-wide-requires-2 c κs = search needs
-
-add-wide-2 : tie.Need-add-wide-2
-add-wide-2 c = search needs
-
-add-wide-3 : tie.Need-add-wide-3
-add-wide-3 c = search needs
-
-mul-wide-3 : tie.Need-mul-wide-3
-mul-wide-3 c = search needs
-
-shared-slice-read-wide-3 : tie.Need-shared-slice-read-wide-3
-shared-slice-read-wide-3 c = search needs
-
-wide-requires-3 : tie.Need-wide-requires-3
-wide-requires-3 c κs = search needs
 
 last-space-requires : tie.Need-last-space-requires
 last-space-requires c κs =
@@ -92,45 +50,32 @@ own-side-requires : tie.Need-own-side-requires
 own-side-requires c κs =
     let start = c .before .before .before .before .before .before .before .before .before .before .before .before .before .before .before in
     found-in (start .args .s .now) (start .args .rows .now) (start .args .n)
-    (slice (c .before .before .before .before .before .wide2 .result) (c .before .before .last-space .result) (start .args .s .now)) (c .carrier .result) (c .carrier .ensures) (start .pre .0 .1 .holds .identifiers .in-table)
+    (slice (c .before .before .before .before .before .wide2 .result) (c .before .before .last-space .result) (start .args .s .now))
+    (c .carrier .result) (c .carrier .ensures) (start .pre .0 .1 .holds .identifiers .in-table)
 
 returns-3 : tie.Need-returns-3
 returns-3 c =
+    let wide = c .before .before .before .before .before .before .before .before .before .before .wide in
+    let wide2 = c .before .before .before .before .before .before .wide2 in
+    let last-space = c .before .before .before .last-space in
     let start = c .before .before .before .before .before .before .before .before .before .before .before .before .before .before .before .before in
-    let kind = c .before .before .before .before .before .before .before .before .before .before .wide .ensures in
-    let first = c .before .before .before .before .before .before .wide2 .ensures in
+    let kind = wide .ensures in
+    let first = wide2 .ensures in
     let past = c .before .before .before .before .wide3 .ensures in
-    let last = c .before .before .before .last-space .ensures in
+    let last = last-space .ensures in
     let found = c .before .carrier .ensures in
     let told = c .own-side .ensures in
     let small = side-small (start .args .s .now) (start .args .rows .now) (start .args .n)
-    (slice (c .before .before .before .before .before .before .wide2 .result) (c .before .before .before .last-space .result) (start .args .s .now)) (c .before .carrier .result) found (start .pre .1 .1 .1) (c .before .before .before .before .before .before .before .before .before .before .wide .result) in
+    (slice (wide2 .result) (last-space .result) (start .args .s .now)) (c .before .carrier .result) found (start .pre .1 .1 .1) (wide .result) in
     record {
       small = subst (λ (k : ℕ). k ≤ noParent) (sym told) small;
-      is = λ elements ready. told ∙ parent-found ready (start .args .j) (start .pre .1 .1 .0) _ _ _ first past last (c .before .before .if2 .left) (c .before .carrier .result) found _ kind;
+      is = λ elements ready. told ∙ parent-found ready (start .args .j) (start .pre .1 .1 .0) _ _ _ first past last (c .before .before .if2 .left)
+          (c .before .carrier .result) found _ kind;
     }
 
 pub parent-of-spec : {M : Type 1} → statement M
 parent-of-spec =
-    tie.close
-    (tie.spec
-    mul-at
-    mul-wide
-    shared-slice-read-wide
-    wide-requires
-    is-parent-kind-requires
-    returns
-    add-wide
-    mul-wide-2
-    shared-slice-read-wide-2
-    wide-requires-2
-    add-wide-2
-    add-wide-3
-    mul-wide-3
-    shared-slice-read-wide-3
-    wide-requires-3
-    last-space-requires
-    returns-2
-    carrier-requires
-    own-side-requires
+    tie.close (tie.spec (λ c. search needs) (λ c. search needs) (λ c. search needs) (λ c κs. search needs) (λ c κs. search needs) returns
+    (λ c. search needs) (λ c. search needs) (λ c. search needs) (λ c κs. search needs) (λ c. search needs) (λ c. search needs)
+    (λ c. search needs) (λ c. search needs) (λ c κs. search needs) last-space-requires returns-2 carrier-requires own-side-requires
     returns-3)

@@ -1,5 +1,5 @@
 -- `pieces::are_pieces` meets its contract. The loop's invariant: the run is of pieces only exactly when what is left of it is. The
--- function ends, for each call has fewer levels left. Assumes nothing.
+-- function ends, for each call has fewer levels left.
 use mathlib.Core.Path.{_≡_, refl, sym, _∙_}
 use mathlib.Core.Bool.{true, false}
 use Prim.Native.Nat.{ℕ, _-_, _<_}

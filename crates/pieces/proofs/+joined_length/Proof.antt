@@ -1,5 +1,5 @@
 -- `pieces::joined_length` meets its contract. The loop's invariant: the octets of the run are those counted and those of what is left
--- of it. The function ends, for each call has fewer levels left. Assumes nothing.
+-- of it. The function ends, for each call has fewer levels left.
 use mathlib.Core.Path.{_≡_, refl, ap, _∙_}
 use Prim.Native.Nat.{ℕ, _+_, _-_, _<_}
 use native.Mathlib.Omega.{arith}
@@ -76,7 +76,13 @@ module _ (t : ℕ) where
   add-n c =
       let g = pieces-give (meeting (c .before .before)) (eq-eqb _ _ (c .before .if1 .taken)) in
       let l = c .before .before .before .before .before .before .loop in
-      omega (arith, joined-fits (c .before .before .before .before .before .before .before .before .pre .1), gives-length g, c .joined-length .ensures, l .inv .2)
+      omega (
+        arith,
+        joined-fits (c .before .before .before .before .before .before .before .before .pre .1),
+        gives-length g,
+        c .joined-length .ensures,
+        l .inv .2,
+      )
 
   loop-less : lts.Need-loop-less (calls t) (pre-at t) joined-length.Post Inv-loop μ-loop
   loop-less c = meeting (c .before .before) .less

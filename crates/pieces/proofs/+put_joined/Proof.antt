@@ -1,5 +1,5 @@
 -- `pieces::put_joined` meets its contract. The invariant of the loop is `PutSoFar`. The function ends, for each call has fewer levels
--- left. Assumes nothing.
+-- left.
 use mathlib.Core.Path.{_≡_, ap}
 use Prim.Native.Nat.{ℕ, _+_, _-_, _<_, _≤_}
 use native.Mathlib.Omega.{arith}

@@ -1,7 +1,7 @@
--- `pm1::count_pages` meets its contract. The loop's invariant: those that are counted, and then those of the rows that are left, are all. Assumes nothing.
+-- `pm1::count_pages` meets its contract. The loop's invariant: those that are counted, and then those of the rows that are left, are all.
 use mathlib.Core.Path.{_≡_, ap, sym, _∙_}
 use mathlib.Core.Bool.{true, false}
-use Prim.Native.Nat.{ℕ, _+_, _-_, _≤_}
+use Prim.Native.Nat.{_+_, _-_, _≤_}
 use native.Mathlib.Omega.{arith}
 use Rattle.pm1.specs.ByTable.{pagesAmong}
 use Rattle.pm1.proofs.Counting.{among-next, among-none}
@@ -36,8 +36,11 @@ loop-less c = omega arith
 loop-again : tie.Need-loop-again Inv-loop μ-loop
 loop-again c =
     let a = c .before .before .before .before .before .args in
-    let l = c .before .before .before .loop in
-    (omega arith, omega arith, among-next (a .table .now) (l .j) (a .elements) (l .count) _ true (sym (c .if1 .taken) ∙ c .before .is-page .ensures) (omega arith) (l .inv .2))
+    let l = c .before .before .before .loop in (
+      omega arith,
+      omega arith,
+      among-next (a .table .now) (l .j) (a .elements) (l .count) _ true (sym (c .if1 .taken) ∙ c .before .is-page .ensures) (omega arith) (l .inv .2),
+    )
 
 loop-less-2 : tie.Need-loop-less-2 Inv-loop μ-loop
 loop-less-2 c = omega arith
@@ -46,8 +49,12 @@ loop-again-2 : tie.Need-loop-again-2 Inv-loop μ-loop
 loop-again-2 c =
     let a = c .before .before .before .before .before .args in
     let l = c .before .before .before .loop in
-    let same : l .count + 0 ≡ l .count = omega arith in
-    (omega arith, omega arith, rw same at (among-next (a .table .now) (l .j) (a .elements) (l .count) _ false (sym (c .if1 .left) ∙ c .before .is-page .ensures) (omega arith) (l .inv .2)))
+    let same : l .count + 0 ≡ l .count = omega arith in (
+      omega arith,
+      omega arith,
+      rw same at (among-next (a .table .now) (l .j) (a .elements) (l .count) _ false (sym (c .if1 .left)
+          ∙ c .before .is-page .ensures) (omega arith) (l .inv .2)),
+    )
 
 returns : tie.Need-returns Inv-loop μ-loop
 returns c =
@@ -57,16 +64,4 @@ returns c =
 
 pub count-pages-spec : {M : Type 1} → statement M
 count-pages-spec =
-    tie.close
-    (tie.spec
-    Inv-loop
-    μ-loop
-    loop-holds
-    is-page-requires
-    add-j
-    add-count
-    loop-less
-    loop-again
-    loop-less-2
-    loop-again-2
-    returns)
+    tie.close (tie.spec Inv-loop μ-loop loop-holds is-page-requires add-j add-count loop-less loop-again loop-less-2 loop-again-2 returns)

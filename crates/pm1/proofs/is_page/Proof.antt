@@ -1,4 +1,4 @@
--- `pm1::is_page` meets its contract, by its tests. Assumes nothing.
+-- `pm1::is_page` meets its contract, by its tests.
 use Rattle.pm1.specs.ByTable.{kindAt, objectAt}
 use Rattle.pm1.proofs.Tests.{no-page, a-class, an-object}
 use borrow.Author.Needs.{needs}
@@ -22,14 +22,5 @@ returns-3 c =
 
 pub is-page-spec : {M : Type 1} → statement M
 is-page-spec =
-    tie.close
-    (tie.spec
-    (λ c. search needs)
-    (λ c. search needs)
-    (λ c. search needs)
-    (λ c. search needs)
-    (λ c. search needs)
-    (λ c. search needs)
-    returns
-    returns-2
-    returns-3)
+    tie.close (tie.spec (λ c. search needs) (λ c. search needs) (λ c. search needs) (λ c. search needs) (λ c. search needs)
+    (λ c. search needs) returns returns-2 returns-3)

@@ -1,4 +1,4 @@
--- `pm1::put_element` meets its contract: what is no page puts nothing. Assumes nothing.
+-- `pm1::put_element` meets its contract: what is no page puts nothing.
 use mathlib.Core.Path.{_≡_, sym, _∙_}
 use mathlib.Core.Bool.{true}
 use native.Mathlib.Omega.{arith}
@@ -26,17 +26,11 @@ returns-2 : tie.Need-returns-2
 returns-2 c =
     let a = c .before .before .before .before .before .before .before .before .before .before .args in
     let v = c .before .before .before .before .verdict-of .ensures .0 in
-    let is : isPage (kindAt (a .table .now) (a .element)) (objectAt (a .table .now) (a .element)) ≡ true = sym (c .before .before .before .before .before .before .is-page .ensures) ∙ not-false _ (c .before .before .before .before .before .if1 .left) in
+    let is : isPage (kindAt (a .table .now) (a .element)) (objectAt (a .table .now) (a .element)) ≡ true = sym
+    (c .before .before .before .before .before .before .is-page .ensures) ∙ not-false _ (c .before .before .before .before .before .if1 .left) in
     puts-one (a .list .now) (a .count) (a .element) _ _ _ _ is v (c .before .before .put-page .ensures)
 
 pub put-element-spec : {M : Type 1} → statement M
 put-element-spec =
-    tie.close
-    (tie.spec
-    (λ c κs. search needs)
-    returns
-    (λ c κs. search needs)
-    put-page-requires
-    (λ c. search needs)
-    (λ c. search needs)
+    tie.close (tie.spec (λ c κs. search needs) returns (λ c κs. search needs) put-page-requires (λ c. search needs) (λ c. search needs)
     returns-2)

@@ -1,4 +1,4 @@
--- `pm1::put_page` meets its contract: two stores put one record. Assumes nothing.
+-- `pm1::put_page` meets its contract: two stores put one record.
 use native.Mathlib.Omega.{arith}
 use native.Mathlib.Numerals.{add-one}
 use lib.ListN.{length-set}
@@ -15,15 +15,5 @@ returns c = rw (add-one (2 * c .args .k))
 
 pub put-page-spec : {M : Type 1} → statement M
 put-page-spec =
-    tie.close
-    (tie.spec
-    (λ c. search needs)
-    (λ c. search needs)
-    (λ c. search needs)
-    (λ c. search needs)
-    (λ c. search needs)
-    (λ c. search needs)
-    (λ c. search needs)
-    slice-write-list-2
-    (λ c. search needs)
-    returns)
+    tie.close (tie.spec (λ c. search needs) (λ c. search needs) (λ c. search needs) (λ c. search needs) (λ c. search needs)
+    (λ c. search needs) (λ c. search needs) slice-write-list-2 (λ c. search needs) returns)

@@ -1,5 +1,4 @@
--- `pm1::put_pages` meets its contract: each element that is met puts its record, if it is a page. The measure is what is left of the run. Assumes
--- nothing.
+-- `pm1::put_pages` meets its contract: each element that is met puts its record, if it is a page. The measure is what is left of the run.
 use native.Mathlib.Omega.{arith}
 use borrow.Author.Needs.{needs}
 use Prim.Native.Nat.{_-_}
@@ -18,8 +17,10 @@ abbrev μ-loop : tie.MeasureT-loop
 -- the element that is met
 meeting : (c : tie.After-known-told Inv-loop μ-loop) →
     let g = c .before .inner .given .0 in
-    Meeting (c .before .before .before .before .before .before .before .before .before .args .stream .now) (c .before .before .before .before .loop .left) (g .0) (g .1 .0) (g .1 .1 .0) (g .1 .1 .1 .0) (g .1 .1 .1 .1 .0)
-meeting c = met (c .before .before .before .before .before .before .before .before .before .args .stream .now) (c .before .before .before .before .loop .left) (c .before .before .before .meet .ensures) (c .before .inner .given .1)
+    Meeting (c .before .before .before .before .before .before .before .before .before .args .stream .now)
+    (c .before .before .before .before .loop .left) (g .0) (g .1 .0) (g .1 .1 .0) (g .1 .1 .1 .0) (g .1 .1 .1 .1 .0)
+meeting c = met (c .before .before .before .before .before .before .before .before .before .args .stream .now)
+    (c .before .before .before .before .loop .left) (c .before .before .before .meet .ensures) (c .before .inner .given .1)
 
 loop-holds : tie.Need-loop-holds Inv-loop μ-loop
 loop-holds c =
@@ -48,30 +49,23 @@ put-element-requires c κs =
 add-element : tie.Need-add-element Inv-loop μ-loop
 add-element c =
     let l = c .before .before .before .before .before .before .before .before .loop in
-    omega (arith, element-low (c .before .before .before .before .before .before .before .before .before .before .before .before .before .pre) (l .inv) (meeting (c .before .before .before .before)))
+    omega (
+      arith,
+      element-low (c .before .before .before .before .before .before .before .before .before .before .before .before .before .pre) (l .inv)
+          (meeting (c .before .before .before .before)),
+    )
 
 loop-less : tie.Need-loop-less Inv-loop μ-loop
 loop-less c = meeting (c .before .before .before .before) .less
 
 loop-again : tie.Need-loop-again Inv-loop μ-loop
 loop-again c =
+    let put-element = c .before .before .put-element in
     let l = c .before .before .before .before .before .before .before .before .loop in
-    going-more (c .before .before .before .before .before .before .before .before .before .before .before .before .before .pre) (l .inv) (meeting (c .before .before .before .before)) (c .before .before .put-element .kept .1 .1 .1 .1 .0) (c .before .before .put-element .ensures)
+    going-more (c .before .before .before .before .before .before .before .before .before .before .before .before .before .pre) (l .inv)
+    (meeting (c .before .before .before .before)) (put-element .kept .1 .1 .1 .1 .0) (put-element .ensures)
 
 pub put-pages-spec : {M : Type 1} → statement M
 put-pages-spec =
-    tie.close
-    (tie.spec
-    Inv-loop
-    μ-loop
-    (λ c κs. search needs)
-    loop-holds
-    meet-requires
-    (λ c. search needs)
-    same-length
-    returns
-    (λ c. search needs)
-    put-element-requires
-    add-element
-    loop-less
-    loop-again)
+    tie.close (tie.spec Inv-loop μ-loop (λ c κs. search needs) loop-holds meet-requires (λ c. search needs) same-length returns
+    (λ c. search needs) put-element-requires add-element loop-less loop-again)

@@ -1,49 +1,12 @@
--- `portions::bounds_of` meets its contract: it reads the two numbers of the value k. Assumes nothing.
+-- `portions::bounds_of` meets its contract: it reads the two numbers of the value k.
 use borrow.Author.Needs.{needs}
 use Rattle.portions.proofs.bounds_of.Statement.{statement}
 use Rattle.portions.proofs.bounds_of.Tie as tie
-
-mul-wide : tie.Need-mul-wide
-mul-wide c = search needs
-
-mul-wide-2 : tie.Need-mul-wide-2
-mul-wide-2 c = search needs
-
-shared-slice-read-wide : tie.Need-shared-slice-read-wide
-shared-slice-read-wide c = search needs
-
-wide-requires : tie.Need-wide-requires
-wide-requires c κs = search needs
-
-mul-wide-3 : tie.Need-mul-wide-3
-mul-wide-3 c = search needs
-
-add-wide : tie.Need-add-wide
-add-wide c = search needs
-
-mul-wide-4 : tie.Need-mul-wide-4
-mul-wide-4 c = search needs
-
-shared-slice-read-wide-2 : tie.Need-shared-slice-read-wide-2
-shared-slice-read-wide-2 c = search needs
-
-wide-requires-2 : tie.Need-wide-requires-2
-wide-requires-2 c κs = search needs
 
 returns : tie.Need-returns
 returns c = cc (c .wide2 .ensures, c .before .before .wide .ensures)
 
 pub bounds-of-spec : {M : Type 1} → statement M
 bounds-of-spec =
-    tie.close
-    (tie.spec
-    mul-wide
-    mul-wide-2
-    shared-slice-read-wide
-    wide-requires
-    mul-wide-3
-    add-wide
-    mul-wide-4
-    shared-slice-read-wide-2
-    wide-requires-2
-    returns)
+    tie.close (tie.spec (λ c. search needs) (λ c. search needs) (λ c. search needs) (λ c κs. search needs) (λ c. search needs)
+    (λ c. search needs) (λ c. search needs) (λ c. search needs) (λ c κs. search needs) returns)

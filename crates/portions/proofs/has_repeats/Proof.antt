@@ -1,5 +1,4 @@
 -- `portions::has_repeats` meets its contract. The loop's invariant: the values from k on have no repeat, and their tags are marked.
--- Assumes nothing.
 use mathlib.Core.Path.{_≡_, refl, sym, ap, subst, _∙_}
 use mathlib.Core.Bool.{false}
 use mathlib.Core.List.{List}
@@ -124,18 +123,5 @@ returns-2 c =
 
 pub has-repeats-spec : {M : Type 1} → statement M
 has-repeats-spec =
-    tie.close
-    (tie.spec
-    Inv-loop
-    μ-loop
-    loop-holds
-    sub-k
-    bounds-of-requires
-    tag-of-requires
-    array-read-is-again
-    is-again-requires
-    returns
-    array-write-marks
-    loop-less
-    loop-again
-    returns-2)
+    tie.close (tie.spec Inv-loop μ-loop loop-holds sub-k bounds-of-requires tag-of-requires array-read-is-again is-again-requires returns
+    array-write-marks loop-less loop-again returns-2)

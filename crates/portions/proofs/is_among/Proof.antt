@@ -1,5 +1,4 @@
 -- `portions::is_among` meets its contract. The loop's invariant: the value k stands after itself exactly if it stands from j on.
--- Assumes nothing.
 use mathlib.Core.Path.{_≡_, refl, sym, _∙_}
 use Prim.Native.Nat.{_+_, _*_, _-_, _≤_}
 use native.Mathlib.Omega.{arith}
@@ -86,17 +85,5 @@ returns-2 c =
 
 pub is-among-spec : {M : Type 1} → statement M
 is-among-spec =
-    tie.close
-    (tie.spec
-    Inv-loop
-    μ-loop
-    bounds-of-requires
-    add-j
-    loop-holds
-    bounds-of-requires-2
-    is-same-requires
-    returns
-    add-j-2
-    loop-less
-    loop-again
-    returns-2)
+    tie.close (tie.spec Inv-loop μ-loop bounds-of-requires add-j loop-holds bounds-of-requires-2 is-same-requires returns add-j-2 loop-less
+    loop-again returns-2)

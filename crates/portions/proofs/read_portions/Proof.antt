@@ -1,4 +1,4 @@
--- `portions::read_portions` meets its contract. The loop's invariant: so many were read, and the rest of the run is left. Assumes nothing.
+-- `portions::read_portions` meets its contract. The loop's invariant: so many were read, and the rest of the run is left.
 use mathlib.Core.Path.{_≡_, refl, subst, _∙_}
 use Prim.Native.Nat.{_*_, _-_, _≤_}
 use native.Mathlib.Omega.{arith}
@@ -45,9 +45,6 @@ returns c =
     all-read (l .inv .1)
     (subst (Meets (a .s .now) (l .left)) (c .enum-told .given .1) (c .before .before .meet .ensures))
 
-enum-known-code : tie.Need-enum-known-code Inv-loop μ-loop
-enum-known-code c = search needs
-
 same-length-2 : tie.Need-same-length-2 Inv-loop μ-loop
 same-length-2 c = c .before .before .before .before .before .loop .inv .0
 
@@ -90,20 +87,5 @@ loop-again c =
 
 pub read-portions-spec : {M : Type 1} → statement M
 read-portions-spec =
-    tie.close
-    (tie.spec
-    Inv-loop
-    μ-loop
-    loop-holds
-    meet-requires
-    enum-told
-    same-length
-    returns
-    enum-known-code
-    same-length-2
-    returns-2
-    is-misspelt-requires
-    keep-bounds-requires
-    add-count
-    loop-less
-    loop-again)
+    tie.close (tie.spec Inv-loop μ-loop loop-holds meet-requires enum-told same-length returns (λ c. search needs) same-length-2 returns-2
+    is-misspelt-requires keep-bounds-requires add-count loop-less loop-again)

@@ -1,4 +1,4 @@
--- `portions::tag_of` meets its contract: the tag so far, after what is left, is the tag of the whole. Assumes nothing.
+-- `portions::tag_of` meets its contract: the tag so far, after what is left, is the tag of the whole.
 use mathlib.Core.Path.{_≡_, refl, sym, _∙_}
 use Prim.Native.Nat.{_-_, _<_, _≤_}
 use native.Mathlib.Omega.{arith}
@@ -23,9 +23,6 @@ mul-r c = omega arith
 
 shared-slice-read-digit : tie.Need-shared-slice-read-digit Inv-loop μ-loop
 shared-slice-read-digit c = omega arith
-
-digit-requires : tie.Need-digit-requires Inv-loop μ-loop
-digit-requires c κs = search needs
 
 add-r : tie.Need-add-r Inv-loop μ-loop
 add-r c = omega (arith, c .digit .ensures .1)
@@ -52,16 +49,5 @@ returns c =
 
 pub tag-of-spec : {M : Type 1} → statement M
 tag-of-spec =
-    tie.close
-    (tie.spec
-    Inv-loop
-    μ-loop
-    loop-holds
-    mul-r
-    shared-slice-read-digit
-    digit-requires
-    add-r
-    add-i
-    loop-less
-    loop-again
+    tie.close (tie.spec Inv-loop μ-loop loop-holds mul-r shared-slice-read-digit (λ c κs. search needs) add-r add-i loop-less loop-again
     returns)

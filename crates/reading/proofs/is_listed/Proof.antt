@@ -1,4 +1,4 @@
--- `reading::is_listed` meets its contract: the tests are the definition's, in its order. Assumes nothing.
+-- `reading::is_listed` meets its contract: the tests are the definition's, in its order.
 use mathlib.Core.Path.{_≡_, sym, ap, _∙_}
 use Prim.Native.Nat.{ℕ}
 use borrow.Author.Needs.{needs}
@@ -11,12 +11,6 @@ use Rattle.reading.specs.Ready.{isListed}
 use Rattle.reading.proofs.is_listed.Statement.{statement}
 use Rattle.reading.proofs.is_listed.Tie as tie
 
-kind-at-requires : tie.Need-kind-at-requires
-kind-at-requires c κs = search needs
-
-is-read-requires : tie.Need-is-read-requires
-is-read-requires c κs = search needs
-
 -- the kind was tested
 kind-read : (c : tie.After-is-read) → let a = c .before .before .before .args in isIn (kindAt (a .rows .now) (a .j)) (kindsOf (a .side)) ≡ c .is-read .result
 kind-read c = ap (λ (k : ℕ). isIn k (kindsOf (c .before .before .before .args .side))) (sym (c .before .kind-at .ensures)) ∙ sym (c .is-read .ensures)
@@ -25,11 +19,9 @@ returns : tie.Need-returns
 unfolding isListed
 returns c = rw (kind-read (c .before) ∙ not-true _ (c .if1 .taken))
 
-is-named-requires : tie.Need-is-named-requires
-is-named-requires c κs = search needs
-
 -- the identifier was tested
-name-there : (c : tie.After-is-named) → let a = c .before .before .before .before .before .args in there (spanAt (a .rows .now) identifierColumn (a .j)) ≡ c .is-named .result
+name-there : (c : tie.After-is-named)
+    → let a = c .before .before .before .before .before .args in there (spanAt (a .rows .now) identifierColumn (a .j)) ≡ c .is-named .result
 name-there c = sym (c .is-named .ensures)
 
 returns-2 : tie.Need-returns-2
@@ -38,28 +30,17 @@ returns-2 c =
     let kind = c .before .before in
     rw (kind-read (kind .before) ∙ not-false _ (kind .if1 .left), name-there (c .before) ∙ not-true _ (c .if2 .taken))
 
-bounds-at-requires : tie.Need-bounds-at-requires
-bounds-at-requires c κs = search needs
-
-is-there-requires : tie.Need-is-there-requires
-is-there-requires c κs = search needs
-
 returns-3 : tie.Need-returns-3
 unfolding isListed
 returns-3 c =
     let name = c .before .before in
     let kind = name .before .before in
-    rw (kind-read (kind .before) ∙ not-false _ (kind .if1 .left), name-there (name .before) ∙ not-false _ (name .if2 .left)) (c .is-there .ensures ∙ ap there (c .before .bounds-at .ensures))
+    rw (
+      kind-read (kind .before) ∙ not-false _ (kind .if1 .left),
+      name-there (name .before) ∙ not-false _ (name .if2 .left),
+    ) (c .is-there .ensures ∙ ap there (c .before .bounds-at .ensures))
 
 pub is-listed-spec : {M : Type 1} → statement M
 is-listed-spec =
-    tie.close
-    (tie.spec
-    kind-at-requires
-    is-read-requires
-    returns
-    is-named-requires
-    returns-2
-    bounds-at-requires
-    is-there-requires
-    returns-3)
+    tie.close (tie.spec (λ c κs. search needs) (λ c κs. search needs) returns (λ c κs. search needs) returns-2 (λ c κs. search needs)
+    (λ c κs. search needs) returns-3)

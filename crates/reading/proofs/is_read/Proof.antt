@@ -1,4 +1,4 @@
--- `reading::is_read` meets its contract: one case for each side. Assumes nothing.
+-- `reading::is_read` meets its contract: one case for each side.
 use mathlib.Core.Path.{sym, ap, _∙_}
 use Rattle.headers.specs.Head.{isIn}
 use Rattle.reading.specs.declared.Side.{Side}
@@ -10,15 +10,6 @@ use Rattle.reading.proofs.is_read.Tie as tie
 enum-told : tie.Need-enum-told
 enum-told c = search needs
 
-is-either-requires : tie.Need-is-either-requires
-is-either-requires c κs = search needs
-
-enum-told-2 : tie.Need-enum-told-2
-enum-told-2 c = search needs
-
-is-either-requires-2 : tie.Need-is-either-requires-2
-is-either-requires-2 c κs = search needs
-
 returns : tie.Need-returns
 returns c = c .is-either .ensures ∙ ap (λ (side : Side). isIn (c .before .before .before .args .kind) (kindsOf side)) (sym (c .before .enum-told .given .1))
 
@@ -27,5 +18,4 @@ returns-2 c = c .is-either2 .ensures ∙ ap (λ (side : Side). isIn (c .before .
 
 pub is-read-spec : {M : Type 1} → statement M
 is-read-spec =
-    tie.close
-    (tie.spec enum-told is-either-requires enum-told-2 is-either-requires-2 returns returns-2)
+    tie.close (tie.spec enum-told (λ c κs. search needs) (λ c. search needs) (λ c κs. search needs) returns returns-2)

@@ -1,4 +1,4 @@
--- `reading::list_element` meets its contract: an element that is not listed has no match. Assumes nothing.
+-- `reading::list_element` meets its contract: an element that is not listed has no match.
 use mathlib.Core.Path.{sym, _∙_, subst}
 use mathlib.Core.List.{List}
 use native.Mathlib.Omega.{arith}
@@ -26,15 +26,11 @@ returns c elements ready =
 
 list-portions-requires : tie.Need-list-portions-requires
 list-portions-requires c κs =
-    let start = c .before .before .before .before .before .before .before .before in
-    (start .pre .0, (start .pre .1 .0, ((start .pre .1 .1 .0, sym (c .before .before .is-listed .ensures) ∙ not-false _ (c .before .if1 .left)), start .pre .1 .1 .1)))
-
-same-length : tie.Need-same-length
-same-length c = search needs
-
-returns-2 : tie.Need-returns-2
-returns-2 c = search needs
+    let start = c .before .before .before .before .before .before .before .before in (
+      start .pre .0,
+      (start .pre .1 .0, ((start .pre .1 .1 .0, sym (c .before .before .is-listed .ensures) ∙ not-false _ (c .before .if1 .left)), start .pre .1 .1 .1)),
+    )
 
 pub list-element-spec : {M : Type 1} → statement M
 list-element-spec =
-    tie.close (tie.spec is-listed-requires returns list-portions-requires same-length returns-2)
+    tie.close (tie.spec is-listed-requires returns list-portions-requires (λ c. search needs) (λ c. search needs))

@@ -1,5 +1,5 @@
 -- `reading::list_portions` meets its contract: each portion that is met yields its match, if there is one. The measure is what is left of
--- the run. Assumes nothing.
+-- the run.
 use mathlib.Core.Path.{subst}
 use Prim.Native.Nat.{_-_}
 use native.Mathlib.Omega.{arith}
@@ -35,7 +35,8 @@ entry c = c .before .before .before .before .before .before .before .before .bef
 -- the portion that is met
 meeting : (c : tie.After-known-told Inv-loop μ-loop) →
     let g = c .before .first .given .0 in
-    Meeting (entry (c .before .before .before .before) .args .s .now) (c .before .before .before .before .loop .left) (g .0) (g .1 .0) (g .1 .1 .0) (g .1 .1 .1 .0) (g .1 .1 .1 .1 .0)
+    Meeting (entry (c .before .before .before .before) .args .s .now) (c .before .before .before .before .loop .left) (g .0) (g .1 .0) (g .1 .1 .0)
+    (g .1 .1 .1 .0) (g .1 .1 .1 .1 .0)
 meeting c =
     let at = c .before .before .before .before in
     subst (Meets (entry at .args .s .now) (at .loop .left)) (c .before .first .given .1) (c .before .before .before .meet .ensures)
@@ -44,7 +45,8 @@ meeting c =
 finds : (c : tie.After-unit-of Inv-loop μ-loop) →
     let a = entry (c .before .before .before .before .before .before) .args in
     let g = c .before .before .before .first .given .0 in
-    FindsRow (a .s .now) (a .rows .now) (columnOf (a .side)) (a .n) unitSpace (bytesIn (a .s .now) (spanAt (a .rows .now) identifierColumn (a .element)) ++ spaceByte ∷ slice (g .1 .0) (g .1 .1 .0) (a .s .now)) (c .unit-of .result)
+    FindsRow (a .s .now) (a .rows .now) (columnOf (a .side)) (a .n) unitSpace
+    (bytesIn (a .s .now) (spanAt (a .rows .now) identifierColumn (a .element)) ++ spaceByte ∷ slice (g .1 .0) (g .1 .1 .0) (a .s .now)) (c .unit-of .result)
 finds c =
     let name = c .before .before .before .before .before .before .before .before .before .before .bounds-at .ensures in
     rw (c .before .column-of .ensures, name) at (c .unit-of .ensures)
@@ -74,7 +76,8 @@ portions-at-requires c κs =
 loop-holds : tie.Need-loop-holds Inv-loop μ-loop
 loop-holds c =
     let start = c .before .before .before .before .before .before .before .before .before in
-    rw (c .portions-at .ensures) (listing-all (rows-tell (start .pre .0 .1)) (start .pre .1 .1 .0 .0) (start .pre .1 .1 .0 .1) (start .args .flat .now) (start .args .count) (start .pre .1 .1 .1))
+    rw (c .portions-at .ensures) (listing-all (rows-tell (start .pre .0 .1)) (start .pre .1 .1 .0 .0) (start .pre .1 .1 .0 .1)
+    (start .args .flat .now) (start .args .count) (start .pre .1 .1 .1))
 
 meet-requires : tie.Need-meet-requires Inv-loop μ-loop
 meet-requires c κs = c .loop .inv .fine
@@ -92,12 +95,6 @@ returns c =
     listing-none (rows-tell (start .pre .0 .1)) (start .pre .1 .1 .0 .0) (start .pre .1 .1 .0 .1) (at .loop .inv)
     (subst (Meets (start .args .s .now) (at .loop .left)) (c .enum-told .given .1) (c .before .before .meet .ensures))
 
-enum-known-first : tie.Need-enum-known-first Inv-loop μ-loop
-enum-known-first c = search needs
-
-column-of-requires : tie.Need-column-of-requires Inv-loop μ-loop
-column-of-requires c κs = search needs
-
 unit-of-requires : tie.Need-unit-of-requires Inv-loop μ-loop
 unit-of-requires c κs =
     let at = c .before .before .before .before .before in
@@ -108,7 +105,16 @@ unit-of-requires c κs =
       rw (c .column-of .ensures) (bounded-on (start .pre .0 .1) (start .args .side)),
       (
         rw (c .column-of .ensures) (start .pre .1 .0),
-        ((rw (← hashed .0) (spaced .0), spaced .1), (name-placed (at .before .before .before .before), record { order = met .value-order; inside = met .value-inside })),
+        (
+          (rw (← hashed .0) (spaced .0), spaced .1),
+          (
+            name-placed (at .before .before .before .before),
+            record {
+              order = met .value-order;
+              inside = met .value-inside;
+            },
+          ),
+        ),
       ),
     )
 
@@ -121,7 +127,11 @@ put-found-requires c κs =
     let found = c .before .unit-of .result in
     let one = finds (c .before) in (
       room-for-one known (start .pre .1 .1 .0 .0) (start .pre .1 .1 .0 .1) (at .loop .inv) met found one,
-      (small-element known (start .pre .1 .1 .0 .0) (start .pre .1 .1 .0 .1) (at .loop .inv) met found one, omega (arith, small-place known (start .pre .1 .1 .0 .0) (start .pre .1 .1 .0 .1) (at .loop .inv) met found one), found-small known (start .pre .1 .1 .0 .0) (start .pre .1 .1 .0 .1) (at .loop .inv) met found one),
+      (
+        small-element known (start .pre .1 .1 .0 .0) (start .pre .1 .1 .0 .1) (at .loop .inv) met found one,
+        omega (arith, small-place known (start .pre .1 .1 .0 .0) (start .pre .1 .1 .0 .1) (at .loop .inv) met found one),
+        found-small known (start .pre .1 .1 .0 .0) (start .pre .1 .1 .0 .1) (at .loop .inv) met found one,
+      ),
     )
 
 add-place : tie.Need-add-place Inv-loop μ-loop
@@ -129,7 +139,11 @@ add-place c =
     let at = c .before .before .before .before .before .before .before .before .before .before in
     let start = entry at in
     let unit = c .before .before .before .before in
-    omega (arith, small-place (rows-tell (start .pre .0 .1)) (start .pre .1 .1 .0 .0) (start .pre .1 .1 .0 .1) (at .loop .inv) (meeting (unit .before .before)) (unit .unit-of .result) (finds unit))
+    omega (
+      arith,
+      small-place (rows-tell (start .pre .0 .1)) (start .pre .1 .1 .0 .0) (start .pre .1 .1 .0 .1) (at .loop .inv) (meeting (unit .before .before))
+          (unit .unit-of .result) (finds unit),
+    )
 
 loop-less : tie.Need-loop-less Inv-loop μ-loop
 loop-less c = meeting (c .before .before .before .before .before .before) .less
@@ -139,27 +153,11 @@ loop-again c =
     let at = c .before .before .before .before .before .before .before .before .before .before in
     let start = entry at in
     let unit = c .before .before .before .before in
-    listing-more (rows-tell (start .pre .0 .1)) (start .pre .1 .1 .0 .0) (start .pre .1 .1 .0 .1) (at .loop .inv) (meeting (unit .before .before)) (unit .unit-of .result) (finds unit) (c .before .before .put-found .ensures)
+    listing-more (rows-tell (start .pre .0 .1)) (start .pre .1 .1 .0 .0) (start .pre .1 .1 .0 .1) (at .loop .inv) (meeting (unit .before .before))
+    (unit .unit-of .result) (finds unit) (c .before .before .put-found .ensures)
 
 pub list-portions-spec : {M : Type 1} → statement M
 list-portions-spec =
-    tie.close
-    (tie.spec
-    Inv-loop
-    μ-loop
-    bounds-at-requires
-    hash-over-requires
-    hash-space-requires
-    portions-at-requires
-    loop-holds
-    meet-requires
-    enum-told
-    same-length
-    returns
-    enum-known-first
-    column-of-requires
-    unit-of-requires
-    put-found-requires
-    add-place
-    loop-less
-    loop-again)
+    tie.close (tie.spec Inv-loop μ-loop bounds-at-requires hash-over-requires hash-space-requires portions-at-requires loop-holds
+    meet-requires enum-told same-length returns (λ c. search needs) (λ c κs. search needs) unit-of-requires put-found-requires add-place
+    loop-less loop-again)

@@ -1,4 +1,4 @@
--- `reading::list_side` meets its contract: the elements are taken in turn. The measure is how many are left. Assumes nothing.
+-- `reading::list_side` meets its contract: the elements are taken in turn. The measure is how many are left.
 use Prim.Native.Nat.{_-_}
 use native.Mathlib.Omega.{arith}
 use Rattle.reading.proofs.Turning.{Turning, turning-all, turning-none, turning-more, room-for-element}
@@ -31,7 +31,9 @@ loop-less c = omega arith
 
 loop-again : tie.Need-loop-again Inv-loop μ-loop
 loop-again c =
-    turning-more (c .before .before .before .before .before .loop .inv) (c .before .before .before .before .loop-test .taken) (c .before .before .list-element .ensures) (c .before .before .list-element .kept .1 .1 .1 .1 .1 .1 .1 .0)
+    let list-element = c .before .before .list-element in
+    turning-more (c .before .before .before .before .before .loop .inv) (c .before .before .before .before .loop-test .taken) (list-element .ensures)
+    (list-element .kept .1 .1 .1 .1 .1 .1 .1 .0)
 
 same-length : tie.Need-same-length Inv-loop μ-loop
 same-length c = c .before .loop .inv .kept
@@ -41,14 +43,4 @@ returns c = turning-none (c .before .loop .inv) (c .loop-test .left)
 
 pub list-side-spec : {M : Type 1} → statement M
 list-side-spec =
-    tie.close
-    (tie.spec
-    Inv-loop
-    μ-loop
-    loop-holds
-    list-element-requires
-    add-element
-    loop-less
-    loop-again
-    same-length
-    returns)
+    tie.close (tie.spec Inv-loop μ-loop loop-holds list-element-requires add-element loop-less loop-again same-length returns)

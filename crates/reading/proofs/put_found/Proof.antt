@@ -1,4 +1,4 @@
--- `reading::put_found` meets its contract: a unit that was found makes one record, none makes none. Assumes nothing.
+-- `reading::put_found` meets its contract: a unit that was found makes one record, none makes none.
 use mathlib.Core.Path.{ap}
 use native.Mathlib.Omega.{arith}
 use lib.ListN.{length}
@@ -6,9 +6,6 @@ use Rattle.reading.proofs.Putting.{puts-none, found-one, found-none, fo
 use borrow.Author.Needs.{needs}
 use Rattle.reading.proofs.put_found.Statement.{statement}
 use Rattle.reading.proofs.put_found.Tie as tie
-
-enum-known-found : tie.Need-enum-known-found
-enum-known-found c = search needs
 
 put-record-requires : tie.Need-put-record-requires
 put-record-requires c κs =
@@ -19,14 +16,8 @@ put-record-requires c κs =
       (start .pre .1 .0, start .pre .1 .1, found-below 4294967296 (a .found) (one .0 .0) (one .1) (start .pre .1 .2)),
     )
 
-add-result : tie.Need-add-result
-add-result c = search needs
-
 enum-told : tie.Need-enum-told
 enum-told c = search needs
-
-same-length : tie.Need-same-length
-same-length c = search needs
 
 returns : tie.Need-returns
 returns c =
@@ -35,16 +26,17 @@ returns c =
     rw (found-one (a .element) (a .portion) (a .found) (one .0 .0) (one .1)) (c .before .before .put-record .ensures)
 
 returns-2 : tie.Need-returns-2
-returns-2 c = let a = c .before .before .before .args in rw (found-none (a .element) (a .portion) (a .found) (c .enum-told .given .1)) (puts-none (a .flat .now) (a .count))
+returns-2 c = let a = c .before .before .before .args in rw (found-none (a .element) (a .portion) (a .found) (c .enum-told .given .1))
+    (puts-none (a .flat .now) (a .count))
 
 pub put-found-spec : {M : Type 1} → statement M
 put-found-spec =
     tie.close
     (tie.spec
-    enum-known-found
+    (λ c. search needs)
     put-record-requires
-    add-result
+    (λ c. search needs)
     enum-told
-    same-length
+    (λ c. search needs)
     returns
     returns-2)

@@ -1,6 +1,6 @@
 -- The proof of the cycle of calls {end_of_item, end_of_marked}. `end_of_marked` at room calls `end_of_item` at the same room, and that calls
 -- `end_of_marked` at room - 1, so `end_of_item`'s measure lies between: 2 room + 1 for `end_of_marked`, 2 room for `end_of_item`.
--- The invariant of the loop: the run from its start ends as it does from `at`. Assumes nothing.
+-- The invariant of the loop: the run from its start ends as it does from `at`.
 use mathlib.Core.Path.{_≡_, refl, sym, ap, subst, _∙_}
 use mathlib.Core.Bool.{true}
 use Prim.Native.Nat.{ℕ, _+_, _-_, _<_}
@@ -175,7 +175,8 @@ module _ (t : ℕ) where
 pub +end-of-item+end-of-marked-spec : {M : Type 1} → statement M
 +end-of-item+end-of-marked-spec =
     close μ-item μ-marked
-    (λ t. item-lts.spec (item-calls t) (item-at t) end-of-item.Post (item-sub-end-of-marked t) (item-end-of-marked-requires t) (item-returns t) (item-returns-2 t))
+    (λ t. item-lts.spec (item-calls t) (item-at t) end-of-item.Post (item-sub-end-of-marked t) (item-end-of-marked-requires t) (item-returns t)
+    (item-returns-2 t))
     (λ t. marked-lts.spec (marked-calls t) (marked-at t) end-of-marked.Post Inv μ
     (loop-holds t) (passed-head-requires t) (enum-told t) (add-result t) (returns t) (enum-told-2 t) (returns-2 t)
     (enum-known-h t) (end-of-item-requires t) (loop-less t) (loop-again t))

@@ -1,4 +1,4 @@
--- `runs::inside_of` meets its contract: the form decides, and a primitive is not marked. Assumes nothing.
+-- `runs::inside_of` meets its contract: the form decides, and a primitive is not marked.
 use mathlib.Core.Path.{_≡_, refl, sym, _∙_}
 use mathlib.Core.Bool.{Bool, true, false, false≢true}
 use borrow.Author.Needs.{needs}
@@ -10,12 +10,6 @@ unmarked : (b : Bool) → (b ≡ true → ⊥) → b ≡ false
 unmarked true n = absurd (n refl)
 unmarked false n = refl
 
-sub-t8 : tie.Need-sub-t8
-sub-t8 c = search needs
-
-sub-t9 : tie.Need-sub-t9
-sub-t9 c = search needs
-
 returns : tie.Need-returns
 returns c = rw (eq-eqb _ _ (c .if1 .taken))
 
@@ -26,4 +20,4 @@ returns-2 c =
     rw (e, unmarked (a .h .marked) (λ m. false≢true (sym e ∙ c .before .pre .1 m)))
 
 pub inside-of-spec : {M : Type 1} → statement M
-inside-of-spec = tie.close (tie.spec sub-t8 sub-t9 returns returns-2)
+inside-of-spec = tie.close (tie.spec (λ c. search needs) (λ c. search needs) returns returns-2)

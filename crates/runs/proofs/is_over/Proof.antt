@@ -1,4 +1,4 @@
--- `runs::is_over` meets its contract: a run has an item exactly where a header passed. Assumes nothing.
+-- `runs::is_over` meets its contract: a run has an item exactly where a header passed.
 use mathlib.Core.Path.{_≡_, sym, ap, _∙_}
 use mathlib.Core.Bool.{true}
 use mathlib.Core.List.{List}
@@ -37,12 +37,6 @@ passed-head-requires c κs =
 enum-told : tie.Need-enum-told
 enum-told c = search needs
 
-enum-told-2 : tie.Need-enum-told-2
-enum-told-2 c = search needs
-
-enum-told-3 : tie.Need-enum-told-3
-enum-told-3 c = search needs
-
 returns-2 : tie.Need-returns-2
 returns-2 c =
     let at-read = c .before .before in
@@ -58,7 +52,8 @@ returns-3 c =
     let a = at-read .before .before .before .args in
     let r = a .r in
     no-item (a .s .now) r
-    (tree-closes (r .room) (a .s .now) (r .at) (r .limit) (r .marked) (before-limit (at-read .before)) (sym (at-read .passed-head .ensures) ∙ c .enum-told2 .given .1))
+    (tree-closes (r .room) (a .s .now) (r .at) (r .limit) (r .marked) (before-limit (at-read .before)) (sym (at-read .passed-head .ensures)
+    ∙ c .enum-told2 .given .1))
 
 returns-4 : tie.Need-returns-4
 returns-4 c =
@@ -66,17 +61,9 @@ returns-4 c =
     let a = at-read .before .before .before .args in
     let r = a .r in
     no-item (a .s .now) r
-    (tree-refuses (r .room) (a .s .now) (r .at) (r .limit) (r .marked) (before-limit (at-read .before)) _ _ (sym (at-read .passed-head .ensures) ∙ c .enum-told3 .given .1))
+    (tree-refuses (r .room) (a .s .now) (r .at) (r .limit) (r .marked) (before-limit (at-read .before)) _ _ (sym (at-read .passed-head .ensures)
+    ∙ c .enum-told3 .given .1))
 
 pub is-over-spec : {M : Type 1} → statement M
 is-over-spec =
-    tie.close
-    (tie.spec
-    returns
-    passed-head-requires
-    enum-told
-    enum-told-2
-    enum-told-3
-    returns-2
-    returns-3
-    returns-4)
+    tie.close (tie.spec returns passed-head-requires enum-told (λ c. search needs) (λ c. search needs) returns-2 returns-3 returns-4)

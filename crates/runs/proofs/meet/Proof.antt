@@ -1,5 +1,5 @@
 -- `runs::meet` meets its contract: where a header passed, the walk has an item, which ends at its bound or past its closing mark; and
--- where none did, the run has no item. Assumes nothing.
+-- where none did, the run has no item.
 use mathlib.Core.Path.{_≡_, ap, sym, _∙_}
 use mathlib.Core.Bool.{Bool, true, false}
 use mathlib.Core.List.{List}
@@ -69,12 +69,6 @@ passed-head-requires c κs =
 enum-told : tie.Need-enum-told
 enum-told c = search needs
 
-enum-told-2 : tie.Need-enum-told-2
-enum-told-2 c = search needs
-
-enum-known-h : tie.Need-enum-known-h
-enum-known-h c = search needs
-
 sub-below : tie.Need-sub-below
 sub-below c =
     let p = c .before .before in
@@ -84,8 +78,11 @@ sub-below c =
 end-of-marked-requires : tie.Need-end-of-marked-requires
 end-of-marked-requires c κs =
     let p = c .before .before in
-    let o = lies (stream p) (its-run p) (its-fine p) (before-limit p) (header p) (read p) in
-    (o .order, omega (arith, o .within, its-fine p .inside), marked-whole (stream p) (its-run p) (its-fine p) (before-limit p) (header p) (read p) (c .if2 .taken))
+    let o = lies (stream p) (its-run p) (its-fine p) (before-limit p) (header p) (read p) in (
+      o .order,
+      omega (arith, o .within, its-fine p .inside),
+      marked-whole (stream p) (its-run p) (its-fine p) (before-limit p) (header p) (read p) (c .if2 .taken),
+    )
 
 sub-t16 : tie.Need-sub-t16
 sub-t16 c =
@@ -122,7 +119,8 @@ returns-4 c =
     let a = c .before .before .before .before .before .args in
     let r = a .r in
     let o = c .before .before .before .before .before .pre .order in
-    tree-refuses (r .room) (a .s .now) (r .at) (r .limit) (r .marked) (omega arith) _ _ (sym (c .before .before .passed-head .ensures) ∙ c .enum-told2 .given .1)
+    tree-refuses (r .room) (a .s .now) (r .at) (r .limit) (r .marked) (omega arith) _ _ (sym (c .before .before .passed-head .ensures)
+    ∙ c .enum-told2 .given .1)
 
 returns-5 : tie.Need-returns-5
 returns-5 c =
@@ -134,18 +132,5 @@ returns-5 c =
 
 pub meet-spec : {M : Type 1} → statement M
 meet-spec =
-    tie.close
-    (tie.spec
-    returns
-    passed-head-requires
-    enum-told
-    enum-told-2
-    enum-known-h
-    sub-below
-    end-of-marked-requires
-    sub-t16
-    returns-2
-    inside-of-requires
-    returns-3
-    returns-4
-    returns-5)
+    tie.close (tie.spec returns passed-head-requires enum-told (λ c. search needs) (λ c. search needs) sub-below end-of-marked-requires
+    sub-t16 returns-2 inside-of-requires returns-3 returns-4 returns-5)

@@ -1,4 +1,4 @@
--- `print_pairs` is safe and ends: the measure is how many octets are left. Assumes nothing.
+-- `print_pairs` is safe and ends: the measure is how many octets are left.
 use Prim.Native.Nat.{_-_}
 use native.Mathlib.Omega.{arith}
 use lib.ListN.{length}

@@ -1,4 +1,4 @@
--- `scratch::ask` meets its contract: what the walk refuses is refused, and what it passes is put in a frame that is large enough. Assumes nothing.
+-- `scratch::ask` meets its contract: what the walk refuses is refused, and what it passes is put in a frame that is large enough.
 use mathlib.Core.Path.{refl, sym, _∙_}
 use borrow.Author.Needs.{needs}
 use native.Mathlib.Omega.{arith}
@@ -9,12 +9,6 @@ use Rattle.answers.proofs.Working.{as-asked, leaves-refused}
 use Rattle.scratch.proofs.Arrays.{walked-whole}
 use Rattle.scratch.proofs.ask.Statement.{statement}
 use Rattle.scratch.proofs.ask.Tie as tie
-
-walk-requires : tie.Need-walk-requires
-walk-requires c κs = search needs
-
-enum-known-count : tie.Need-enum-known-count
-enum-known-count c = search needs
 
 is-few-requires : tie.Need-is-few-requires
 is-few-requires c κs = walked-whole _ _ _ (sym (c .before .before .before .walk .ensures) ∙ c .before .count .given .1)
@@ -27,20 +21,9 @@ cast-few c =
 few-requires : tie.Need-few-requires
 few-requires c κs =
     let a = c .before .before .before .before .before .before .before .before .before .before .before .before .before in
-    let w = sym (c .before .before .before .before .before .before .before .before .walk .ensures) ∙ c .before .before .before .before .before .before .count .given .1 in
+    let w = sym (c .before .before .before .before .before .before .before .before .walk .ensures)
+    ∙ c .before .before .before .before .before .before .count .given .1 in
     (walked-whole _ _ _ w, (c .before .before .before .before .is-few .ensures (c .before .before .before .if1 .taken), a .pre))
-
-same-length : tie.Need-same-length
-same-length c = search needs
-
-same-length-2 : tie.Need-same-length-2
-same-length-2 c = search needs
-
-same-length-3 : tie.Need-same-length-3
-same-length-3 c = search needs
-
-returns : tie.Need-returns
-returns c = search needs
 
 cast-many : tie.Need-cast-many
 cast-many c =
@@ -50,11 +33,9 @@ cast-many c =
 many-requires : tie.Need-many-requires
 many-requires c κs =
     let a = c .before .before .before .before .before .before .before .before .before .before .before .before .before in
-    let w = sym (c .before .before .before .before .before .before .before .before .walk .ensures) ∙ c .before .before .before .before .before .before .count .given .1 in
+    let w = sym (c .before .before .before .before .before .before .before .before .walk .ensures)
+    ∙ c .before .before .before .before .before .before .count .given .1 in
     (walked-whole _ _ _ w, a .pre)
-
-enum-known-number : tie.Need-enum-known-number
-enum-known-number c = search needs
 
 cast-tell-refused : tie.Need-cast-tell-refused
 cast-tell-refused c =
@@ -71,49 +52,16 @@ cast-tell-refused-3 c =
     let r = walk-small _ _ _ _ (sym (c .before .before .before .walk .ensures) ∙ c .before .number .given .1) in
     omega arith
 
-tell-refused-requires : tie.Need-tell-refused-requires
-tell-refused-requires c κs = search needs
-
-same-length-4 : tie.Need-same-length-4
-same-length-4 c = search needs
-
-same-length-5 : tie.Need-same-length-5
-same-length-5 c = search needs
-
-same-length-6 : tie.Need-same-length-6
-same-length-6 c = search needs
-
-returns-2 : tie.Need-returns-2
-returns-2 c = search needs
-
 returns-3 : tie.Need-returns-3
 returns-3 c =
     let a = c .before .before .before .before .before .before .before .before .before .args in
     let e = refused-walk (a .edition) _ _ _ _ (sym (c .before .before .before .before .walk .ensures) ∙ c .before .before .number .given .1) in
-    as-asked refl (c .tell-refused .ensures) (leaves-refused (a .edition) (now (a .stream)) (now (a .table)) (now (a .flat)) (now (a .out)) (a .question) _ _ _ e)
+    as-asked refl (c .tell-refused .ensures) (leaves-refused (a .edition) (now (a .stream)) (now (a .table)) (now (a .flat)) (now (a .out))
+    (a .question) _ _ _ e)
 
 pub ask-spec : {M : Type 1} → statement M
 ask-spec =
-    tie.close
-    (tie.spec
-    walk-requires
-    enum-known-count
-    is-few-requires
-    cast-few
-    few-requires
-    same-length
-    same-length-2
-    same-length-3
-    returns
-    cast-many
-    many-requires
-    enum-known-number
-    cast-tell-refused
-    cast-tell-refused-2
-    cast-tell-refused-3
-    tell-refused-requires
-    same-length-4
-    same-length-5
-    same-length-6
-    returns-2
-    returns-3)
+    tie.close (tie.spec (λ c κs. search needs) (λ c. search needs) is-few-requires cast-few few-requires (λ c. search needs)
+    (λ c. search needs) (λ c. search needs) (λ c. search needs) cast-many many-requires (λ c. search needs) cast-tell-refused
+    cast-tell-refused-2 cast-tell-refused-3 (λ c κs. search needs) (λ c. search needs) (λ c. search needs) (λ c. search needs)
+    (λ c. search needs) returns-3)

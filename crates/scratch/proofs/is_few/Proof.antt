@@ -1,4 +1,4 @@
--- `scratch::is_few` meets its contract: a stream has no more elements than headers, or it was seen whether it has more. Assumes nothing.
+-- `scratch::is_few` meets its contract: a stream has no more elements than headers, or it was seen whether it has more.
 use mathlib.Core.Path.{sym, _∙_}
 use mathlib.Core.Bool.{false≢true}
 use native.Mathlib.Omega.{arith}

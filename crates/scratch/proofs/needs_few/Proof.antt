@@ -1,5 +1,5 @@
 -- `scratch::needs_few` meets its contract: a stream that the walk passed needs a row for each element and never more than can be accepted,
--- and one that the walk refused needs none. Assumes nothing.
+-- and one that the walk refused needs none.
 use mathlib.Core.Path.{_≡_, refl, _∙_, sym, subst}
 use mathlib.Core.Bool.{Bool, true, false, cond}
 use mathlib.Core.List.{List}
@@ -18,9 +18,6 @@ use Rattle.scratch.proofs.needs_few.Tie as tie
 enough : (s : List ℕ) (few : Bool) → (few ≡ true → rowsNeeded s ≤ 512) → rowsNeeded s ≤ cond few 512 4096
 enough s true says = says refl
 enough s false says = omega arith
-
-enum-known-walked : tie.Need-enum-known-walked
-enum-known-walked c = search needs
 
 is-few-requires : tie.Need-is-few-requires
 is-few-requires c κs = walked-whole _ _ _ (c .before .before .before .before .pre ∙ c .before .walked .given .1)
@@ -43,4 +40,4 @@ returns-2 c =
     subst (λ (o : Outcome). Sized (now (a .args .stream)) o 512) (sym refused) (record { outcome = a .pre ∙ refused; enough = omega arith })
 
 pub needs-few-spec : {M : Type 1} → statement M
-needs-few-spec = tie.close (tie.spec enum-known-walked is-few-requires enum-told returns returns-2)
+needs-few-spec = tie.close (tie.spec (λ c. search needs) is-few-requires enum-told returns returns-2)

@@ -79,7 +79,7 @@ impl Line {
         Line { file, how: how.into(), library, command, file_octets, ..Line::default() }
     }
 
-    /// The same with the state of the file: whatever is written to it later, or put in its place, has another.
+    /// The line with the state of the file: whatever is written to it later, or put in its place, has another.
     pub fn stamped(self, about: &Metadata) -> Line {
         let time = |seconds: i64, nanoseconds: i64| format!("{seconds}.{nanoseconds:09}");
         Line {
@@ -132,7 +132,7 @@ impl Line {
         }
     }
 
-    /// The same without a text.
+    /// The line without a text.
     pub fn without_text(self) -> Line {
         Line { text_octets: None, text_sha256: String::new(), ..self }
     }

@@ -120,7 +120,7 @@ fn there<'de, D: Deserializer<'de>>(field: D) -> Result<Option<String>, D::Error
 }
 
 impl Record {
-    /// The same with these columns, empty where nothing was asked.
+    /// The record with these columns, empty where nothing was asked.
     pub fn with(mut self, columns: Columns) -> Record {
         self.order = columns.order.then(|| self.order.unwrap_or_default());
         self.pages = columns.pages.then(|| self.pages.unwrap_or_default());

@@ -125,7 +125,7 @@ pub fn most() -> Vec<Case> {
     cases
 }
 
-/// The same with tiles: each 24 that is a unit's own item is a 30 instead.
+/// A letter in tiles: each 24 that is a unit's own item is a 30 instead.
 pub fn tiles() -> Vec<Case> {
     let tiled = |(name, mut stream): Case| {
         let reading = reader::Reading::of(&stream);

@@ -187,7 +187,7 @@ fn change(elements: &mut Vec<Element>, rng: &mut Rng) {
             elements.insert(other, double);
         }
         5 => {
-            // The same under another name: its portions want units of their own.
+            // That element under another name: its portions want units of their own.
             let mut double = elements[one].clone();
             double.identifier = double.identifier.map(|name| format!("8 {name}"));
             double.logical = None;

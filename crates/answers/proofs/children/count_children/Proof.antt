@@ -1,4 +1,4 @@
--- `answers::children::count_children` meets its contract. The loop's invariant: those that were found, and those that are left. Assumes nothing.
+-- `answers::children::count_children` meets its contract. The loop's invariant: those that were found, and those that are left.
 use mathlib.Core.Path.{_≡_, ap, sym, _∙_}
 use Prim.Native.Nat.{ℕ, suc, _+_, _-_, _≤_}
 use native.Mathlib.Omega.{arith}
@@ -35,9 +35,6 @@ mul-wide-2 c = omega arith
 
 shared-slice-read-wide : tie.Need-shared-slice-read-wide Inv-loop μ-loop
 shared-slice-read-wide c = omega arith
-
-wide-requires : tie.Need-wide-requires Inv-loop μ-loop
-wide-requires c κs = search needs
 
 add-j : tie.Need-add-j Inv-loop μ-loop
 add-j c = omega arith
@@ -79,20 +76,5 @@ returns c =
 
 pub count-children-spec : {M : Type 1} → statement M
 count-children-spec =
-    tie.close
-    (tie.spec
-    Inv-loop
-    μ-loop
-    loop-holds
-    mul-wide
-    add-wide
-    mul-wide-2
-    shared-slice-read-wide
-    wide-requires
-    add-j
-    add-found
-    loop-less
-    loop-again
-    loop-less-2
-    loop-again-2
-    returns)
+    tie.close (tie.spec Inv-loop μ-loop loop-holds mul-wide add-wide mul-wide-2 shared-slice-read-wide (λ c κs. search needs) add-j
+    add-found loop-less loop-again loop-less-2 loop-again-2 returns)

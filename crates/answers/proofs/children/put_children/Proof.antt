@@ -1,5 +1,5 @@
--- `answers::children::put_children` meets its contract: what is put, and then those that are left, is all. Assumes nothing.
-use mathlib.Core.Path.{_≡_, sym, _∙_}
+-- `answers::children::put_children` meets its contract: what is put, and then those that are left, is all.
+use mathlib.Core.Path.{sym, _∙_}
 use Prim.Native.Nat.{_-_}
 use native.Mathlib.Omega.{arith}
 use borrow.Author.Needs.{needs}
@@ -31,9 +31,6 @@ mul-wide-2 c = omega arith
 shared-slice-read-wide : tie.Need-shared-slice-read-wide Inv-loop μ-loop
 shared-slice-read-wide c = omega arith
 
-wide-requires : tie.Need-wide-requires Inv-loop μ-loop
-wide-requires c κs = search needs
-
 add-j : tie.Need-add-j Inv-loop μ-loop
 add-j c = omega arith
 
@@ -54,13 +51,15 @@ loop-less : tie.Need-loop-less Inv-loop μ-loop
 loop-less c = omega arith
 
 loop-again : tie.Need-loop-again Inv-loop μ-loop
-loop-again c = putting-hit (c .before .before .before .before .loop .inv) (c .before .before .before .loop-test .taken) (sym (c .before .wide .ensures) ∙ c .if1 .taken)
+loop-again c = putting-hit (c .before .before .before .before .loop .inv) (c .before .before .before .loop-test .taken) (sym (c .before .wide .ensures)
+    ∙ c .if1 .taken)
 
 loop-less-2 : tie.Need-loop-less-2 Inv-loop μ-loop
 loop-less-2 c = omega arith
 
 loop-again-2 : tie.Need-loop-again-2 Inv-loop μ-loop
-loop-again-2 c = putting-miss (c .before .before .before .before .loop .inv) (c .before .before .before .loop-test .taken) (λ e. c .if1 .left (c .before .wide .ensures ∙ e))
+loop-again-2 c = putting-miss (c .before .before .before .before .loop .inv) (c .before .before .before .loop-test .taken)
+    (λ e. c .if1 .left (c .before .wide .ensures ∙ e))
 
 same-length : tie.Need-same-length Inv-loop μ-loop
 same-length c = c .before .loop .inv .kept
@@ -70,24 +69,5 @@ returns c = putting-none (c .before .loop .inv) (c .loop-test .left) (c .before 
 
 pub put-children-spec : {M : Type 1} → statement M
 put-children-spec =
-    tie.close
-    (tie.spec
-    Inv-loop
-    μ-loop
-    loop-holds
-    mul-wide
-    add-wide
-    mul-wide-2
-    shared-slice-read-wide
-    wide-requires
-    add-j
-    cast-list
-    mul-list
-    slice-write-list
-    add-found
-    loop-less
-    loop-again
-    loop-less-2
-    loop-again-2
-    same-length
-    returns)
+    tie.close (tie.spec Inv-loop μ-loop loop-holds mul-wide add-wide mul-wide-2 shared-slice-read-wide (λ c κs. search needs) add-j
+    cast-list mul-list slice-write-list add-found loop-less loop-again loop-less-2 loop-again-2 same-length returns)

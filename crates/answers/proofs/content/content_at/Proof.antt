@@ -1,4 +1,4 @@
--- `answers::content::content_at` meets its contract: the row's kind is tested, and what holds the content is found. Assumes nothing.
+-- `answers::content::content_at` meets its contract: the row's kind is tested, and what holds the content is found.
 use mathlib.Core.Path.{subst}
 use borrow.Author.Needs.{needs}
 use denote.Ref.{now}
@@ -7,47 +7,25 @@ use Rattle.answers.specs.Asking.{otherKind, heldWhole, heldInPieces}
 use Rattle.answers.proofs.content.content_at.Statement.{statement}
 use Rattle.answers.proofs.content.content_at.Tie as tie
 
-mul-if1 : tie.Need-mul-if1
-mul-if1 c = search needs
-
-mul-if1-2 : tie.Need-mul-if1-2
-mul-if1-2 c = search needs
-
-shared-slice-read-if1 : tie.Need-shared-slice-read-if1
-shared-slice-read-if1 c = search needs
-
 returns : tie.Need-returns
 returns c = otherKind (c .if1 .taken)
 
 content-of-requires : tie.Need-content-of-requires
 content-of-requires c κs = let a = c .before .before .before .before .pre in (a .0, a .1 .1)
 
-enum-known-first : tie.Need-enum-known-first
-enum-known-first c = search needs
-
-enum-known-run : tie.Need-enum-known-run
-enum-known-run c = search needs
-
 returns-2 : tie.Need-returns-2
 returns-2 c =
     let a = c .before .before .before .before .before .before .before .before .args in
-    heldWhole (c .before .before .before .before .if1 .left) (subst (HoldsElement (a .edition) (now (a .stream)) (a .element)) (c .before .first .given .1) (c .before .before .before .content-of .ensures))
+    heldWhole (c .before .before .before .before .if1 .left) (subst (HoldsElement (a .edition) (now (a .stream)) (a .element))
+    (c .before .first .given .1) (c .before .before .before .content-of .ensures))
 
 returns-3 : tie.Need-returns-3
 returns-3 c =
     let a = c .before .before .before .before .before .before .before .before .args in
-    heldInPieces (c .before .before .before .before .if1 .left) (subst (HoldsElement (a .edition) (now (a .stream)) (a .element)) (c .before .run .given .1) (c .before .before .before .content-of .ensures))
+    heldInPieces (c .before .before .before .before .if1 .left)
+    (subst (HoldsElement (a .edition) (now (a .stream)) (a .element)) (c .before .run .given .1) (c .before .before .before .content-of .ensures))
 
 pub content-at-spec : {M : Type 1} → statement M
 content-at-spec =
-    tie.close
-    (tie.spec
-    mul-if1
-    mul-if1-2
-    shared-slice-read-if1
-    returns
-    content-of-requires
-    enum-known-first
-    enum-known-run
-    returns-2
-    returns-3)
+    tie.close (tie.spec (λ c. search needs) (λ c. search needs) (λ c. search needs) returns content-of-requires (λ c. search needs)
+    (λ c. search needs) returns-2 returns-3)

@@ -1,5 +1,4 @@
 -- `answers::content::fetch_judged` meets its contract: what the judge left says what the letter is, and a row where its element stands.
--- Assumes nothing.
 use native.Mathlib.Omega.{arith}
 use denote.Ref.{now}
 use Rattle.runs.proofs.Laws.{stream-fine}
@@ -28,8 +27,4 @@ returns-2 c =
 
 pub fetch-judged-spec : {M : Type 1} → statement M
 fetch-judged-spec =
-    tie.close
-    (tie.spec
-    content-at-requires
-    returns
-    returns-2)
+    tie.close (tie.spec content-at-requires returns returns-2)

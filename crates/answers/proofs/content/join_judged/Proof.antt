@@ -1,5 +1,4 @@
 -- `answers::content::join_judged` meets its contract: a part or the pieces that were fetched are copied, and what is no text unit is refused.
--- Assumes nothing.
 use mathlib.Core.Path.{subst}
 use borrow.Author.Needs.{needs}
 use native.Mathlib.Omega.{arith}
@@ -9,46 +8,35 @@ use Rattle.answers.proofs.Copying.{joins-unit, joins-none}
 use Rattle.answers.proofs.content.join_judged.Statement.{statement}
 use Rattle.answers.proofs.content.join_judged.Tie as tie
 
-fetch-judged-requires : tie.Need-fetch-judged-requires
-fetch-judged-requires c κs = search needs
-
-enum-known-first : tie.Need-enum-known-first
-enum-known-first c = search needs
-
 copy-part-requires : tie.Need-copy-part-requires
 copy-part-requires c κs =
     let a = c .before .before .before .before .before .before .before .before .args in
-    let f = subst (FindsContent (a .edition) (now (a .stream)) (a .element)) (c .before .before .first .given .1) (c .before .before .before .before .fetch-judged .ensures) in
+    let f = subst (FindsContent (a .edition) (now (a .stream)) (a .element)) (c .before .before .first .given .1)
+    (c .before .before .before .before .fetch-judged .ensures) in
     (f .fetches .stands .order, f .fetches .stands .inside, f .near-past)
-
-enum-known-run : tie.Need-enum-known-run
-enum-known-run c = search needs
 
 copy-pieces-requires : tie.Need-copy-pieces-requires
 copy-pieces-requires c κs =
     let a = c .before .before .before .before .before .before .before .before .args in
-    let f = subst (FindsContent (a .edition) (now (a .stream)) (a .element)) (c .before .before .run .given .1) (c .before .before .before .before .fetch-judged .ensures) in
+    let f = subst (FindsContent (a .edition) (now (a .stream)) (a .element)) (c .before .before .run .given .1)
+    (c .before .before .before .before .fetch-judged .ensures) in
     (f .known, f .short)
 
 enum-told : tie.Need-enum-told
 enum-told c = search needs
 
-same-length : tie.Need-same-length
-same-length c = search needs
-
 returns : tie.Need-returns
 returns c =
     let a = c .before .before .before .before .before .before .before .before .before .before .before .args in
-    let f = subst (FindsContent (a .edition) (now (a .stream)) (a .element)) (c .before .before .before .before .before .first .given .1) (c .before .before .before .before .before .before .before .fetch-judged .ensures) in
+    let f = subst (FindsContent (a .edition) (now (a .stream)) (a .element)) (c .before .before .before .before .before .first .given .1)
+    (c .before .before .before .before .before .before .before .fetch-judged .ensures) in
     joins-unit (a .edition) (now (a .stream)) (a .element) (now (a .out)) (f .joins) (c .before .before .copy-part .ensures)
-
-same-length-2 : tie.Need-same-length-2
-same-length-2 c = search needs
 
 returns-2 : tie.Need-returns-2
 returns-2 c =
     let a = c .before .before .before .before .before .before .before .before .before .before .before .args in
-    let f = subst (FindsContent (a .edition) (now (a .stream)) (a .element)) (c .before .before .before .before .before .run .given .1) (c .before .before .before .before .before .before .before .fetch-judged .ensures) in
+    let f = subst (FindsContent (a .edition) (now (a .stream)) (a .element)) (c .before .before .before .before .before .run .given .1)
+    (c .before .before .before .before .before .before .before .fetch-judged .ensures) in
     joins-unit (a .edition) (now (a .stream)) (a .element) (now (a .out)) (f .joins) (c .before .before .copy-pieces .ensures)
 
 returns-3 : tie.Need-returns-3
@@ -59,16 +47,5 @@ returns-3 c =
 
 pub join-judged-spec : {M : Type 1} → statement M
 join-judged-spec =
-    tie.close
-    (tie.spec
-    fetch-judged-requires
-    enum-known-first
-    copy-part-requires
-    enum-known-run
-    copy-pieces-requires
-    enum-told
-    same-length
-    returns
-    same-length-2
-    returns-2
-    returns-3)
+    tie.close (tie.spec (λ c κs. search needs) (λ c. search needs) copy-part-requires (λ c. search needs) copy-pieces-requires enum-told
+    (λ c. search needs) returns (λ c. search needs) returns-2 returns-3)

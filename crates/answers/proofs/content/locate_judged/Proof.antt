@@ -1,4 +1,4 @@
--- `answers::content::locate_judged` meets its contract: each case of a fetch has the numbers that document 01 gives it, and they fit. Assumes nothing.
+-- `answers::content::locate_judged` meets its contract: each case of a fetch has the numbers that document 01 gives it, and they fit.
 use mathlib.Core.Path.{subst}
 use borrow.Author.Needs.{needs}
 use native.Mathlib.Omega.{arith}
@@ -6,12 +6,6 @@ use denote.Ref.{now}
 use Rattle.answers.specs.Asking.{FindsContent}
 use Rattle.answers.proofs.content.locate_judged.Statement.{statement}
 use Rattle.answers.proofs.content.locate_judged.Tie as tie
-
-fetch-judged-requires : tie.Need-fetch-judged-requires
-fetch-judged-requires c κs = search needs
-
-enum-known-first : tie.Need-enum-known-first
-enum-known-first c = search needs
 
 cast-t10 : tie.Need-cast-t10
 cast-t10 c =
@@ -27,9 +21,6 @@ cast-t11 c =
 
 enum-told : tie.Need-enum-told
 enum-told c = search needs
-
-enum-told-2 : tie.Need-enum-told-2
-enum-told-2 c = search needs
 
 returns : tie.Need-returns
 returns c =
@@ -51,14 +42,5 @@ returns-3 c =
 
 pub locate-judged-spec : {M : Type 1} → statement M
 locate-judged-spec =
-    tie.close
-    (tie.spec
-    fetch-judged-requires
-    enum-known-first
-    cast-t10
-    cast-t11
-    enum-told
-    enum-told-2
-    returns
-    returns-2
+    tie.close (tie.spec (λ c κs. search needs) (λ c. search needs) cast-t10 cast-t11 enum-told (λ c. search needs) returns returns-2
     returns-3)

@@ -1,19 +1,14 @@
--- `answers::date::date_of_letter` meets its contract: the first element that is met is the profile, and the date in its run is the letter's. Assumes nothing.
-use mathlib.Core.Path.{_≡_, refl, sym, _∙_, subst}
+-- `answers::date::date_of_letter` meets its contract: the first element that is met is the profile, and the date in its run is the letter's.
+use mathlib.Core.Path.{sym, subst}
 use borrow.Author.Needs.{needs}
 use denote.Ref.{now}
 use Rattle.runs.specs.declared.Run.{Run}
-use Rattle.runs.specs.declared.Met.{Met}
 use Rattle.runs.specs.Runs.{wholeStream, Fine, Meets, Meeting}
 use Rattle.contents.proofs.Firsts.{met}
-use Rattle.answers.specs.declared.Dated.{Dated}
 use Rattle.answers.specs.Dating.{DateTells}
 use Rattle.answers.proofs.Dating.{met-some, found-narrow, date-told}
 use Rattle.answers.proofs.date.date_of_letter.Statement.{statement}
 use Rattle.answers.proofs.date.date_of_letter.Tie as tie
-
-whole-stream-requires : tie.Need-whole-stream-requires
-whole-stream-requires c κs = search needs
 
 meet-requires : tie.Need-meet-requires
 meet-requires c κs = subst (Fine (now (c .before .before .args .stream))) (sym (c .whole-stream .ensures)) (c .before .before .pre .0)
@@ -21,14 +16,9 @@ meet-requires c κs = subst (Fine (now (c .before .before .args .stream))) (sym 
 enum-told : tie.Need-enum-told
 enum-told c = search needs
 
-refused-date-requires : tie.Need-refused-date-requires
-refused-date-requires c κs = search needs
-
-enum-known-inner : tie.Need-enum-known-inner
-enum-known-inner c = search needs
-
 -- what was met at the start of the stream
-whole-met : (c : tie.After-meet) → Meets (now (c .before .before .before .args .stream)) (wholeStream (now (c .before .before .before .args .stream))) (c .meet .result)
+whole-met : (c : tie.After-meet)
+    → Meets (now (c .before .before .before .args .stream)) (wholeStream (now (c .before .before .before .args .stream))) (c .meet .result)
 whole-met c =
     subst (λ (r : Run). Meets (now (c .before .before .before .args .stream)) r (c .meet .result)) (c .before .whole-stream .ensures) (c .meet .ensures)
 
@@ -59,14 +49,5 @@ returns-2 c edition zero =
 
 pub date-of-letter-spec : {M : Type 1} → statement M
 date-of-letter-spec =
-    tie.close
-    (tie.spec
-    whole-stream-requires
-    meet-requires
-    enum-told
-    refused-date-requires
-    enum-known-inner
-    date-in-requires
-    dated-as-requires
-    returns
-    returns-2)
+    tie.close (tie.spec (λ c κs. search needs) meet-requires enum-told (λ c κs. search needs) (λ c. search needs) date-in-requires
+    dated-as-requires returns returns-2)

@@ -1,4 +1,4 @@
--- `answers::first_date::date_in_first` meets its contract: rules 10 and 11 by the element's type field, then what is found in its run. Assumes nothing.
+-- `answers::first_date::date_in_first` meets its contract: rules 10 and 11 by the element's type field, then what is found in its run.
 use mathlib.Core.Path.{_≡_, ap, sym, _∙_, subst}
 use borrow.Author.Needs.{needs}
 use native.Mathlib.Omega.{arith}
@@ -20,19 +20,10 @@ early-is c =
     c .early .ensures ∙ ap (λ (x : Slots). earlyRefusal 0 (a .code) (x .octet)) (c .before .shape-of .ensures)
     ∙ ap (earlyRefusal 0 (a .code)) (octet-same (shapeBy (a .edition) (a .code)))
 
-shape-of-requires : tie.Need-shape-of-requires
-shape-of-requires c κs = search needs
-
-early-requires : tie.Need-early-requires
-early-requires c κs = search needs
-
 cast-refused-date : tie.Need-cast-refused-date
 cast-refused-date c =
     let a = c .before .before .before .before .args in
     omega (arith, early-is (c .before), early-small 0 (a .code) (shapeBy (a .edition) (a .code) .octet))
-
-refused-date-requires : tie.Need-refused-date-requires
-refused-date-requires c κs = search needs
 
 returns : tie.Need-returns
 returns c =
@@ -40,9 +31,6 @@ returns c =
     let a = start .args in
     subst (FirstTells (a .edition) (now (a .stream))) (sym (c .refused-date .ensures))
     (first-refused (a .edition) (now (a .stream)) (start .pre .1) (start .pre .0) _ (early-is (c .before .before)) (c .before .if1 .taken))
-
-date-in-requires : tie.Need-date-in-requires
-date-in-requires c κs = search needs
 
 dated-as-requires : tie.Need-dated-as-requires
 dated-as-requires c κs = found-narrow (c .date-in .ensures) (c .before .before .before .before .before .pre .1)
@@ -57,13 +45,5 @@ returns-2 c =
 
 pub date-in-first-spec : {M : Type 1} → statement M
 date-in-first-spec =
-    tie.close
-    (tie.spec
-    shape-of-requires
-    early-requires
-    cast-refused-date
-    refused-date-requires
-    returns
-    date-in-requires
-    dated-as-requires
-    returns-2)
+    tie.close (tie.spec (λ c κs. search needs) (λ c κs. search needs) cast-refused-date (λ c κs. search needs) returns
+    (λ c κs. search needs) dated-as-requires returns-2)

@@ -1,4 +1,4 @@
--- `answers::first_date::first_numbers` meets its contract: 1, an empty stream, and then what the walk of the first element tells. Assumes nothing.
+-- `answers::first_date::first_numbers` meets its contract: 1, an empty stream, and then what the walk of the first element tells.
 use mathlib.Core.Path.{_≡_, sym, subst}
 use Prim.Native.Nat.{_<_, _≤_}
 use borrow.Author.Needs.{needs}
@@ -14,28 +14,16 @@ use Rattle.answers.proofs.FirstDating.{first-over, first-empty, first-f
 use Rattle.answers.proofs.first_date.first_numbers.Statement.{statement}
 use Rattle.answers.proofs.first_date.first_numbers.Tie as tie
 
-refused-date-requires : tie.Need-refused-date-requires
-refused-date-requires c κs = search needs
-
 returns : tie.Need-returns
 returns c =
     let a = c .before .before .before .args in
     subst (FirstTells (a .edition) (now (a .stream))) (sym (c .refused-date .ensures)) (first-over (a .edition) (now (a .stream)) (c .before .if1 .taken))
-
-refused-date-requires-2 : tie.Need-refused-date-requires-2
-refused-date-requires-2 c κs = search needs
 
 returns-2 : tie.Need-returns-2
 returns-2 c =
     let a = c .before .before .before .before .args in
     subst (FirstTells (a .edition) (now (a .stream))) (sym (c .refused-date2 .ensures))
     (first-empty (a .edition) (now (a .stream)) (c .before .before .if1 .left) (c .before .if2 .taken))
-
-first-item-requires : tie.Need-first-item-requires
-first-item-requires c κs = search needs
-
-enum-known-number : tie.Need-enum-known-number
-enum-known-number c = search needs
 
 -- a fault in the first element: its number is one of 2 to 8, and its place is in the stream
 faulty : (c : tie.After-known-told) →
@@ -60,12 +48,6 @@ cast-refused-date c = let k = small c in omega (arith, k .1)
 cast-refused-date-2 : tie.Need-cast-refused-date-2
 cast-refused-date-2 c = let k = small c in omega (arith, k .2, c .before .before .before .before .before .if1 .left)
 
-refused-date-requires-3 : tie.Need-refused-date-requires-3
-refused-date-requires-3 c κs = search needs
-
-enum-known-code : tie.Need-enum-known-code
-enum-known-code c = search needs
-
 date-in-first-requires : tie.Need-date-in-first-requires
 date-in-first-requires c κs = (
   subst (BeginsWith (now (c .before .before .before .before .before .before .before .args .stream))) (c .before .code .given .1)
@@ -78,25 +60,13 @@ returns-3 c =
     let a = c .before .before .before .before .before .before .before .before .args in
     let k = small (c .before) in
     subst (FirstTells (a .edition) (now (a .stream))) (sym (c .refused-date3 .ensures))
-    (first-faulty (a .edition) (now (a .stream)) (c .before .before .before .before .before .before .if1 .left) _ _ (faulty (c .before)) (λ z. omega (arith, k .0)))
+    (first-faulty (a .edition) (now (a .stream)) (c .before .before .before .before .before .before .if1 .left) _ _ (faulty (c .before))
+    (λ z. omega (arith, k .0)))
 
 returns-4 : tie.Need-returns-4
 returns-4 c = c .date-in-first .ensures
 
 pub first-numbers-spec : {M : Type 1} → statement M
 first-numbers-spec =
-    tie.close
-    (tie.spec
-    refused-date-requires
-    returns
-    refused-date-requires-2
-    returns-2
-    first-item-requires
-    enum-known-number
-    cast-refused-date
-    cast-refused-date-2
-    refused-date-requires-3
-    enum-known-code
-    date-in-first-requires
-    returns-3
-    returns-4)
+    tie.close (tie.spec (λ c κs. search needs) returns (λ c κs. search needs) returns-2 (λ c κs. search needs) (λ c. search needs)
+    cast-refused-date cast-refused-date-2 (λ c κs. search needs) (λ c. search needs) date-in-first-requires returns-3 returns-4)

@@ -1,4 +1,4 @@
--- `answers::list::find_matches` meets its contract: what the judge left says what the letter is, and the rest is the list of that. Assumes nothing.
+-- `answers::list::find_matches` meets its contract: what the judge left says what the letter is, and the rest is the list of that.
 use native.Mathlib.Omega.{arith}
 use borrow.Author.Needs.{needs}
 use denote.Ref.{now}
@@ -13,7 +13,8 @@ returns : tie.Need-returns
 returns c =
     let a = c .before .before .before .before .before .before .before .before in
     let l = accepted-judged (a .pre .0 .ended) (a .pre .1 .0) in
-    finds-16 (a .args .edition) (a .args .side) (now (a .args .stream)) (now (a .args .flat)) (a .args .lent) (a .args .room) _ (l .held .elements) (l .judged) (omega (arith, l .held .holds .counted))
+    finds-16 (a .args .edition) (a .args .side) (now (a .args .stream)) (now (a .args .flat)) (a .args .lent) (a .args .room) _ (l .held .elements)
+    (l .judged) (omega (arith, l .held .holds .counted))
 
 list-matches-requires : tie.Need-list-matches-requires
 list-matches-requires c κs =
@@ -27,15 +28,13 @@ cast-t17 c =
     let l = accepted-judged (a .pre .0 .ended) (a .pre .1 .0) in
     omega (arith, l .few)
 
-same-length : tie.Need-same-length
-same-length c = search needs
-
 returns-2 : tie.Need-returns-2
 returns-2 c =
     let a = c .before .before .before .before .before .before .before .before .before .before .before .before .before in
     let l = accepted-judged (a .pre .0 .ended) (a .pre .1 .0) in
     let lists = c .before .before .before .list-matches .ensures (a .args .edition) (l .held) in
-    finds-19 (a .args .edition) (a .args .side) (now (a .args .stream)) _ (a .args .lent) (a .args .room) _ (l .held .elements) (l .judged) _ (l .held .holds .counted) (omega arith) _ _ lists (omega arith)
+    finds-19 (a .args .edition) (a .args .side) (now (a .args .stream)) _ (a .args .lent) (a .args .room) _ (l .held .elements) (l .judged) _
+    (l .held .holds .counted) (omega arith) _ _ lists (omega arith)
 
 cast-t18 : tie.Need-cast-t18
 cast-t18 c =
@@ -51,26 +50,14 @@ cast-t19 c =
     let few = no-more-than-elements (l .held .elements) (letter-apart (l .held)) (a .args .side) in
     omega (arith, lists .counted, l .held .holds .counted, l .few)
 
-same-length-2 : tie.Need-same-length-2
-same-length-2 c = search needs
-
 returns-3 : tie.Need-returns-3
 returns-3 c =
     let a = c .before .before .before .before .before .before .before .before .before .before .before .before .before in
     let l = accepted-judged (a .pre .0 .ended) (a .pre .1 .0) in
     let lists = c .before .before .before .list-matches .ensures (a .args .edition) (l .held) in
-    finds-letter (a .args .edition) (a .args .side) (now (a .args .stream)) _ (a .args .lent) (a .args .room) _ (l .held .elements) (l .judged) _ (l .held .holds .counted) (omega arith) _ _ lists (omega arith)
+    finds-letter (a .args .edition) (a .args .side) (now (a .args .stream)) _ (a .args .lent) (a .args .room) _ (l .held .elements) (l .judged) _
+    (l .held .holds .counted) (omega arith) _ _ lists (omega arith)
 
 pub find-matches-spec : {M : Type 1} → statement M
 find-matches-spec =
-    tie.close
-    (tie.spec
-    returns
-    list-matches-requires
-    cast-t17
-    same-length
-    returns-2
-    cast-t18
-    cast-t19
-    same-length-2
-    returns-3)
+    tie.close (tie.spec returns list-matches-requires cast-t17 (λ c. search needs) returns-2 cast-t18 cast-t19 (λ c. search needs) returns-3)

@@ -1,4 +1,4 @@
--- `answers::list::list_judged` meets its contract: the list is found, and the table is finished or left by its number. Assumes nothing.
+-- `answers::list::list_judged` meets its contract: the list is found, and the table is finished or left by its number.
 use mathlib.Core.Path.{refl}
 use native.Mathlib.Omega.{arith}
 use borrow.Author.Needs.{needs}
@@ -9,7 +9,10 @@ use Rattle.answers.proofs.list.list_judged.Statement.{statement}
 use Rattle.answers.proofs.list.list_judged.Tie as tie
 
 find-matches-requires : tie.Need-find-matches-requires
-find-matches-requires c κs = let a = c .before .before .before .before .before .before .before .before .before in (a .pre .0, (a .pre .1 .0, (a .pre .1 .1 .0, a .pre .1 .1 .1)))
+find-matches-requires c κs = let a = c .before .before .before .before .before .before .before .before .before in (
+  a .pre .0,
+  (a .pre .1 .0, (a .pre .1 .1 .0, a .pre .1 .1 .1)),
+)
 
 finish-requires : tie.Need-finish-requires
 finish-requires c κs =
@@ -29,16 +32,11 @@ finish-requires c κs =
       ),
     )
 
-same-length : tie.Need-same-length
-same-length c = search needs
-
-same-length-2 : tie.Need-same-length-2
-same-length-2 c = search needs
-
 returns : tie.Need-returns
 returns c =
     let x = c .before .before .before .before .before .before .before .before .before .before .before .before .before .before .before .before .args in
-    lists-finished (x .edition) (x .side) (now (x .stream)) (now (x .table)) (x .room) refl (c .before .before .before .before .before .before .find-matches .ensures) (c .before .before .finish .ensures)
+    lists-finished (x .edition) (x .side) (now (x .stream)) (now (x .table)) (x .room) refl
+    (c .before .before .before .before .before .before .find-matches .ensures) (c .before .before .finish .ensures)
 
 pub list-judged-spec : {M : Type 1} → statement M
-list-judged-spec = tie.close (tie.spec find-matches-requires finish-requires same-length same-length-2 returns)
+list-judged-spec = tie.close (tie.spec find-matches-requires finish-requires (λ c. search needs) (λ c. search needs) returns)

@@ -1,4 +1,4 @@
--- `answers::table::fill` meets its contract: the rows are put in turn. Assumes nothing.
+-- `answers::table::fill` meets its contract: the rows are put in turn.
 use Prim.Native.Nat.{_-_}
 use native.Mathlib.Omega.{arith}
 use Rattle.answers.proofs.Tabling.{Filling, filling-all, filling-more, filling-none}
@@ -16,8 +16,10 @@ loop-holds c = let a = c .before .before .before .before .before .args in fillin
 
 put-row-requires : tie.Need-put-row-requires Inv-loop μ-loop
 put-row-requires c κs =
-    let start = c .before .before .before .before .before .before .before .before in
-    (start .pre .0, (start .pre .1 .0, (c .before .loop-test .taken, start .pre .1 .1 .0, omega (arith, start .pre .1 .1 .1, c .before .before .loop .inv .kept))))
+    let start = c .before .before .before .before .before .before .before .before in (
+      start .pre .0,
+      (start .pre .1 .0, (c .before .loop-test .taken, start .pre .1 .1 .0, omega (arith, start .pre .1 .1 .1, c .before .before .loop .inv .kept))),
+    )
 
 add-j : tie.Need-add-j Inv-loop μ-loop
 add-j c = omega arith
@@ -27,7 +29,9 @@ loop-less c = omega arith
 
 loop-again : tie.Need-loop-again Inv-loop μ-loop
 loop-again c =
-    filling-more (c .before .before .before .before .before .loop .inv) (c .before .before .before .before .loop-test .taken) (c .before .before .put-row .ensures) (c .before .before .put-row .kept .1 .1 .1 .1 .1 .1 .0)
+    let put-row = c .before .before .put-row in
+    filling-more (c .before .before .before .before .before .loop .inv) (c .before .before .before .before .loop-test .taken) (put-row .ensures)
+    (put-row .kept .1 .1 .1 .1 .1 .1 .0)
 
 same-length : tie.Need-same-length Inv-loop μ-loop
 same-length c = c .before .loop .inv .kept
@@ -37,14 +41,4 @@ returns c = filling-none (c .before .loop .inv) (c .loop-test .left) (c .before 
 
 pub fill-spec : {M : Type 1} → statement M
 fill-spec =
-    tie.close
-    (tie.spec
-    Inv-loop
-    μ-loop
-    loop-holds
-    put-row-requires
-    add-j
-    loop-less
-    loop-again
-    same-length
-    returns)
+    tie.close (tie.spec Inv-loop μ-loop loop-holds put-row-requires add-j loop-less loop-again same-length returns)

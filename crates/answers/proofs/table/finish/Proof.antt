@@ -1,5 +1,5 @@
--- `answers::table::finish` meets its contract: the table is filled, or nothing is done. Assumes nothing.
-use mathlib.Core.Path.{_≡_, sym, _∙_}
+-- `answers::table::finish` meets its contract: the table is filled, or nothing is done.
+use mathlib.Core.Path.{sym, _∙_}
 use native.Mathlib.Omega.{arith}
 use borrow.Author.Needs.{needs}
 use borrow.Author.Tests.{not-true, not-false}
@@ -8,9 +8,6 @@ use Rattle.answers.proofs.Judging.{accepted-judged}
 use Rattle.answers.proofs.Tabling.{table-filled}
 use Rattle.answers.proofs.table.finish.Statement.{statement}
 use Rattle.answers.proofs.table.finish.Tie as tie
-
-is-finishing-requires : tie.Need-is-finishing-requires
-is-finishing-requires c κs = search needs
 
 returns : tie.Need-returns
 returns c = rw (sym (c .before .is-finishing .ensures) ∙ not-true _ (c .if1 .taken))
@@ -22,9 +19,6 @@ fill-requires c κs =
     let enough = a .pre .1 .1 .1 (sym (c .before .before .is-finishing .ensures) ∙ not-false _ (c .before .if1 .left)) in
     ((a .args .edition, a .pre .1 .0), (a .pre .1 .1 .0, (l .few, omega (arith, enough))))
 
-same-length : tie.Need-same-length
-same-length c = search needs
-
 returns-2 : tie.Need-returns-2
 returns-2 c =
     let a = c .before .before .before .before .before .before .before .before .before .before .before in
@@ -33,4 +27,4 @@ returns-2 c =
     filled ∙ rw (sym (c .before .before .before .before .before .is-finishing .ensures) ∙ not-false _ (c .before .before .before .before .if1 .left))
 
 pub finish-spec : {M : Type 1} → statement M
-finish-spec = tie.close (tie.spec is-finishing-requires returns fill-requires same-length returns-2)
+finish-spec = tie.close (tie.spec (λ c κs. search needs) returns fill-requires (λ c. search needs) returns-2)

@@ -1,4 +1,4 @@
--- `answers::table::is_finishing` meets its contract: it tests the two numbers. Assumes nothing.
+-- `answers::table::is_finishing` meets its contract: it tests the two numbers.
 use mathlib.Core.Path.{_≡_}
 use mathlib.Core.Bool.{false}
 use lib.Dec.{eqb}

@@ -1,16 +1,10 @@
--- `elements::frames::bounds_of` meets its contract: by whether the item was found. Assumes nothing.
+-- `elements::frames::bounds_of` meets its contract: by whether the item was found.
 use mathlib.Core.Path.{subst}
 use borrow.Author.Needs.{needs}
 use Rattle.contents.specs.Opening.{FoundIn}
 use Rattle.elements.proofs.Bounding.{held-bounding, lacked-bounding}
 use Rattle.elements.proofs.frames.bounds_of.Statement.{statement}
 use Rattle.elements.proofs.frames.bounds_of.Tie as tie
-
-enum-known-found : tie.Need-enum-known-found
-enum-known-found c = search needs
-
-span-of-requires : tie.Need-span-of-requires
-span-of-requires c κs = search needs
 
 enum-told : tie.Need-enum-told
 enum-told c = search needs
@@ -22,4 +16,4 @@ returns-2 : tie.Need-returns-2
 returns-2 c = λ s r octet found. lacked-bounding (subst (FoundIn s r octet) (c .enum-told .given .1) found)
 
 pub bounds-of-spec : {M : Type 1} → statement M
-bounds-of-spec = tie.close (tie.spec enum-known-found span-of-requires enum-told returns returns-2)
+bounds-of-spec = tie.close (tie.spec (λ c. search needs) (λ c κs. search needs) enum-told returns returns-2)

@@ -1,4 +1,4 @@
--- `elements::frames::frame_of` meets its contract, for each kind of shape. Assumes nothing.
+-- `elements::frames::frame_of` meets its contract, for each kind of shape.
 use borrow.Author.Needs.{needs}
 use borrow.Author.Tests.{not-true, not-false}
 use Rattle.elements.proofs.Framing.{free-frame, unlooked-frame}
@@ -10,24 +10,12 @@ frame-in-order-requires c κs =
     let start = c .before .before .before in
     (start .pre .0, start .pre .1, not-true (start .args .shape .free) (c .if1 .taken))
 
-returns : tie.Need-returns
-returns c = search needs
-
-no-holder-requires : tie.Need-no-holder-requires
-no-holder-requires c κs = search needs
-
 returns-2 : tie.Need-returns-2
 returns-2 c =
     let start = c .before .before .before .before .before in
     let shape = start .args .shape in
     let free = not-false (shape .free) (c .before .before .if1 .left) in
     rw (c .no-holder .ensures) (free-frame (start .args .s .now) shape (start .args .r) (start .pre .0) (start .pre .1) free (c .before .if2 .taken))
-
-no-run-requires : tie.Need-no-run-requires
-no-run-requires c κs = search needs
-
-no-holder-requires-2 : tie.Need-no-holder-requires-2
-no-holder-requires-2 c κs = search needs
 
 returns-3 : tie.Need-returns-3
 returns-3 c =
@@ -39,4 +27,5 @@ returns-3 c =
 
 pub frame-of-spec : {M : Type 1} → statement M
 frame-of-spec =
-    tie.close (tie.spec frame-in-order-requires returns no-holder-requires returns-2 no-run-requires no-holder-requires-2 returns-3)
+    tie.close (tie.spec frame-in-order-requires (λ c. search needs) (λ c κs. search needs) returns-2 (λ c κs. search needs)
+    (λ c κs. search needs) returns-3)

@@ -1,4 +1,4 @@
--- `elements::frames::holder_with` meets its contract: by whether an item of the opening has the octet of pieces. Assumes nothing.
+-- `elements::frames::holder_with` meets its contract: by whether an item of the opening has the octet of pieces.
 use mathlib.Core.Path.{subst}
 use borrow.Author.Needs.{needs}
 use Rattle.contents.specs.Opening.{FoundIn}
@@ -6,20 +6,8 @@ use Rattle.elements.specs.Frames.{with-pieces}
 use Rattle.elements.proofs.frames.holder_with.Statement.{statement}
 use Rattle.elements.proofs.frames.holder_with.Tie as tie
 
-part-with-requires : tie.Need-part-with-requires
-part-with-requires c κs = search needs
-
-enum-known-p : tie.Need-enum-known-p
-enum-known-p c = search needs
-
-held-in-pieces-requires : tie.Need-held-in-pieces-requires
-held-in-pieces-requires c κs = search needs
-
 enum-told : tie.Need-enum-told
 enum-told c = search needs
-
-unpieced-with-requires : tie.Need-unpieced-with-requires
-unpieced-with-requires c κs = search needs
 
 returns : tie.Need-returns
 returns c =
@@ -41,12 +29,4 @@ returns-2 c =
 
 pub holder-with-spec : {M : Type 1} → statement M
 holder-with-spec =
-    tie.close
-    (tie.spec
-    part-with-requires
-    enum-known-p
-    held-in-pieces-requires
-    enum-told
-    unpieced-with-requires
-    returns
-    returns-2)
+    tie.close (tie.spec (λ c κs. search needs) (λ c. search needs) (λ c κs. search needs) enum-told (λ c κs. search needs) returns returns-2)

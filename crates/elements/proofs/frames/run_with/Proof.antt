@@ -1,4 +1,4 @@
--- `elements::frames::run_with` meets its contract: what is found in the opening is what its run has. Assumes nothing.
+-- `elements::frames::run_with` meets its contract: what is found in the opening is what its run has.
 use mathlib.Core.Path.{sym, subst}
 use borrow.Author.Needs.{needs}
 use Rattle.contents.specs.Opening.{FoundIn}
@@ -7,17 +7,8 @@ use Rattle.elements.proofs.Bounding.{held-inner, lacked-inner}
 use Rattle.elements.proofs.frames.run_with.Statement.{statement}
 use Rattle.elements.proofs.frames.run_with.Tie as tie
 
-part-with-requires : tie.Need-part-with-requires
-part-with-requires c κs = search needs
-
-enum-known-p : tie.Need-enum-known-p
-enum-known-p c = search needs
-
 enum-told : tie.Need-enum-told
 enum-told c = search needs
-
-no-run-requires : tie.Need-no-run-requires
-no-run-requires c κs = search needs
 
 returns : tie.Need-returns
 returns c =
@@ -34,4 +25,4 @@ returns-2 c =
     (lacked-inner (subst (FoundIn s r octet) (c .before .enum-told .given .1) (found s r opens few)))
 
 pub run-with-spec : {M : Type 1} → statement M
-run-with-spec = tie.close (tie.spec part-with-requires enum-known-p enum-told no-run-requires returns returns-2)
+run-with-spec = tie.close (tie.spec (λ c κs. search needs) (λ c. search needs) enum-told (λ c κs. search needs) returns returns-2)

@@ -1,4 +1,4 @@
--- `elements::frames::seal_alone` meets its contract: by whether an item of the run has the octet of a seal in pieces. Assumes nothing.
+-- `elements::frames::seal_alone` meets its contract: by whether an item of the run has the octet of a seal in pieces.
 use mathlib.Core.Path.{refl, subst}
 use borrow.Author.Needs.{needs}
 use Rattle.contents.specs.Opening.{FoundIn}
@@ -11,12 +11,6 @@ returns : tie.Need-returns
 returns c =
     let start = c .before .before .before in
     unsealed-alone (zero-lacked (start .args .shape .seal) (c .if1 .taken) (start .pre .0))
-
-first-with-requires : tie.Need-first-with-requires
-first-with-requires c κs = search needs
-
-enum-known-p : tie.Need-enum-known-p
-enum-known-p c = search needs
 
 are-pieces-requires : tie.Need-are-pieces-requires
 are-pieces-requires c κs =
@@ -43,4 +37,4 @@ returns-3 c =
     unsealed-alone (subst (FoundIn (a .s .now) (a .r) (a .shape .seal)) (c .enum-told .given .1) (at-found .first-with .ensures))
 
 pub seal-alone-spec : {M : Type 1} → statement M
-seal-alone-spec = tie.close (tie.spec returns first-with-requires enum-known-p are-pieces-requires enum-told returns-2 returns-3)
+seal-alone-spec = tie.close (tie.spec returns (λ c κs. search needs) (λ c. search needs) are-pieces-requires enum-told returns-2 returns-3)

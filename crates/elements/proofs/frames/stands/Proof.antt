@@ -1,4 +1,4 @@
--- `elements::frames::stands` meets its contract: the second slots are tried in order. Assumes nothing.
+-- `elements::frames::stands` meets its contract: the second slots are tried in order.
 use mathlib.Core.Path.{_≡_, sym, _∙_}
 use mathlib.Core.Bool.{true, false}
 use borrow.Author.Needs.{needs}
@@ -8,9 +8,6 @@ use Rattle.elements.specs.Slots.{slotOrdered}
 use Rattle.elements.proofs.frames.stands.Statement.{statement}
 use Rattle.elements.proofs.frames.stands.Tie as tie
 
-fills-requires : tie.Need-fills-requires
-fills-requires c κs = search needs
-
 returns : tie.Need-returns
 unfolding slotOrdered
 returns c =
@@ -19,9 +16,6 @@ returns c =
     λ s r opens.
     let first : inOrder (shape .one) (shape .two) (treeIn s r) ≡ true = sym (c .before .fills .ensures s r opens) ∙ c .if1 .taken in
     rw (start .pre, first)
-
-fills-requires-2 : tie.Need-fills-requires-2
-fills-requires-2 c κs = search needs
 
 returns-2 : tie.Need-returns-2
 unfolding slotOrdered
@@ -33,9 +27,6 @@ returns-2 c =
     let first : inOrder (shape .one) (shape .two) (treeIn s r) ≡ false = sym (at-if .before .fills .ensures s r opens) ∙ at-if .if1 .left in
     let second : inOrder (shape .one) (shape .instead) (treeIn s r) ≡ true = sym (c .before .fills2 .ensures s r opens) ∙ c .if2 .taken in
     rw (start .pre, first, second)
-
-fills-requires-3 : tie.Need-fills-requires-3
-fills-requires-3 c κs = search needs
 
 returns-3 : tie.Need-returns-3
 unfolding slotOrdered
@@ -50,4 +41,4 @@ returns-3 c =
     rw (start .pre, first, second) (c .fills3 .ensures s r opens)
 
 pub stands-spec : {M : Type 1} → statement M
-stands-spec = tie.close (tie.spec fills-requires returns fills-requires-2 returns-2 fills-requires-3 returns-3)
+stands-spec = tie.close (tie.spec (λ c κs. search needs) returns (λ c κs. search needs) returns-2 (λ c κs. search needs) returns-3)

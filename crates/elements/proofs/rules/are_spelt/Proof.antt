@@ -1,4 +1,4 @@
--- `elements::rules::are_spelt` meets its contract: the tests of the definition in order. Assumes nothing.
+-- `elements::rules::are_spelt` meets its contract: the tests of the definition in order.
 use mathlib.Core.Path.{_≡_, sym, _∙_}
 use mathlib.Core.Bool.{true, false, and-true}
 use borrow.Author.Needs.{needs}
@@ -7,18 +7,12 @@ use Rattle.elements.specs.Judge.{spelt}
 use Rattle.elements.proofs.rules.are_spelt.Statement.{statement}
 use Rattle.elements.proofs.rules.are_spelt.Tie as tie
 
-is-spelt-requires : tie.Need-is-spelt-requires
-is-spelt-requires c κs = search needs
-
 returns : tie.Need-returns
 returns c =
     let one = c .before .is-spelt in
     λ x y p q.
     let a : spelt x ≡ false = sym (one .ensures x p) ∙ not-true (one .result) (c .if1 .taken) in
     rw a
-
-is-spelt-requires-2 : tie.Need-is-spelt-requires-2
-is-spelt-requires-2 c κs = search needs
 
 returns-2 : tie.Need-returns-2
 returns-2 c =
@@ -48,4 +42,4 @@ returns-4 c =
     rw (a, b, le-leb _ _ (c .before .if3 .left), and-true)
 
 pub are-spelt-spec : {M : Type 1} → statement M
-are-spelt-spec = tie.close (tie.spec is-spelt-requires returns is-spelt-requires-2 returns-2 returns-3 returns-4)
+are-spelt-spec = tie.close (tie.spec (λ c κs. search needs) returns (λ c κs. search needs) returns-2 returns-3 returns-4)

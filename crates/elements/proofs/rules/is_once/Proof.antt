@@ -1,4 +1,4 @@
--- `elements::rules::is_once` meets its contract: by whether there is none. Assumes nothing.
+-- `elements::rules::is_once` meets its contract: by whether there is none.
 use mathlib.Core.Path.{_≡_, refl}
 use mathlib.Core.Bool.{Bool, true, false, not, and-false}
 use borrow.Author.Tests.{ne-eqb}

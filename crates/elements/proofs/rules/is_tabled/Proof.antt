@@ -1,4 +1,4 @@
--- `elements::rules::is_tabled` meets its contract: the tests of the definition in order. Assumes nothing.
+-- `elements::rules::is_tabled` meets its contract: the tests of the definition in order.
 use mathlib.Core.Path.{sym, _∙_}
 use mathlib.Core.Bool.{and-true}
 use borrow.Author.Needs.{needs}
@@ -6,9 +6,6 @@ use borrow.Author.Tests.{not-true, not-false, le-leb, lt-leb, eq-eqb, ne-eqb}
 use Rattle.elements.specs.Sees.{tabledBy}
 use Rattle.elements.proofs.rules.is_tabled.Statement.{statement}
 use Rattle.elements.proofs.rules.is_tabled.Tie as tie
-
-is-once-requires : tie.Need-is-once-requires
-is-once-requires c κs = search needs
 
 returns : tie.Need-returns
 unfolding tabledBy
@@ -56,4 +53,4 @@ returns-5 c =
 
 pub is-tabled-spec : {M : Type 1} → statement M
 is-tabled-spec =
-    tie.close (tie.spec is-once-requires returns returns-2 returns-3 returns-4 returns-5)
+    tie.close (tie.spec (λ c κs. search needs) returns returns-2 returns-3 returns-4 returns-5)

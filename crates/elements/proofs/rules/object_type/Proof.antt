@@ -1,4 +1,4 @@
--- `elements::rules::object_type` meets its contract: by how many octets the pair bounds. Assumes nothing.
+-- `elements::rules::object_type` meets its contract: by how many octets the pair bounds.
 use native.Mathlib.Omega.{arith}
 use borrow.Author.Needs.{needs}
 use Rattle.elements.proofs.Values.{type-absent, type-long, type-one}
@@ -10,19 +10,10 @@ returns c =
     let a = c .before .before .args in
     (omega arith, type-absent (a .s .now) (a .v) (a .types) (c .if1 .taken))
 
-sub-if2 : tie.Need-sub-if2
-sub-if2 c = search needs
-
 returns-2 : tie.Need-returns-2
 returns-2 c =
     let a = c .before .before .before .args in
     (omega arith, type-long (a .s .now) (a .v) (a .types) (c .before .if1 .left) (c .if2 .taken))
-
-shared-slice-read-wide : tie.Need-shared-slice-read-wide
-shared-slice-read-wide c = search needs
-
-wide-requires : tie.Need-wide-requires
-wide-requires c κs = search needs
 
 returns-3 : tie.Need-returns-3
 returns-3 c =
@@ -34,4 +25,4 @@ returns-3 c =
     )
 
 pub object-type-spec : {M : Type 1} → statement M
-object-type-spec = tie.close (tie.spec returns sub-if2 returns-2 shared-slice-read-wide wide-requires returns-3)
+object-type-spec = tie.close (tie.spec returns (λ c. search needs) returns-2 (λ c. search needs) (λ c κs. search needs) returns-3)

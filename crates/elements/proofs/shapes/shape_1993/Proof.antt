@@ -1,5 +1,5 @@
 -- `elements::shapes::shape_1993` meets its contract: each arm makes the shape that 1993 has of its own for its octet, and the last one that of
--- 1988. Assumes nothing.
+-- 1988.
 use mathlib.Core.Path.{sym, ap, _∙_}
 use borrow.Author.Needs.{needs}
 use Rattle.elements.specs.Shape.{added1993, shapes1988, shapes1993}
@@ -7,24 +7,6 @@ use Rattle.elements.specs.Slots.{slotsOf}
 use Rattle.elements.proofs.Looking.{found, passed}
 use Rattle.elements.proofs.shapes.shape_1993.Statement.{statement}
 use Rattle.elements.proofs.shapes.shape_1993.Tie as tie
-
-unit-slots-requires : tie.Need-unit-slots-requires
-unit-slots-requires c κs = search needs
-
-sealed-slots-requires : tie.Need-sealed-slots-requires
-sealed-slots-requires c κs = search needs
-
-enciphered-slots-requires : tie.Need-enciphered-slots-requires
-enciphered-slots-requires c κs = search needs
-
-enciphered-slots-requires-2 : tie.Need-enciphered-slots-requires-2
-enciphered-slots-requires-2 c κs = search needs
-
-enciphered-slots-requires-3 : tie.Need-enciphered-slots-requires-3
-enciphered-slots-requires-3 c κs = search needs
-
-shape-1988-requires : tie.Need-shape-1988-requires
-shape-1988-requires c κs = search needs
 
 returns : tie.Need-returns
 returns c = found shapes1993 (c .unit-slots .ensures) (c .before .match .keys1)
@@ -46,17 +28,5 @@ returns-6 c = c .shape-1988 .ensures ∙ sym (ap slotsOf (passed (Unit {0}) (c .
 
 pub shape-1993-spec : {M : Type 1} → statement M
 shape-1993-spec =
-    tie.close
-    (tie.spec
-    unit-slots-requires
-    sealed-slots-requires
-    enciphered-slots-requires
-    enciphered-slots-requires-2
-    enciphered-slots-requires-3
-    shape-1988-requires
-    returns
-    returns-2
-    returns-3
-    returns-4
-    returns-5
-    returns-6)
+    tie.close (tie.spec (λ c κs. search needs) (λ c κs. search needs) (λ c κs. search needs) (λ c κs. search needs) (λ c κs. search needs)
+    (λ c κs. search needs) returns returns-2 returns-3 returns-4 returns-5 returns-6)

@@ -1,6 +1,5 @@
--- `elements::shapes::shape_of` meets its contract: a case for each edition. Assumes nothing.
+-- `elements::shapes::shape_of` meets its contract: a case for each edition.
 use mathlib.Core.Path.{sym, ap, _∙_}
-use Prim.Native.Nat.{ℕ}
 use borrow.Author.Needs.{needs}
 use Rattle.headers.specs.Head.{typeField}
 use Rattle.elements.specs.declared.Edition.{Edition}
@@ -11,15 +10,6 @@ use Rattle.elements.proofs.shapes.shape_of.Tie as tie
 
 enum-told : tie.Need-enum-told
 enum-told c = search needs
-
-shape-1988-requires : tie.Need-shape-1988-requires
-shape-1988-requires c κs = search needs
-
-enum-told-2 : tie.Need-enum-told-2
-enum-told-2 c = search needs
-
-shape-1993-requires : tie.Need-shape-1993-requires
-shape-1993-requires c κs = search needs
 
 returns : tie.Need-returns
 unfolding shapeOf
@@ -34,4 +24,4 @@ returns-2 c =
     c .shape-1993 .ensures ∙ sym (ap (λ (edition : Edition). slotsOf (shapeOf edition (typeField code))) (c .before .enum-told2 .given .1))
 
 pub shape-of-spec : {M : Type 1} → statement M
-shape-of-spec = tie.close (tie.spec enum-told shape-1988-requires enum-told-2 shape-1993-requires returns returns-2)
+shape-of-spec = tie.close (tie.spec enum-told (λ c κs. search needs) (λ c. search needs) (λ c κs. search needs) returns returns-2)

@@ -1,6 +1,6 @@
--- `close_ended`: each turn closes the innermost open item, as `settle` does. Assumes nothing.
+-- `close_ended`: each turn closes the innermost open item, as `settle` does.
 use mathlib.Core.Path.{_≡_, refl, ap, _∙_}
-use Prim.Native.Nat.{ℕ, _≤_, _/_}
+use Prim.Native.Nat.{ℕ, _≤_}
 use native.Mathlib.Omega.{arith}
 use Rattle.blocks.specs.Engine.{settle}
 use Rattle.engine.specs.Stored.{opensOf}
@@ -18,18 +18,6 @@ abbrev μ-loop : tie.MeasureT-loop
 loop-holds : tie.Need-loop-holds Inv-loop μ-loop
 loop-holds c = (c .pre, λ k. refl)
 
-sub-e : tie.Need-sub-e Inv-loop μ-loop
-sub-e c = search needs
-
-mul-e : tie.Need-mul-e Inv-loop μ-loop
-mul-e c = search needs
-
-element-copy-out-e : tie.Need-element-copy-out-e Inv-loop μ-loop
-element-copy-out-e c = search needs
-
-wide-requires : tie.Need-wide-requires Inv-loop μ-loop
-wide-requires c κs = search needs
-
 returns : tie.Need-returns Inv-loop μ-loop
 returns c =
     let a = c .before .before .before .before .before .args in
@@ -43,12 +31,6 @@ returns-2 c =
     let l = c .before .before .before .before .before .loop in
     let wide = c .before .before .wide .ensures in
     (omega arith, λ k. l .inv .1 k ∙ settle-unclosed (l .n) (a .ends .now) (omega arith) (a .at) k (omega arith) (omega arith))
-
-sub-n : tie.Need-sub-n Inv-loop μ-loop
-sub-n c = search needs
-
-loop-less : tie.Need-loop-less Inv-loop μ-loop
-loop-less c = search needs
 
 loop-again : tie.Need-loop-again Inv-loop μ-loop
 loop-again c =
@@ -65,18 +47,5 @@ returns-3 c =
 
 pub close-ended-spec : {M : Type 1} → statement M
 close-ended-spec =
-    tie.close
-    (tie.spec
-    Inv-loop
-    μ-loop
-    loop-holds
-    sub-e
-    mul-e
-    element-copy-out-e
-    wide-requires
-    returns
-    returns-2
-    sub-n
-    loop-less
-    loop-again
-    returns-3)
+    tie.close (tie.spec Inv-loop μ-loop loop-holds (λ c. search needs) (λ c. search needs) (λ c. search needs) (λ c κs. search needs)
+    returns returns-2 (λ c. search needs) (λ c. search needs) loop-again returns-3)

@@ -1,19 +1,10 @@
--- `end_of`: half of what is stored is the bound, and the rest the mark. Assumes nothing.
+-- `end_of`: half of what is stored is the bound, and the rest the mark.
 use mathlib.Core.Path.{_≡_}
-use Prim.Native.Nat.{ℕ, _+_, _*_, _/_, _%_}
+use Prim.Native.Nat.{_+_, _*_, _/_, _%_}
 use native.Mathlib.Omega.{arith}
 use borrow.Author.Needs.{needs}
 use Rattle.engine.proofs.ends.end_of.Statement.{statement}
 use Rattle.engine.proofs.ends.end_of.Tie as tie
-
-mul-result : tie.Need-mul-result
-mul-result c = search needs
-
-add-result : tie.Need-add-result
-add-result c = search needs
-
-cast-result : tie.Need-cast-result
-cast-result c = search needs
 
 returns : tie.Need-returns
 returns c =
@@ -21,12 +12,6 @@ returns c =
     let h : (n * 2 + 1) / 2 ≡ n = omega arith in
     let m : (n * 2 + 1) % 2 ≡ 1 = omega arith in
     rw (h, m, c .if1 .taken)
-
-mul-result-2 : tie.Need-mul-result-2
-mul-result-2 c = search needs
-
-cast-result-2 : tie.Need-cast-result-2
-cast-result-2 c = search needs
 
 returns-2 : tie.Need-returns-2
 returns-2 c =
@@ -37,12 +22,5 @@ returns-2 c =
 
 pub end-of-spec : {M : Type 1} → statement M
 end-of-spec =
-    tie.close
-    (tie.spec
-    mul-result
-    add-result
-    cast-result
-    returns
-    mul-result-2
-    cast-result-2
+    tie.close (tie.spec (λ c. search needs) (λ c. search needs) (λ c. search needs) returns (λ c. search needs) (λ c. search needs)
     returns-2)

@@ -1,31 +1,10 @@
--- `limit_at`: the innermost open item is the last that is stored. Assumes nothing.
-use mathlib.Core.Path.{_≡_, refl, ap, sym, _∙_}
-use mathlib.Core.Bool.{true, false}
-use Prim.Native.Nat.{ℕ, _+_, _-_, _/_, _%_, _<_, _≤_}
+-- `limit_at`: the innermost open item is the last that is stored.
+use mathlib.Core.Path.{_∙_}
 use native.Mathlib.Omega.{arith}
-use borrow.Author.Tests.{eq-eqb, ne-eqb}
 use Rattle.engine.proofs.Stores.{innermost}
 use borrow.Author.Needs.{needs}
 use Rattle.engine.proofs.ends.limit_at.Statement.{statement}
 use Rattle.engine.proofs.ends.limit_at.Tie as tie
-use Rattle.engine.proofs.ends.limit_at.Reads as reads
-use Rattle.engine.proofs.ends.limit_at.Lts as lts
-use Rattle.engine.proofs.ends.bound_of.Reads as bound-of-reads
-
-returns : tie.Need-returns
-returns c = search needs
-
-sub-i : tie.Need-sub-i
-sub-i c = search needs
-
-mul-e : tie.Need-mul-e
-mul-e c = search needs
-
-element-copy-out-e : tie.Need-element-copy-out-e
-element-copy-out-e c = search needs
-
-bound-of-requires : tie.Need-bound-of-requires
-bound-of-requires c κs = search needs
 
 returns-2 : tie.Need-returns-2
 returns-2 c =
@@ -34,4 +13,4 @@ returns-2 c =
 
 pub limit-at-spec : {M : Type 1} → statement M
 limit-at-spec =
-    tie.close (tie.spec returns sub-i mul-e element-copy-out-e bound-of-requires returns-2)
+    tie.close (tie.spec (λ c. search needs) (λ c. search needs) (λ c. search needs) (λ c. search needs) (λ c κs. search needs) returns-2)

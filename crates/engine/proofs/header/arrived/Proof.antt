@@ -1,29 +1,20 @@
--- `arrived`: its tests are those of `arrive`, and `close_ended` is `settle`. Assumes nothing.
+-- `arrived`: its tests are those of `arrive`, and `close_ended` is `settle`.
 use mathlib.Core.List.{[]}
 use Rattle.blocks.specs.Engine.{settle, found, reading}
-use mathlib.Core.Path.{_≡_, refl, ap, sym, _∙_}
-use mathlib.Core.Bool.{true, false, cond}
-use Prim.Native.Nat.{ℕ, _+_, _-_, _*_, _/_, _%_, _<_, _≤_}
+use mathlib.Core.Path.{_≡_, refl, _∙_}
 use native.Mathlib.Omega.{arith}
 use borrow.Author.Tests.{eq-eqb, ne-eqb}
-use Rattle.engine.specs.Stored.{openOf, opensOf, stateOf}
-use Rattle.engine.specs.Skimming.{opens, withStanding, Comes}
-use Rattle.engine.proofs.Stores.{innermost}
+use Rattle.engine.specs.Stored.{opensOf}
+use Rattle.engine.specs.Skimming.{opens}
 use borrow.Author.Needs.{needs}
 use Rattle.engine.proofs.header.arrived.Statement.{statement}
 use Rattle.engine.proofs.header.arrived.Tie as tie
-use Rattle.engine.proofs.header.arrived.Reads as reads
-use Rattle.engine.proofs.header.arrived.Lts as lts
-use Rattle.engine.proofs.ends.close_ended.Reads as close-ended-reads
 
 returns : tie.Need-returns
 returns c =
     let b = c .before .before .args .b in
     let p = c .before .before .pre in
     record { state = rw (eq-eqb (b .number) 0 (p .0), ne-eqb (b .at) (b .taken) (c .if1 .taken)); depth = p .1; kept = omega arith; headers = refl }
-
-close-ended-requires : tie.Need-close-ended-requires
-close-ended-requires c κs = search needs
 
 returns-2 : tie.Need-returns-2
 returns-2 c =
@@ -38,8 +29,14 @@ returns-3 c =
     let i = c .before .before .before .before .before .before in
     let b = i .args .b in
     let r = c .before .close-ended in
-    let s : settle (b .headers) (opens b) (b .at) ≡ reading (b .headers) (opensOf (r .result .level) (b .ends)) (b .at) [] = r .ensures .1 (b .headers) ∙ rw (c .if2 .left) in
-    record { state = rw (eq-eqb (b .at) (b .taken) (omega arith), s, eq-eqb (b .number) 0 (i .pre .0)); depth = r .ensures .0; kept = omega arith; headers = refl }
+    let s : settle (b .headers) (opens b) (b .at) ≡ reading (b .headers) (opensOf (r .result .level) (b .ends)) (b .at) [] = r .ensures .1 (b .headers)
+    ∙ rw (c .if2 .left) in
+    record {
+      state = rw (eq-eqb (b .at) (b .taken) (omega arith), s, eq-eqb (b .number) 0 (i .pre .0));
+      depth = r .ensures .0;
+      kept = omega arith;
+      headers = refl;
+    }
 
 pub arrived-spec : {M : Type 1} → statement M
-arrived-spec = tie.close (tie.spec returns close-ended-requires returns-2 returns-3)
+arrived-spec = tie.close (tie.spec returns (λ c κs. search needs) returns-2 returns-3)

@@ -1,7 +1,7 @@
--- `decided`: each arm is a case of `decide`. Assumes nothing.
-use mathlib.Core.Path.{_≡_, refl, ap, sym, _∙_}
+-- `decided`: each arm is a case of `decide`.
+use mathlib.Core.Path.{_≡_, _∙_}
 use mathlib.Core.Bool.{true, false}
-use Prim.Native.Nat.{ℕ, _+_, _-_, _/_, _%_, _<_, _≤_}
+use Prim.Native.Nat.{_+_, _-_, _/_, _%_, _<_}
 use native.Mathlib.Omega.{arith}
 use native.Mathlib.Numerals.{add-one}
 use borrow.Author.Tests.{eq-eqb, ne-eqb}
@@ -10,16 +10,6 @@ use Rattle.engine.proofs.Stores.{innermost, item-fits, mark-fits, refus
 use borrow.Author.Needs.{needs}
 use Rattle.engine.proofs.header.decided.Statement.{statement}
 use Rattle.engine.proofs.header.decided.Tie as tie
-use Rattle.engine.proofs.header.decided.Reads as reads
-use Rattle.engine.proofs.header.decided.Lts as lts
-use Rattle.engine.proofs.header.arrived.Reads as arrived-reads
-use Rattle.engine.proofs.header.open_item.Reads as open-item-reads
-
-enum-known-head : tie.Need-enum-known-head
-enum-known-head c = search needs
-
-add-b : tie.Need-add-b
-add-b c = search needs
 
 add-open-item : tie.Need-add-open-item
 add-open-item c =
@@ -58,9 +48,6 @@ add-b-2 c =
     let f = item-fits (i .args .limit) (i .args .b .at) (16 - i .args .b .level) (i .args .head) (g .0 .0) (g .1) (i .pre .4) in
     omega arith
 
-arrived-requires : tie.Need-arrived-requires
-arrived-requires c κs = search needs
-
 enum-told : tie.Need-enum-told
 enum-told c = search needs
 
@@ -70,24 +57,12 @@ add-b-3 c =
     let f = mark-fits (i .args .limit) (i .args .b .at) (16 - i .args .b .level) (i .args .head) (c .enum-told .given .1) (i .pre .4) in
     omega arith
 
-arrived-requires-2 : tie.Need-arrived-requires-2
-arrived-requires-2 c κs = search needs
-
 returns-2 : tie.Need-returns-2
 returns-2 c =
     let b = c .before .before .before .before .before .args .b in
     let w = c .arrived2 .ensures in
     let z : b .level ≡ 0 = omega arith in
     (w .state ∙ rw (c .before .before .before .enum-told .given .1, z), w .depth, w .kept, omega (arith, w .headers))
-
-sub-b : tie.Need-sub-b
-sub-b c = search needs
-
-arrived-requires-3 : tie.Need-arrived-requires-3
-arrived-requires-3 c κs = search needs
-
-enum-known-head-2 : tie.Need-enum-known-head-2
-enum-known-head-2 c = search needs
 
 cast-b : tie.Need-cast-b
 cast-b c =
@@ -126,25 +101,6 @@ returns-5 c =
 
 pub decided-spec : {M : Type 1} → statement M
 decided-spec =
-    tie.close
-    (tie.spec
-    enum-known-head
-    add-b
-    add-open-item
-    add-open-item-2
-    open-item-requires
-    returns
-    add-b-2
-    arrived-requires
-    enum-told
-    add-b-3
-    arrived-requires-2
-    returns-2
-    sub-b
-    arrived-requires-3
-    enum-known-head-2
-    cast-b
-    cast-b-2
-    returns-3
-    returns-4
-    returns-5)
+    tie.close (tie.spec (λ c. search needs) (λ c. search needs) add-open-item add-open-item-2 open-item-requires returns add-b-2
+    (λ c κs. search needs) enum-told add-b-3 (λ c κs. search needs) returns-2 (λ c. search needs) (λ c κs. search needs)
+    (λ c. search needs) cast-b cast-b-2 returns-3 returns-4 returns-5)

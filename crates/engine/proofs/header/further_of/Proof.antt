@@ -1,16 +1,11 @@
--- `further_of`: its tests are those of `further`. Assumes nothing.
-use mathlib.Core.Path.{_≡_, refl, ap, sym, _∙_}
-use mathlib.Core.Bool.{true, false}
-use Prim.Native.Nat.{ℕ, _+_, _-_, _<_, _≤_, min}
+-- `further_of`: its tests are those of `further`.
+use mathlib.Core.Path.{_≡_, _∙_}
+use Prim.Native.Nat.{_-_}
 use native.Mathlib.Omega.{arith}
-use lib.ListN.{length, length-map, take}
-use borrow.Author.Tests.{lt-ltb, le-ltb, leb-false}
+use borrow.Author.Tests.{lt-ltb, le-ltb}
 use borrow.Author.Needs.{needs}
 use Rattle.engine.proofs.header.further_of.Statement.{statement}
 use Rattle.engine.proofs.header.further_of.Tie as tie
-use Rattle.engine.proofs.header.further_of.Reads as reads
-use Rattle.engine.proofs.header.further_of.Lts as lts
-use Rattle.engine.proofs.wide.Reads as wide-reads
 
 returns : tie.Need-returns
 returns c =
@@ -18,9 +13,6 @@ returns c =
     let t = lt-ltb n 0x85 (omega arith) in
     let z : n - 0x80 ≡ 0 = omega arith in
     (rw (t, z), omega arith)
-
-widened-requires : tie.Need-widened-requires
-widened-requires c κs = search needs
 
 returns-2 : tie.Need-returns-2
 returns-2 c =
@@ -33,4 +25,4 @@ returns-3 c =
     (rw (le-ltb n 0x85 (omega arith)), omega arith)
 
 pub further-of-spec : {M : Type 1} → statement M
-further-of-spec = tie.close (tie.spec returns widened-requires returns-2 returns-3)
+further-of-spec = tie.close (tie.spec returns (λ c κs. search needs) returns-2 returns-3)

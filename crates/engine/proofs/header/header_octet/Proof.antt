@@ -1,4 +1,4 @@
--- `header_octet`: the octet is kept, and if the header has come with it, `read_head` on the octets kept says what it is. Assumes nothing.
+-- `header_octet`: the octet is kept, and if the header has come with it, `read_head` on the octets kept says what it is.
 use mathlib.Core.Path.{_≡_, sym, ap, _∙_}
 use mathlib.Core.Bool.{true, false}
 use Prim.Native.Nat.{_+_, _-_}
@@ -12,24 +12,6 @@ use Rattle.engine.proofs.Stores.{lying, numbered, part-octet, whole-oct
 use borrow.Author.Needs.{needs}
 use Rattle.engine.proofs.header.header_octet.Statement.{statement}
 use Rattle.engine.proofs.header.header_octet.Tie as tie
-
-wide-requires : tie.Need-wide-requires
-wide-requires c κs = search needs
-
-element-write-b : tie.Need-element-write-b
-element-write-b c = search needs
-
-add-b : tie.Need-add-b
-add-b c = search needs
-
-limit-at-requires : tie.Need-limit-at-requires
-limit-at-requires c κs = search needs
-
-without-requires : tie.Need-without-requires
-without-requires c κs = search needs
-
-add-is-whole : tie.Need-add-is-whole
-add-is-whole c = search needs
 
 is-whole-requires : tie.Need-is-whole-requires
 is-whole-requires c κs =
@@ -57,15 +39,6 @@ returns c =
     let few = w .1 no in
     let part : whole (take (b .have + 1) (set (b .begun) (b .have) x)) (left .result) ≡ false = rw (← have) (sym (w .0) ∙ no) in
     (rw have (part-octet b x (omega arith) (left .result) e (i .pre .0) part), i .pre .1, omega arith, omega arith)
-
-marked-at-requires : tie.Need-marked-at-requires
-marked-at-requires c κs = search needs
-
-slice-aggregate-read-head : tie.Need-slice-aggregate-read-head
-slice-aggregate-read-head c = search needs
-
-sub-read-head : tie.Need-sub-read-head
-sub-read-head c = search needs
 
 read-head-requires : tie.Need-read-head-requires
 read-head-requires c κs =
@@ -101,17 +74,18 @@ decided-requires c κs =
 
 returns-2 : tie.Need-returns-2
 returns-2 c =
+    let is-whole = c .before .before .before .before .before .before .is-whole in
     let i = c .before .before .before .before .before .before .before .before .before .before .before .before .before .before in
     let b = i .args .t1 in
     let x = i .args .octet in
     let have = c .before .before .before .before .before .before .before .before .before .before .before .before .before .wide .ensures in
     let eight : length (b .begun) ≡ 8 = omega (arith, i .good, length-map (b .begun) (λ v. v)) in
     let same = length-set (b .begun) (b .have) x in
-    let w = c .before .before .before .before .before .before .is-whole .ensures in
+    let w = is-whole .ensures in
     let left = c .before .before .before .before .before .before .before .before .before .without in
     let limit = c .before .before .before .before .before .before .before .before .before .before .limit-at in
     let e : left .result ≡ limitOf (b .total) (opens b) - b .at = left .ensures ∙ rw (limit .ensures .0) in
-    let yes = not-false (c .before .before .before .before .before .before .is-whole .result) (c .before .before .before .before .before .if1 .left) in
+    let yes = not-false (is-whole .result) (c .before .before .before .before .before .if1 .left) in
     let h : c .before .read-head .result ≡ headAt (set (b .begun) (b .have) x) 0 (left .result) (markedOf (opens b)) (16 - b .level) =
     c .before .read-head .ensures ∙ rw (have, c .before .before .before .marked-at .ensures) in
     let all : whole (take (b .have + 1) (set (b .begun) (b .have) x)) (left .result) ≡ true = rw (← have) (sym (w .0) ∙ yes) in
@@ -120,19 +94,6 @@ returns-2 c =
 
 pub header-octet-spec : {M : Type 1} → statement M
 header-octet-spec =
-    tie.close
-    (tie.spec
-    wide-requires
-    element-write-b
-    add-b
-    limit-at-requires
-    without-requires
-    add-is-whole
-    is-whole-requires
-    returns
-    marked-at-requires
-    slice-aggregate-read-head
-    sub-read-head
-    read-head-requires
-    decided-requires
-    returns-2)
+    tie.close (tie.spec (λ c κs. search needs) (λ c. search needs) (λ c. search needs) (λ c κs. search needs) (λ c κs. search needs)
+    (λ c. search needs) is-whole-requires returns (λ c κs. search needs) (λ c. search needs) (λ c. search needs) read-head-requires
+    decided-requires returns-2)

@@ -1,21 +1,10 @@
--- `is_whole`: its tests are those of `whole`. Assumes nothing.
-use mathlib.Core.Path.{_≡_, refl, ap, sym, _∙_}
-use mathlib.Core.Bool.{true, false}
-use Prim.Native.Nat.{ℕ, _+_, _-_, _<_, _≤_, min}
+-- `is_whole`: its tests are those of `whole`.
 use native.Mathlib.Omega.{arith}
-use lib.ListN.{length, length-map, take}
-use borrow.Author.Tests.{lt-ltb, le-ltb, leb-false}
-use Rattle.blocks.specs.Engine.{wanted}
+use borrow.Author.Tests.{leb-false}
 use Rattle.engine.proofs.Stores.{whole-is}
 use borrow.Author.Needs.{needs}
 use Rattle.engine.proofs.header.is_whole.Statement.{statement}
 use Rattle.engine.proofs.header.is_whole.Tie as tie
-use Rattle.engine.proofs.header.is_whole.Reads as reads
-use Rattle.engine.proofs.header.is_whole.Lts as lts
-use Rattle.engine.proofs.header.wanted_of.Reads as wanted-of-reads
-
-wanted-of-requires : tie.Need-wanted-of-requires
-wanted-of-requires c κs = search needs
 
 returns : tie.Need-returns
 returns c =
@@ -31,4 +20,4 @@ returns-2 c =
     (whole-is (a .have) (a .octets .now) (a .left) r (omega arith) (omega arith), λ e. let l = leb-false r (a .have) e in omega arith)
 
 pub is-whole-spec : {M : Type 1} → statement M
-is-whole-spec = tie.close (tie.spec wanted-of-requires returns returns-2)
+is-whole-spec = tie.close (tie.spec (λ c κs. search needs) returns returns-2)

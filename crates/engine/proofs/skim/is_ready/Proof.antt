@@ -1,13 +1,9 @@
--- `is_ready`: what its tests tell. Assumes nothing.
-use mathlib.Core.Path.{_≡_, refl, ap, sym, _∙_}
-use mathlib.Core.Bool.{true, false, false≢true}
-use Prim.Native.Nat.{ℕ, _+_, _-_, _/_, _%_, _<_, _≤_}
+-- `is_ready`: what its tests tell.
+use mathlib.Core.Bool.{false≢true}
 use native.Mathlib.Omega.{arith}
-use borrow.Author.Tests.{eqb-true, not-true, not-false}
+use borrow.Author.Tests.{eqb-true}
 use Rattle.engine.proofs.skim.is_ready.Statement.{statement}
 use Rattle.engine.proofs.skim.is_ready.Tie as tie
-use Rattle.engine.proofs.skim.is_ready.Reads as reads
-use Rattle.engine.proofs.skim.is_ready.Lts as lts
 
 returns : tie.Need-returns
 returns c = λ e. absurd (false≢true e)

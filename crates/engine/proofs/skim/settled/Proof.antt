@@ -1,18 +1,12 @@
--- `settled`: each return is a case of what closing leaves (`Skimming`). Assumes nothing.
-use mathlib.Core.Path.{_≡_, refl, ap, sym, _∙_, subst}
-use mathlib.Core.Bool.{true, false}
-use Prim.Native.Nat.{ℕ, _+_, _-_, _/_, _%_, _<_, _≤_, min}
+-- `settled`: each return is a case of what closing leaves (`Skimming`).
+use mathlib.Core.Path.{_≡_, sym, _∙_, subst}
+use Prim.Native.Nat.{_≤_}
 use native.Mathlib.Omega.{arith}
 use Rattle.engine.specs.Skimming.{Settles}
 use Rattle.engine.proofs.Skimming.{settles-inside, settles-found, settles-past, settles-unclosed, settles-on}
 use borrow.Author.Needs.{needs}
 use Rattle.engine.proofs.skim.settled.Statement.{statement}
 use Rattle.engine.proofs.skim.settled.Tie as tie
-use Rattle.engine.proofs.skim.settled.Reads as reads
-use Rattle.engine.proofs.skim.settled.Lts as lts
-use Rattle.engine.proofs.ends.close_ended.Reads as close-ended-reads
-use Rattle.engine.proofs.skim.finding.Reads as finding-reads
-use Rattle.engine.proofs.skim.go_on.Reads as go-on-reads
 
 returns : tie.Need-returns
 returns c =
@@ -29,18 +23,6 @@ returns-3 c =
     let s = c .before .before .before .before .before .before .before in
     settles-past (s .args .seat) (s .args .ends .now) (s .args .s) (s .pre) (c .if3 .taken)
 
-sub-close-ended : tie.Need-sub-close-ended
-sub-close-ended c = search needs
-
-add-close-ended : tie.Need-add-close-ended
-add-close-ended c = search needs
-
-close-ended-requires : tie.Need-close-ended-requires
-close-ended-requires c κs = search needs
-
-finding-requires : tie.Need-finding-requires
-finding-requires c κs = search needs
-
 returns-4 : tie.Need-returns-4
 returns-4 c =
     let s = c .before .before .before .before .before .before .before .before .before .before .before .before .before in
@@ -50,9 +32,6 @@ returns-4 c =
     let ended = c .before .before .close-ended in
     subst (Settles (a .seat) (a .ends .now) (a .s)) (sym (c .finding .ensures))
     (settles-unclosed (a .seat) (a .ends .now) (a .s) (s .pre) z near (ended .result .place) (ended .ensures .1 (a .s .headers) ∙ rw (c .before .if4 .taken)))
-
-go-on-requires : tie.Need-go-on-requires
-go-on-requires c κs = search needs
 
 returns-5 : tie.Need-returns-5
 returns-5 c =
@@ -66,15 +45,5 @@ returns-5 c =
 
 pub settled-spec : {M : Type 1} → statement M
 settled-spec =
-    tie.close
-    (tie.spec
-    returns
-    returns-2
-    returns-3
-    sub-close-ended
-    add-close-ended
-    close-ended-requires
-    finding-requires
-    returns-4
-    go-on-requires
-    returns-5)
+    tie.close (tie.spec returns returns-2 returns-3 (λ c. search needs) (λ c. search needs) (λ c κs. search needs) (λ c κs. search needs)
+    returns-4 (λ c κs. search needs) returns-5)

@@ -1,10 +1,9 @@
--- `skim_block`: each turn of the loop takes one header (`turned`), and what is left to take of the block is the same. Assumes nothing.
-use mathlib.Core.Path.{_≡_, refl, ap, sym, _∙_}
-use mathlib.Core.Bool.{true, false}
-use Prim.Native.Nat.{ℕ, _+_, _-_, _<_, _≤_}
+-- `skim_block`: each turn of the loop takes one header (`turned`), and what is left to take of the block is the same.
+use mathlib.Core.Path.{_≡_}
+use Prim.Native.Nat.{_-_}
 use native.Mathlib.Omega.{arith}
 use lib.ListN.{length, length-map}
-use borrow.Author.Tests.{not-true, not-false}
+use borrow.Author.Tests.{not-false}
 use Rattle.engine.proofs.Skimming.{Skimming, seatOf, none-turn, begins, comes, turned, goes, ends-turn}
 use borrow.Author.Needs.{needs}
 use Rattle.engine.proofs.skim.skim_block.Statement.{statement}
@@ -16,9 +15,6 @@ Inv-loop b block from seat ends₀ s₀ ends s = Skimming b block from seat ends
 abbrev μ-loop : tie.MeasureT-loop
 μ-loop b block from seat ends₀ s₀ ends s = length block - s .i
 
-is-ready-requires : tie.Need-is-ready-requires Inv-loop μ-loop
-is-ready-requires c κs = search needs
-
 returns : tie.Need-returns Inv-loop μ-loop
 returns c =
     let s = c .before .before .before in
@@ -26,10 +22,11 @@ returns c =
 
 go-on-requires : tie.Need-go-on-requires Inv-loop μ-loop
 go-on-requires c κs =
+    let is-ready = c .before .before .before .is-ready in
     let s = c .before .before .before .before .before in
     let b = s .args .b in
     let block = s .args .block .now in
-    let r = c .before .before .before .is-ready .ensures (not-false (c .before .before .before .is-ready .result) (c .before .before .if1 .left)) in
+    let r = is-ready .ensures (not-false (is-ready .result) (c .before .before .if1 .left)) in
     let f = s .pre .0 (r .0) in
     let small = f .small in
     (f .depth, small, omega arith)
@@ -41,10 +38,11 @@ returns-2 c =
 
 loop-holds : tie.Need-loop-holds Inv-loop μ-loop
 loop-holds c =
+    let is-ready = c .before .before .before .before .before .before .is-ready in
     let s = c .before .before .before .before .before .before .before .before in
     let b = s .args .b in
     let block = s .args .block .now in
-    let r = c .before .before .before .before .before .before .is-ready .ensures (not-false (c .before .before .before .before .before .before .is-ready .result) (c .before .before .before .before .before .if1 .left)) in
+    let r = is-ready .ensures (not-false (is-ready .result) (c .before .before .before .before .before .if1 .left)) in
     let g = c .before .before .go-on in
     let sixteen : length (b .ends) ≡ 16 = omega (arith, s .good, length-map (b .ends) (λ v. v)) in
     begins b block (s .args .from) (s .pre .0) (r .0) (r .1) (r .2) (s .pre .1) (s .pre .2) (s .pre .3) (g .result) sixteen (g .ensures)
@@ -52,11 +50,12 @@ loop-holds c =
 
 add-if3 : tie.Need-add-if3 Inv-loop μ-loop
 add-if3 c =
+    let is-ready = c .before .before .before .before .before .before .before .before .is-ready in
     let v = c .before .loop .inv in
     let s = c .before .before .before .before .before .before .before .before .before .before in
     let near = v .near in
     let l = s .pre .1 in
-    let r = c .before .before .before .before .before .before .before .before .is-ready .ensures (not-false (c .before .before .before .before .before .before .before .before .is-ready .result) (c .before .before .before .before .before .before .before .if1 .left)) in
+    let r = is-ready .ensures (not-false (is-ready .result) (c .before .before .before .before .before .before .before .if1 .left)) in
     let small = s .pre .0 (r .0) .small in
     let short = s .pre .3 in
     omega (arith, near, l, small, short)
@@ -111,11 +110,12 @@ loop-again c =
 
 left-requires : tie.Need-left-requires Inv-loop μ-loop
 left-requires c κs =
+    let is-ready = c .before .before .before .before .before .before .before .before .before .before .is-ready in
     let v = c .before .before .before .loop .inv in
     let s = c .before .before .before .before .before .before .before .before .before .before .before .before in
     let near = v .near in
     let l = s .pre .1 in
-    let r = c .before .before .before .before .before .before .before .before .before .before .is-ready .ensures (not-false (c .before .before .before .before .before .before .before .before .before .before .is-ready .result) (c .before .before .before .before .before .before .before .before .before .if1 .left)) in
+    let r = is-ready .ensures (not-false (is-ready .result) (c .before .before .before .before .before .before .before .before .before .if1 .left)) in
     let small = s .pre .0 (r .0) .small in
     let same = r .2 in
     let fits = s .pre .2 in
@@ -123,31 +123,16 @@ left-requires c κs =
 
 returns-3 : tie.Need-returns-3 Inv-loop μ-loop
 returns-3 c =
+    let is-ready = c .before .before .before .before .before .before .before .before .before .before .before .is-ready in
     let s = c .before .before .before .before .before .before .before .before .before .before .before .before .before in
     let b = s .args .b in
     let block = s .args .block .now in
-    let r = c .before .before .before .before .before .before .before .before .before .before .before .is-ready .ensures (not-false (c .before .before .before .before .before .before .before .before .before .before .before .is-ready .result) (c .before .before .before .before .before .before .before .before .before .before .if1 .left)) in
+    let r = is-ready .ensures (not-false (is-ready .result) (c .before .before .before .before .before .before .before .before .before .before .if1 .left)) in
     let l = c .before .before .before .before .loop in
     ends-turn b block (s .args .from) (s .pre .0) (r .0) (r .1) (r .2) (s .pre .1) (s .pre .2) (s .pre .3) (l .ends) (b .begun) (l .s) (l .inv)
     (c .left .result .state) (c .left .result .to) (c .left .ensures .0) (c .left .ensures .1)
 
 pub skim-block-spec : {M : Type 1} → statement M
 skim-block-spec =
-    tie.close
-    (tie.spec
-    Inv-loop
-    μ-loop
-    is-ready-requires
-    returns
-    go-on-requires
-    returns-2
-    loop-holds
-    add-if3
-    sub-head-apart
-    head-apart-requires
-    skim-one-requires
-    settled-requires
-    loop-less
-    loop-again
-    left-requires
-    returns-3)
+    tie.close (tie.spec Inv-loop μ-loop (λ c κs. search needs) returns go-on-requires returns-2 loop-holds add-if3 sub-head-apart
+    head-apart-requires skim-one-requires settled-requires loop-less loop-again left-requires returns-3)

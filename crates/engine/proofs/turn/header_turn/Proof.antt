@@ -1,25 +1,12 @@
--- `header_turn`: one octet is counted, and is one of a header. Assumes nothing.
-use mathlib.Core.Path.{_≡_, refl, ap, sym, _∙_}
-use Prim.Native.Nat.{ℕ, _+_, _-_, _<_, _≤_}
+-- `header_turn`: one octet is counted, and is one of a header.
+use mathlib.Core.Path.{_≡_, ap, sym, _∙_}
+use Prim.Native.Nat.{_+_}
 use native.Mathlib.Omega.{arith}
-use lib.ListN.{length, drop}
-use lib.Seq.{drop-length}
-use Rattle.blocks.specs.Engine.{State, feed}
-use Rattle.engine.specs.Stored.{stateOf}
-use Rattle.engine.specs.Skimming.{FineIfReading, Fine, Turns}
-use Rattle.engine.proofs.Turning.{header-step, counted-turn, passed-turn, header-turned}
+use Rattle.blocks.specs.Engine.{State}
+use Rattle.engine.proofs.Turning.{header-step}
 use borrow.Author.Needs.{needs}
 use Rattle.engine.proofs.turn.header_turn.Statement.{statement}
 use Rattle.engine.proofs.turn.header_turn.Tie as tie
-use Rattle.engine.proofs.turn.header_turn.Reads as reads
-use Rattle.engine.proofs.turn.header_turn.Lts as lts
-use Rattle.engine.proofs.header.header_octet.Reads as header-octet-reads
-
-add-b : tie.Need-add-b
-add-b c = search needs
-
-header-octet-requires : tie.Need-header-octet-requires
-header-octet-requires c κs = search needs
 
 returns : tie.Need-returns
 returns c =
@@ -34,4 +21,4 @@ returns c =
     (λ z. record { depth = e .1; kept = e .2; counted = omega arith; small = omega arith }, e .0 ∙ sym (header-step b (s .args .octet) (s .pre .1) (s .pre .3)))
 
 pub header-turn-spec : {M : Type 1} → statement M
-header-turn-spec = tie.close (tie.spec add-b header-octet-requires returns)
+header-turn-spec = tie.close (tie.spec (λ c. search needs) (λ c κs. search needs) returns)

@@ -1,40 +1,20 @@
--- `passed`: the value's octets that the block has are counted, and `arrived` tells the rest. Assumes nothing.
-use mathlib.Core.Path.{_≡_, refl, ap, sym, _∙_}
-use Prim.Native.Nat.{ℕ, _+_, _-_, _<_, _≤_}
+-- `passed`: the value's octets that the block has are counted, and `arrived` tells the rest.
+use mathlib.Core.Path.{_≡_, ap, _∙_}
+use Prim.Native.Nat.{_+_, _-_, _<_}
 use native.Mathlib.Omega.{arith}
 use Rattle.blocks.specs.Engine.{State}
 use borrow.Author.Needs.{needs}
 use Rattle.engine.proofs.turn.passed.Statement.{statement}
 use Rattle.engine.proofs.turn.passed.Tie as tie
-use Rattle.engine.proofs.turn.passed.Reads as reads
-use Rattle.engine.proofs.turn.passed.Lts as lts
-use Rattle.engine.proofs.header.arrived.Reads as arrived-reads
-
-sub-smaller : tie.Need-sub-smaller
-sub-smaller c = search needs
-
-sub-smaller-2 : tie.Need-sub-smaller-2
-sub-smaller-2 c = search needs
-
-smaller-requires : tie.Need-smaller-requires
-smaller-requires c κs = search needs
-
-add-b : tie.Need-add-b
-add-b c = search needs
-
-arrived-requires : tie.Need-arrived-requires
-arrived-requires c κs = search needs
-
-add-t5 : tie.Need-add-t5
-add-t5 c = search needs
 
 returns : tie.Need-returns
 returns c =
+    let smaller = c .before .before .smaller in
     let s = c .before .before .before .before in
     let a = s .args in
     let b = a .b in
-    let k = c .before .before .smaller .result in
-    let m = c .before .before .smaller .ensures in
+    let k = smaller .result in
+    let m = smaller .ensures in
     let some : 0 < k = omega arith in
     let e : a .i + k - a .i ≡ k = omega arith in
     let w = c .arrived .ensures in
@@ -53,5 +33,5 @@ returns c =
 
 pub passed-spec : {M : Type 1} → statement M
 passed-spec =
-    tie.close
-    (tie.spec sub-smaller sub-smaller-2 smaller-requires add-b arrived-requires add-t5 returns)
+    tie.close (tie.spec (λ c. search needs) (λ c. search needs) (λ c κs. search needs) (λ c. search needs) (λ c κs. search needs)
+    (λ c. search needs) returns)

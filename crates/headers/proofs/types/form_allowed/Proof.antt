@@ -3,16 +3,6 @@ use borrow.Author.Tests.{lt-ltb, le-ltb}
 use Rattle.headers.specs.Head.{formAllowed}
 use Rattle.headers.proofs.types.form_allowed.Statement.{statement}
 use Rattle.headers.proofs.types.form_allowed.Tie as tie
-use Rattle.headers.proofs.types.form_allowed.Reads as reads
-use Rattle.headers.proofs.types.form_allowed.Lts as lts
-use Rattle.headers.proofs.types.permitted.Reads as permitted-reads
-use Rattle.headers.proofs.wide.Reads as wide-reads
-
-wide-requires : tie.Need-wide-requires
-wide-requires c κs = search needs
-
-permitted-requires : tie.Need-permitted-requires
-permitted-requires c κs = search needs
 
 returns : tie.Need-returns
 unfolding formAllowed
@@ -23,4 +13,4 @@ unfolding formAllowed
 returns-2 c = simp (le-ltb _ _ (c .if1 .left))
 
 pub form-allowed-spec : {M : Type 1} → statement M
-form-allowed-spec = tie.close (tie.spec wide-requires permitted-requires returns returns-2)
+form-allowed-spec = tie.close (tie.spec (λ c κs. search needs) (λ c κs. search needs) returns returns-2)

@@ -1,4 +1,4 @@
--- `headers::types::long_field` meets its contract: each arm of the match on the second octet is a case of `bySecond`. Assumes nothing.
+-- `headers::types::long_field` meets its contract: each arm of the match on the second octet is a case of `bySecond`.
 use mathlib.Core.Path.{_≡_, _∙_, ap}
 use mathlib.Core.List.{[], _∷_}
 use Prim.Native.Nat.{ℕ, _+_, _<_}
@@ -9,26 +9,8 @@ use Rattle.headers.specs.Head.{codeOf, numberedField, octetAt}
 use Rattle.headers.proofs.types.long_field.Statement.{statement}
 use Rattle.headers.proofs.types.long_field.Tie as tie
 
-add-next : tie.Need-add-next
-add-next c = search needs
-
 returns : tie.Need-returns
 returns c = simp (le-ltb _ _ (c .if1 .taken))
-
-shared-slice-read-second : tie.Need-shared-slice-read-second
-shared-slice-read-second c = search needs
-
-code-of-requires : tie.Need-code-of-requires
-code-of-requires c κs = search needs
-
-add-numbered-field : tie.Need-add-numbered-field
-add-numbered-field c = search needs
-
-numbered-field-requires : tie.Need-numbered-field-requires
-numbered-field-requires c κs = search needs
-
-third-field-requires : tie.Need-third-field-requires
-third-field-requires c κs = search needs
 
 returns-2 : tie.Need-returns-2
 returns-2 c = simp (lt-ltb _ _ (c .before .before .if1 .left), c .match .keys1)
@@ -59,16 +41,5 @@ returns-5 c =
 
 pub long-field-spec : {M : Type 1} → statement M
 long-field-spec =
-    tie.close
-    (tie.spec
-    add-next
-    returns
-    shared-slice-read-second
-    code-of-requires
-    add-numbered-field
-    numbered-field-requires
-    third-field-requires
-    returns-2
-    returns-3
-    returns-4
-    returns-5)
+    tie.close (tie.spec (λ c. search needs) returns (λ c. search needs) (λ c κs. search needs) (λ c. search needs) (λ c κs. search needs)
+    (λ c κs. search needs) returns-2 returns-3 returns-4 returns-5)

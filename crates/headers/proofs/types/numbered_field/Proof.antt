@@ -1,4 +1,4 @@
--- `headers::types::numbered_field` meets its contract: its arms are those of the list `aboveThirty`. Assumes nothing.
+-- `headers::types::numbered_field` meets its contract: its arms are those of the list `aboveThirty`.
 use mathlib.Core.Path.{_≡_, refl}
 use mathlib.Core.Bool.{true}
 use mathlib.Core.Logic.{_⊎_, inl, inr}

@@ -1,4 +1,4 @@
--- `octets::permitted` meets its contract: the table's rule is a test at each entry, which antt computes. Assumes nothing.
+-- `octets::permitted` meets its contract: the table's rule is a test at each entry, which antt computes.
 use mathlib.Core.Path.{_≡_, refl}
 use mathlib.Core.List.{List, [], _∷_}
 use mathlib.Core.Bool.{Bool, true, false}
@@ -10,8 +10,6 @@ use Rattle.headers.specs.Head.{permits}
 use Rattle.headers.proofs.Table.{at, both, both-left, both-right}
 use Rattle.headers.proofs.types.permitted.Statement.{statement}
 use Rattle.headers.proofs.types.permitted.Tie as tie
-use Rattle.headers.proofs.types.permitted.Reads as reads
-use Rattle.headers.proofs.types.permitted.Lts as lts
 
 forms : List ℕ
 forms = 0 ∷ 1 ∷ 1 ∷ 3 ∷ 3 ∷ 1 ∷ 1 ∷ 3 ∷ 2 ∷ 1 ∷ 1 ∷ 3 ∷ 0 ∷ 0 ∷ 0 ∷ 0 ∷ 2 ∷ 2 ∷ 3 ∷ 3 ∷ 3 ∷ 3 ∷ 3 ∷ 3 ∷ 3 ∷ 3 ∷ 3 ∷ 3 ∷ 0 ∷ 0 ∷ 0 ∷ []
@@ -30,9 +28,6 @@ same→eq false false t = refl
 right : ℕ → ℕ → Bool
 right k x = both (same (eqb (x / 2) 1) (permits k true)) (same (eqb (x % 2) 1) (permits k false))
 
-array-read-form : tie.Need-array-read-form
-array-read-form c = search needs
-
 returns : tie.Need-returns
 unfolding forms right permits
 returns c =
@@ -47,7 +42,8 @@ returns-2 c =
     let n = c .before .args .number in
     rw (c .if1 .left)
     (same→eq (eqb (getD forms n 0 % 2) 1) (permits n false)
-    (both-right (same (eqb (getD forms n 0 / 2) 1) (permits n true)) (same (eqb (getD forms n 0 % 2) 1) (permits n false)) (at right forms tt n (search needs))))
+    (both-right (same (eqb (getD forms n 0 / 2) 1) (permits n true)) (same (eqb (getD forms n 0 % 2) 1) (permits n false))
+    (at right forms tt n (search needs))))
 
 pub permitted-spec : {M : Type 1} → statement M
-permitted-spec = tie.close (tie.spec array-read-form returns returns-2)
+permitted-spec = tie.close (tie.spec (λ c. search needs) returns returns-2)

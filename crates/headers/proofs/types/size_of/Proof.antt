@@ -1,4 +1,4 @@
--- `headers::types::size_of` meets its contract: its tests are those of `typeField`. Assumes nothing.
+-- `headers::types::size_of` meets its contract: its tests are those of `typeField`.
 use borrow.Author.Tests.{eq-eqb, ne-eqb, lt-ltb, le-ltb}
 use Rattle.headers.proofs.types.size_of.Statement.{statement}
 use Rattle.headers.proofs.types.size_of.Tie as tie

@@ -1,42 +1,24 @@
--- `headers::types::third_field` meets its contract: its tests are those of `byThird`. Assumes nothing.
+-- `headers::types::third_field` meets its contract: its tests are those of `byThird`.
 use borrow.Author.Needs.{needs}
 use borrow.Author.Tests.{lt-ltb, le-ltb}
 use Rattle.headers.proofs.types.third_field.Statement.{statement}
 use Rattle.headers.proofs.types.third_field.Tie as tie
 
-add-last : tie.Need-add-last
-add-last c = search needs
-
 returns : tie.Need-returns
 returns c = simp (le-ltb _ _ (c .if1 .taken))
 
-shared-slice-read-third : tie.Need-shared-slice-read-third
-shared-slice-read-third c = search needs
-
-code-of-requires : tie.Need-code-of-requires
-code-of-requires c κs = search needs
-
-add-numbered-field : tie.Need-add-numbered-field
-add-numbered-field c = search needs
-
-numbered-field-requires : tie.Need-numbered-field-requires
-numbered-field-requires c κs = search needs
-
 returns-2 : tie.Need-returns-2
-returns-2 c = simp (lt-ltb _ _ (c .before .before .before .before .if1 .left), lt-ltb _ _ (c .before .before .if2 .taken), c .numbered-field .ensures, c .before .code-of .ensures)
+returns-2 c = simp (
+  lt-ltb _ _ (c .before .before .before .before .if1 .left),
+  lt-ltb _ _ (c .before .before .if2 .taken),
+  c .numbered-field .ensures,
+  c .before .code-of .ensures,
+)
 
 returns-3 : tie.Need-returns-3
 returns-3 c = simp (lt-ltb _ _ (c .before .before .if1 .left), le-ltb _ _ (c .if2 .left))
 
 pub third-field-spec : {M : Type 1} → statement M
 third-field-spec =
-    tie.close
-    (tie.spec
-    add-last
-    returns
-    shared-slice-read-third
-    code-of-requires
-    add-numbered-field
-    numbered-field-requires
-    returns-2
-    returns-3)
+    tie.close (tie.spec (λ c. search needs) returns (λ c. search needs) (λ c κs. search needs) (λ c. search needs) (λ c κs. search needs)
+    returns-2 returns-3)

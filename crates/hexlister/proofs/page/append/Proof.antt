@@ -1,5 +1,5 @@
 -- `page::append` meets its contract. The loop's invariant: storing what is left of the line from here is storing the whole of it from the start. The
--- measure is how many bytes are left. Assumes nothing.
+-- measure is how many bytes are left.
 use Prim.Native.Nat.{_+_, _-_, _≤_}
 use native.Mathlib.Omega.{arith}
 use native.Mathlib.Nat.{add-zero}
@@ -62,17 +62,5 @@ returns c =
 
 pub append-spec : {M : Type 1} → statement M
 append-spec =
-    tie.close
-    (tie.spec
-    Inv-loop
-    μ-loop
-    loop-holds
-    shared-slice-read-page
-    add-page
-    slice-write-page
-    add-i
-    loop-less
-    loop-again
-    add-result
-    same-length
-    returns)
+    tie.close (tie.spec Inv-loop μ-loop loop-holds shared-slice-read-page add-page slice-write-page add-i loop-less loop-again add-result
+    same-length returns)

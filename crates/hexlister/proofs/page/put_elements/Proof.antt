@@ -1,5 +1,4 @@
 -- `page::put_elements` meets its contract. The loop's invariant: the lines of the rows so far are put. The measure is how many rows are left.
--- Assumes nothing.
 use Prim.Native.Nat.{ℕ, _-_, _*_, _≤_}
 use native.Mathlib.Omega.{arith}
 use mathlib.Core.Path.{_≡_, refl, subst, _∙_}
@@ -11,7 +10,8 @@ use Rattle.hexlister.proofs.page.put_elements.Statement.{statement}
 use Rattle.hexlister.proofs.page.put_elements.Tie as tie
 
 abbrev Inv-loop : tie.InvT-loop
-Inv-loop page₀ at table count here₀ i₀ page here i = (i ≤ count) × (length page ≡ length page₀) × PutsOnPage (rowLines table 0 i) page₀ at here page (lineRoom * i)
+Inv-loop page₀ at table count here₀ i₀ page here i = (i ≤ count) × (length page ≡ length page₀)
+    × PutsOnPage (rowLines table 0 i) page₀ at here page (lineRoom * i)
 
 abbrev μ-loop : tie.MeasureT-loop
 μ-loop page₀ at table count here₀ i₀ page here i = count - i
@@ -46,18 +46,9 @@ returns c =
     let l = c .before .loop in
     let a = c .before .before .before .before .args in
     let e : l .i ≡ a .count = omega arith in
-    puts-within (subst (λ (k : ℕ). PutsOnPage (rowLines (now (a .table)) 0 k) (now (a .page)) (a .at) (l .here) (l .page) (lineRoom * k)) e (l .inv .2)) (omega arith)
+    puts-within (subst (λ (k : ℕ). PutsOnPage (rowLines (now (a .table)) 0 k) (now (a .page)) (a .at) (l .here) (l .page) (lineRoom * k)) e
+    (l .inv .2)) (omega arith)
 
 pub put-elements-spec : {M : Type 1} → statement M
 put-elements-spec =
-    tie.close
-    (tie.spec
-    Inv-loop
-    μ-loop
-    loop-holds
-    put-element-requires
-    add-i
-    loop-less
-    loop-again
-    same-length
-    returns)
+    tie.close (tie.spec Inv-loop μ-loop loop-holds put-element-requires add-i loop-less loop-again same-length returns)

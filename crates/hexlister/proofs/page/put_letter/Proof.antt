@@ -1,5 +1,5 @@
 -- `page::put_letter` meets its contract: the first line, the lines of the rows that the check filled, and those of both sides are put one after
--- the other. Assumes nothing.
+-- the other.
 use native.Mathlib.Omega.{arith}
 use denote.Ref.{now}
 use Rattle.hexlister.specs.Output.{acceptedLines}
@@ -8,12 +8,6 @@ use Rattle.hexlister.proofs.Letters.{checks-all}
 use borrow.Author.Needs.{needs}
 use Rattle.hexlister.proofs.page.put_letter.Statement.{statement}
 use Rattle.hexlister.proofs.page.put_letter.Tie as tie
-
-put-accepted-requires : tie.Need-put-accepted-requires
-put-accepted-requires c κs = search needs
-
-cast-put-elements : tie.Need-cast-put-elements
-cast-put-elements c = search needs
 
 put-elements-requires : tie.Need-put-elements-requires
 put-elements-requires c κs =
@@ -35,12 +29,6 @@ put-sides-requires c κs =
     let two = elements .ensures in
     (omega (arith, one .past, one .within, two .past, two .within, head .kept .0, elements .kept .0, start .pre .0), all .full, all .accepted)
 
-same-length : tie.Need-same-length
-same-length c = search needs
-
-same-length-2 : tie.Need-same-length-2
-same-length-2 c = search needs
-
 returns : tie.Need-returns
 unfolding acceptedLines
 returns c =
@@ -51,12 +39,5 @@ returns c =
 
 pub put-letter-spec : {M : Type 1} → statement M
 put-letter-spec =
-    tie.close
-    (tie.spec
-    put-accepted-requires
-    cast-put-elements
-    put-elements-requires
-    put-sides-requires
-    same-length
-    same-length-2
-    returns)
+    tie.close (tie.spec (λ c κs. search needs) (λ c. search needs) put-elements-requires put-sides-requires (λ c. search needs)
+    (λ c. search needs) returns)

@@ -1,5 +1,4 @@
 -- `page::put_matches` meets its contract. The loop's invariant: the lines of the records so far are put. The measure is how many records are left.
--- Assumes nothing.
 use Prim.Native.Nat.{ℕ, _-_, _*_, _≤_}
 use native.Mathlib.Omega.{arith}
 use mathlib.Core.Path.{_≡_, refl, subst, _∙_}
@@ -13,7 +12,8 @@ use Rattle.hexlister.proofs.page.put_matches.Statement.{statement}
 use Rattle.hexlister.proofs.page.put_matches.Tie as tie
 
 abbrev Inv-loop : tie.InvT-loop
-Inv-loop page₀ at side count records here₀ i₀ page here i = (i ≤ count) × (length page ≡ length page₀) × PutsOnPage (matchLines side (take i records)) page₀ at here page (lineRoom * i)
+Inv-loop page₀ at side count records here₀ i₀ page here i = (i ≤ count) × (length page ≡ length page₀)
+    × PutsOnPage (matchLines side (take i records)) page₀ at here page (lineRoom * i)
 
 abbrev μ-loop : tie.MeasureT-loop
 μ-loop page₀ at side count records here₀ i₀ page here i = count - i
@@ -55,20 +55,9 @@ returns c =
     let l = c .before .loop in
     let a = c .before .before .before .args in
     let e : l .i ≡ a .count = omega arith in
-    puts-within (subst (λ (k : ℕ). PutsOnPage (matchLines (a .side) (take k (a .t4))) (now (a .page)) (a .at) (l .here) (l .page) (lineRoom * k)) e (l .inv .2)) (omega arith)
+    puts-within (subst (λ (k : ℕ). PutsOnPage (matchLines (a .side) (take k (a .t4))) (now (a .page)) (a .at) (l .here) (l .page) (lineRoom * k)) e
+    (l .inv .2)) (omega arith)
 
 pub put-matches-spec : {M : Type 1} → statement M
 put-matches-spec =
-    tie.close
-    (tie.spec
-    Inv-loop
-    μ-loop
-    loop-holds
-    mul-m
-    array-copy-out-m
-    put-match-requires
-    add-i
-    loop-less
-    loop-again
-    same-length
-    returns)
+    tie.close (tie.spec Inv-loop μ-loop loop-holds mul-m array-copy-out-m put-match-requires add-i loop-less loop-again same-length returns)

@@ -1,4 +1,4 @@
--- `page::put_side` meets its contract: the list has all matches, since no more of them than elements, and they are put. Assumes nothing.
+-- `page::put_side` meets its contract: the list has all matches, since no more of them than elements, and they are put.
 use native.Mathlib.Omega.{arith}
 use mathlib.Core.Path.{ap}
 use denote.Ref.{now}
@@ -9,33 +9,22 @@ use borrow.Author.Needs.{needs}
 use Rattle.hexlister.proofs.page.put_side.Statement.{statement}
 use Rattle.hexlister.proofs.page.put_side.Tie as tie
 
-list-side-requires : tie.Need-list-side-requires
-list-side-requires c κs = search needs
-
-cast-count : tie.Need-cast-count
-cast-count c = search needs
-
 put-matches-requires : tie.Need-put-matches-requires
 put-matches-requires c κs =
     let start = c .before .before .before .before .before .before .before .before .before .before .before in
     let a = start .args in
-    let all = lists-all (a .side) (now (a .stream)) (now (a .table)) (start .pre .2) (start .pre .1) (c .before .before .before .before .before .before .list-side .ensures) in
+    let all = lists-all (a .side) (now (a .stream)) (now (a .table)) (start .pre .2) (start .pre .1)
+    (c .before .before .before .before .before .before .list-side .ensures) in
     (all .few, omega arith)
-
-same-length : tie.Need-same-length
-same-length c = search needs
-
-same-length-2 : tie.Need-same-length-2
-same-length-2 c = search needs
 
 returns : tie.Need-returns
 returns c =
     let start = c .before .before .before .before .before .before .before .before .before .before .before .before .before .before in
     let a = start .args in
-    let all = lists-all (a .side) (now (a .stream)) (now (a .table)) (start .pre .2) (start .pre .1) (c .before .before .before .before .before .before .before .before .before .list-side .ensures) in
+    let all = lists-all (a .side) (now (a .stream)) (now (a .table)) (start .pre .2) (start .pre .1)
+    (c .before .before .before .before .before .before .before .before .before .list-side .ensures) in
     puts-as (ap (matchLines (a .side)) (all .first)) (c .before .before .put-matches .ensures)
 
 pub put-side-spec : {M : Type 1} → statement M
 put-side-spec =
-    tie.close
-    (tie.spec list-side-requires cast-count put-matches-requires same-length same-length-2 returns)
+    tie.close (tie.spec (λ c κs. search needs) (λ c. search needs) put-matches-requires (λ c. search needs) (λ c. search needs) returns)

@@ -1,4 +1,4 @@
--- `letters::content::content_of` meets its contract: the item that the element is holds it. Assumes nothing.
+-- `letters::content::content_of` meets its contract: the item that the element is holds it.
 use mathlib.Core.Path.{sym, subst}
 use borrow.Author.Needs.{needs}
 use Rattle.headers.specs.Head.{typeField}
@@ -13,20 +13,11 @@ use Rattle.letters.proofs.Fetching.{holds-element}
 use Rattle.letters.proofs.content.content_of.Statement.{statement}
 use Rattle.letters.proofs.content.content_of.Tie as tie
 
-element-at-requires : tie.Need-element-at-requires
-element-at-requires c κs = search needs
-
-shape-of-requires : tie.Need-shape-of-requires
-shape-of-requires c κs = search needs
-
 holder-in-requires : tie.Need-holder-in-requires
 holder-in-requires c κs =
     let item = c .before .before .element-at in
     let edition = c .before .before .before .before .before .args .edition in
     (item .ensures .fine, subst WellMade (sym (c .shape-of .ensures)) (made (shapeOf edition (typeField (item .result .code)))))
-
-held-by-requires : tie.Need-held-by-requires
-held-by-requires c κs = search needs
 
 returns : tie.Need-returns
 returns c =
@@ -37,10 +28,11 @@ returns c =
     let inner = item .result .inner in
     let edition = start .args .edition in
     let type = typeField (item .result .code) in
-    let by-slots = subst (λ (shape : Slots). HoldingSlots s shape inner (c .before .holder-in .result)) (at-shape .shape-of .ensures) (c .before .holder-in .ensures) in
+    let by-slots = subst (λ (shape : Slots). HoldingSlots s shape inner (c .before .holder-in .result)) (at-shape .shape-of .ensures)
+    (c .before .holder-in .ensures) in
     let holding = holding-shape (item .ensures .fine) (shapeOf edition type) by-slots in
     subst (HoldsElement edition s (start .args .j)) (sym (c .held-by .ensures)) (holds-element (item .ensures) holding)
 
 pub content-of-spec : {M : Type 1} → statement M
 content-of-spec =
-    tie.close (tie.spec element-at-requires shape-of-requires holder-in-requires held-by-requires returns)
+    tie.close (tie.spec (λ c κs. search needs) (λ c κs. search needs) holder-in-requires (λ c κs. search needs) returns)

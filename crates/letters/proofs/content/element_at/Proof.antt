@@ -1,6 +1,5 @@
--- `letters::content::element_at` meets its contract: the element is what is met where its row begins. Assumes nothing.
+-- `letters::content::element_at` meets its contract: the element is what is met where its row begins.
 use mathlib.Core.Path.{_≡_, refl, ap, sym, _∙_, subst}
-use native.Mathlib.Omega.{arith}
 use borrow.Author.Needs.{needs}
 use Rattle.runs.specs.declared.Run.{Run}
 use Rattle.runs.specs.Runs.{itemsOf, Fine, Meeting}
@@ -36,34 +35,14 @@ meeting c =
     subst (λ (r : Run). Meeting s r (g .0) (g .1 .0) (g .1 .1 .0) (g .1 .1 .1 .0) (g .1 .1 .1 .1 .0)) (from-row (at-meet .before))
     (met s _ (at-meet .meet .ensures) (c .before .code .given .1))
 
-mul-wide : tie.Need-mul-wide
-mul-wide c = search needs
-
-add-wide : tie.Need-add-wide
-add-wide c = search needs
-
-mul-wide-2 : tie.Need-mul-wide-2
-mul-wide-2 c = search needs
-
-shared-slice-read-wide : tie.Need-shared-slice-read-wide
-shared-slice-read-wide c = search needs
-
-wide-requires : tie.Need-wide-requires
-wide-requires c κs = search needs
-
-whole-stream-requires : tie.Need-whole-stream-requires
-whole-stream-requires c κs = search needs
-
 meet-requires : tie.Need-meet-requires
 meet-requires c κs =
     let start = c .before .before .before .before .before in
-    subst (Fine (start .args .s .now)) (sym (from-row c)) (rest-fine (start .args .edition) (start .pre .0) (start .args .j) (own start .row) (own start .stands))
+    subst (Fine (start .args .s .now)) (sym (from-row c)) (rest-fine (start .args .edition) (start .pre .0) (start .args .j) (own start .row)
+    (own start .stands))
 
 enum-told : tie.Need-enum-told
 enum-told c = search needs
-
-enum-known-code : tie.Need-enum-known-code
-enum-known-code c = search needs
 
 returns : tie.Need-returns
 returns c =
@@ -83,16 +62,5 @@ returns-2 c =
 
 pub element-at-spec : {M : Type 1} → statement M
 element-at-spec =
-    tie.close
-    (tie.spec
-    mul-wide
-    add-wide
-    mul-wide-2
-    shared-slice-read-wide
-    wide-requires
-    whole-stream-requires
-    meet-requires
-    enum-told
-    enum-known-code
-    returns
-    returns-2)
+    tie.close (tie.spec (λ c. search needs) (λ c. search needs) (λ c. search needs) (λ c. search needs) (λ c κs. search needs)
+    (λ c κs. search needs) meet-requires enum-told (λ c. search needs) returns returns-2)

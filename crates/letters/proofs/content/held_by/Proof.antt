@@ -1,4 +1,4 @@
--- `letters::content::held_by` meets its contract. Assumes nothing.
+-- `letters::content::held_by` meets its contract.
 use Rattle.letters.proofs.content.held_by.Statement.{statement}
 use Rattle.letters.proofs.content.held_by.Tie as tie
 

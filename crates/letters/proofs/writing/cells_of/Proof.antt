@@ -1,26 +1,8 @@
--- `letters::writing::cells_of` meets its contract: each number fits. Assumes nothing.
+-- `letters::writing::cells_of` meets its contract: each number fits.
 use native.Mathlib.Omega.{arith}
 use borrow.Author.Needs.{needs}
 use Rattle.letters.proofs.writing.cells_of.Statement.{statement}
 use Rattle.letters.proofs.writing.cells_of.Tie as tie
-
-cast-t7 : tie.Need-cast-t7
-cast-t7 c = search needs
-
-cast-t8 : tie.Need-cast-t8
-cast-t8 c = search needs
-
-cast-t9 : tie.Need-cast-t9
-cast-t9 c = search needs
-
-cast-t10 : tie.Need-cast-t10
-cast-t10 c = search needs
-
-cast-t11 : tie.Need-cast-t11
-cast-t11 c = search needs
-
-cast-t12 : tie.Need-cast-t12
-cast-t12 c = search needs
 
 cast-t13 : tie.Need-cast-t13
 cast-t13 c = omega (arith, c .before .before .before .before .before .before .before .before .before .before .before .before .pre)
@@ -35,28 +17,18 @@ cast-t16 : tie.Need-cast-t16
 cast-t16 c = omega (arith, c .before .before .before .before .before .before .before .before .before .before .before .before .before .before .before .pre)
 
 cast-t17 : tie.Need-cast-t17
-cast-t17 c = omega (arith, c .before .before .before .before .before .before .before .before .before .before .before .before .before .before .before .before .pre)
+cast-t17 c = omega (
+  arith,
+  c .before .before .before .before .before .before .before .before .before .before .before .before .before .before .before .before .pre,
+)
 
 cast-t18 : tie.Need-cast-t18
-cast-t18 c = omega (arith, c .before .before .before .before .before .before .before .before .before .before .before .before .before .before .before .before .before .pre)
-
-returns : tie.Need-returns
-returns c = search needs
+cast-t18 c = omega (
+  arith,
+  c .before .before .before .before .before .before .before .before .before .before .before .before .before .before .before .before .before .pre,
+)
 
 pub cells-of-spec : {M : Type 1} → statement M
 cells-of-spec =
-    tie.close
-    (tie.spec
-    cast-t7
-    cast-t8
-    cast-t9
-    cast-t10
-    cast-t11
-    cast-t12
-    cast-t13
-    cast-t14
-    cast-t15
-    cast-t16
-    cast-t17
-    cast-t18
-    returns)
+    tie.close (tie.spec (λ c. search needs) (λ c. search needs) (λ c. search needs) (λ c. search needs) (λ c. search needs)
+    (λ c. search needs) cast-t13 cast-t14 cast-t15 cast-t16 cast-t17 cast-t18 (λ c. search needs))

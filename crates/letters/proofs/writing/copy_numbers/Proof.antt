@@ -1,4 +1,4 @@
--- `letters::writing::copy_numbers` meets its contract: after i turns the first i numbers stand at their place. Assumes nothing.
+-- `letters::writing::copy_numbers` meets its contract: after i turns the first i numbers stand at their place.
 use mathlib.Core.Path.{_≡_, ap, _∙_}
 use Prim.Native.Nat.{_+_, _-_, _<_, _≤_}
 use native.Mathlib.Numerals.{add-one}
@@ -66,18 +66,5 @@ returns c =
 
 pub copy-numbers-spec : {M : Type 1} → statement M
 copy-numbers-spec =
-    tie.close
-    (tie.spec
-    Inv-loop
-    μ-loop
-    loop-holds
-    mul-to
-    shared-slice-read-to
-    add-to
-    mul-to-2
-    slice-write-to
-    add-i
-    loop-less
-    loop-again
-    same-length
-    returns)
+    tie.close (tie.spec Inv-loop μ-loop loop-holds mul-to shared-slice-read-to add-to mul-to-2 slice-write-to add-i loop-less loop-again
+    same-length returns)

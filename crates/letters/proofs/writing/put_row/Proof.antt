@@ -1,4 +1,4 @@
--- `letters::writing::put_row` meets its contract: a copy of twelve numbers is twelve stores. Assumes nothing.
+-- `letters::writing::put_row` meets its contract: a copy of twelve numbers is twelve stores.
 use mathlib.Core.Path.{sym, ap, _∙_}
 use mathlib.Core.List.{List}
 use Prim.Native.Nat.{ℕ}
@@ -10,18 +10,6 @@ use borrow.Author.Needs.{needs}
 use Rattle.letters.proofs.writing.put_row.Statement.{statement}
 use Rattle.letters.proofs.writing.put_row.Tie as tie
 
-cells-of-requires : tie.Need-cells-of-requires
-cells-of-requires c κs = search needs
-
-slice-aggregate-copy-numbers : tie.Need-slice-aggregate-copy-numbers
-slice-aggregate-copy-numbers c = search needs
-
-copy-numbers-requires : tie.Need-copy-numbers-requires
-copy-numbers-requires c κs = search needs
-
-same-length : tie.Need-same-length
-same-length c = search needs
-
 returns : tie.Need-returns
 returns c =
     let a = c .before .before .before .before .before .before .before .args in
@@ -31,10 +19,4 @@ returns c =
 
 pub put-row-spec : {M : Type 1} → statement M
 put-row-spec =
-    tie.close
-    (tie.spec
-    cells-of-requires
-    slice-aggregate-copy-numbers
-    copy-numbers-requires
-    same-length
-    returns)
+    tie.close (tie.spec (λ c κs. search needs) (λ c. search needs) (λ c κs. search needs) (λ c. search needs) returns)

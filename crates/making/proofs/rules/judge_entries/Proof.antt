@@ -1,6 +1,5 @@
--- `making::rules::judge_entries` meets its contract: at each turn the judge stands between two entries. Assumes nothing.
+-- `making::rules::judge_entries` meets its contract: at each turn the judge stands between two entries.
 use mathlib.Core.Path.{_≡_, refl, ap, sym, _∙_, subst}
-use mathlib.Core.List.{List}
 use Prim.Native.Nat.{ℕ, _-_, _/_, _<_, _≤_}
 use native.Mathlib.Omega.{arith}
 use lib.ListN.{length}
@@ -19,7 +18,8 @@ use Rattle.making.proofs.rules.judge_entries.Tie as tie
 
 abbrev Inv-loop : tie.InvT-loop
 Inv-loop buffer numbers rows₀ head₀ next₀ count k₀ rows head next k =
-    (k ≤ length numbers / entryWidth) × Judging buffer numbers rows head next k × (length rows ≡ length rows₀) × (length head ≡ length head₀) × (length next ≡ length next₀)
+    (k ≤ length numbers / entryWidth) × Judging buffer numbers rows head next k × (length rows ≡ length rows₀) × (length head ≡ length head₀)
+    × (length next ≡ length next₀)
 
 abbrev μ-loop : tie.MeasureT-loop
 μ-loop buffer numbers rows₀ head₀ next₀ count k₀ rows head next k =
@@ -27,8 +27,13 @@ abbrev μ-loop : tie.MeasureT-loop
 
 loop-holds : tie.Need-loop-holds Inv-loop μ-loop
 loop-holds c =
-    let a = c .before .before .before .before .before in
-    (omega arith, judging-none (now (a .args .buffer)) (now (a .args .numbers)) (now (a .args .rows)) (now (a .args .head)) (now (a .args .next)) (a .pre), refl, refl, refl)
+    let a = c .before .before .before .before .before in (
+      omega arith,
+      judging-none (now (a .args .buffer)) (now (a .args .numbers)) (now (a .args .rows)) (now (a .args .head)) (now (a .args .next)) (a .pre),
+      refl,
+      refl,
+      refl,
+    )
 
 entry-at-requires : tie.Need-entry-at-requires Inv-loop μ-loop
 entry-at-requires c κs = entry-there (length (now (c .before .before .before .before .before .before .before .before .before .before .args .numbers))) (c .before .before .before .before .loop .k) (omega arith)
@@ -52,14 +57,16 @@ same-length-3 c = c .before .before .before .before .before .before .before .bef
 
 returns : tie.Need-returns Inv-loop μ-loop
 returns c =
+    let rule = c .before .before .rule in
     let a = c .before .before .before .before .before .before .before .before .before .before .before .before .before .before in
     let buffer = now (a .args .buffer) in
     let numbers = now (a .args .numbers) in
     let l = c .before .before .before .before .before .before .before .before .loop in
     let j = l .inv .1 in
-    let r = c .before .before .rule .ensures in
-    let number = subst (λ (x : Entry). c .before .before .rule .result .number ≡ entryRefusal buffer (j .done) x) (c .before .before .before .entry-at .ensures) (r .number-is (j .done) (j .keeps)) in
-    stopped-at j (c .before .before .rule .result .number) (length numbers / entryWidth) (omega arith) number (c .if1 .taken)
+    let r = rule .ensures in
+    let number = subst (λ (x : Entry). rule .result .number ≡ entryRefusal buffer (j .done) x) (c .before .before .before .entry-at .ensures)
+    (r .number-is (j .done) (j .keeps)) in
+    stopped-at j (rule .result .number) (length numbers / entryWidth) (omega arith) number (c .if1 .taken)
 
 mul-at : tie.Need-mul-at Inv-loop μ-loop
 mul-at c = omega (arith, few-done (c .before .before .before .before .before .before .before .before .loop .inv .1))
@@ -91,16 +98,18 @@ shared-slice-read-keep-2 c =
 
 keep-requires : tie.Need-keep-requires Inv-loop μ-loop
 keep-requires c κs =
+    let entry-at = c .before .before .before .before .before .before .before .before .entry-at in
+    let rule = c .before .before .before .before .before .before .before .rule in
     let a = c .before .before .before .before .before .before .before .before .before .before .before .before .before .before .before .before .before .before .before in
     let buffer = now (a .args .buffer) in
     let numbers = now (a .args .numbers) in
     let l = c .before .before .before .before .before .before .before .before .before .before .before .before .before .loop in
     let j = l .inv .1 in
-    let r = c .before .before .before .before .before .before .before .rule .ensures in
-    let number = subst (λ (x : Entry). c .before .before .before .before .before .before .before .rule .result .number ≡ entryRefusal buffer (j .done) x) (c .before .before .before .before .before .before .before .before .entry-at .ensures) (r .number-is (j .done) (j .keeps)) in
+    let r = rule .ensures in
+    let number = subst (λ (x : Entry). rule .result .number ≡ entryRefusal buffer (j .done) x) (entry-at .ensures) (r .number-is (j .done) (j .keeps)) in
     let p = r .passes (c .before .before .before .before .before .if1 .left) in
-    let lies = subst (EntryLies buffer) (c .before .before .before .before .before .before .before .before .entry-at .ensures) (p .lies) in
-    let hashed = p .hash-is ∙ ap (λ (x : Entry). hash (bytesIn buffer (x .identifier))) (c .before .before .before .before .before .before .before .before .entry-at .ensures) in
+    let lies = subst (EntryLies buffer) (entry-at .ensures) (p .lies) in
+    let hashed = p .hash-is ∙ ap (λ (x : Entry). hash (bytesIn buffer (x .identifier))) (entry-at .ensures) in
     let below : l .k < length numbers / entryWidth = omega arith in (
       (j .keeps .bounded, j .keeps .filed),
       (
@@ -114,28 +123,38 @@ keep-requires c κs =
     )
 
 add-k : tie.Need-add-k Inv-loop μ-loop
-add-k c = omega (arith, few-done (c .before .before .before .before .before .before .before .before .before .before .before .before .before .before .before .before .before .before .before .before .loop .inv .1))
+add-k c = omega (
+  arith,
+  few-done (c .before .before .before .before .before .before .before .before .before .before .before .before .before .before .before .before .before .before .before .before .loop .inv .1),
+)
 
 loop-less : tie.Need-loop-less Inv-loop μ-loop
 loop-less c = omega arith
 
 loop-again : tie.Need-loop-again Inv-loop μ-loop
 loop-again c =
+    let entry-at = c .before .before .before .before .before .before .before .before .before .before .before .before .before .before .before .entry-at in
+    let rule = c .before .before .before .before .before .before .before .before .before .before .before .before .before .before .rule in
+    let if1 = c .before .before .before .before .before .before .before .before .before .before .before .before .if1 in
+    let keep = c .before .before .before .before .before .before .keep in
     let a = c .before .before .before .before .before .before .before .before .before .before .before .before .before .before .before .before .before .before .before .before .before .before .before .before .before .before in
     let buffer = now (a .args .buffer) in
     let numbers = now (a .args .numbers) in
     let l = c .before .before .before .before .before .before .before .before .before .before .before .before .before .before .before .before .before .before .before .before .loop in
     let j = l .inv .1 in
-    let r = c .before .before .before .before .before .before .before .before .before .before .before .before .before .before .rule .ensures in
-    let number = subst (λ (x : Entry). c .before .before .before .before .before .before .before .before .before .before .before .before .before .before .rule .result .number ≡ entryRefusal buffer (j .done) x) (c .before .before .before .before .before .before .before .before .before .before .before .before .before .before .before .entry-at .ensures) (r .number-is (j .done) (j .keeps)) in
-    let p = r .passes (c .before .before .before .before .before .before .before .before .before .before .before .before .if1 .left) in
-    let lies = subst (EntryLies buffer) (c .before .before .before .before .before .before .before .before .before .before .before .before .before .before .before .entry-at .ensures) (p .lies) in
-    let hashed = p .hash-is ∙ ap (λ (x : Entry). hash (bytesIn buffer (x .identifier))) (c .before .before .before .before .before .before .before .before .before .before .before .before .before .before .before .entry-at .ensures) in (
-      omega (arith, c .before .before .before .before .before .before .before .before .before .before .before .before .before .before .before .before .before .before .before .loop-test .taken),
-      judging-more j (sym (c .before .before .before .before .before .before .before .before .before .before .before .before .if1 .left) ∙ number) (c .before .before .before .before .before .before .keep .ensures (j .done) (entryAt numbers (l .k)) (j .keeps) refl refl),
-      c .before .before .before .before .before .before .keep .kept .1 .0 ∙ l .inv .2,
-      c .before .before .before .before .before .before .keep .kept .1 .1 .0 ∙ l .inv .3,
-      c .before .before .before .before .before .before .keep .kept .1 .1 .1 .0 ∙ l .inv .4,
+    let r = rule .ensures in
+    let number = subst (λ (x : Entry). rule .result .number ≡ entryRefusal buffer (j .done) x) (entry-at .ensures) (r .number-is (j .done) (j .keeps)) in
+    let p = r .passes (if1 .left) in
+    let lies = subst (EntryLies buffer) (entry-at .ensures) (p .lies) in
+    let hashed = p .hash-is ∙ ap (λ (x : Entry). hash (bytesIn buffer (x .identifier))) (entry-at .ensures) in (
+      omega (
+        arith,
+        c .before .before .before .before .before .before .before .before .before .before .before .before .before .before .before .before .before .before .before .loop-test .taken,
+      ),
+      judging-more j (sym (if1 .left) ∙ number) (keep .ensures (j .done) (entryAt numbers (l .k)) (j .keeps) refl refl),
+      keep .kept .1 .0 ∙ l .inv .2,
+      keep .kept .1 .1 .0 ∙ l .inv .3,
+      keep .kept .1 .1 .1 .0 ∙ l .inv .4,
     )
 
 same-length-4 : tie.Need-same-length-4 Inv-loop μ-loop
@@ -158,29 +177,6 @@ returns-2 c =
 
 pub judge-entries-spec : {M : Type 1} → statement M
 judge-entries-spec =
-    tie.close
-    (tie.spec
-    Inv-loop
-    μ-loop
-    loop-holds
-    entry-at-requires
-    rule-requires
-    cast-t19
-    same-length
-    same-length-2
-    same-length-3
-    returns
-    mul-at
-    mul-keep
-    shared-slice-read-keep
-    add-keep
-    mul-keep-2
-    shared-slice-read-keep-2
-    keep-requires
-    add-k
-    loop-less
-    loop-again
-    same-length-4
-    same-length-5
-    same-length-6
-    returns-2)
+    tie.close (tie.spec Inv-loop μ-loop loop-holds entry-at-requires rule-requires cast-t19 same-length same-length-2 same-length-3 returns
+    mul-at mul-keep shared-slice-read-keep add-keep mul-keep-2 shared-slice-read-keep-2 keep-requires add-k loop-less loop-again
+    same-length-4 same-length-5 same-length-6 returns-2)

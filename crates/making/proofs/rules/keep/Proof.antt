@@ -1,4 +1,4 @@
--- `making::rules::keep` meets its contract: three numbers of a row are written, and the row is put into the index. Assumes nothing.
+-- `making::rules::keep` meets its contract: three numbers of a row are written, and the row is put into the index.
 use mathlib.Core.Path.{ap, sym, _∙_}
 use native.Mathlib.Omega.{arith}
 use lib.ListN.{length-set}
@@ -9,32 +9,8 @@ use borrow.Author.Needs.{needs}
 use Rattle.making.proofs.rules.keep.Statement.{statement}
 use Rattle.making.proofs.rules.keep.Tie as tie
 
-mul-at : tie.Need-mul-at
-mul-at c = search needs
-
-mul-rows : tie.Need-mul-rows
-mul-rows c = search needs
-
-slice-write-rows : tie.Need-slice-write-rows
-slice-write-rows c = search needs
-
-add-rows : tie.Need-add-rows
-add-rows c = search needs
-
-mul-rows-2 : tie.Need-mul-rows-2
-mul-rows-2 c = search needs
-
 slice-write-rows-2 : tie.Need-slice-write-rows-2
 slice-write-rows-2 c = simp length-set (omega arith)
-
-add-rows-2 : tie.Need-add-rows-2
-add-rows-2 c = search needs
-
-add-rows-3 : tie.Need-add-rows-3
-add-rows-3 c = search needs
-
-mul-rows-3 : tie.Need-mul-rows-3
-mul-rows-3 c = search needs
 
 slice-write-rows-3 : tie.Need-slice-write-rows-3
 slice-write-rows-3 c = simp length-set (omega arith)
@@ -56,15 +32,6 @@ insert-requires c κs =
       ),
     )
 
-same-length : tie.Need-same-length
-same-length c = search needs
-
-same-length-2 : tie.Need-same-length-2
-same-length-2 c = search needs
-
-same-length-3 : tie.Need-same-length-3
-same-length-3 c = search needs
-
 returns : tie.Need-returns
 returns c =
     let a = c .before .before .before .before .before .before .before .before .before .before .before .before in
@@ -76,24 +43,11 @@ returns c =
     let long = a .pre .1 .0 .0 in
     let bounded = put-bounded rows n first past long buffer (a .pre .1 .1 .0) (a .pre .1 .1 .1) (a .pre .0 .0) in
     λ done entry keeps e f.
-    keeps-more rows n first past long buffer (now (a .args .head)) (now (a .args .next)) done keeps entry e f _ _ bounded (c .before .before .before .before .insert .ensures .0)
+    keeps-more rows n first past long buffer (now (a .args .head)) (now (a .args .next)) done keeps entry e f _ _ bounded
+    (c .before .before .before .before .insert .ensures .0)
 
 pub keep-spec : {M : Type 1} → statement M
 keep-spec =
-    tie.close
-    (tie.spec
-    mul-at
-    mul-rows
-    slice-write-rows
-    add-rows
-    mul-rows-2
-    slice-write-rows-2
-    add-rows-2
-    add-rows-3
-    mul-rows-3
-    slice-write-rows-3
-    insert-requires
-    same-length
-    same-length-2
-    same-length-3
-    returns)
+    tie.close (tie.spec (λ c. search needs) (λ c. search needs) (λ c. search needs) (λ c. search needs) (λ c. search needs)
+    slice-write-rows-2 (λ c. search needs) (λ c. search needs) (λ c. search needs) slice-write-rows-3 insert-requires
+    (λ c. search needs) (λ c. search needs) (λ c. search needs) returns)

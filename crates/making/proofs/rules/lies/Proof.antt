@@ -1,4 +1,4 @@
--- `making::rules::lies` meets its contract. Assumes nothing.
+-- `making::rules::lies` meets its contract.
 use native.Mathlib.Omega.{arith}
 use borrow.Author.Tests.{lt-leb, le-leb}
 use Prim.Native.Nat.{_<_, _≤_}

@@ -1,4 +1,4 @@
--- `making::rules::parts_lie` meets its contract: three parts, one after another. Assumes nothing.
+-- `making::rules::parts_lie` meets its contract: three parts, one after another.
 use mathlib.Core.Path.{sym, _∙_}
 use denote.Ref.{now}
 use Rattle.making.specs.Entries.{inside, partsInside}
@@ -7,30 +7,24 @@ use borrow.Author.Needs.{needs}
 use Rattle.making.proofs.rules.parts_lie.Statement.{statement}
 use Rattle.making.proofs.rules.parts_lie.Tie as tie
 
-lies-requires : tie.Need-lies-requires
-lies-requires c κs = search needs
-
-lies-requires-2 : tie.Need-lies-requires-2
-lies-requires-2 c κs = search needs
-
-lies-requires-3 : tie.Need-lies-requires-3
-lies-requires-3 c κs = search needs
-
 returns : tie.Need-returns
 unfolding partsInside
 returns c =
-    let buffer = now (c .before .before .before .before .before .before .args .buffer) in
-    let entry = c .before .before .before .before .before .before .args .entry in
+    let args = c .before .before .before .before .before .before .args in
+    let buffer = now (args .buffer) in
+    let entry = args .entry in
     let a = inside buffer (entry .identifier) in
     let b = inside buffer (entry .portion) in
     let c' = inside buffer (entry .text) in
-    c .lies3 .ensures ∙ third-tells a b c' (sym (c .before .before .before .before .lies .ensures) ∙ c .before .before .before .if1 .taken) (sym (c .before .before .lies2 .ensures) ∙ c .before .if2 .taken)
+    c .lies3 .ensures ∙ third-tells a b c' (sym (c .before .before .before .before .lies .ensures)
+    ∙ c .before .before .before .if1 .taken) (sym (c .before .before .lies2 .ensures) ∙ c .before .if2 .taken)
 
 returns-2 : tie.Need-returns-2
 unfolding partsInside
 returns-2 c =
-    let buffer = now (c .before .before .before .before .before .args .buffer) in
-    let entry = c .before .before .before .before .before .args .entry in
+    let args = c .before .before .before .before .before .args in
+    let buffer = now (args .buffer) in
+    let entry = args .entry in
     let a = inside buffer (entry .identifier) in
     let b = inside buffer (entry .portion) in
     let c' = inside buffer (entry .text) in
@@ -39,8 +33,9 @@ returns-2 c =
 returns-3 : tie.Need-returns-3
 unfolding partsInside
 returns-3 c =
-    let buffer = now (c .before .before .before .args .buffer) in
-    let entry = c .before .before .before .args .entry in
+    let args = c .before .before .before .args in
+    let buffer = now (args .buffer) in
+    let entry = args .entry in
     let a = inside buffer (entry .identifier) in
     let b = inside buffer (entry .portion) in
     let c' = inside buffer (entry .text) in
@@ -48,4 +43,4 @@ returns-3 c =
 
 pub parts-lie-spec : {M : Type 1} → statement M
 parts-lie-spec =
-    tie.close (tie.spec lies-requires lies-requires-2 lies-requires-3 returns returns-2 returns-3)
+    tie.close (tie.spec (λ c κs. search needs) (λ c κs. search needs) (λ c κs. search needs) returns returns-2 returns-3)

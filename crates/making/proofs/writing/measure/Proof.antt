@@ -1,6 +1,6 @@
--- `making::writing::measure` meets its contract: after k turns the size is that of the first k entries. Assumes nothing.
+-- `making::writing::measure` meets its contract: after k turns the size is that of the first k entries.
 use mathlib.Core.Path.{_≡_, ap, sym, _∙_, subst}
-use Prim.Native.Nat.{ℕ, _-_, _/_, _<_, _≤_}
+use Prim.Native.Nat.{ℕ, _-_, _/_, _≤_}
 use lib.ListN.{length}
 use native.Mathlib.Omega.{arith}
 use borrow.Author.Needs.{needs}
@@ -33,11 +33,15 @@ entry-size-requires c κs = subst Ordered (sym (c .entry-at .ensures)) (c .befor
 
 add-cap : tie.Need-add-cap Inv-loop μ-loop
 add-cap c =
+    let l = c .before .before .before .loop in
     let numbers = now (c .before .before .before .before .before .args .numbers) in
-    omega (arith, c .before .before .before .loop .inv .1, capped-most (sizeUpTo numbers (c .before .before .before .loop .k)), c .entry-size .ensures, capped-most (entrySizeBy (namesOf (c .before .entry-at .result)) (textOf (c .before .entry-at .result))))
-
-cap-requires : tie.Need-cap-requires Inv-loop μ-loop
-cap-requires c κs = search needs
+    omega (
+      arith,
+      l .inv .1,
+      capped-most (sizeUpTo numbers (l .k)),
+      c .entry-size .ensures,
+      capped-most (entrySizeBy (namesOf (c .before .entry-at .result)) (textOf (c .before .entry-at .result))),
+    )
 
 add-k : tie.Need-add-k Inv-loop μ-loop
 add-k c = omega arith
@@ -46,7 +50,13 @@ loop-less : tie.Need-loop-less Inv-loop μ-loop
 loop-less c = omega arith
 
 loop-again : tie.Need-loop-again Inv-loop μ-loop
-loop-again c = (omega arith, measured-next (now (c .before .before .before .before .before .before .args .numbers)) (c .before .before .before .before .loop .k) (c .before .before .before .before .loop .size) (c .before .entry-size .result) (c .cap .result) (c .before .before .entry-at .result) (c .before .before .before .before .loop .inv .1) (c .before .before .entry-at .ensures) (c .before .entry-size .ensures) (c .cap .ensures))
+loop-again c =
+    let l = c .before .before .before .before .loop in
+    let entry-at = c .before .before .entry-at in (
+      omega arith,
+      measured-next (now (c .before .before .before .before .before .before .args .numbers)) (l .k) (l .size) (c .before .entry-size .result)
+          (c .cap .result) (entry-at .result) (l .inv .1) (entry-at .ensures) (c .before .entry-size .ensures) (c .cap .ensures),
+    )
 
 returns : tie.Need-returns Inv-loop μ-loop
 returns c =
@@ -56,16 +66,5 @@ returns c =
 
 pub measure-spec : {M : Type 1} → statement M
 measure-spec =
-    tie.close
-    (tie.spec
-    Inv-loop
-    μ-loop
-    loop-holds
-    entry-at-requires
-    entry-size-requires
-    add-cap
-    cap-requires
-    add-k
-    loop-less
-    loop-again
-    returns)
+    tie.close (tie.spec Inv-loop μ-loop loop-holds entry-at-requires entry-size-requires add-cap (λ c κs. search needs) add-k loop-less
+    loop-again returns)

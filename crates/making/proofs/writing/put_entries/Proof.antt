@@ -1,6 +1,5 @@
--- `making::writing::put_entries` meets its contract: after k turns the first k entries are written. Assumes nothing.
-use mathlib.Core.Path.{_≡_, refl, ap, sym, _∙_, subst}
-use mathlib.Core.List.{List}
+-- `making::writing::put_entries` meets its contract: after k turns the first k entries are written.
+use mathlib.Core.Path.{_≡_, refl, sym, _∙_, subst}
 use Prim.Native.Nat.{ℕ, suc, _+_, _-_, _/_, _<_, _≤_}
 use lib.ListN.{length}
 use native.Mathlib.Omega.{arith}
@@ -9,7 +8,7 @@ use Rattle.normal.specs.Passes.{PutsOctets}
 use Rattle.making.specs.Flat.{entryWidth, saidUpTo}
 use Rattle.making.specs.Octets.{entrySizeBy, entriesOctets}
 use Rattle.making.specs.declared.Entry.{Entry}
-use Rattle.making.specs.Lent.{namesOf, textOf, EntryLies, sizeUpTo}
+use Rattle.making.specs.Lent.{namesOf, textOf, EntryLies}
 use Rattle.making.proofs.Lent.{entry-there, size-next, size-on, octets-up-to, written-none, written-next}
 use Rattle.making.proofs.writing.put_entries.Statement.{statement}
 use Rattle.making.proofs.writing.put_entries.Tie as tie
@@ -23,7 +22,9 @@ abbrev μ-loop : tie.MeasureT-loop
     count - k
 
 loop-holds : tie.Need-loop-holds Inv-loop μ-loop
-loop-holds c = (omega arith, refl, written-none (now (c .before .before .before .args .buffer)) (now (c .before .before .before .args .numbers)) (now (c .before .before .before .args .out)) (c .before .before .before .args .begin))
+loop-holds c =
+    let a = c .before .before .before .args in
+    (omega arith, refl, written-none (now (a .buffer)) (now (a .numbers)) (now (a .out)) (a .begin))
 
 entry-at-requires : tie.Need-entry-at-requires Inv-loop μ-loop
 entry-at-requires c κs = entry-there (length (now (c .before .before .before .before .before .args .numbers))) (c .before .loop .k) (omega arith)
@@ -41,7 +42,8 @@ put-entry-requires c κs =
     let e = c .before .entry-at .ensures in (
       subst (EntryLies buffer) (sym e) (a .pre .0 (l .k) below),
       subst (λ (x : Entry). textOf x ≤ 1048576) (sym e) (omega (arith, a .pre .1)),
-      subst (λ (x : Entry). l .at + entrySizeBy (namesOf x) (textOf x) ≤ length (l .out)) (sym e) (omega (arith, a .pre .2, a .pre .3, l .inv .1, l .inv .2 .to)),
+      subst (λ (x : Entry). l .at + entrySizeBy (namesOf x) (textOf x) ≤ length (l .out)) (sym e)
+          (omega (arith, a .pre .2, a .pre .3, l .inv .1, l .inv .2 .to)),
     )
 
 add-k : tie.Need-add-k Inv-loop μ-loop
@@ -51,7 +53,15 @@ loop-less : tie.Need-loop-less Inv-loop μ-loop
 loop-less c = omega arith
 
 loop-again : tie.Need-loop-again Inv-loop μ-loop
-loop-again c = (omega arith, c .before .before .put-entry .kept .1 .1 .0 ∙ c .before .before .before .before .before .before .loop .inv .1, written-next (now (c .before .before .before .before .before .before .before .before .before .before .args .buffer)) (now (c .before .before .before .before .before .before .before .before .before .before .args .numbers)) (c .before .before .before .before .before .before .loop .k) (c .before .before .before .before .entry-at .result) (c .before .before .before .before .entry-at .ensures) (c .before .before .before .before .before .before .loop .inv .2) (c .before .before .put-entry .ensures))
+loop-again c =
+    let a = c .before .before .before .before .before .before .before .before .before .before .args in
+    let l = c .before .before .before .before .before .before .loop in
+    let entry-at = c .before .before .before .before .entry-at in
+    let put-entry = c .before .before .put-entry in (
+      omega arith,
+      put-entry .kept .1 .1 .0 ∙ l .inv .1,
+      written-next (now (a .buffer)) (now (a .numbers)) (l .k) (entry-at .result) (entry-at .ensures) (l .inv .2) (put-entry .ensures),
+    )
 
 same-length : tie.Need-same-length Inv-loop μ-loop
 same-length c = c .before .loop .inv .1
@@ -67,15 +77,4 @@ returns c =
 
 pub put-entries-spec : {M : Type 1} → statement M
 put-entries-spec =
-    tie.close
-    (tie.spec
-    Inv-loop
-    μ-loop
-    loop-holds
-    entry-at-requires
-    put-entry-requires
-    add-k
-    loop-less
-    loop-again
-    same-length
-    returns)
+    tie.close (tie.spec Inv-loop μ-loop loop-holds entry-at-requires put-entry-requires add-k loop-less loop-again same-length returns)

@@ -1,4 +1,4 @@
--- `making::writing::put_header` meets its contract: an octet, and then the length octets. Assumes nothing.
+-- `making::writing::put_header` meets its contract: an octet, and then the length octets.
 use mathlib.Core.Path.{refl, _∙_}
 use lib.ListN.{length-set}
 use native.Mathlib.Omega.{arith}
@@ -6,15 +6,6 @@ use borrow.Author.Needs.{needs}
 use Rattle.making.proofs.Putting.{puts-then, put-one}
 use Rattle.making.proofs.writing.put_header.Statement.{statement}
 use Rattle.making.proofs.writing.put_header.Tie as tie
-
-slice-write-out : tie.Need-slice-write-out
-slice-write-out c = search needs
-
-add-put-length : tie.Need-add-put-length
-add-put-length c = search needs
-
-cast-put-length : tie.Need-cast-put-length
-cast-put-length c = search needs
 
 put-length-requires : tie.Need-put-length-requires
 put-length-requires c κs = simp length-set (omega (arith, c .before .before .pre .1))
@@ -27,11 +18,4 @@ returns c = puts-then (put-one _ _ _) (c .before .before .put-length .ensures)
 
 pub put-header-spec : {M : Type 1} → statement M
 put-header-spec =
-    tie.close
-    (tie.spec
-    slice-write-out
-    add-put-length
-    cast-put-length
-    put-length-requires
-    same-length
-    returns)
+    tie.close (tie.spec (λ c. search needs) (λ c. search needs) (λ c. search needs) put-length-requires same-length returns)

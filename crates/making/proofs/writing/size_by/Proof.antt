@@ -1,4 +1,4 @@
--- `making::writing::size_by` meets its contract: a text over the limit is enough, and of any other the sizes are small. Assumes nothing.
+-- `making::writing::size_by` meets its contract: a text over the limit is enough, and of any other the sizes are small.
 use mathlib.Core.Path.{ap, sym, _∙_}
 use Prim.Native.Nat.{ℕ, _+_}
 use native.Mathlib.Omega.{arith}
@@ -10,17 +10,8 @@ use borrow.Author.Needs.{needs}
 use Rattle.making.proofs.writing.size_by.Statement.{statement}
 use Rattle.making.proofs.writing.size_by.Tie as tie
 
-add-result : tie.Need-add-result
-add-result c = search needs
-
 returns : tie.Need-returns
 returns c = sym (text-over (c .before .args .names) (c .before .args .text) (omega arith))
-
-unit-size-requires : tie.Need-unit-size-requires
-unit-size-requires c κs = search needs
-
-add-cap : tie.Need-add-cap
-add-cap c = search needs
 
 cast-further-octets : tie.Need-cast-further-octets
 cast-further-octets c =
@@ -28,9 +19,6 @@ cast-further-octets c =
     let u = c .unit-size .ensures in
     let few = further-le t in
     omega arith
-
-further-octets-requires : tie.Need-further-octets-requires
-further-octets-requires c κs = search needs
 
 add-cap-2 : tie.Need-add-cap-2
 add-cap-2 c =
@@ -59,27 +47,14 @@ add-cap-4 c =
     let most = further-le (c .before .unit-size .result) in
     omega arith
 
-cap-requires : tie.Need-cap-requires
-cap-requires c κs = search needs
-
 returns-2 : tie.Need-returns-2
 returns-2 c =
+    let unit-size = c .before .before .unit-size in
     let n = c .before .before .before .before .args .names in
-    c .cap .ensures ∙ ap (λ (f : ℕ). capped (n + 13 + (2 + f + c .before .before .unit-size .result))) (c .before .further-octets .ensures)
-    ∙ ap (λ (u : ℕ). capped (n + 13 + (2 + furtherOctets u + u))) (c .before .before .unit-size .ensures)
+    c .cap .ensures ∙ ap (λ (f : ℕ). capped (n + 13 + (2 + f + unit-size .result))) (c .before .further-octets .ensures)
+    ∙ ap (λ (u : ℕ). capped (n + 13 + (2 + furtherOctets u + u))) (unit-size .ensures)
 
 pub size-by-spec : {M : Type 1} → statement M
 size-by-spec =
-    tie.close
-    (tie.spec
-    add-result
-    returns
-    unit-size-requires
-    add-cap
-    cast-further-octets
-    further-octets-requires
-    add-cap-2
-    add-cap-3
-    add-cap-4
-    cap-requires
-    returns-2)
+    tie.close (tie.spec (λ c. search needs) returns (λ c κs. search needs) (λ c. search needs) cast-further-octets (λ c κs. search needs)
+    add-cap-2 add-cap-3 add-cap-4 (λ c κs. search needs) returns-2)

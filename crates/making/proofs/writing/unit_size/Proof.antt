@@ -1,18 +1,9 @@
--- `making::writing::unit_size` meets its contract: at most four length octets follow the first. Assumes nothing.
+-- `making::writing::unit_size` meets its contract: at most four length octets follow the first.
 use native.Mathlib.Omega.{arith}
 use Rattle.normal.proofs.Lengths.{further-le}
 use borrow.Author.Needs.{needs}
 use Rattle.making.proofs.writing.unit_size.Statement.{statement}
 use Rattle.making.proofs.writing.unit_size.Tie as tie
-
-add-result : tie.Need-add-result
-add-result c = search needs
-
-cast-further-octets : tie.Need-cast-further-octets
-cast-further-octets c = search needs
-
-further-octets-requires : tie.Need-further-octets-requires
-further-octets-requires c κs = search needs
 
 add-result-2 : tie.Need-add-result-2
 add-result-2 c = omega (arith, c .further-octets .ensures, further-le (c .before .args .text))
@@ -28,12 +19,4 @@ returns c = rw (c .further-octets .ensures)
 
 pub unit-size-spec : {M : Type 1} → statement M
 unit-size-spec =
-    tie.close
-    (tie.spec
-    add-result
-    cast-further-octets
-    further-octets-requires
-    add-result-2
-    add-result-3
-    add-result-4
-    returns)
+    tie.close (tie.spec (λ c. search needs) (λ c. search needs) (λ c κs. search needs) add-result-2 add-result-3 add-result-4 returns)

@@ -1,5 +1,5 @@
 -- `normal::mailroom::write_short` meets its contract: its test is that of `answerShort`, and what is written is the normal form, copied if it is the stream's
--- own octets. Assumes nothing.
+-- own octets.
 use mathlib.Core.Path.{_≡_}
 use mathlib.Core.Bool.{true, false}
 use Prim.Native.Nat.{_≤_}
@@ -54,18 +54,12 @@ put-value-requires c κs =
 put-run-requires : tie.Need-put-run-requires
 put-run-requires c κs = (ends (c .before .before .before .before .before), search needs)
 
-same-length : tie.Need-same-length
-same-length c = search needs
-
 returns-2 : tie.Need-returns-2
 returns-2 c =
     let a = c .before .before .before .before .before .before .before .before .before .args in
     let (e, own) = measured (c .before .before .before .before .before .before) in
     let form = own (c .before .before .before .before .if2 .taken) .1 in
     short-form (normalForm (now (a .s))) (now (a .out)) (omega arith) _ e _ form _ _ (c .before .before .put-value .ensures)
-
-same-length-2 : tie.Need-same-length-2
-same-length-2 c = search needs
 
 returns-3 : tie.Need-returns-3
 returns-3 c =
@@ -75,13 +69,5 @@ returns-3 c =
 
 pub write-short-spec : {M : Type 1} → statement M
 write-short-spec =
-    tie.close
-    (tie.spec
-    measure-run-requires
-    returns
-    put-value-requires
-    put-run-requires
-    same-length
-    returns-2
-    same-length-2
+    tie.close (tie.spec measure-run-requires returns put-value-requires put-run-requires (λ c. search needs) returns-2 (λ c. search needs)
     returns-3)

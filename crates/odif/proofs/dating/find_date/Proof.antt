@@ -1,4 +1,4 @@
--- `odif::dating::find_date` meets its contract: what is refused by rules 1 to 15 is refused, and of a letter the date in its profile is given. Assumes nothing.
+-- `odif::dating::find_date` meets its contract: what is refused by rules 1 to 15 is refused, and of a letter the date in its profile is given.
 use mathlib.Core.Path.{_≡_, ap, sym, _∙_, subst}
 use borrow.Author.Needs.{needs}
 use denote.Ref.{now}
@@ -12,19 +12,14 @@ use Rattle.answers.proofs.Working.{is-letter}
 use Rattle.odif.proofs.dating.find_date.Statement.{statement}
 use Rattle.odif.proofs.dating.find_date.Tie as tie
 
-refused-by-requires : tie.Need-refused-by-requires
-refused-by-requires c κs = search needs
-
-refused-date-requires : tie.Need-refused-date-requires
-refused-date-requires c κs = search needs
-
 returns : tie.Need-returns
 returns c =
     let a = c .before .before .before .before .before .args in
     let s = now (a .stream) in
     let r = c .before .before .before .refused-by in
     let some : (ruled (a .edition) s .number ≡ 0 → ⊥) = λ z. c .before .if1 .taken (ap (λ (x : Reason). x .number) (r .ensures) ∙ z) in
-    subst (DateTells (a .edition) s) (sym (c .refused-date .ensures)) (date-refused (a .edition) s some (r .result .number) (r .result .place) (sym (r .ensures)))
+    subst (DateTells (a .edition) s) (sym (c .refused-date .ensures))
+    (date-refused (a .edition) s some (r .result .number) (r .result .place) (sym (r .ensures)))
 
 -- the rules refuse nothing
 accepted : (c : tie.Else1) → let a = c .before .before .before .before .args in ruled (a .edition) (now (a .stream)) .number ≡ 0
@@ -42,4 +37,4 @@ returns-2 : tie.Need-returns-2
 returns-2 c = c .date-of-letter .ensures (c .before .before .before .before .before .args .edition) (accepted (c .before))
 
 pub find-date-spec : {M : Type 1} → statement M
-find-date-spec = tie.close (tie.spec refused-by-requires refused-date-requires returns date-of-letter-requires returns-2)
+find-date-spec = tie.close (tie.spec (λ c κs. search needs) (λ c κs. search needs) returns date-of-letter-requires returns-2)

@@ -1,5 +1,5 @@
 -- `odif::normal_short` meets its contract: what is over its limit or refused by the rules is refused, and of a letter the writer's answer is
--- given. Assumes nothing.
+-- given.
 use mathlib.Core.Path.{ap, sym, _∙_, subst}
 use borrow.Author.Needs.{needs}
 use denote.Ref.{now}
@@ -13,9 +13,6 @@ use Rattle.odif.proofs.mailroom.normal_short.Tie as tie
 
 returns : tie.Need-returns
 returns c = let a = c .before .before .before .args in short-over (a .edition) (now (a .stream)) (now (a .out)) (c .if1 .taken)
-
-refused-by-requires : tie.Need-refused-by-requires
-refused-by-requires c κs = search needs
 
 returns-2 : tie.Need-returns-2
 returns-2 c =
@@ -41,10 +38,8 @@ written-as-requires c κs =
     let a = c .before .before .before .before .before .before .before .before .before .before .args in
     let l = c .before .before .before .before .before .before .before .if1 .left in
     let p = letter-by (c .before .before .before .before) in
-    subst (λ (x : Answer). Fits (writtenAs x)) (sym (c .before .before .write-short .ensures .answered)) (short-letter (a .edition) (now (a .stream)) (now (a .out)) l p .1)
-
-same-length : tie.Need-same-length
-same-length c = search needs
+    subst (λ (x : Answer). Fits (writtenAs x)) (sym (c .before .before .write-short .ensures .answered))
+    (short-letter (a .edition) (now (a .stream)) (now (a .out)) l p .1)
 
 returns-3 : tie.Need-returns-3
 returns-3 c =
@@ -57,12 +52,4 @@ returns-3 c =
 
 pub normal-short-spec : {M : Type 1} → statement M
 normal-short-spec =
-    tie.close
-    (tie.spec
-    returns
-    refused-by-requires
-    returns-2
-    write-short-requires
-    written-as-requires
-    same-length
-    returns-3)
+    tie.close (tie.spec returns (λ c κs. search needs) returns-2 write-short-requires written-as-requires (λ c. search needs) returns-3)

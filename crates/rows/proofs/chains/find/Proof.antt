@@ -1,5 +1,5 @@
 -- `rows::chains::find` meets its contract. The loop's invariant: the row at hand is of the bucket, and no row from there on has what is asked.
--- The measure is the link, which falls with each turn. Assumes nothing.
+-- The measure is the link, which falls with each turn.
 use mathlib.Core.Path.{ap, _∙_}
 use Prim.Native.Nat.{_-_, _<_}
 use native.Mathlib.Omega.{arith}
@@ -36,9 +36,6 @@ mul-wide16 c = omega arith
 shared-slice-read-wide16 : tie.Need-shared-slice-read-wide16 Inv-loop μ-loop
 shared-slice-read-wide16 c = omega (arith, c .before .bucket-of .ensures .1)
 
-wide16-requires : tie.Need-wide16-requires Inv-loop μ-loop
-wide16-requires c κs = search needs
-
 loop-holds : tie.Need-loop-holds Inv-loop μ-loop
 loop-holds c =
     let start = c .before .before .before .before .before .before .before in
@@ -70,9 +67,6 @@ shared-slice-read-wide16-2 : tie.Need-shared-slice-read-wide16-2 Inv-loop μ-loo
 shared-slice-read-wide16-2 c =
     omega (arith, c .before .before .before .before .loop .inv .within, entry (c .before .before .before .before) .pre .1 .0 .linked)
 
-wide16-requires-2 : tie.Need-wide16-requires-2 Inv-loop μ-loop
-wide16-requires-2 c κs = search needs
-
 loop-less : tie.Need-loop-less Inv-loop μ-loop
 loop-less c =
     let at = c .before .before .before .before .before in
@@ -82,28 +76,13 @@ loop-again : tie.Need-loop-again Inv-loop μ-loop
 loop-again c =
     let at = c .before .before .before .before .before in
     rw (c .wide162 .ensures)
-    (passed-more (entry at .pre .1 .0) (c .before .before .before .before .loop-test .taken) (at .loop .inv) (named-false (c .before .before .before .has .ensures) (c .before .before .if1 .left)))
+    (passed-more (entry at .pre .1 .0) (c .before .before .before .before .loop-test .taken) (at .loop .inv)
+    (named-false (c .before .before .before .has .ensures) (c .before .before .if1 .left)))
 
 returns-2 : tie.Need-returns-2 Inv-loop μ-loop
 returns-2 c = λ k. c .before .loop .inv .none k (omega arith)
 
 pub find-spec : {M : Type 1} → statement M
 find-spec =
-    tie.close
-    (tie.spec
-    Inv-loop
-    μ-loop
-    bucket-of-requires
-    mul-wide16
-    shared-slice-read-wide16
-    wide16-requires
-    loop-holds
-    sub-j
-    has-requires
-    returns
-    mul-wide16-2
-    shared-slice-read-wide16-2
-    wide16-requires-2
-    loop-less
-    loop-again
-    returns-2)
+    tie.close (tie.spec Inv-loop μ-loop bucket-of-requires mul-wide16 shared-slice-read-wide16 (λ c κs. search needs) loop-holds sub-j
+    has-requires returns mul-wide16-2 shared-slice-read-wide16-2 (λ c κs. search needs) loop-less loop-again returns-2)

@@ -1,4 +1,4 @@
--- `rows::chains::has` meets its contract: it makes the two tests in order, on what the row has. Assumes nothing.
+-- `rows::chains::has` meets its contract: it makes the two tests in order, on what the row has.
 use mathlib.Core.Path.{_≡_, sym, ap, _∙_}
 use mathlib.Core.Bool.{true}
 use native.Mathlib.Omega.{arith}
@@ -10,81 +10,27 @@ use borrow.Author.Needs.{needs}
 use Rattle.rows.proofs.chains.has.Statement.{statement}
 use Rattle.rows.proofs.chains.has.Tie as tie
 
-mul-at : tie.Need-mul-at
-mul-at c = search needs
-
-mul-wide32 : tie.Need-mul-wide32
-mul-wide32 c = search needs
-
-shared-slice-read-wide32 : tie.Need-shared-slice-read-wide32
-shared-slice-read-wide32 c = search needs
-
-wide32-requires : tie.Need-wide32-requires
-wide32-requires c κs = search needs
-
-space-of-requires : tie.Need-space-of-requires
-space-of-requires c κs = search needs
-
 returns : tie.Need-returns
 returns c =
     rw (ne-eqb _ _ (λ e. c .if1 .taken (c .before .space-of .ensures ∙ ap nameSpaceOf (c .before .before .wide32 .ensures) ∙ e)))
 
-add-wide32 : tie.Need-add-wide32
-add-wide32 c = search needs
-
-mul-wide32-2 : tie.Need-mul-wide32-2
-mul-wide32-2 c = search needs
-
-shared-slice-read-wide32-2 : tie.Need-shared-slice-read-wide32-2
-shared-slice-read-wide32-2 c = search needs
-
-wide32-requires-2 : tie.Need-wide32-requires-2
-wide32-requires-2 c κs = search needs
-
-add-wide32-2 : tie.Need-add-wide32-2
-add-wide32-2 c = search needs
-
-add-wide32-3 : tie.Need-add-wide32-3
-add-wide32-3 c = search needs
-
-mul-wide32-3 : tie.Need-mul-wide32-3
-mul-wide32-3 c = search needs
-
-shared-slice-read-wide32-3 : tie.Need-shared-slice-read-wide32-3
-shared-slice-read-wide32-3 c = search needs
-
-wide32-requires-3 : tie.Need-wide32-requires-3
-wide32-requires-3 c κs = search needs
-
 is-asked-requires : tie.Need-is-asked-requires
-is-asked-requires c κs =
-    (c .before .before .before .before .before .before .before .before .before .before .pre .1 .1 .1 .1, omega (arith, c .wide323 .ensures, c .before .before .wide322 .ensures), omega (arith, c .wide323 .ensures))
+is-asked-requires c κs = (
+  c .before .before .before .before .before .before .before .before .before .before .pre .1 .1 .1 .1,
+  omega (arith, c .wide323 .ensures, c .before .before .wide322 .ensures),
+  omega (arith, c .wide323 .ensures),
+)
 
 returns-2 : tie.Need-returns-2
 returns-2 c =
     let a = c .before .before .before .before .before .before .before .before .before .before .before .args in
     let own : eqb (nameSpaceOf (kindAt (a .rows .now) (a .j))) (a .space) ≡ true =
-    eq-eqb _ _ (sym (c .before .before .before .before .before .before .space-of .ensures ∙ ap nameSpaceOf (c .before .before .before .before .before .before .before .wide32 .ensures)) ∙ c .before .before .before .before .before .if1 .left) in
+    eq-eqb _ _ (sym (c .before .before .before .before .before .before .space-of .ensures
+    ∙ ap nameSpaceOf (c .before .before .before .before .before .before .before .wide32 .ensures)) ∙ c .before .before .before .before .before .if1 .left) in
     rw (own, ← (c .before .wide323 .ensures), ← (c .before .before .before .wide322 .ensures)) (c .is-asked .ensures)
 
 pub has-spec : {M : Type 1} → statement M
 has-spec =
-    tie.close
-    (tie.spec
-    mul-at
-    mul-wide32
-    shared-slice-read-wide32
-    wide32-requires
-    space-of-requires
-    returns
-    add-wide32
-    mul-wide32-2
-    shared-slice-read-wide32-2
-    wide32-requires-2
-    add-wide32-2
-    add-wide32-3
-    mul-wide32-3
-    shared-slice-read-wide32-3
-    wide32-requires-3
-    is-asked-requires
-    returns-2)
+    tie.close (tie.spec (λ c. search needs) (λ c. search needs) (λ c. search needs) (λ c κs. search needs) (λ c κs. search needs) returns
+    (λ c. search needs) (λ c. search needs) (λ c. search needs) (λ c κs. search needs) (λ c. search needs) (λ c. search needs)
+    (λ c. search needs) (λ c. search needs) (λ c κs. search needs) is-asked-requires returns-2)

@@ -1,4 +1,4 @@
--- `rows::chains::insert` meets its contract: its two stores are those by which an index takes a row more. Assumes nothing.
+-- `rows::chains::insert` meets its contract: its two stores are those by which an index takes a row more.
 use mathlib.Core.Path.{refl, ap, _∙_}
 use Prim.Native.Nat.{_<_}
 use native.Mathlib.Omega.{arith}
@@ -11,64 +11,14 @@ use borrow.Author.Needs.{needs}
 use Rattle.rows.proofs.chains.insert.Statement.{statement}
 use Rattle.rows.proofs.chains.insert.Tie as tie
 
-mul-at : tie.Need-mul-at
-mul-at c = search needs
-
-add-at : tie.Need-add-at
-add-at c = search needs
-
-mul-if1 : tie.Need-mul-if1
-mul-if1 c = search needs
-
-shared-slice-read-if1 : tie.Need-shared-slice-read-if1
-shared-slice-read-if1 c = search needs
-
-add-if1 : tie.Need-add-if1
-add-if1 c = search needs
-
-mul-if1-2 : tie.Need-mul-if1-2
-mul-if1-2 c = search needs
-
-shared-slice-read-if1-2 : tie.Need-shared-slice-read-if1-2
-shared-slice-read-if1-2 c = search needs
-
 bucket-of-requires : tie.Need-bucket-of-requires
 bucket-of-requires c κs =
+    let pre = c .before .before .before .before .before .before .before .pre in
     let a = c .before .before .before .before .before .before .before .args in
     let bytes = valueAt (a .s .now) (a .rows .now) (a .column) (a .n) in
     let low : hash bytes < hashes = hash-below 0 bytes (omega arith) in
-    let indexed = c .before .before .before .before .before .before .before .pre .1 .0 in
-    (indexed .some-buckets, indexed .few-buckets, omega (arith, c .before .before .before .before .before .before .before .pre .1 .1 .1 .1))
-
-mul-next : tie.Need-mul-next
-mul-next c = search needs
-
-slice-read-next : tie.Need-slice-read-next
-slice-read-next c = search needs
-
-mul-next-2 : tie.Need-mul-next-2
-mul-next-2 c = search needs
-
-slice-write-next : tie.Need-slice-write-next
-slice-write-next c = search needs
-
-add-head : tie.Need-add-head
-add-head c = search needs
-
-cast-head : tie.Need-cast-head
-cast-head c = search needs
-
-mul-head : tie.Need-mul-head
-mul-head c = search needs
-
-slice-write-head : tie.Need-slice-write-head
-slice-write-head c = search needs
-
-same-length : tie.Need-same-length
-same-length c = search needs
-
-same-length-2 : tie.Need-same-length-2
-same-length-2 c = search needs
+    let indexed = pre .1 .0 in
+    (indexed .some-buckets, indexed .few-buckets, omega (arith, pre .1 .1 .1 .1))
 
 returns : tie.Need-returns
 returns c =
@@ -86,25 +36,7 @@ returns-2 c =
 
 pub insert-spec : {M : Type 1} → statement M
 insert-spec =
-    tie.close
-    (tie.spec
-    mul-at
-    add-at
-    mul-if1
-    shared-slice-read-if1
-    add-if1
-    mul-if1-2
-    shared-slice-read-if1-2
-    bucket-of-requires
-    mul-next
-    slice-read-next
-    mul-next-2
-    slice-write-next
-    add-head
-    cast-head
-    mul-head
-    slice-write-head
-    same-length
-    same-length-2
-    returns
-    returns-2)
+    tie.close (tie.spec (λ c. search needs) (λ c. search needs) (λ c. search needs) (λ c. search needs) (λ c. search needs)
+    (λ c. search needs) (λ c. search needs) bucket-of-requires (λ c. search needs) (λ c. search needs) (λ c. search needs)
+    (λ c. search needs) (λ c. search needs) (λ c. search needs) (λ c. search needs) (λ c. search needs) (λ c. search needs)
+    (λ c. search needs) returns returns-2)

@@ -1,5 +1,4 @@
 -- `rows::lookup::find` meets its contract: where no row is in order and the bucket is empty there is none, and `find_any` has the rest.
--- Assumes nothing.
 use mathlib.Core.Path.{refl, ap, _∙_}
 use Prim.Native.Nat.{_<_}
 use native.Mathlib.Omega.{arith}
@@ -12,21 +11,6 @@ use borrow.Author.Needs.{needs}
 use Rattle.rows.proofs.lookup.find.Statement.{statement}
 use Rattle.rows.proofs.lookup.find.Tie as tie
 
-sub-if1 : tie.Need-sub-if1
-sub-if1 c = search needs
-
-mul-if1 : tie.Need-mul-if1
-mul-if1 c = search needs
-
-shared-slice-read-if1 : tie.Need-shared-slice-read-if1
-shared-slice-read-if1 c = search needs
-
-find-any-requires : tie.Need-find-any-requires
-find-any-requires c κs = search needs
-
-returns : tie.Need-returns
-returns c = search needs
-
 bucket-of-requires : tie.Need-bucket-of-requires
 bucket-of-requires c κs =
     let a = c .before .before .before .before .before .before .args in
@@ -36,12 +20,6 @@ bucket-of-requires c κs =
     let indexed = p .1 .0 .by-hash in
     (indexed .some-buckets, indexed .few-buckets, omega (arith, p .1 .1 .1))
 
-mul-if2 : tie.Need-mul-if2
-mul-if2 c = search needs
-
-shared-slice-read-if2 : tie.Need-shared-slice-read-if2
-shared-slice-read-if2 c = search needs
-
 returns-2 : tie.Need-returns-2
 returns-2 c =
     let a = c .before .before .before .before .before .before .before .before .before .args in
@@ -49,24 +27,7 @@ returns-2 c =
     let b = c .before .before .bucket-of .ensures in
     none-filed (p .1 .0) refl (c .before .before .before .if1 .left) (b .0 ∙ ap (bucket (length (a .head .now))) (p .1 .1 .1)) (b .1) (c .if2 .taken)
 
-find-any-requires-2 : tie.Need-find-any-requires-2
-find-any-requires-2 c κs = search needs
-
-returns-3 : tie.Need-returns-3
-returns-3 c = search needs
-
 pub find-spec : {M : Type 1} → statement M
 find-spec =
-    tie.close
-    (tie.spec
-    sub-if1
-    mul-if1
-    shared-slice-read-if1
-    find-any-requires
-    returns
-    bucket-of-requires
-    mul-if2
-    shared-slice-read-if2
-    returns-2
-    find-any-requires-2
-    returns-3)
+    tie.close (tie.spec (λ c. search needs) (λ c. search needs) (λ c. search needs) (λ c κs. search needs) (λ c. search needs)
+    bucket-of-requires (λ c. search needs) (λ c. search needs) returns-2 (λ c κs. search needs) (λ c. search needs))

@@ -1,4 +1,4 @@
--- `rows::lookup::is_short` meets its contract. The loop's invariant: what is left may have `left` - 1 rows. The measure is `left`. Assumes nothing.
+-- `rows::lookup::is_short` meets its contract. The loop's invariant: what is left may have `left` - 1 rows. The measure is `left`.
 use mathlib.Core.Path.{_≡_, subst}
 use mathlib.Core.Bool.{false≢true}
 use lib.ListN.{getD}
@@ -22,12 +22,10 @@ mul-wide16 c = omega arith
 shared-slice-read-wide16 : tie.Need-shared-slice-read-wide16 Inv-loop μ-loop
 shared-slice-read-wide16 c = omega arith
 
-wide16-requires : tie.Need-wide16-requires Inv-loop μ-loop
-wide16-requires c κs = search needs
-
 loop-holds : tie.Need-loop-holds Inv-loop μ-loop
 loop-holds c =
-    (omega arith, rw (c .wide16 .ensures) (walks-first (c .before .before .before .before .pre .0) (c .before .before .before .before .pre .1)), rw (c .wide16 .ensures) (λ a. a))
+    let pre = c .before .before .before .before .pre in
+    (omega arith, rw (c .wide16 .ensures) (walks-first (pre .0) (pre .1)), rw (c .wide16 .ensures) (λ a. a))
 
 sub-left : tie.Need-sub-left Inv-loop μ-loop
 sub-left c = omega arith
@@ -43,20 +41,19 @@ mul-wide16-2 c = omega arith
 
 shared-slice-read-wide16-2 : tie.Need-shared-slice-read-wide16-2 Inv-loop μ-loop
 shared-slice-read-wide16-2 c =
-    omega (arith, c .before .before .before .loop .inv .1 .within, c .before .before .before .loop .inv .1 .indexed .linked)
-
-wide16-requires-2 : tie.Need-wide16-requires-2 Inv-loop μ-loop
-wide16-requires-2 c κs = search needs
+    let l = c .before .before .before .loop in
+    omega (arith, l .inv .1 .within, l .inv .1 .indexed .linked)
 
 loop-less : tie.Need-loop-less Inv-loop μ-loop
 loop-less c = omega arith
 
 loop-again : tie.Need-loop-again Inv-loop μ-loop
 loop-again c =
+    let if1 = c .before .before .if1 in
     let next = c .before .before .before .before .before .before .before .before .before .args .next .now in
     let l = c .before .before .before .before .loop in
-    let e : l .left - 1 ≡ suc (l .left - 1 - 1) = omega (arith, c .before .before .if1 .left) in (
-      omega (arith, c .before .before .if1 .left),
+    let e : l .left - 1 ≡ suc (l .left - 1 - 1) = omega (arith, if1 .left) in (
+      omega (arith, if1 .left),
       rw (c .wide162 .ensures) (walks-more (l .inv .1) (c .before .before .before .loop-test .taken)),
       rw (c .wide162 .ensures) (λ a. l .inv .2 (one-more next (l .left - 1 - 1) (l .left - 1) (l .link) e a)),
     )
@@ -70,20 +67,5 @@ returns-2 c =
 
 pub is-short-spec : {M : Type 1} → statement M
 is-short-spec =
-    tie.close
-    (tie.spec
-    Inv-loop
-    μ-loop
-    mul-wide16
-    shared-slice-read-wide16
-    wide16-requires
-    loop-holds
-    sub-left
-    returns
-    sub-wide16
-    mul-wide16-2
-    shared-slice-read-wide16-2
-    wide16-requires-2
-    loop-less
-    loop-again
-    returns-2)
+    tie.close (tie.spec Inv-loop μ-loop mul-wide16 shared-slice-read-wide16 (λ c κs. search needs) loop-holds sub-left returns sub-wide16
+    mul-wide16-2 shared-slice-read-wide16-2 (λ c κs. search needs) loop-less loop-again returns-2)

@@ -1,5 +1,4 @@
 -- `rows::order::is_asked_less` meets its contract: a joined name is compared with its first part, unless that part is a front of the other.
--- Assumes nothing.
 use mathlib.Core.Path.{_≡_, sym, _∙_}
 use mathlib.Core.Bool.{cond}
 use Prim.Native.Nat.{_+_, _-_}
@@ -28,79 +27,39 @@ parts : (c : tie.Else2) →
     (less (slice (a .asked .first) (a .asked .past) (a .s .now)) (slice (a .from) at (a .s .now)))
 parts c =
     let a = c .before .before .before .before .before .args in
-    joined-long (a .s .now) (a .asked) (c .before .before .before .before .before .pre .0) (not-false (a .asked .joined) (c .before .before .if1 .left)) (a .from) (a .to) (omega arith) (omega arith) (omega (arith, c .if2 .left))
-
-is-less-requires : tie.Need-is-less-requires
-is-less-requires c κs = search needs
+    joined-long (a .s .now) (a .asked) (c .before .before .before .before .before .pre .0)
+    (not-false (a .asked .joined) (c .before .before .if1 .left)) (a .from) (a .to) (omega arith) (omega arith) (omega (arith, c .if2 .left))
 
 returns : tie.Need-returns
 returns c =
     rw (not-true (c .before .before .before .before .args .asked .joined) (c .before .if1 .taken)) (c .is-less .ensures)
 
-sub-size : tie.Need-sub-size
-sub-size c = search needs
-
-sub-if2 : tie.Need-sub-if2
-sub-if2 c = search needs
-
-is-less-requires-2 : tie.Need-is-less-requires-2
-is-less-requires-2 c κs = search needs
-
 returns-2 : tie.Need-returns-2
 returns-2 c =
     let a = c .before .before .before .before .before .before .args in
-    c .is-less2 .ensures ∙ sym (joined-short (a .s .now) (a .asked) (c .before .before .before .before .before .before .pre .0) (not-false (a .asked .joined) (c .before .before .before .if1 .left)) (a .from) (a .to) (omega arith) (omega arith) (c .before .if2 .taken))
-
-add-at : tie.Need-add-at
-add-at c = search needs
-
-is-same-requires : tie.Need-is-same-requires
-is-same-requires c κs = search needs
-
-is-less-requires-3 : tie.Need-is-less-requires-3
-is-less-requires-3 c κs = search needs
+    c .is-less2 .ensures ∙ sym (joined-short (a .s .now) (a .asked) (c .before .before .before .before .before .before .pre .0)
+    (not-false (a .asked .joined) (c .before .before .before .if1 .left)) (a .from) (a .to) (omega arith) (omega arith) (c .before .if2 .taken))
 
 returns-3 : tie.Need-returns-3
 returns-3 c =
     sym (parts (c .before .before .before) ∙ rw (sym (c .before .before .is-same .ensures) ∙ not-true _ (c .before .if3 .taken)) (sym (c .is-less3 .ensures)))
 
-shared-slice-read-if4 : tie.Need-shared-slice-read-if4
-shared-slice-read-if4 c = search needs
-
-shared-slice-read-result : tie.Need-shared-slice-read-result
-shared-slice-read-result c = search needs
-
 returns-4 : tie.Need-returns-4
 returns-4 c =
-    sym (parts (c .before .before .before .before .before) ∙ rw (sym (c .before .before .before .before .is-same .ensures) ∙ not-false _ (c .before .before .before .if3 .left), ne-eqb _ _ (λ e. c .before .if4 .taken (sym e))))
-
-add-is-less : tie.Need-add-is-less
-add-is-less c = search needs
-
-is-less-requires-4 : tie.Need-is-less-requires-4
-is-less-requires-4 c κs = search needs
+    sym (parts (c .before .before .before .before .before) ∙ rw (
+      sym (c .before .before .before .before .is-same .ensures) ∙ not-false _ (c .before .before .before .if3 .left),
+      ne-eqb _ _ (λ e. c .before .if4 .taken (sym e)),
+    ))
 
 returns-5 : tie.Need-returns-5
 returns-5 c =
-    sym (parts (c .before .before .before .before .before) ∙ rw (sym (c .before .before .before .before .is-same .ensures) ∙ not-false _ (c .before .before .before .if3 .left), eq-eqb _ _ (sym (c .before .if4 .left))) (sym (c .is-less4 .ensures)))
+    sym (parts (c .before .before .before .before .before) ∙ rw (
+      sym (c .before .before .before .before .is-same .ensures) ∙ not-false _ (c .before .before .before .if3 .left),
+      eq-eqb _ _ (sym (c .before .if4 .left)),
+    ) (sym (c .is-less4 .ensures)))
 
 pub is-asked-less-spec : {M : Type 1} → statement M
 is-asked-less-spec =
-    tie.close
-    (tie.spec
-    is-less-requires
-    returns
-    sub-size
-    sub-if2
-    is-less-requires-2
-    returns-2
-    add-at
-    is-same-requires
-    is-less-requires-3
-    returns-3
-    shared-slice-read-if4
-    shared-slice-read-result
-    returns-4
-    add-is-less
-    is-less-requires-4
-    returns-5)
+    tie.close (tie.spec (λ c κs. search needs) returns (λ c. search needs) (λ c. search needs) (λ c κs. search needs) returns-2
+    (λ c. search needs) (λ c κs. search needs) (λ c κs. search needs) returns-3 (λ c. search needs) (λ c. search needs) returns-4
+    (λ c. search needs) (λ c κs. search needs) returns-5)

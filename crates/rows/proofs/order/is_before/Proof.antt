@@ -1,4 +1,4 @@
--- `rows::order::is_before` meets its contract: the name spaces decide, or, if they are the same, the names. Assumes nothing.
+-- `rows::order::is_before` meets its contract: the name spaces decide, or, if they are the same, the names.
 use mathlib.Core.Path.{_≡_, sym, ap, _∙_}
 use mathlib.Core.Bool.{true}
 use native.Mathlib.Omega.{arith}
@@ -11,83 +11,32 @@ use borrow.Author.Needs.{needs}
 use Rattle.rows.proofs.order.is_before.Statement.{statement}
 use Rattle.rows.proofs.order.is_before.Tie as tie
 
-mul-at : tie.Need-mul-at
-mul-at c = search needs
-
-mul-wide32 : tie.Need-mul-wide32
-mul-wide32 c = search needs
-
-shared-slice-read-wide32 : tie.Need-shared-slice-read-wide32
-shared-slice-read-wide32 c = search needs
-
-wide32-requires : tie.Need-wide32-requires
-wide32-requires c κs = search needs
-
-space-of-requires : tie.Need-space-of-requires
-space-of-requires c κs = search needs
-
 returns : tie.Need-returns
 unfolding less
 returns c =
-    let own : c .before .space-of .result ≡ nameSpaceOf (kindAt (c .before .before .before .before .before .before .args .rows .now) (c .before .before .before .before .before .before .args .j)) = c .before .space-of .ensures ∙ ap nameSpaceOf (c .before .before .wide32 .ensures) in
+    let a = c .before .before .before .before .before .before .args in
+    let own : c .before .space-of .result ≡ nameSpaceOf (kindAt (a .rows .now) (a .j)) = c .before .space-of .ensures
+    ∙ ap nameSpaceOf (c .before .before .wide32 .ensures) in
     rw (← own, ne-eqb _ _ (λ e. c .if1 .taken (sym e)))
 
-add-wide32 : tie.Need-add-wide32
-add-wide32 c = search needs
-
-mul-wide32-2 : tie.Need-mul-wide32-2
-mul-wide32-2 c = search needs
-
-shared-slice-read-wide32-2 : tie.Need-shared-slice-read-wide32-2
-shared-slice-read-wide32-2 c = search needs
-
-wide32-requires-2 : tie.Need-wide32-requires-2
-wide32-requires-2 c κs = search needs
-
-add-wide32-2 : tie.Need-add-wide32-2
-add-wide32-2 c = search needs
-
-add-wide32-3 : tie.Need-add-wide32-3
-add-wide32-3 c = search needs
-
-mul-wide32-3 : tie.Need-mul-wide32-3
-mul-wide32-3 c = search needs
-
-shared-slice-read-wide32-3 : tie.Need-shared-slice-read-wide32-3
-shared-slice-read-wide32-3 c = search needs
-
-wide32-requires-3 : tie.Need-wide32-requires-3
-wide32-requires-3 c κs = search needs
-
 is-asked-less-requires : tie.Need-is-asked-less-requires
-is-asked-less-requires c κs =
-    (c .before .before .before .before .before .before .before .before .before .before .pre .1 .1 .1 .1, omega (arith, c .wide323 .ensures, c .before .before .wide322 .ensures), omega (arith, c .wide323 .ensures))
+is-asked-less-requires c κs = (
+  c .before .before .before .before .before .before .before .before .before .before .pre .1 .1 .1 .1,
+  omega (arith, c .wide323 .ensures, c .before .before .wide322 .ensures),
+  omega (arith, c .wide323 .ensures),
+)
 
 returns-2 : tie.Need-returns-2
 unfolding less
 returns-2 c =
     let a = c .before .before .before .before .before .before .before .before .before .before .before .args in
-    let own : eqb (a .space) (nameSpaceOf (kindAt (a .rows .now) (a .j))) ≡ true = eq-eqb _ _ (sym (c .before .before .before .before .before .if1 .left) ∙ c .before .before .before .before .before .before .space-of .ensures ∙ ap nameSpaceOf (c .before .before .before .before .before .before .before .wide32 .ensures)) in
+    let own : eqb (a .space) (nameSpaceOf (kindAt (a .rows .now) (a .j))) ≡ true = eq-eqb _ _ (sym (c .before .before .before .before .before .if1 .left)
+    ∙ c .before .before .before .before .before .before .space-of .ensures
+    ∙ ap nameSpaceOf (c .before .before .before .before .before .before .before .wide32 .ensures)) in
     rw (own, ← (c .before .wide323 .ensures), ← (c .before .before .before .wide322 .ensures)) (c .is-asked-less .ensures)
 
 pub is-before-spec : {M : Type 1} → statement M
 is-before-spec =
-    tie.close
-    (tie.spec
-    mul-at
-    mul-wide32
-    shared-slice-read-wide32
-    wide32-requires
-    space-of-requires
-    returns
-    add-wide32
-    mul-wide32-2
-    shared-slice-read-wide32-2
-    wide32-requires-2
-    add-wide32-2
-    add-wide32-3
-    mul-wide32-3
-    shared-slice-read-wide32-3
-    wide32-requires-3
-    is-asked-less-requires
-    returns-2)
+    tie.close (tie.spec (λ c. search needs) (λ c. search needs) (λ c. search needs) (λ c κs. search needs) (λ c κs. search needs) returns
+    (λ c. search needs) (λ c. search needs) (λ c. search needs) (λ c κs. search needs) (λ c. search needs) (λ c. search needs)
+    (λ c. search needs) (λ c. search needs) (λ c κs. search needs) is-asked-less-requires returns-2)

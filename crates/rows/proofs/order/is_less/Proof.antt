@@ -1,5 +1,4 @@
 -- `rows::order::is_less` meets its contract. The loop's invariant: the whole is in the order that what is left is.
--- Assumes nothing.
 use mathlib.Core.Path.{_≡_, refl, sym, _∙_}
 use mathlib.Core.Bool.{cond}
 use Prim.Native.Nat.{_+_, _-_, _≤_}
@@ -79,19 +78,5 @@ returns-3 c =
 
 pub is-less-spec : {M : Type 1} → statement M
 is-less-spec =
-    tie.close
-    (tie.spec
-    Inv-loop
-    μ-loop
-    loop-holds
-    returns
-    shared-slice-read-if2
-    shared-slice-read-if2-2
-    shared-slice-read-result
-    shared-slice-read-result-2
-    returns-2
-    add-i
-    add-j
-    loop-less
-    loop-again
-    returns-3)
+    tie.close (tie.spec Inv-loop μ-loop loop-holds returns shared-slice-read-if2 shared-slice-read-if2-2 shared-slice-read-result
+    shared-slice-read-result-2 returns-2 add-i add-j loop-less loop-again returns-3)

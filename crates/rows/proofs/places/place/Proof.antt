@@ -1,5 +1,5 @@
 -- `rows::places::place` meets its contract. The loop's invariant: what stands before `low` does not come after what is asked for, what stands
--- from `high` on does. The measure is how many stand between. Assumes nothing.
+-- from `high` on does. The measure is how many stand between.
 use mathlib.Core.Bool.{true, false}
 use Rattle.rows.specs.Order.{less}
 use mathlib.Core.Path.{_≡_, sym, _∙_, subst}
@@ -27,7 +27,8 @@ row-below : (c : tie.After-shared-slice-known4 Inv-loop μ-loop) →
     getD (a .next .now) (l .low + (l .high - l .low) / 2) 0 < a .n
 row-below c =
     let l = c .before .before .loop in
-    c .before .before .before .before .before .before .pre .1 .0 .below (l .low + (l .high - l .low) / 2) (omega (arith, l .inv .starts)) (omega (arith, l .inv .ends, c .before .loop-test .taken))
+    c .before .before .before .before .before .before .pre .1 .0 .below (l .low + (l .high - l .low) / 2) (omega (arith, l .inv .starts))
+    (omega (arith, l .inv .ends, c .before .loop-test .taken))
 
 loop-holds : tie.Need-loop-holds Inv-loop μ-loop
 loop-holds c = between-all (c .before .before .before .pre .1 .0)
@@ -45,9 +46,6 @@ shared-slice-read-wide16 : tie.Need-shared-slice-read-wide16 Inv-loop μ-loop
 shared-slice-read-wide16 c =
     omega (arith, c .before .before .loop .inv .ends, c .before .before .before .before .before .before .pre .1 .0 .fits)
 
-wide16-requires : tie.Need-wide16-requires Inv-loop μ-loop
-wide16-requires c κs = search needs
-
 is-before-requires : tie.Need-is-before-requires Inv-loop μ-loop
 is-before-requires c κs =
     let start = c .before .before .before .before .before .before .before in
@@ -63,7 +61,8 @@ loop-again c =
     let a = c .before .before .before .before .before .before .before .before .before .args in
     let l = c .before .before .before .before .before .loop in
     lower-half (c .before .before .before .before .before .before .before .before .before .pre .1 .0) (l .inv) (omega arith) (omega arith)
-    (subst (λ (j : ℕ). less (a .space ∷ spelling (a .s .now) (a .asked)) (keyAt (a .s .now) (a .rows .now) (a .column) j) ≡ true) (c .before .before .wide16 .ensures)
+    (subst (λ (j : ℕ). less (a .space ∷ spelling (a .s .now) (a .asked)) (keyAt (a .s .now) (a .rows .now) (a .column) j) ≡ true)
+    (c .before .before .wide16 .ensures)
     (sym (c .before .is-before .ensures) ∙ c .if1 .taken))
 
 add-low : tie.Need-add-low Inv-loop μ-loop
@@ -77,7 +76,8 @@ loop-again-2 c =
     let a = c .before .before .before .before .before .before .before .before .before .args in
     let l = c .before .before .before .before .before .loop in
     upper-half (c .before .before .before .before .before .before .before .before .before .pre .1 .0) (l .inv) (omega arith) (omega arith)
-    (subst (λ (j : ℕ). less (a .space ∷ spelling (a .s .now) (a .asked)) (keyAt (a .s .now) (a .rows .now) (a .column) j) ≡ false) (c .before .before .wide16 .ensures)
+    (subst (λ (j : ℕ). less (a .space ∷ spelling (a .s .now) (a .asked)) (keyAt (a .s .now) (a .rows .now) (a .column) j) ≡ false)
+    (c .before .before .wide16 .ensures)
     (sym (c .before .is-before .ensures) ∙ c .if1 .left))
 
 returns : tie.Need-returns Inv-loop μ-loop
@@ -85,20 +85,5 @@ returns c = between-met (c .before .loop .inv) (c .loop-test .left)
 
 pub place-spec : {M : Type 1} → statement M
 place-spec =
-    tie.close
-    (tie.spec
-    Inv-loop
-    μ-loop
-    loop-holds
-    sub-middle
-    add-middle
-    mul-wide16
-    shared-slice-read-wide16
-    wide16-requires
-    is-before-requires
-    loop-less
-    loop-again
-    add-low
-    loop-less-2
-    loop-again-2
-    returns)
+    tie.close (tie.spec Inv-loop μ-loop loop-holds sub-middle add-middle mul-wide16 shared-slice-read-wide16 (λ c κs. search needs)
+    is-before-requires loop-less loop-again add-low loop-less-2 loop-again-2 returns)

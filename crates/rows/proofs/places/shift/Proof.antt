@@ -1,4 +1,4 @@
--- `rows::places::shift` meets its contract. The loop's invariant: what stood from i to n stands one place further. Assumes nothing.
+-- `rows::places::shift` meets its contract. The loop's invariant: what stood from i to n stands one place further.
 use mathlib.Core.Path.{_≡_, subst}
 use Prim.Native.Nat.{ℕ, _-_, _≤_}
 use native.Mathlib.Omega.{arith}
@@ -46,24 +46,12 @@ same-length c = c .before .loop .inv .2 .size
 
 returns : tie.Need-returns Inv-loop μ-loop
 returns c =
+    let a = c .before .before .args in
     let l = c .before .loop in
-    let e : l .i ≡ c .before .before .args .p = omega (arith, c .loop-test .left) in
-    subst (λ (x : ℕ). Shifted (c .before .before .args .next .now) (l .next) x (c .before .before .args .n)) e (l .inv .2)
+    let e : l .i ≡ a .p = omega (arith, c .loop-test .left) in
+    subst (λ (x : ℕ). Shifted (a .next .now) (l .next) x (a .n)) e (l .inv .2)
 
 pub shift-spec : {M : Type 1} → statement M
 shift-spec =
-    tie.close
-    (tie.spec
-    Inv-loop
-    μ-loop
-    loop-holds
-    sub-next
-    mul-next
-    slice-read-next
-    mul-next-2
-    slice-write-next
-    sub-i
-    loop-less
-    loop-again
-    same-length
-    returns)
+    tie.close (tie.spec Inv-loop μ-loop loop-holds sub-next mul-next slice-read-next mul-next-2 slice-write-next sub-i loop-less loop-again
+    same-length returns)

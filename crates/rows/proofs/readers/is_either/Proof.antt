@@ -1,4 +1,4 @@
--- `rows::readers::is_either` meets its contract: the tests are the definition's. Assumes nothing.
+-- `rows::readers::is_either` meets its contract: the tests are the definition's.
 use mathlib.Core.Path.{_≡_, refl}
 use mathlib.Core.Bool.{Bool, true, false, cond}
 use lib.Dec.{eqb}

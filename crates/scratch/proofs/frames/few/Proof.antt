@@ -1,5 +1,5 @@
 -- `scratch::frames::few` meets its contract: the arrays are what the judge asks for, what it refuses is refused, and of a letter the question's
--- work is done. Assumes nothing.
+-- work is done.
 use mathlib.Core.Path.{refl, subst}
 use borrow.Author.Needs.{needs}
 use native.Mathlib.Omega.{arith}
@@ -11,37 +11,17 @@ use Rattle.scratch.proofs.Arrays.{walked-lent}
 use Rattle.scratch.proofs.frames.few.Statement.{statement}
 use Rattle.scratch.proofs.frames.few.Tie as tie
 
-slice-aggregate-judge-stream : tie.Need-slice-aggregate-judge-stream
-slice-aggregate-judge-stream c = search needs
-
-slice-aggregate-judge-stream-2 : tie.Need-slice-aggregate-judge-stream-2
-slice-aggregate-judge-stream-2 c = search needs
-
-slice-aggregate-judge-stream-3 : tie.Need-slice-aggregate-judge-stream-3
-slice-aggregate-judge-stream-3 c = search needs
-
-slice-aggregate-judge-stream-4 : tie.Need-slice-aggregate-judge-stream-4
-slice-aggregate-judge-stream-4 c = search needs
-
-slice-aggregate-judge-stream-5 : tie.Need-slice-aggregate-judge-stream-5
-slice-aggregate-judge-stream-5 c = search needs
-
-slice-aggregate-judge-stream-6 : tie.Need-slice-aggregate-judge-stream-6
-slice-aggregate-judge-stream-6 c = search needs
-
 judge-stream-requires : tie.Need-judge-stream-requires
 judge-stream-requires c κs =
     let a = c .before .before .before .before .before .before .before .before .before .before in
     walked-lent (now (a .args .stream)) _ _ (a .pre .0) 6144 1024 513 (omega arith) (omega arith) (omega arith) (omega arith)
 
-enum-known-number : tie.Need-enum-known-number
-enum-known-number c = search needs
-
 cast-tell-refused : tie.Need-cast-tell-refused
 cast-tell-refused c =
     let a = c .before .before .before .before .before .before .before .before .before .before .before .before .before .before .before .before .before .before .before .before in
     let j = c .before .before .before .before .before .before .before .before .before .judge-stream in
-    let given = subst (GivesVerdict (a .args .edition) (now (a .args .stream)) (j .last .1 .1 .0) (j .last .1 .1 .1 .0) (j .last .1 .1 .1 .1 .0) (j .last .1 .1 .1 .1 .1 .0) (j .last .1 .1 .1 .1 .1 .1 .0)) (c .before .number .given .1) (j .ensures) in
+    let given = subst (GivesVerdict (a .args .edition) (now (a .args .stream)) (j .last .1 .1 .0) (j .last .1 .1 .1 .0) (j .last .1 .1 .1 .1 .0)
+    (j .last .1 .1 .1 .1 .1 .0) (j .last .1 .1 .1 .1 .1 .1 .0)) (c .before .number .given .1) (j .ensures) in
     let r = refused-stopped (a .pre .0) given in
     omega arith
 
@@ -49,83 +29,34 @@ cast-tell-refused-2 : tie.Need-cast-tell-refused-2
 cast-tell-refused-2 c =
     let a = c .before .before .before .before .before .before .before .before .before .before .before .before .before .before .before .before .before .before .before .before in
     let j = c .before .before .before .before .before .before .before .before .before .judge-stream in
-    let given = subst (GivesVerdict (a .args .edition) (now (a .args .stream)) (j .last .1 .1 .0) (j .last .1 .1 .1 .0) (j .last .1 .1 .1 .1 .0) (j .last .1 .1 .1 .1 .1 .0) (j .last .1 .1 .1 .1 .1 .1 .0)) (c .before .number .given .1) (j .ensures) in
+    let given = subst (GivesVerdict (a .args .edition) (now (a .args .stream)) (j .last .1 .1 .0) (j .last .1 .1 .1 .0) (j .last .1 .1 .1 .1 .0)
+    (j .last .1 .1 .1 .1 .1 .0) (j .last .1 .1 .1 .1 .1 .1 .0)) (c .before .number .given .1) (j .ensures) in
     let r = refused-stopped (a .pre .0) given in
     omega arith
-
-tell-refused-requires : tie.Need-tell-refused-requires
-tell-refused-requires c κs = search needs
-
-enum-known-count : tie.Need-enum-known-count
-enum-known-count c = search needs
-
-slice-aggregate-work : tie.Need-slice-aggregate-work
-slice-aggregate-work c = search needs
-
-slice-aggregate-work-2 : tie.Need-slice-aggregate-work-2
-slice-aggregate-work-2 c = search needs
-
-slice-aggregate-work-3 : tie.Need-slice-aggregate-work-3
-slice-aggregate-work-3 c = search needs
-
-slice-aggregate-work-4 : tie.Need-slice-aggregate-work-4
-slice-aggregate-work-4 c = search needs
-
-slice-aggregate-work-5 : tie.Need-slice-aggregate-work-5
-slice-aggregate-work-5 c = search needs
 
 work-requires : tie.Need-work-requires
 work-requires c κs =
     let a = c .before .before .before .before .before .before .before .before .before .before .before .before .before .before .before .before .before .before .before .before .before .before .before .before .before .before .before .before in
     let j = c .before .before .before .before .before .before .before .before .before .before .before .before .before .before .before .before .before .judge-stream in
-    let held = subst (GivesVerdict (a .args .edition) (now (a .args .stream)) (j .last .1 .1 .0) (j .last .1 .1 .1 .0) (j .last .1 .1 .1 .1 .0) (j .last .1 .1 .1 .1 .1 .0) (j .last .1 .1 .1 .1 .1 .1 .0)) (c .before .before .before .before .before .before .before .before .before .count .given .1) (j .ensures) in
+    let held = subst (GivesVerdict (a .args .edition) (now (a .args .stream)) (j .last .1 .1 .0) (j .last .1 .1 .1 .0) (j .last .1 .1 .1 .1 .0)
+    (j .last .1 .1 .1 .1 .1 .0) (j .last .1 .1 .1 .1 .1 .1 .0))
+    (c .before .before .before .before .before .before .before .before .before .count .given .1) (j .ensures) in
     (a .pre .0, (held .0, ((held .1, held .2), a .pre .1 .1)))
 
 returns : tie.Need-returns
 returns c =
     let a = c .before .before .before .before .before .before .before .before .before .before .before .before .before .before .before .before .before .before .before .before .before in
     let j = c .before .before .before .before .before .before .before .before .before .before .judge-stream in
-    let given = subst (GivesVerdict (a .args .edition) (now (a .args .stream)) (j .last .1 .1 .0) (j .last .1 .1 .1 .0) (j .last .1 .1 .1 .1 .0) (j .last .1 .1 .1 .1 .1 .0) (j .last .1 .1 .1 .1 .1 .1 .0)) (c .before .before .number .given .1) (j .ensures) in
+    let given = subst (GivesVerdict (a .args .edition) (now (a .args .stream)) (j .last .1 .1 .0) (j .last .1 .1 .1 .0) (j .last .1 .1 .1 .1 .0)
+    (j .last .1 .1 .1 .1 .1 .0) (j .last .1 .1 .1 .1 .1 .1 .0)) (c .before .before .number .given .1) (j .ensures) in
     let r = refused-stopped (a .pre .0) given in
     as-asked refl (c .tell-refused .ensures)
-    (leaves-refused (a .args .edition) (now (a .args .stream)) (now (a .args .table)) (now (a .args .flat)) (now (a .args .out)) (a .args .question) _ _ _ (r .judged))
-
-same-length : tie.Need-same-length
-same-length c = search needs
-
-same-length-2 : tie.Need-same-length-2
-same-length-2 c = search needs
-
-same-length-3 : tie.Need-same-length-3
-same-length-3 c = search needs
-
-returns-2 : tie.Need-returns-2
-returns-2 c = search needs
+    (leaves-refused (a .args .edition) (now (a .args .stream)) (now (a .args .table)) (now (a .args .flat)) (now (a .args .out))
+    (a .args .question) _ _ _ (r .judged))
 
 pub few-spec : {M : Type 1} → statement M
 few-spec =
-    tie.close
-    (tie.spec
-    slice-aggregate-judge-stream
-    slice-aggregate-judge-stream-2
-    slice-aggregate-judge-stream-3
-    slice-aggregate-judge-stream-4
-    slice-aggregate-judge-stream-5
-    slice-aggregate-judge-stream-6
-    judge-stream-requires
-    enum-known-number
-    cast-tell-refused
-    cast-tell-refused-2
-    tell-refused-requires
-    enum-known-count
-    slice-aggregate-work
-    slice-aggregate-work-2
-    slice-aggregate-work-3
-    slice-aggregate-work-4
-    slice-aggregate-work-5
-    work-requires
-    returns
-    same-length
-    same-length-2
-    same-length-3
-    returns-2)
+    tie.close (tie.spec (λ c. search needs) (λ c. search needs) (λ c. search needs) (λ c. search needs) (λ c. search needs)
+    (λ c. search needs) judge-stream-requires (λ c. search needs) cast-tell-refused cast-tell-refused-2 (λ c κs. search needs)
+    (λ c. search needs) (λ c. search needs) (λ c. search needs) (λ c. search needs) (λ c. search needs) (λ c. search needs)
+    work-requires returns (λ c. search needs) (λ c. search needs) (λ c. search needs) (λ c. search needs))

@@ -1,5 +1,5 @@
 -- `scratch::list::list_flat` meets its contract: what the walk refused is refused, and what it passed is put in a frame for as many elements as
--- the numbers have room for records. Assumes nothing.
+-- the numbers have room for records.
 use mathlib.Core.Path.{_∙_, subst}
 use Prim.Native.Nat.{_*_, _/_, _≤_}
 use borrow.Author.Needs.{needs}
@@ -17,17 +17,11 @@ use Rattle.scratch.proofs.Arrays.{walked-whole}
 use Rattle.scratch.proofs.list.list_flat.Statement.{statement}
 use Rattle.scratch.proofs.list.list_flat.Tie as tie
 
-enum-known-walked : tie.Need-enum-known-walked
-enum-known-walked c = search needs
-
 cast-few : tie.Need-cast-few
 cast-few c =
     let a = c .before .before .before .before .before .before .before in
     let h = headers-small _ _ _ (a .pre .outcome ∙ c .before .before .walked .given .1) in
     omega arith
-
-slice-aggregate-few : tie.Need-slice-aggregate-few
-slice-aggregate-few c = search needs
 
 few-requires : tie.Need-few-requires
 few-requires c κs =
@@ -38,15 +32,6 @@ few-requires c κs =
     let room : 3 * rowsNeeded s ≤ length (now (a .args .flat)) = omega arith in
     (walked-whole _ _ _ (a .pre .outcome ∙ ended), (omega arith, room))
 
-listed-of-requires : tie.Need-listed-of-requires
-listed-of-requires c κs = search needs
-
-same-length : tie.Need-same-length
-same-length c = search needs
-
-same-length-2 : tie.Need-same-length-2
-same-length-2 c = search needs
-
 returns : tie.Need-returns
 returns c = lists-told (c .listed-of .ensures) (c .before .before .before .before .before .before .few .ensures)
 
@@ -55,9 +40,6 @@ cast-many c =
     let a = c .before .before .before .before .before .before .before in
     let h = headers-small _ _ _ (a .pre .outcome ∙ c .before .before .walked .given .1) in
     omega arith
-
-slice-aggregate-many : tie.Need-slice-aggregate-many
-slice-aggregate-many c = search needs
 
 many-requires : tie.Need-many-requires
 many-requires c κs =
@@ -68,12 +50,6 @@ many-requires c κs =
     let room : 3 * rowsNeeded s ≤ length (now (a .args .flat)) = omega arith in
     (walked-whole _ _ _ (a .pre .outcome ∙ ended), room)
 
-listed-of-requires-2 : tie.Need-listed-of-requires-2
-listed-of-requires-2 c κs = search needs
-
-enum-known-walked-2 : tie.Need-enum-known-walked-2
-enum-known-walked-2 c = search needs
-
 cast-t33 : tie.Need-cast-t33
 cast-t33 c =
     let r = walk-small _ _ _ _ (c .before .before .before .before .before .before .pre .outcome ∙ c .before .walked2 .given .1) in
@@ -83,12 +59,6 @@ cast-t34 : tie.Need-cast-t34
 cast-t34 c =
     let r = walk-small _ _ _ _ (c .before .before .before .before .before .before .pre .outcome ∙ c .before .walked2 .given .1) in
     omega arith
-
-same-length-3 : tie.Need-same-length-3
-same-length-3 c = search needs
-
-same-length-4 : tie.Need-same-length-4
-same-length-4 c = search needs
 
 returns-2 : tie.Need-returns-2
 returns-2 c = lists-told (c .listed-of2 .ensures) (c .before .before .before .before .before .before .many .ensures)
@@ -102,24 +72,6 @@ returns-3 c =
 
 pub list-flat-spec : {M : Type 1} → statement M
 list-flat-spec =
-    tie.close
-    (tie.spec
-    enum-known-walked
-    cast-few
-    slice-aggregate-few
-    few-requires
-    listed-of-requires
-    same-length
-    same-length-2
-    returns
-    cast-many
-    slice-aggregate-many
-    many-requires
-    listed-of-requires-2
-    enum-known-walked-2
-    cast-t33
-    cast-t34
-    same-length-3
-    same-length-4
-    returns-2
-    returns-3)
+    tie.close (tie.spec (λ c. search needs) cast-few (λ c. search needs) few-requires (λ c κs. search needs) (λ c. search needs)
+    (λ c. search needs) returns cast-many (λ c. search needs) many-requires (λ c κs. search needs) (λ c. search needs) cast-t33 cast-t34
+    (λ c. search needs) (λ c. search needs) returns-2 returns-3)

@@ -1,2 +1,0 @@
--- Pass: what the pass sees, keeps and answers.
-pub mod Pass

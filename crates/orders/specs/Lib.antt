@@ -1,2 +1,0 @@
--- Orders: 26 by the rows.
-pub mod Orders

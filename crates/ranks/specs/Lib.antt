@@ -1,2 +1,0 @@
--- Step: one step of class A over numbers, as the code takes it.
-pub mod Step

@@ -1,3 +1,0 @@
--- Texts: the texts of matches one after another, and their lines. For the code alone, Flat: the same as numbers.
-pub mod Texts
-pub mod Flat

@@ -1,2 +1,0 @@
--- Turns: what the records of a unit tell in numbers, and how portions are counted.
-pub mod Turns
