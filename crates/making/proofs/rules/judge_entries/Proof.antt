@@ -98,18 +98,18 @@ shared-slice-read-keep-2 c =
 
 keep-requires : tie.Need-keep-requires Inv-loop μ-loop
 keep-requires c κs =
-    let entry-at = c .before .before .before .before .before .before .before .before .entry-at in
-    let rule = c .before .before .before .before .before .before .before .rule in
     let a = c .before .before .before .before .before .before .before .before .before .before .before .before .before .before .before .before .before .before .before in
     let buffer = now (a .args .buffer) in
     let numbers = now (a .args .numbers) in
     let l = c .before .before .before .before .before .before .before .before .before .before .before .before .before .loop in
     let j = l .inv .1 in
-    let r = rule .ensures in
-    let number = subst (λ (x : Entry). rule .result .number ≡ entryRefusal buffer (j .done) x) (entry-at .ensures) (r .number-is (j .done) (j .keeps)) in
+    let r = c .before .before .before .before .before .before .before .rule .ensures in
+    let number = subst (λ (x : Entry). c .before .before .before .before .before .before .before .rule .result .number ≡ entryRefusal buffer (j .done) x)
+    (c .before .before .before .before .before .before .before .before .entry-at .ensures) (r .number-is (j .done) (j .keeps)) in
     let p = r .passes (c .before .before .before .before .before .if1 .left) in
-    let lies = subst (EntryLies buffer) (entry-at .ensures) (p .lies) in
-    let hashed = p .hash-is ∙ ap (λ (x : Entry). hash (bytesIn buffer (x .identifier))) (entry-at .ensures) in
+    let lies = subst (EntryLies buffer) (c .before .before .before .before .before .before .before .before .entry-at .ensures) (p .lies) in
+    let hashed = p .hash-is ∙ ap (λ (x : Entry). hash (bytesIn buffer (x .identifier)))
+    (c .before .before .before .before .before .before .before .before .entry-at .ensures) in
     let below : l .k < length numbers / entryWidth = omega arith in (
       (j .keeps .bounded, j .keeps .filed),
       (
