@@ -28,7 +28,7 @@ mod family; // family.rt: the children of a row
 mod in_order; // in_order.rt: the order of a letter by an interchange class
 mod made; // made.rt: a letter that is made
 mod mailroom; // mailroom.rt: the normal form of a short stream
-mod text; // text.rt: the whole reading of a side
+mod side_text; // side_text.rt: the whole reading of a side
 
 pub use dating::date;
 pub use dating::dated;
@@ -37,7 +37,7 @@ pub use family::children;
 pub use in_order::order;
 pub use made::make;
 pub use mailroom::normal_short;
-pub use text::text;
+pub use side_text::text;
 
 // Checks a stream and fills the element table, thirteen numbers a row. The viewer asks this first.
 pub fn check(edition: Edition, stream: &[u8], table: &mut [u32]) -> Checked

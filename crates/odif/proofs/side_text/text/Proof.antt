@@ -6,8 +6,8 @@ use Prim.Native.Nat.{ℕ}
 use borrow.Author.Needs.{needs}
 use Rattle.octets.specs.declared.Outcome.{Outcome}
 use Rattle.answers.specs.Asking.{Sized}
-use Rattle.odif.proofs.text.text.Statement.{statement}
-use Rattle.odif.proofs.text.text.Tie as tie
+use Rattle.odif.proofs.side_text.text.Statement.{statement}
+use Rattle.odif.proofs.side_text.text.Tie as tie
 
 -- the size that was told
 few : {s : List ℕ} {walked : Outcome} {b : Bool} → b ≡ true → Sized s walked (cond b 512 4096) → Sized s walked 512
