@@ -1,5 +1,5 @@
 -- The public questions of the base, and the joined content (W-201): what each answers, and what it leaves in what it was lent. Those asked for later:
--- specs/Short, Related, Dates, FirstDates, Texts; the order is in crate order (specs/Question). Document 01, "Numbers given back" and "Table, list,
+-- specs/Short, Related, Dates, FirstDates, Text; the order is in crate order (specs/Question). Document 01, "Numbers given back" and "Table, list,
 -- part, normal form". A contract of crate odif says that the result and every lent buffer at exit are these definitions of the values at entry.
 use mathlib.Core.Path.{_≡_}
 use Prim.Native.Nat.{ℕ, _≤_}

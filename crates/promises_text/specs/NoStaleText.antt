@@ -1,6 +1,6 @@
 -- No stale text: the demand that the product began with, said for the whole screen. Whatever octets came, and whatever was in the output before, what is
 -- shown is the text of this letter: line by line in reading order, each line under its own block, and nothing else. The question is our own, the
--- viewer's (answers, specs/Texts).
+-- viewer's (answers, specs/Text).
 use mathlib.Core.Path.{_≡_}
 use mathlib.Core.List.{List, [], _∷_}
 use mathlib.Core.Option.{some}

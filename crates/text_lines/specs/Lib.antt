@@ -1,3 +1,3 @@
--- Texts: the texts of matches one after another, and their lines. For the code alone, Flat: the same as numbers.
+-- Text: the texts of matches one after another, and their lines. For the code alone, Flat: texts and lines as numbers.
 pub mod Text
 pub mod Flat

@@ -1,5 +1,5 @@
 -- The texts of the matches of a side, one after another, and a line for each: which match it is, and where its text stands. It is what the whole
--- reading shows, our own question (answers, specs/Texts). What the text of a unit is, is not said here.
+-- reading shows, our own question (answers, specs/Text). What the text of a unit is, is not said here.
 use Prim.Native.Nat.{ℕ, _+_}
 use mathlib.Core.List.{List, [], _∷_, _++_}
 use lib.ListN.{length}
