@@ -5,19 +5,19 @@ import { resolve } from 'node:path';
 import { pathToFileURL } from 'node:url';
 
 const [folder, file] = process.argv.slice(2);
-const { Library } = await import(pathToFileURL(resolve(folder, 'odif.mjs')));
-const library = await Library.load(await readFile(resolve(folder, 'odif.wasm')));
-const letter = await readFile(file).catch(why => {
+const { Refusal, load } = await import(pathToFileURL(resolve(folder, 'index.js')));
+const odif = await load();
+const stream = await readFile(file).catch(why => {
     console.error(`letter: ${why.message}`);
     process.exit(2);
 });
-let shown = library.text(letter);
-if (shown.number === 0 && shown.lines.length === 0) shown = library.text(letter, 'logical'); // a letter with its logical side alone
-if (shown.number !== 0) {
-    console.error(`refused, number ${shown.number} at octet ${shown.place}: ${shown.why}`);
-    process.exit(1);
-}
-for (const { text } of shown.lines) {
-    process.stdout.write(text);
-    if (text.at(-1) !== 10) process.stdout.write('\n');
+try {
+    for (const { octets } of odif.letter(stream).lines()) {
+        process.stdout.write(octets);
+        if (octets.at(-1) !== 10) process.stdout.write('\n');
+    }
+} catch (why) {
+    if (!(why instanceof Refusal)) throw why;
+    console.error(why.message);
+    process.exitCode = 1;
 }

@@ -65,11 +65,13 @@ def beside(kit, target, name, room, *words):
 
 
 def to_wasm(kit, target, objects, room, out):
-    """odif.wasm: every function of odif.h and a room to lend from. The stack is at the low end of the memory: one that is too short traps."""
+    """odif.wasm: every function of odif.h and a room to lend from. The stack is at the low end of the memory: one that is too short traps. Beside it its
+    loader, and the package of js/ over that."""
     shown = [f'--export={name}' for name in (*names_of('odif'), 'room', 'room_size')]
     kit.run('wasm-ld', '--no-entry', '--gc-sections', '--strip-all', '-z', f'stack-size={STACK}', '--stack-first', *shown,
             beside(kit, target, 'room', room), *objects, '-o', out / 'odif.wasm')
-    shutil.copy(HERE / 'odif.mjs', out)
+    for file in HERE / 'odif.mjs', *(one for one in (TOP / 'js').iterdir() if one.is_file()):
+        shutil.copy(file, out)
 
 
 def to_dll(kit, target, library, objects, room, out):

@@ -55,7 +55,7 @@ export class Library {
     // Puts a question by its name in C, and gives back the numbers of its answer. A lent part stands for the two parameters of its place and its length;
     // [part] for its place alone, as a struct is handed over.
     ask(name, numbers, ...parameters) {
-        if (this.#lost) throw new Error('a question before this one ran out of stack: load the library anew');
+        this.#unlessLost();
         const question = this.#odif[name], parts = parameters.flat().filter(one => one instanceof Lent);
         if (typeof question !== 'function') throw new TypeError(`there is no question ${name}`);
         if (parts.some(part => !this.#lent.has(part)) || new Set(parts).size < parts.length) throw new RangeError('what is lent is not lent here, or is lent twice');
@@ -72,23 +72,20 @@ export class Library {
             this.#next = before;
         }
     }
-    sentence(number) {
-        const octets = new Uint8Array(this.memory()), at = this.#odif.odif_sentence(number);
+    // A string of C: what a number means (odif_sentence), odif_version, odif_identity.
+    string(name, ...numbers) {
+        this.#unlessLost();
+        const octets = new Uint8Array(this.memory()), at = this.#odif[name](...numbers);
         return new TextDecoder().decode(octets.slice(at, octets.indexOf(0, at)));
     }
-
-    // The whole reading of a side, 'layout' or 'logical': its lines, each with the octets of its text; or the refusal. edition: '_1993', or nothing for 1988.
-    text(letter, side = 'layout', edition = '') {
-        this.takeBack();
-        const length = Math.min(letter.length, STREAM_LIMIT + 1); // a longer one is refused as this is
-        const stream = this.lend(length), table = this.lend(ROW_WIDTH * MOST_ELEMENTS, 4), lines = this.lend(5 * MOST_ELEMENTS, 4), out = this.lend(STREAM_LIMIT);
-        stream.octets().set(letter.subarray(0, length));
-        const [number, place, elements, count] = this.ask(`odif_${side}_text_numbers${edition}`, 5, stream, table, lines, out);
-        if (number !== 0) return { number, place, why: this.sentence(number), lines: [] };
-        const line = i => {
-            const [element, portion, unit, first, past] = lines.numbers().slice(5 * i, 5 * i + 5);
-            return { element, portion, unit, text: out.octets().slice(first, past) };
-        };
-        return { number, place, elements, lines: Array.from({ length: count }, (_, i) => line(i)) };
+    sentence(number) {
+        return this.string('odif_sentence', number);
+    }
+    // Whether a question did not come back, as one that runs out of stack: its frames stay where they were, and nothing is asked any more.
+    get lost() {
+        return this.#lost;
+    }
+    #unlessLost() {
+        if (this.#lost) throw new Error('a question before this one ran out of stack: load the library anew');
     }
 }

@@ -191,12 +191,12 @@ class Headers(unittest.TestCase):
 
 
 class Bindings(unittest.TestCase):
-    """The table of docs/BINDINGS.md: what it names is there, and it names every function of the headers."""
+    """The table of docs/BINDINGS.md: what it names is there, and it names every function of the headers. Of JavaScript js/tests tell."""
 
     def setUp(self):
         lines = (REPOSITORY / "docs/BINDINGS.md").read_text().split("## ")[0].splitlines()
-        rows = [line.split("|")[2:6] for line in lines if line.startswith("| ")][1:]
-        self.c, self.rust, self.python, self.command = ([name for cell in column for name in re.findall(r"`([^`]+)`", cell)] for column in zip(*rows))
+        rows = [line.split("|")[2:7] for line in lines if line.startswith("| ")][1:]
+        self.c, self.rust, self.python, _, self.command = ([name for cell in column for name in re.findall(r"`([^`]+)`", cell)] for column in zip(*rows))
 
     def test_c(self):
         headers = "".join((REPOSITORY / f"include/{name}.h").read_text() for name in ("odif", "pm1"))
