@@ -63,7 +63,6 @@ export class Questions {
             return part;
         };
         try {
-            library.takeBack();
             const fields = STRUCTS[OF_NONE[name] ?? OF_BOTH_EDITIONS[name]].split(' ');
             const told = library.ask(name + endOf(edition), fields.length, ...parameters.map(given));
             const answer = Object.fromEntries(fields.map((field, i) => [field, told[i]]));

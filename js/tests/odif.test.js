@@ -55,6 +55,20 @@ test('lines say where they stand', () => {
     assert.equal(latin(read.text()), lines.map(line => latin(line.octets)).join(''));
 });
 
+test('elements', () => {
+    const range = (first, past) => ({ first, past }), none = { objectType: null, identifier: null, logicalIdentifier: null, portions: null, content: null, parent: null };
+    const read = odif.letter(hex('A000 A20F020104310A4103312030A103120130 A313310E4005312030203084053320312030040178'));
+    assert.deepEqual([...read.elements].map(element => ({ ...element })), [
+        { ...none, kind: Kind.DOCUMENT_PROFILE, place: range(0, 2) },
+        { ...none, kind: Kind.LAYOUT_OBJECT, objectType: 4, place: range(2, 19), identifier: range(11, 14), portions: range(16, 19) },
+        { ...none, kind: Kind.TEXT_UNIT, place: range(19, 40), identifier: range(25, 30), logicalIdentifier: range(32, 37), content: range(39, 40) },
+    ]);
+    assert.equal(read.headers, odif.check(read.stream).headers);
+    const other = letter('annex-d-1'), all = [...other.elements.keys()];
+    assert.ok(all.some(number => other.elements[number].parent === 2));
+    for (const number of all) assert.deepEqual(other.children(number), all.filter(one => other.elements[one].parent === number));
+});
+
 test('pieces are joined', () => {
     const read = letter('in-pieces'), { first, past } = read.elements[read.lines()[0].unit].content;
     assert.equal(latin(read.text()), 'Hi');
@@ -244,7 +258,8 @@ test('the types name what is there', () => {
         const body = types.match(new RegExp(`^export (?:class|interface) ${name}\\b[^{]*\\{(.*?)^\\}`, 'ms'))[1];
         const named = [...body.matchAll(/^    (?:readonly )?(\w+)[(:?]/gm)].map(([, member]) => member);
         const kind = Object.getPrototypeOf(one), methods = kind === Object.prototype ? [] : Object.getOwnPropertyNames(kind);
-        const there = [...Object.keys(one), ...methods].filter(member => member !== 'constructor' && !(member === 'name' && one === refused));
+        const plain = one === refused ? ['constructor', 'name'] : ['constructor'];
+        const there = [...Object.keys(one), ...methods].filter(member => !plain.includes(member));
         assert.deepEqual(named.sort(), there.sort(), name);
     }
 });
