@@ -28,7 +28,10 @@ cast-t18 c = omega (
   c .before .before .before .before .before .before .before .before .before .before .before .before .before .before .before .before .before .pre,
 )
 
+returns : tie.Need-returns
+returns c = search needs
+
 pub cells-of-spec : {M : Type 1} → statement M
 cells-of-spec =
     tie.close (tie.spec (λ c. search needs) (λ c. search needs) (λ c. search needs) (λ c. search needs) (λ c. search needs)
-    (λ c. search needs) cast-t13 cast-t14 cast-t15 cast-t16 cast-t17 cast-t18 (λ c. search needs))
+    (λ c. search needs) cast-t13 cast-t14 cast-t15 cast-t16 cast-t17 cast-t18 returns)
