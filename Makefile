@@ -8,8 +8,8 @@
 #   make install-lib TARGET=aarch64-linux CC=aarch64-linux-gnu-gcc    the same installed, on Linux with shared libraries, which CC makes
 #
 # The command needs cargo and the crates that it uses besides; where they are Debian's, rust/packages makes them ready first. `make` installs no
-# packages. An installed archive is the proved one with a small member of C beside it (odif_sentence, pm1_identity), and a shared library is made
-# of these two. Where a shared library is new in a folder that the system's loader looks into, let root run ldconfig after `make install`.
+# packages. An installed archive is that of target/here with a small member of C beside it (odif_sentence, pm1_identity), and a shared library is made
+# of it. target/here has the proved archive on x86-64, and on ARM what is compiled of its module (packaging/archive). Where a shared library is new in a folder that the system's loader looks into, let root run ldconfig after `make install`.
 
 PREFIX  ?= /usr/local
 DESTDIR ?=
@@ -43,36 +43,33 @@ portable: $(if $(TARGET),$(addprefix $(out)/,$(archives)))
 $(proved) $(desk): target/staticlib/lib%.a: FORCE
 	packaging/archive $*
 
+# the same for this machine, which packaging/archive puts there too
+target/here/lib%.a: target/staticlib/lib%.a ;
+
 $(out):
 	mkdir -p $@
 
 ifdef TARGET
 $(addprefix $(out)/,$(archives)) &: $(proved) $(desk) $(wildcard portable/*.py portable/build portable/*.c include/*) | $(out)
 	portable/build $(TARGET) $(out)
-
-$(out)/libodif.so $(out)/libpm1.so: $(out)/lib%.so: $(out)/lib%.a
-	$(CC) $(shared) -Wl,-soname,lib$*.so.$(series) -Wl,--whole-archive $< -Wl,--no-whole-archive -o $@
 else
 $(out)/odif_sentence.o: include/odif_sentence.c include/odif.h $(proved) | $(out)
 	$(CC) $(CFLAGS) -fPIC -Iinclude -DODIF_ARCHIVE_SHA256='"$(call sha256,$(proved))"' -c $< -o $@
 
-$(out)/libodif.a: $(proved) $(out)/odif_sentence.o
-	cp $(proved) $@
+$(out)/libodif.a: target/here/libodif.a $(out)/odif_sentence.o
+	cp $< $@
 	$(AR) rs $@ $(out)/odif_sentence.o
 
 $(out)/pm1_identity.o: include/pm1_identity.c include/pm1.h $(desk) | $(out)
 	$(CC) $(CFLAGS) -fPIC -Iinclude -DPM1_ARCHIVE_SHA256='"$(call sha256,$(desk))"' -c $< -o $@
 
-$(out)/libpm1.a: $(desk) $(out)/pm1_identity.o
-	cp $(desk) $@
+$(out)/libpm1.a: target/here/libpm1.a $(out)/pm1_identity.o
+	cp $< $@
 	$(AR) rs $@ $(out)/pm1_identity.o
-
-$(out)/libodif.so: $(proved) $(out)/odif_sentence.o
-	$(CC) $(shared) -Wl,-soname,libodif.so.$(series) $(out)/odif_sentence.o -Wl,--whole-archive $(proved) -Wl,--no-whole-archive -o $@
-
-$(out)/libpm1.so: $(desk) $(out)/pm1_identity.o
-	$(CC) $(shared) -Wl,-soname,libpm1.so.$(series) $(out)/pm1_identity.o -Wl,--whole-archive $(desk) -Wl,--no-whole-archive -o $@
 endif
+
+$(out)/libodif.so $(out)/libpm1.so: $(out)/lib%.so: $(out)/lib%.a
+	$(CC) $(shared) -Wl,-soname,lib$*.so.$(series) -Wl,--whole-archive $< -Wl,--no-whole-archive -o $@
 
 # PREFIX may differ from the last time, so these are made anew each time
 $(out)/odif.pc $(out)/pm1.pc: $(out)/%.pc: packaging/%.pc.in FORCE | $(out)

@@ -25,7 +25,7 @@ def text_of(kit, library, room):
     for file, what in (module, 'module'), (archive_file, 'archive'):
         if not file.exists() or hashlib.sha256(file.read_bytes()).hexdigest() != told.get(what):
             stop(f'{file.relative_to(TOP)} is not there as it was proved: packaging/archive {library} proves the library and keeps its module')
-    kit.clang('-x', 'ir', module, '-S', '-emit-llvm', '-O0', '-Xclang', '-disable-llvm-passes', '-o', room / 'module.ll')
+    kit.clang('--target=x86_64-unknown-linux-gnu', '-x', 'ir', module, '-S', '-emit-llvm', '-O0', '-Xclang', '-disable-llvm-passes', '-o', room / 'module.ll')
     return (room / 'module.ll').read_text('utf-8')
 
 

@@ -6,7 +6,7 @@ use std::process::Command;
 
 fn main() {
     let here = PathBuf::from(env::var_os("CARGO_MANIFEST_DIR").expect("cargo sets it"));
-    let folder = env::var_os("ODIF_LIB_DIR").map_or_else(|| here.join("../../target/staticlib"), PathBuf::from);
+    let folder = env::var_os("ODIF_LIB_DIR").map_or_else(|| here.join("../../target/here"), PathBuf::from);
     println!("cargo::rerun-if-changed=build.rs");
     println!("cargo::rerun-if-env-changed=ODIF_LIB_DIR");
     if let Some(log) = output("git", &["-C", &here.display().to_string(), "rev-parse", "--git-path", "logs/HEAD"]) {
@@ -19,14 +19,23 @@ fn main() {
     for (name, value) in [("COMMIT", commit), ("TOOLCHAIN", toolchain), ("LIBRARY", library), ("DESK", desk)] {
         println!("cargo::rustc-env=ODIF_{name}={}", value.as_deref().unwrap_or("not known"));
     }
+    // The proved archives are for x86-64.
+    let machine = env::var("CARGO_CFG_TARGET_ARCH").expect("cargo sets it");
+    let compiled =
+        if machine == "x86_64" { String::new() } else { format!(", compiled for {machine} from its module") };
+    println!("cargo::rustc-env=ODIF_COMPILED={compiled}");
     // The manual page's: of the commit, so that it is the same wherever it is built.
     println!("cargo::rustc-env=ODIF_DATE={}", date.unwrap_or_default());
 }
 
-/// The SHA-256 of a file, which cargo shall look at each time.
-fn hash(file: &Path) -> Option<String> {
-    println!("cargo::rerun-if-changed={}", file.display());
-    output("sha256sum", &[&file.display().to_string()])?.split(' ').next().map(String::from)
+/// The SHA-256 of the proved archive that a library is made of; cargo shall look at the library each time. One for another
+/// machine says it among its octets, as an installed one does, and else it is the proved archive itself.
+fn hash(library: &Path) -> Option<String> {
+    println!("cargo::rerun-if-changed={}", library.display());
+    let (name, file) = (library.file_name()?.to_str()?, library.display().to_string());
+    output("grep", &["-a", "-o", &format!("{name} sha256 [0-9a-f]\\{{64\\}}"), &file])
+        .and_then(|said| said.split(' ').next_back().map(String::from))
+        .or_else(|| output("sha256sum", &[&file])?.split(' ').next().map(String::from))
 }
 
 /// The first line that a command writes, if it can be run and ends well.

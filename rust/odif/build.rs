@@ -1,4 +1,4 @@
-//! Finds the proved library `libodif.a`: in `ODIF_LIB_DIR`, else where `packaging/archive odif` leaves it in this tree; and with
+//! Finds the library `libodif.a`: in `ODIF_LIB_DIR`, else where `packaging/archive odif` leaves that for this machine; and with
 //! the feature `pm1` the PM1 desk, `libpm1.a`, beside it.
 //!
 //! The archive is copied to cargo's own folder and linked from there. What cargo keeps of this script's words then names
@@ -10,7 +10,7 @@ use std::{env, fs};
 fn main() {
     println!("cargo::rerun-if-changed=build.rs");
     println!("cargo::rerun-if-env-changed=ODIF_LIB_DIR");
-    let folder = PathBuf::from(env::var_os("ODIF_LIB_DIR").unwrap_or("../../target/staticlib".into()));
+    let folder = PathBuf::from(env::var_os("ODIF_LIB_DIR").unwrap_or("../../target/here".into()));
     let out = PathBuf::from(env::var_os("OUT_DIR").expect("cargo's folder for this script"));
     println!("cargo::rustc-link-search=native={}", out.display());
     println!("cargo::rustc-env=ODIF_ARCHIVE={}", out.join("libodif.a").display());
@@ -27,7 +27,7 @@ fn link(library: &str, folder: &Path, out: &Path) {
     println!("cargo::rerun-if-changed={}", archive.display());
     if let Err(error) = fs::copy(&archive, out.join(&file)) {
         let archive = std::path::absolute(&archive).unwrap_or(archive);
-        println!("cargo::error=the proved library {} cannot be taken: {error}", archive.display());
+        println!("cargo::error=the library {} cannot be taken: {error}", archive.display());
         println!(
             "cargo::error=run `packaging/archive {library}` at the repository's root, or name its folder in ODIF_LIB_DIR"
         );

@@ -8,8 +8,10 @@ const VERSION: &str = concat!(
     env!("CARGO_PKG_VERSION"),
     "\nlibrary   libodif.a, sha256 ",
     env!("ODIF_LIBRARY"),
+    env!("ODIF_COMPILED"),
     "\ndesk      libpm1.a, sha256 ",
     env!("ODIF_DESK"),
+    env!("ODIF_COMPILED"),
     "\ncommit    ",
     env!("ODIF_COMMIT"),
     "\ntoolchain ",
@@ -20,7 +22,8 @@ const VERSION: &str = concat!(
 const MARK: &[u8] = b"libodif.a sha256 ";
 const DIGITS: usize = 64;
 
-/// The SHA-256 of the proved archive `libodif.a` that is in this command: the library's identity.
+/// The SHA-256 of the proved archive `libodif.a` that is in this command, or whose module is, compiled for its machine: the
+/// library's identity.
 pub const LIBRARY: &str = env!("ODIF_LIBRARY");
 
 /// The version of the command and its commit: line ends after blocks and character sets are its own work.
