@@ -1,4 +1,4 @@
--- `mailroom::rows_needed` meets its contract: the elements counted so far and those of the rest are those of the stream.
+-- `lent::rows_needed` meets its contract: the elements counted so far and those of the rest are those of the stream.
 use mathlib.Core.Path.{_≡_, sym, ap, _∙_, subst}
 use mathlib.Core.List.{List}
 use Prim.Native.Nat.{ℕ, _+_, _-_, _≤_}
@@ -7,8 +7,8 @@ use borrow.Author.Needs.{needs}
 use Rattle.runs.specs.Runs.{itemsOf, wholeStream, tops, Fine, Meeting}
 use Rattle.runs.specs.declared.Run.{Run}
 use Rattle.contents.proofs.Firsts.{met}
-use Rattle.mailroom.proofs.rows_needed.Statement.{statement}
-use Rattle.mailroom.proofs.rows_needed.Tie as tie
+use Rattle.lent.proofs.rows_needed.Statement.{statement}
+use Rattle.lent.proofs.rows_needed.Tie as tie
 
 abbrev topsIn : List ℕ → Run → ℕ
 topsIn s r = tops (itemsOf s r)

@@ -1,7 +1,7 @@
--- `mailroom::size_for` meets its contract: its tests are those of the definition.
+-- `lent::size_for` meets its contract: its tests are those of the definition.
 use borrow.Author.Tests.{le-leb, lt-leb}
-use Rattle.mailroom.proofs.size_for.Statement.{statement}
-use Rattle.mailroom.proofs.size_for.Tie as tie
+use Rattle.lent.proofs.size_for.Statement.{statement}
+use Rattle.lent.proofs.size_for.Tie as tie
 
 returns : tie.Need-returns
 returns c = simp (le-leb _ _ (c .if1 .taken))

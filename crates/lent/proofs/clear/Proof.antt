@@ -1,4 +1,4 @@
--- `mailroom::clear` meets its contract: the numbers before i are 0.
+-- `lent::clear` meets its contract: the numbers before i are 0.
 use mathlib.Core.Path.{_≡_, refl, ap, _∙_}
 use Prim.Native.Nat.{ℕ, _-_, _<_, _≤_}
 use native.Mathlib.Omega.{arith}
@@ -7,8 +7,8 @@ use lib.ListN.{length, getD, set, length-set}
 use lib.Seq.{getD-set-same, getD-set-other}
 use borrow.Author.Tests.{eqb-true, eqb-false}
 use borrow.Table.Steps.{cases}
-use Rattle.mailroom.proofs.clear.Statement.{statement}
-use Rattle.mailroom.proofs.clear.Tie as tie
+use Rattle.lent.proofs.clear.Statement.{statement}
+use Rattle.lent.proofs.clear.Tie as tie
 
 abbrev Inv-loop : tie.InvT-loop
 Inv-loop index₀ i₀ index i = (i ≤ length index₀) × (length index ≡ length index₀) × ((j : ℕ) → j < i → getD index j 0 ≡ 0)
