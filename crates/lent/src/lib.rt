@@ -6,7 +6,7 @@ use letters::Verdict;
 use octets::Outcome;
 use runs::Met;
 ghost use mathlib.Core.Path.{_≡_};
-ghost use Prim.Native.Nat.{_≤_};
+ghost use Prim.Native.Nat.{ℕ, _≤_};
 ghost use lib.ListN.{length};
 ghost use Rattle.octets.specs.Walk.{walkOf};
 ghost use Rattle.runs.specs.Runs.{wholeStream, Fine};
@@ -85,14 +85,8 @@ fn clear(index: &mut [u16])
 }
 
 // Judges the elements of a stream that the walk has passed, in scratch of which the index is as long as it is to be.
-fn judge(
-    edition: Edition,
-    stream: &[u8],
-    headers: usize,
-    rows: &mut [u32],
-    index: &mut [u16],
-) -> Reason
-    requires { ⌜ walkOf (now stream) ≡ Outcome.Ended (length (now stream)) headers ⌝ }
+fn judge(edition: Edition, stream: &[u8], rows: &mut [u32], index: &mut [u16]) -> Reason
+    requires { ⌜ ((at : ℕ) × (headers : ℕ) × (walkOf (now stream) ≡ Outcome.Ended at headers)) ⌝ }
     requires { ⌜ (rowsFor (rowsNeeded (now stream)) ≤ length (now rows)) × (length (now index) ≡ indexFor (rowsNeeded (now stream))) ⌝ }
     ensures { λ r. ⌜ r ≡ ruled edition (now (stream .entry)) ⌝ }
 {
@@ -123,7 +117,7 @@ pub fn refused_by(edition: Edition, stream: &[u8], rows: &mut [u32], index: &mut
             number: number as u32,
             place: place as u32,
         },
-        Outcome::Ended { at: _, count } => {
+        Outcome::Ended { at: _, count: _ } => {
             let needed = rows_needed(stream);
             let size = 6 * size_for(needed) + 2;
             if rows.len() < needed * rows::SCRATCH_WIDTH {
@@ -138,7 +132,7 @@ pub fn refused_by(edition: Edition, stream: &[u8], rows: &mut [u32], index: &mut
                     place: 0,
                 };
             }
-            judge(edition, stream, count, rows, &mut index[..size])
+            judge(edition, stream, rows, &mut index[..size])
         }
     }
 }

@@ -35,7 +35,8 @@ use Rattle.promises.proofs.Demand2.{demand2}
 use Rattle.promises.proofs.Mailroom.{mailroom}
 use Rattle.promises.proofs.Editions.{editions}
 use Rattle.promises_lent.specs.Promises.{Walked, Lacking, AsShort, Lent, Promises}
-use Rattle.promises_lent.proofs.Sizes.{size-fits, size-tight, rows-grow, index-grows}
+use Rattle.lent.proofs.Cleared.{size-for}
+use Rattle.promises_lent.proofs.Sizes.{size-tight, rows-grow, index-grows}
 
 -- a number more that may be given
 wider : {s : List ℕ} {number place : ℕ} → Answered s (18 ∷ []) number place → Answered s (18 ∷ 32 ∷ []) number place
@@ -159,7 +160,7 @@ pub promises : Promises
 unfolding writtenLent writtenLentOutput
 promises = record {
   each = λ edition s out rows index. lent s rows index edition out;
-  fits = size-fits;
+  fits = λ n l. size-for n l .enough;
   tight = size-tight;
   grows = λ m n l. (rows-grow m n l, index-grows m n l);
   determined = λ x y. (x .answered ∙ sym (y .answered), x .put ∙ sym (y .put));

@@ -7,7 +7,6 @@ use native.Mathlib.Omega.{arith}
 use lib.Dec.{leb}
 use borrow.Author.Tests.{leb-true, leb-false, le-leb, lt-leb}
 use borrow.Table.Steps.{cases}
-use Rattle.elements.specs.Judge.{mostElements}
 use Rattle.lent.specs.Lent.{rowsFor, sizeFor, indexFor}
 
 -- a choice of k for what is at most k, and of another size for the rest
@@ -78,16 +77,7 @@ rows-grow m n l = omega arith
 pub index-grows : (m n : ℕ) → m ≤ n → indexFor m ≤ indexFor n
 index-grows m n l = omega (arith, size-grows m n l)
 
--- for no fewer elements than there are
-fits-by : (k : ℕ) (f : ℕ → ℕ) (n : ℕ) → n ≤ f n → n ≤ choice k f n
-fits-by k f n l = cases (leb n k) (λ t. rw t (leb-true n k t)) (λ t. rw t l)
-
-pub size-fits : (n : ℕ) → n ≤ mostElements → n ≤ sizeFor n
-size-fits n l =
-    fits-by 64 from-128 n (fits-by 128 from-256 n (fits-by 256 from-512 n (fits-by 512 from-1024 n (fits-by 1024 from-2048 n
-    (fits-by 2048 (λ m. 4096) n l)))))
-
--- and for less than twice as many: where the sizes before are too small, n is more than half the next one
+-- an index is made for less than twice as many elements as there are: where the sizes before are too small, n is more than half the next one
 tight-by : (j k : ℕ) (f : ℕ → ℕ) (n : ℕ) → k ≡ j + j → j < n → (k < n → f n < n + n) → choice k f n < n + n
 tight-by j k f n twice over rest =
     cases (leb n k) (λ t. rw t (omega (arith, twice, over))) (λ t. rw t (rest (leb-false n k t)))
