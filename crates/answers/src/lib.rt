@@ -10,7 +10,7 @@ ghost use mathlib.Core.Path.{_≡_};
 ghost use lib.ListN.{length};
 ghost use Rattle.octets.specs.Walk.{walkOf};
 ghost use Rattle.rows.specs.Columns.{identifierColumn, logicalColumn};
-ghost use Rattle.rows.specs.Lookup.{Filed};
+ghost use Rattle.rows.specs.Index.{Filed};
 ghost use Rattle.letters.specs.Scratch.{LetterRows};
 ghost use Rattle.answers.specs.Answers.{refusedCheck, CheckOutcome};
 ghost use Rattle.answers.specs.Questions.{reasonTold, checkTold, locatedTold, copiedTold, listedTold, relatedTold, orderedTold};
@@ -195,20 +195,19 @@ fn check_judged(
     stream: &[u8],
     headers: u32,
     rows: &[u32],
-    head: &[u16],
-    next: &[u16],
+    index: &[u16],
     count: usize,
     table: &mut [u32],
 ) -> Checked
     requires { ⌜ walkOf (now stream) ≡ Outcome.Ended (length (now stream)) headers ⌝ }
     requires { ⌜ LetterRows edition (now stream) (now rows) count ⌝ }
-    requires { ⌜ Filed (now stream) (now rows) identifierColumn (now head) (now next) count ⌝ }
+    requires { ⌜ Filed (now stream) (now rows) identifierColumn (now index) count ⌝ }
     ensures { λ r. ⌜ CheckOutcome edition (now (stream .entry)) (now (table .entry)) r (now (table .exit)) ⌝ }
 {
     if table.len() / TABLE_WIDTH < count {
         return refused_check(TOO_FEW_ROWS, 0, headers);
     }
-    table::fill(stream, rows, head, next, count, table);
+    table::fill(stream, rows, index, count, table);
     Checked {
         number: 0,
         place: 0,
@@ -380,10 +379,7 @@ pub fn work(
     headers: u32,
     question: Question,
     rows: &[u32],
-    head: &[u16],
-    next: &[u16],
-    head2: &[u16],
-    next2: &[u16],
+    index: &[u16],
     count: usize,
     table: &mut [u32],
     flat: &mut [u32],
@@ -391,7 +387,7 @@ pub fn work(
 ) -> Told
     requires { ⌜ walkOf (now stream) ≡ Outcome.Ended (length (now stream)) headers ⌝ }
     requires { ⌜ LetterRows edition (now stream) (now rows) count ⌝ }
-    requires { ⌜ Filed (now stream) (now rows) identifierColumn (now head) (now next) count × Filed (now stream) (now rows) logicalColumn (now head2) (now next2) count ⌝ }
+    requires { ⌜ BothFiled (now stream) (now rows) (now index) count ⌝ }
     requires { ⌜ Roomy question (now stream) (length (now flat)) ⌝ }
     ensures { λ r. ⌜ Leaves edition question (now (stream .entry)) (now (table .entry)) (now (flat .entry)) (now (out .entry)) r (now (table .exit))
         (now (flat .exit)) (now (out .exit)) ⌝ }
@@ -406,8 +402,7 @@ pub fn work(
             stream,
             headers,
             rows,
-            head,
-            next,
+            index,
             count,
             table,
         )),
@@ -432,10 +427,7 @@ pub fn work(
             side,
             room,
             rows,
-            head,
-            next,
-            head2,
-            next2,
+            index,
             count,
             table,
             flat,
@@ -446,8 +438,7 @@ pub fn work(
             row,
             room,
             rows,
-            head,
-            next,
+            index,
             count,
             table,
             flat,
@@ -457,8 +448,7 @@ pub fn work(
             stream,
             class,
             rows,
-            head,
-            next,
+            index,
             count,
         )),
         Question::Text { side, room } => tell_text(text_judged(
@@ -467,10 +457,7 @@ pub fn work(
             side,
             room,
             rows,
-            head,
-            next,
-            head2,
-            next2,
+            index,
             count,
             table,
             flat,
