@@ -8,7 +8,7 @@ use lib.ListN.{length}
 use Rattle.runs.specs.Runs.{tops}
 use Rattle.portions.specs.Portions.{mostPortions}
 use Rattle.rows.specs.Rows.{scratchWidth}
-use Rattle.rows.specs.Index.{identifierIndex, logicalIndex, Room, Unused}
+use Rattle.rows.specs.Index.{identifierIndex, logicalIndex, HasLinks, Unused}
 use Rattle.elements.specs.Judge.{mostElements}
 use Rattle.letters.specs.declared.Verdict.{Verdict}
 use Rattle.letters.specs.declared.Verdict.the-variants.{Accepted, Refused}
@@ -23,7 +23,7 @@ pub record Lent (s scratch index bounds : List ℕ) : Type 0 where
   pub identifiers : Unused (identifierIndex index)
   pub logicals : Unused (logicalIndex index)
   pub rows : rowsNeeded s * scratchWidth ≤ length scratch
-  pub links : Room index (rowsNeeded s)
+  pub links : HasLinks index (rowsNeeded s)
   pub portions : 2 * mostPortions ≤ length bounds
 
 -- 11 ".. or the stream is empty", at 0; otherwise n elements are accepted

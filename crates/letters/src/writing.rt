@@ -8,7 +8,7 @@ ghost use lib.ListN.{length};
 ghost use lib.Seq.{sets, paste};
 ghost use Rattle.octets.specs.Walk.{streamLimit};
 ghost use Rattle.rows.specs.Rows.{scratchWidth};
-ghost use Rattle.rows.specs.Index.{BothFiled, Room};
+ghost use Rattle.rows.specs.Index.{BothFiled, HasLinks};
 ghost use Rattle.elements.specs.Judge.{Element, mostElements};
 ghost use Rattle.elements.specs.ElementRows.{cells};
 ghost use Rattle.elements.specs.Says.{RowPlaced};
@@ -67,7 +67,7 @@ pub fn add_row(s: &[u8], rows: &mut [u32], index: &mut [u16], n: usize, row: Row
     requires { ⌜ ((table : List Row) × (done : List Element) × DoneRows (now s) (now rows) n table done) ⌝ }
     requires { ⌜ BothFiled (now s) (now rows) (now index) n ⌝ }
     requires { ⌜ RowPlaced (now s) row × (hashes ≡ hashesOf (now s) row) × (length (now s) ≤ streamLimit) ⌝ }
-    requires { ⌜ (n * scratchWidth + scratchWidth ≤ length (now rows)) × Room (now index) (n + 1) × (n < mostElements) ⌝ }
+    requires { ⌜ (n * scratchWidth + scratchWidth ≤ length (now rows)) × HasLinks (now index) (n + 1) × (n < mostElements) ⌝ }
     ensures { λ _. ⌜ Grows (now (s .entry)) (now (rows .entry)) (now (rows .exit)) n row ⌝ }
     ensures { λ _. ⌜ BothFiled (now (s .entry)) (now (rows .exit)) (now (index .exit)) (n + 1) ⌝ }
 {

@@ -5,7 +5,7 @@ use Prim.Native.Nat.{ℕ, _-_, _≤_}
 use native.Mathlib.Omega.{arith}
 use lib.ListN.{length, take, drop, length-append, length-drop, drop-of-length-le}
 use lib.Seq.{length-take-le, take-all, take-at, drop-at}
-use Rattle.rows.specs.Index.{halfOf, identifierIndex, logicalIndex, Room}
+use Rattle.rows.specs.Index.{halfOf, identifierIndex, logicalIndex, HasLinks}
 use Rattle.rows.proofs.Parts.{links-alike}
 
 module _ (index : List ℕ) {at : ℕ} (is : at ≡ halfOf (length index)) where
@@ -69,8 +69,8 @@ module _ (index : List ℕ) {at : ℕ} (is : at ≡ halfOf (length index)) where
         ∙ append-nil other
 
 -- slices as long as each other have as much room
-pub room-alike : (index index' : List ℕ) {n : ℕ} → length index' ≡ length index → Room index n → Room index' n
-room-alike index index' e room =
+pub links-enough : (index index' : List ℕ) {n : ℕ} → length index' ≡ length index → HasLinks index n → HasLinks index' n
+links-enough index index' e room =
     let first : length (identifierIndex index') ≡ length (identifierIndex index) =
     length-take-le (halfOf (length index')) index' (omega arith) ∙ ap halfOf e ∙ sym (length-take-le (halfOf (length index)) index (omega arith)) in
     let second : length (logicalIndex index') ≡ length (logicalIndex index) =
@@ -79,5 +79,5 @@ room-alike index index' e room =
       logicals = omega (arith, room .logicals, links-alike (logicalIndex index) (logicalIndex index') second);
     }
 
-pub less-room : {index : List ℕ} {n m : ℕ} → m ≤ n → Room index n → Room index m
-less-room l room = record { identifiers = omega (arith, room .identifiers); logicals = omega (arith, room .logicals) }
+pub fewer-links : {index : List ℕ} {n m : ℕ} → m ≤ n → HasLinks index n → HasLinks index m
+fewer-links l room = record { identifiers = omega (arith, room .identifiers); logicals = omega (arith, room .logicals) }

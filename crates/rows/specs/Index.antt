@@ -39,7 +39,7 @@ pub record BothFiled (s rows index : List ℕ) (n : ℕ) : Type 0 where
   pub logicals : Filed s rows logicalColumn (logicalIndex index) n
 
 -- either index has links for n rows
-pub record Room (index : List ℕ) (n : ℕ) : Type 0 where
+pub record HasLinks (index : List ℕ) (n : ℕ) : Type 0 where
   pub identifiers : n < length (linksOf (identifierIndex index))
   pub logicals : n < length (linksOf (logicalIndex index))
 

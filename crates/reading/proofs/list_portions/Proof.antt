@@ -21,11 +21,11 @@ use Rattle.reading.proofs.list_portions.Statement.{statement}
 use Rattle.reading.proofs.list_portions.Tie as tie
 
 abbrev Inv-loop : tie.InvT-loop
-Inv-loop s rows head next n side element flat₀ count name hashed left₀ place₀ total₀ flat left place total =
+Inv-loop s rows index n side element flat₀ count name hashed left₀ place₀ total₀ flat left place total =
     Listing side s rows n element flat₀ count flat left place total
 
 abbrev μ-loop : tie.MeasureT-loop
-μ-loop s rows head next n side element flat₀ count name hashed left₀ place₀ total₀ flat left place total =
+μ-loop s rows index n side element flat₀ count name hashed left₀ place₀ total₀ flat left place total =
     left .limit - left .at
 
 -- what is known at the entry, from the loop's head

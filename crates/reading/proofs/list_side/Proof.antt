@@ -6,10 +6,10 @@ use Rattle.reading.proofs.list_side.Statement.{statement}
 use Rattle.reading.proofs.list_side.Tie as tie
 
 abbrev Inv-loop : tie.InvT-loop
-Inv-loop s rows head next n side flat₀ element₀ count₀ flat element count = Turning side s rows n flat₀ flat element count
+Inv-loop s rows index n side flat₀ element₀ count₀ flat element count = Turning side s rows n flat₀ flat element count
 
 abbrev μ-loop : tie.MeasureT-loop
-μ-loop s rows head next n side flat₀ element₀ count₀ flat element count = n - element
+μ-loop s rows index n side flat₀ element₀ count₀ flat element count = n - element
 
 loop-holds : tie.Need-loop-holds Inv-loop μ-loop
 loop-holds c =
