@@ -1,16 +1,17 @@
 -- A row more: it is written after the others, which stay as they are, and both indexes take it up.
-use mathlib.Core.Path.{_≡_, refl, ap, _∙_}
+use mathlib.Core.Path.{_≡_, refl, sym, ap, _∙_}
 use mathlib.Core.List.{List, [], _∷_, _++_}
-use Prim.Native.Nat.{ℕ, _+_, _*_, _<_, _≤_}
+use Prim.Native.Nat.{ℕ, _+_, _-_, _*_, _<_, _≤_}
 use native.Mathlib.Omega.{arith}
-use lib.ListN.{length, getD, length-append}
+use lib.ListN.{length, getD, take, drop, length-append}
 use lib.Seq.{slice, sets}
 use Rattle.octets.specs.Walk.{streamLimit}
 use Rattle.rows.specs.Rows.{scratchWidth}
 use Rattle.rows.specs.Columns.{identifierColumn, logicalColumn, valueAt, Bounded}
-use Rattle.rows.specs.Index.{Filed}
+use Rattle.rows.specs.Index.{Filed, halfOf, logicalIndex, BothFiled}
 use Rattle.rows.proofs.RowsKept.{row-value, row-bounded}
 use Rattle.rows.proofs.FiledKept.{row-filed}
+use Rattle.rows.proofs.Halves.{second-half, first-back-size, first-back-first, first-back-second, second-back-first, second-back-second}
 use Rattle.elements.specs.declared.Row.{Row}
 use Rattle.elements.specs.Judge.{Element}
 use Rattle.elements.specs.ElementRows.{cells}
@@ -75,3 +76,21 @@ module _ {s scratch scratch' : List ℕ} {n : ℕ} {row : Row} {table : List Row
         identifiers = bounded-at identifierColumn (omega arith) (placed .identifier .order) (placed .identifier .inside) (holds .identifiers);
         logicals = bounded-at logicalColumn (omega arith) (placed .logical .order) (placed .logical .inside) (holds .logicals);
       }
+
+-- both indexes with a row more, the one given back after the other
+module _ {half : ℕ} (index : List ℕ) (is : half ≡ halfOf (length index)) (first : List ℕ)
+    (size : length first ≡ length (take half index)) where
+  pub still : half ≡ halfOf (length (first ++ drop half index))
+  still = is ∙ sym (ap halfOf (first-back-size index is first size))
+
+  -- the second is as it was
+  pub second-left : let index' = first ++ drop half index in take (length index' - half) (drop half index') ≡ logicalIndex index
+  second-left = second-half (first ++ drop half index) still ∙ first-back-second index is first size
+
+  pub both-filed : {s scratch : List ℕ} {n : ℕ} (second : List ℕ) → let index' = first ++ drop half index in length second ≡ length (take (length index' - half) (drop half index'))
+      → Filed s scratch identifierColumn first n → Filed s scratch logicalColumn second n
+      → BothFiled s scratch (take half index' ++ (second ++ drop (length index' - half) (drop half index'))) n
+  both-filed second long by-identifier by-logical = record {
+    identifiers = rw (second-back-first (first ++ drop half index) still second long, first-back-first index is first size) by-identifier;
+    logicals = rw (second-back-second (first ++ drop half index) still second long) by-logical;
+  }
