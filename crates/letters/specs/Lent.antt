@@ -1,5 +1,4 @@
 -- What is lent to the judge of a stream, and what it says when no element is left.
-use mathlib.Core.Path.{_≡_}
 use mathlib.Core.Bool.{cond}
 use mathlib.Core.List.{List}
 use Prim.Native.Nat.{ℕ, _*_, min, _≤_}
