@@ -3,6 +3,7 @@ use mathlib.Core.Path.{_≡_, sym, ap, _∙_, subst}
 use mathlib.Core.List.{List, _++_, append-nil}
 use Prim.Native.Nat.{ℕ, _+_, _-_, _<_, _≤_}
 use native.Mathlib.Omega.{arith}
+use lib.Bits.{and-le-r}
 use lib.ListN.{length, getD, set, take, drop, length-set, length-append, length-drop, drop-of-length-le}
 use lib.Seq.{length-take-le, take-all, take-at, drop-at, take-set-le, take-set-lt, drop-set-lt, drop-set-add, getD-take, getD-drop}
 use Rattle.names.specs.Hash.{hashes, hash, bucket}
@@ -14,8 +15,16 @@ use Rattle.rows.specs.Index.{linksBegin, headsOf, linksOf, Filed}
 use Rattle.rows.proofs.ChainGrow.{added, links-added}
 use Rattle.rows.proofs.Filing.{filed-in-order, filed-by-hash, filed-first}
 
+-- the heads are not all: two numbers at least are left
+pub links-inside : (size : ℕ) → linksBegin size ≤ size - 2
+unfolding linksBegin
+links-inside size = and-le-r (size - 1) (size - 2)
+
 pub heads-size : (index : List ℕ) → length (headsOf index) ≡ linksBegin (length index)
-heads-size index = length-take-le (linksBegin (length index)) index (omega arith)
+heads-size index = length-take-le (linksBegin (length index)) index (omega (arith, links-inside (length index)))
+
+pub some-links : (index : List ℕ) → 0 < length (headsOf index) → 2 ≤ length index
+some-links index some = omega (arith, heads-size index, links-inside (length index))
 
 pub links-size : (index : List ℕ) → length (linksOf index) ≡ length index - linksBegin (length index)
 links-size index = length-drop (linksBegin (length index)) index
@@ -46,7 +55,7 @@ module _ (index : List ℕ) {at : ℕ} (is : at ≡ linksBegin (length index)) w
   links-part = take-all (length index - at) (drop at index) (omega (arith, length-drop at index)) ∙ ap (λ (k : ℕ). drop k index) is
 
   pub heads-count : at ≡ length (take at index)
-  heads-count = sym (length-take-le at index (omega arith))
+  heads-count = sym (length-take-le at index (omega (arith, links-inside (length index))))
 
   -- what holds of heads and links holds of the parts as they are lent, and the other way round
   pub to-parts : (P : (heads links : List ℕ) → Type 0) → P (headsOf index) (linksOf index) → P (take at index) (take (length index - at) (drop at index))
@@ -84,7 +93,7 @@ module _ (index : List ℕ) {at : ℕ} (is : at ≡ linksBegin (length index)) w
     back = take at index ++ (links ++ drop (length index - at) (drop at index))
 
     front : length (take at index) ≡ at
-    front = length-take-le at index (omega arith)
+    front = length-take-le at index (omega (arith, links-inside (length index)))
 
     links-long : length links ≡ length index - at
     links-long = size ∙ length-take-le (length index - at) (drop at index) (omega (arith, length-drop at index))
@@ -95,6 +104,7 @@ module _ (index : List ℕ) {at : ℕ} (is : at ≡ linksBegin (length index)) w
         ∙ omega (
           arith,
           front,
+          links-inside (length index),
           links-long,
           length-append links (drop (length index - at) (drop at index)),
           length-drop (length index - at) (drop at index),

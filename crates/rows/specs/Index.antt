@@ -1,17 +1,18 @@
--- The indexes as they are lent. An index is one slice: the heads of the chains and after them the links, two heads for each link.
+-- The indexes as they are lent. An index is one slice: the heads of the chains and after them the links.
 -- A letter has two: the first half of what is lent is that of the identifiers, the second that of the logical identifiers.
 use mathlib.Core.Path.{_≡_}
 use mathlib.Core.List.{List}
-use Prim.Native.Nat.{ℕ, _*_, _/_, _<_, _≤_}
+use Prim.Native.Nat.{ℕ, _-_, _/_, _<_, _≤_}
+use lib.Bits.{bitAnd}
 use lib.ListN.{length, take, drop}
 use Rattle.names.specs.Hash.{hashes}
 use Rattle.rows.specs.Columns.{identifierColumn, logicalColumn}
 use Rattle.rows.specs.Chains.{Empty}
 use Rattle.rows.specs.Lookup.{markOf, FiledIn}
 
--- where the links begin in an index of this size
-abbrev pub linksBegin : (size : ℕ) → ℕ
-linksBegin size = size / 3 * 2
+-- where the links begin in an index of this size: one less, without its lowest bit. Of 3 * 2^k + 1 numbers 2 * 2^k are heads, two for each row.
+unfoldable pub linksBegin : (size : ℕ) → ℕ
+linksBegin size = bitAnd (size - 1) (size - 2)
 
 abbrev pub headsOf : (index : List ℕ) → List ℕ
 headsOf index = take (linksBegin (length index)) index

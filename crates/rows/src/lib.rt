@@ -1,5 +1,6 @@
 // The rows of a letter: which numbers a row has and where, the kinds of elements and who shares a name space; and look-up of rows by their names.
 ghost use mathlib.Core.Path.{_≡_};
+ghost use Prim.Native.Nat.{_+_, _≤_};
 ghost use Rattle.rows.specs.Rows.{nameSpaceOf};
 ghost use Rattle.rows.specs.Index.{linksBegin, halfOf, identifierIndex, logicalIndex};
 
@@ -67,11 +68,12 @@ fn wide32(x: u32) -> usize
     x as usize
 }
 
-// Where the links of an index begin, after its heads.
+// Where the links of an index begin, after its heads. The mailroom's box divides by a call, so there is no quotient.
 fn links_begin(size: usize) -> usize
-    ensures { λ r. ⌜ r ≡ linksBegin size ⌝ }
+    requires { ⌜ 2 ≤ size ⌝ }
+    ensures { λ r. ⌜ (r ≡ linksBegin size) × (r + 2 ≤ size) ⌝ }
 {
-    size / 3 * 2
+    (size - 1) & (size - 2)
 }
 
 // The index of the identifiers in what is lent for a letter, and after it that of the logical identifiers.

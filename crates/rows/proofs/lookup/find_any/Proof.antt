@@ -8,7 +8,7 @@ use Rattle.names.specs.Asked.{spelling}
 use Rattle.rows.specs.Lookup.{FindsFrom, FiledIn}
 use Rattle.rows.proofs.Finding.{finds-more}
 use Rattle.rows.proofs.Filing.{bounded-front, by-hash-from, in-order-from}
-use Rattle.rows.proofs.Parts.{heads-count, to-parts}
+use Rattle.rows.proofs.Parts.{some-links, heads-count, to-parts}
 use borrow.Author.Needs.{needs}
 use Rattle.rows.proofs.lookup.find_any.Statement.{statement}
 use Rattle.rows.proofs.lookup.find_any.Tie as tie
@@ -20,11 +20,14 @@ filed : (c : tie.After-next) →
     FiledIn (a .s .now) (a .rows .now) (a .column) (take at (a .index .now)) (take (length (a .index .now) - at) (drop at (a .index .now))) (a .n)
 filed c =
     let a = c .before .before .before .before .before .before .args in
-    to-parts (a .index .now) (c .before .before .links-begin .ensures) (λ (h l : List ℕ). FiledIn (a .s .now) (a .rows .now) (a .column) h l (a .n))
+    to-parts (a .index .now) (c .before .before .links-begin .ensures .0) (λ (h l : List ℕ). FiledIn (a .s .now) (a .rows .now) (a .column) h l (a .n))
     (c .before .before .before .before .before .before .pre .1 .0)
 
+links-begin-requires : tie.Need-links-begin-requires
+links-begin-requires c κs = some-links (c .before .before .before .args .index .now) (c .before .before .before .pre .1 .0 .by-hash .some-buckets)
+
 slice-aggregate-head : tie.Need-slice-aggregate-head
-slice-aggregate-head c = heads-count (c .before .before .before .before .before .args .index .now) (c .before .links-begin .ensures)
+slice-aggregate-head c = heads-count (c .before .before .before .before .before .args .index .now) (c .before .links-begin .ensures .0)
 
 chained-of-requires : tie.Need-chained-of-requires
 chained-of-requires c κs = omega (arith, filed c .room)
@@ -61,5 +64,5 @@ returns-2 c =
 
 pub find-any-spec : {M : Type 1} → statement M
 find-any-spec =
-    tie.close (tie.spec (λ c κs. search needs) slice-aggregate-head (λ c. search needs) (λ c. search needs) (λ c. search needs)
+    tie.close (tie.spec links-begin-requires slice-aggregate-head (λ c. search needs) (λ c. search needs) (λ c. search needs)
     (λ c. search needs) chained-of-requires find-later-requires (λ c. search needs) enum-told find-requires returns returns-2)

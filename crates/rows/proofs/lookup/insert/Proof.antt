@@ -9,7 +9,7 @@ use Rattle.rows.specs.Lookup.{AtMost}
 use Rattle.rows.specs.Index.{headsOf, linksOf}
 use Rattle.rows.proofs.Links.{none-at-most}
 use Rattle.rows.proofs.Filing.{by-hash-all, filed-absent}
-use Rattle.rows.proofs.Parts.{links-size, mark-last, head-at, bucket-asked, filed-grown}
+use Rattle.rows.proofs.Parts.{some-links, links-size, mark-last, head-at, bucket-asked, filed-grown}
 use borrow.Author.Needs.{needs}
 use Rattle.rows.proofs.lookup.insert.Statement.{statement}
 use Rattle.rows.proofs.lookup.insert.Tie as tie
@@ -27,11 +27,14 @@ returns-2 c =
     let some : 0 < length (linksOf (a .index .now)) = omega (arith, p .1 .1 .0) in
     (filed-absent (p .1 .0) (mark-last (a .index .now) some) (p .1 .1 .0) (c .before .before .before .if1 .left) (λ l. absurd (omega (arith, l, c .if2 .taken))), refl)
 
+links-begin-requires : tie.Need-links-begin-requires
+links-begin-requires c κs = some-links (c .before .before .before .before .before .before .before .before .args .index .now) (c .before .before .before .before .before .before .before .before .pre .1 .0 .by-hash .some-buckets)
+
 bucket-of-requires : tie.Need-bucket-of-requires
 bucket-of-requires c κs =
     let a = c .before .before .before .before .before .before .before .before .before .args in
     let p = c .before .before .before .before .before .before .before .before .before .pre in
-    bucket-asked (a .index .now) (valueAt (a .s .now) (a .rows .now) (a .column) (a .n)) (c .links-begin .ensures) (p .1 .0 .by-hash) (p .1 .1 .1 .1)
+    bucket-asked (a .index .now) (valueAt (a .s .now) (a .rows .now) (a .column) (a .n)) (c .links-begin .ensures .0) (p .1 .0 .by-hash) (p .1 .1 .1 .1)
 
 insert-requires : tie.Need-insert-requires
 insert-requires c κs =
@@ -46,7 +49,7 @@ returns-3 c =
     let p = c .before .before .before .before .before .before .before .before .before .before .before .before .before .before .before .before .pre in
     let e = c .before .before .insert .ensures in
     let b = c .before .before .before .before .before .before .bucket-of in
-    let is = c .before .before .before .before .before .before .before .links-begin .ensures in
+    let is = c .before .before .before .before .before .before .before .links-begin .ensures .0 in
     let some : 0 < length (linksOf (a .index .now)) = omega (arith, p .1 .1 .0) in
     let none : getD (headsOf (a .index .now)) (b .result) 0 ≡ 0 = sym (head-at (a .index .now) is (b .result) (b .ensures .1)) ∙ c .before .before .before .before .if3 .taken in
     let few : AtMost (linksOf (a .index .now)) 7 (getD (headsOf (a .index .now)) (b .result) 0) =
@@ -60,5 +63,5 @@ pub insert-spec : {M : Type 1} → statement M
 insert-spec =
     tie.close (tie.spec sub-last (λ c. search needs) slice-read-if1 (λ c κs. search needs) (λ c. search needs) (λ c. search needs)
     (λ c. search needs) (λ c. search needs) (λ c. search needs) (λ c. search needs) (λ c. search needs) (λ c. search needs)
-    (λ c. search needs) returns-2 (λ c κs. search needs) bucket-of-requires (λ c. search needs) (λ c. search needs) insert-requires
+    (λ c. search needs) returns-2 links-begin-requires bucket-of-requires (λ c. search needs) (λ c. search needs) insert-requires
     (λ c. search needs) returns-3 (λ c κs. search needs) (λ c. search needs) (λ c. search needs))

@@ -8,7 +8,7 @@ use Rattle.rows.specs.Columns.{valueAt}
 use Rattle.rows.specs.Lookup.{Ordered, markOf}
 use Rattle.rows.specs.Index.{linksOf}
 use Rattle.rows.proofs.Filing.{by-hash-all, in-order-some}
-use Rattle.rows.proofs.Parts.{links-size, links-part, mark-last, bucket-asked, filed-grown, filed-back, filed-marked}
+use Rattle.rows.proofs.Parts.{some-links, links-size, links-part, mark-last, bucket-asked, filed-grown, filed-back, filed-marked}
 use borrow.Author.Needs.{needs}
 use Rattle.rows.proofs.lookup.insert_any.Statement.{statement}
 use Rattle.rows.proofs.lookup.insert_any.Tie as tie
@@ -23,6 +23,9 @@ marks c =
 sub-last : tie.Need-sub-last
 sub-last c = omega (arith, c .before .before .before .pre .1 .1 .0, links-size (c .before .before .before .args .index .now))
 
+links-begin-requires : tie.Need-links-begin-requires
+links-begin-requires c κs = some-links (c .before .before .before .args .index .now) (c .before .before .before .pre .1 .0 .by-hash .some-buckets)
+
 slice-read-wide16 : tie.Need-slice-read-wide16
 slice-read-wide16 c = omega (arith, c .before .before .before .before .before .pre .1 .1 .0, links-size (c .before .before .before .before .before .args .index .now))
 
@@ -30,7 +33,7 @@ put-in-order-requires : tie.Need-put-in-order-requires
 put-in-order-requires c κs =
     let a = c .before .before .before .before .before .before .before .before .args in
     let p = c .before .before .before .before .before .before .before .before .pre in
-    let part = links-part (a .index .now) (c .before .before .before .before .links-begin .ensures) in (
+    let part = links-part (a .index .now) (c .before .before .before .before .links-begin .ensures .0) in (
       p .0,
       (
         subst (λ (l : List ℕ). Ordered (a .s .now) (a .rows .now) (a .column) l (c .before .before .wide16 .result - 1) (a .n)) (sym part)
@@ -44,14 +47,14 @@ returns c =
     let a = c .before .before .before .before .before .before .before .before .before .before .before .args in
     let p = c .before .before .before .before .before .before .before .before .before .before .before .pre in
     let e = c .before .before .put-in-order .ensures in
-    filed-back (a .index .now) (p .1 .0) (c .before .before .before .before .before .before .before .links-begin .ensures) (marks (c .before .before .before .before .before)) (p .1 .1 .0) (c .before .before .before .before .if1 .taken)
+    filed-back (a .index .now) (p .1 .0) (c .before .before .before .before .before .before .before .links-begin .ensures .0) (marks (c .before .before .before .before .before)) (p .1 .1 .0) (c .before .before .before .before .if1 .taken)
     (c .before .before .put-in-order .last .1 .1 .0) (e .0) (e .1)
 
 bucket-of-requires : tie.Need-bucket-of-requires
 bucket-of-requires c κs =
     let a = c .before .before .before .before .before .before .before .before .args in
     let p = c .before .before .before .before .before .before .before .before .pre in
-    bucket-asked (a .index .now) (valueAt (a .s .now) (a .rows .now) (a .column) (a .n)) (c .before .before .before .before .links-begin .ensures) (p .1 .0 .by-hash)
+    bucket-asked (a .index .now) (valueAt (a .s .now) (a .rows .now) (a .column) (a .n)) (c .before .before .before .before .links-begin .ensures .0) (p .1 .0 .by-hash)
     (p .1 .1 .1 .1)
 
 has-room-requires : tie.Need-has-room-requires
@@ -64,7 +67,7 @@ has-room-requires c κs =
         column = a .column;
         indexed = by-hash-all (p .1 .0) (marks (c .before .before .before)) (c .before .before .if1 .left);
       },
-      omega (arith, c .bucket-of .ensures .1, c .before .before .before .before .before .links-begin .ensures),
+      omega (arith, c .bucket-of .ensures .1, c .before .before .before .before .before .links-begin .ensures .0),
     )
 
 insert-requires : tie.Need-insert-requires
@@ -79,13 +82,13 @@ returns-2 c =
     let e = c .before .before .insert .ensures in
     let b = c .before .before .before .before .before .before .bucket-of .ensures in (
       filed-grown (a .index .now) (c .before .before .insert .last .1 .1 .0) (p .1 .0) (a .hashed) (marks (c .before .before .before .before .before .before .before .before .before)) (p .1 .1 .0) (c .before .before .before .before .before .before .before .before .if1 .left) (e .0) (e .1 .0) (e .1 .1)
-          (c .before .before .before .before .before .before .before .before .before .before .before .links-begin .ensures) (b .0) (b .1) (c .before .before .before .before .before .has-room .ensures (c .before .before .before .before .if2 .taken)),
+          (c .before .before .before .before .before .before .before .before .before .before .before .links-begin .ensures .0) (b .0) (b .1) (c .before .before .before .before .before .has-room .ensures (c .before .before .before .before .if2 .taken)),
       e .1 .0,
     )
 
 slice-write-index : tie.Need-slice-write-index
 slice-write-index c =
-    omega (arith, c .before .before .before .before .before .before .before .before .before .before .before .pre .1 .1 .0, c .before .before .before .before .before .before .before .links-begin .ensures, links-size (c .before .before .before .before .before .before .before .before .before .before .before .args .index .now))
+    omega (arith, c .before .before .before .before .before .before .before .before .before .before .before .pre .1 .1 .0, c .before .before .before .before .before .before .before .links-begin .ensures .0, links-size (c .before .before .before .before .before .before .before .before .before .before .before .args .index .now))
 
 slice-write-index-2 : tie.Need-slice-write-index-2
 slice-write-index-2 c =
@@ -95,11 +98,11 @@ returns-3 : tie.Need-returns-3
 returns-3 c =
     let a = c .before .before .before .before .before .before .before .before .before .before .before .args in
     let p = c .before .before .before .before .before .before .before .before .before .before .before .pre in
-    filed-marked (a .index .now) (p .1 .0) (c .before .before .before .before .before .before .before .links-begin .ensures) (marks (c .before .before .before .before .before)) (p .1 .1 .0) (c .before .before .before .before .if1 .left)
+    filed-marked (a .index .now) (p .1 .0) (c .before .before .before .before .before .before .before .links-begin .ensures .0) (marks (c .before .before .before .before .before)) (p .1 .1 .0) (c .before .before .before .before .if1 .left)
 
 pub insert-any-spec : {M : Type 1} → statement M
 insert-any-spec =
-    tie.close (tie.spec sub-last (λ c κs. search needs) (λ c. search needs) slice-read-wide16 (λ c κs. search needs) (λ c. search needs)
+    tie.close (tie.spec sub-last links-begin-requires (λ c. search needs) slice-read-wide16 (λ c κs. search needs) (λ c. search needs)
     (λ c. search needs) (λ c. search needs) (λ c. search needs) (λ c. search needs) put-in-order-requires (λ c. search needs) returns
     bucket-of-requires has-room-requires insert-requires (λ c. search needs) returns-2 (λ c. search needs) (λ c. search needs)
     (λ c. search needs) slice-write-index (λ c. search needs) (λ c. search needs) (λ c. search needs) slice-write-index-2
