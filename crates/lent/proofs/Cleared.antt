@@ -10,7 +10,6 @@ use lib.Seq.{length-take-le, getD-take, getD-drop}
 use borrow.Author.Tests.{leb-true, leb-false}
 use borrow.Table.Steps.{cases}
 use Rattle.rows.specs.Chains.{Empty}
-use Rattle.rows.specs.Lookup.{markOf}
 use Rattle.rows.specs.Index.{linksBegin, headsOf, linksOf, halfOf, identifierIndex, logicalIndex, Unused}
 use Rattle.elements.specs.Judge.{mostElements}
 use Rattle.letters.specs.Lent.{rowsNeeded, Lent}

@@ -1,6 +1,6 @@
 -- The mailroom's question in lent scratch, case by case: 1, scratch that is too small, and else what the question in scratch of the library's own
 -- answers.
-use mathlib.Core.Path.{_≡_, refl, ap, sym, _∙_}
+use mathlib.Core.Path.{_≡_, ap, _∙_}
 use mathlib.Core.Bool.{true, false}
 use mathlib.Core.List.{List}
 use Prim.Native.Nat.{ℕ, _<_, _≤_}

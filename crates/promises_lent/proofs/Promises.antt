@@ -1,8 +1,8 @@
 -- Each promise by whether the scratch is too small: then 32 is given, and else the short normal form's answer, whose promises are those of crate
 -- promises.
-use mathlib.Core.Path.{_≡_, refl, ap, sym, _∙_, subst}
+use mathlib.Core.Path.{_≡_, refl, ap, sym, _∙_}
 use mathlib.Core.Logic.{_⊎_, inl, inr, _↔_}
-use mathlib.Core.Bool.{Bool, true, false, cond, _||_, false≢true}
+use mathlib.Core.Bool.{Bool, true, false, false≢true}
 use mathlib.Core.List.{List, [], _∷_}
 use Prim.Native.Nat.{ℕ, suc, _<_, _≤_}
 use native.Mathlib.Omega.{arith}
@@ -16,20 +16,16 @@ use Rattle.octets.specs.declared.Outcome.{Outcome}
 use Rattle.octets.specs.declared.Outcome.the-variants.{Ended, Refused}
 use Rattle.octets.specs.Walk.{Items, noItems, item, walkOf}
 use Rattle.runs.specs.Runs.{tops}
-use Rattle.tree.specs.Tree.{treeOf}
 use Rattle.normal.specs.Short.{shortLimit}
 use Rattle.elements.specs.declared.Edition.{Edition}
-use Rattle.elements.specs.declared.Edition.the-variants.{Of1988, Of1993}
 use Rattle.elements.specs.Judge.{Element, mostElements}
 use Rattle.elements.specs.ElementRows.{rowsOf}
-use Rattle.letters.specs.Letter.{letter, refusal, letterIn, itemsOfStream}
+use Rattle.letters.specs.Letter.{letter, letterIn, itemsOfStream}
 use Rattle.letters.specs.Lent.{rowsNeeded}
 use Rattle.answers.specs.declared.Written.{Written}
-use Rattle.answers.specs.Short.{writtenShort, writtenShortOutput}
 use Rattle.answers.proofs.Letters.{refused-walk}
-use Rattle.lent.specs.Lent.{rowsFor, indexFor, tooFew, onceWalked, lacks, isLacking, writtenLent, writtenLentOutput}
+use Rattle.lent.specs.Lent.{rowsFor, indexFor, tooFew, onceWalked, isLacking, writtenLent, writtenLentOutput}
 use Rattle.promises.specs.Demands.{Answered}
-use Rattle.promises.specs.Editions.{agree}
 use Rattle.promises.proofs.Demand1.{told-own}
 use Rattle.promises.proofs.Demand2.{demand2}
 use Rattle.promises.proofs.Mailroom.{mailroom}

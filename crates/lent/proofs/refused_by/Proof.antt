@@ -11,7 +11,7 @@ use Rattle.octets.specs.Walk.{walkOf}
 use Rattle.runs.proofs.Laws.{stream-fine}
 use Rattle.letters.specs.Lent.{rowsNeeded}
 use Rattle.answers.proofs.Small.{walk-small}
-use Rattle.lent.specs.Lent.{rowsFor, sizeFor, indexFor}
+use Rattle.lent.specs.Lent.{rowsFor, sizeFor}
 use Rattle.lent.proofs.Cleared.{size-for}
 use Rattle.lent.proofs.Ruling.{by-walk, few-rows, few-index, enough}
 use Rattle.lent.proofs.refused_by.Statement.{statement}
