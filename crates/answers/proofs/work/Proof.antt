@@ -21,14 +21,14 @@ check-judged-requires c κs = let a = c .before .before .before .before .before 
 list-judged-requires : tie.Need-list-judged-requires
 list-judged-requires c κs =
     let a = c .before .before .before .before .before .before .before .before .before .before .before .before .before .before in
-    let room = subst (λ (q : Question). Roomy q (now (a .args .stream)) (length (now (a .args .flat))))
+    let room = subst (λ (q : Question). Roomy q (now (a .args .s)) (length (now (a .args .flat))))
     (c .before .before .before .question3 .given .1) (a .pre .1 .1 .1) in
     (accepts-walked (a .pre .0), (a .pre .1 .0, (a .pre .1 .1 .0, room)))
 
 children-judged-requires : tie.Need-children-judged-requires
 children-judged-requires c κs =
     let a = c .before .before .before .before .before .before .before .before .before .before .before .before .before .before in
-    let room = subst (λ (q : Question). Roomy q (now (a .args .stream)) (length (now (a .args .flat))))
+    let room = subst (λ (q : Question). Roomy q (now (a .args .s)) (length (now (a .args .flat))))
     (c .before .before .before .question4 .given .1) (a .pre .1 .1 .1) in
     (accepts-walked (a .pre .0), (a .pre .1 .0, (a .pre .1 .1 .0 .0, room)))
 
@@ -40,14 +40,14 @@ order-judged-requires c κs =
 text-judged-requires : tie.Need-text-judged-requires
 text-judged-requires c κs =
     let a = c .before .before .before .before .before .before .before .before .before .before .before .before .before .before .before in
-    let room = subst (λ (q : Question). Roomy q (now (a .args .stream)) (length (now (a .args .flat))))
+    let room = subst (λ (q : Question). Roomy q (now (a .args .s)) (length (now (a .args .flat))))
     (c .before .before .before .before .question6 .given .1) (a .pre .1 .1 .1) in
     (accepts-walked (a .pre .0), (a .pre .1 .0, (a .pre .1 .1 .0, room)))
 
 returns : tie.Need-returns
 returns c =
     let a = c .before .before .before .before .before .before .before .before .before .before .before .before in
-    let s = now (a .args .stream) in
+    let s = now (a .args .s) in
     let l = accepted-judged (a .pre .0) (a .pre .1 .0) in
     as-asked (c .before .enum-told .given .1) (c .tell-reason .ensures)
     (leaves-rules (a .args .edition) s (now (a .args .table)) (now (a .args .flat)) (now (a .args .out)) (sym (ruled-letter (a .args .edition) s (l .judged))))
@@ -56,49 +56,49 @@ returns-2 : tie.Need-returns-2
 returns-2 c =
     let a = c .before .before .before .before .before .before .before .before .before .before .before .before .before .before .before .before in
     as-asked (c .before .before .before .before .before .enum-told2 .given .1) (c .tell-checked .ensures)
-    (leaves-check (a .args .edition) (now (a .args .stream)) (now (a .args .table)) (now (a .args .flat)) (now (a .args .out))
+    (leaves-check (a .args .edition) (now (a .args .s)) (now (a .args .table)) (now (a .args .flat)) (now (a .args .out))
     (c .before .before .before .check-judged .ensures))
 
 returns-3 : tie.Need-returns-3
 returns-3 c =
     let a = c .before .before .before .before .before .before .before .before .before .before .before .before .before .before in
     as-asked (c .before .before .before .question .given .1) (c .tell-located .ensures)
-    (leaves-content (a .args .edition) (now (a .args .stream)) (now (a .args .table)) (now (a .args .flat)) (now (a .args .out))
+    (leaves-content (a .args .edition) (now (a .args .s)) (now (a .args .table)) (now (a .args .flat)) (now (a .args .out))
     (c .before .locate-judged .ensures))
 
 returns-4 : tie.Need-returns-4
 returns-4 c =
     let a = c .before .before .before .before .before .before .before .before .before .before .before .before .before .before .before .before .before in
     as-asked (c .before .before .before .before .before .before .question2 .given .1) (c .tell-copied .ensures)
-    (leaves-joined (a .args .edition) (now (a .args .stream)) (now (a .args .table)) (now (a .args .flat)) (now (a .args .out))
+    (leaves-joined (a .args .edition) (now (a .args .s)) (now (a .args .table)) (now (a .args .flat)) (now (a .args .out))
     (c .before .before .before .join-judged .ensures))
 
 returns-5 : tie.Need-returns-5
 returns-5 c =
     let a = c .before .before .before .before .before .before .before .before .before .before .before .before .before .before .before .before .before .before .before .before in
     as-asked (c .before .before .before .before .before .before .before .before .before .question3 .given .1) (c .tell-listed .ensures)
-    (leaves-list (a .args .edition) (now (a .args .stream)) (now (a .args .table)) (now (a .args .flat)) (now (a .args .out))
+    (leaves-list (a .args .edition) (now (a .args .s)) (now (a .args .table)) (now (a .args .flat)) (now (a .args .out))
     (c .before .before .before .before .before .list-judged .ensures))
 
 returns-6 : tie.Need-returns-6
 returns-6 c =
     let a = c .before .before .before .before .before .before .before .before .before .before .before .before .before .before .before .before .before .before .before .before in
     as-asked (c .before .before .before .before .before .before .before .before .before .question4 .given .1) (c .tell-related .ensures)
-    (leaves-children (a .args .edition) (now (a .args .stream)) (now (a .args .table)) (now (a .args .flat)) (now (a .args .out))
+    (leaves-children (a .args .edition) (now (a .args .s)) (now (a .args .table)) (now (a .args .flat)) (now (a .args .out))
     (c .before .before .before .before .before .children-judged .ensures))
 
 returns-7 : tie.Need-returns-7
 returns-7 c =
     let a = c .before .before .before .before .before .before .before .before .before .before .before .before .before .before in
     as-asked (c .before .before .before .question5 .given .1) (c .tell-ordered .ensures)
-    (leaves-order (a .args .edition) (now (a .args .stream)) (now (a .args .table)) (now (a .args .flat)) (now (a .args .out))
+    (leaves-order (a .args .edition) (now (a .args .s)) (now (a .args .table)) (now (a .args .flat)) (now (a .args .out))
     (c .before .order-judged .ensures))
 
 returns-8 : tie.Need-returns-8
 returns-8 c =
     let a = c .before .before .before .before .before .before .before .before .before .before .before .before .before .before .before .before .before .before .before .before .before .before .before in
     as-asked (c .before .before .before .before .before .before .before .before .before .before .before .before .question6 .given .1)
-    (c .tell-text .ensures) (leaves-text (a .args .edition) (now (a .args .stream)) (now (a .args .table)) (now (a .args .flat)) (now (a .args .out))
+    (c .tell-text .ensures) (leaves-text (a .args .edition) (now (a .args .s)) (now (a .args .table)) (now (a .args .flat)) (now (a .args .out))
     (c .before .before .before .before .before .before .before .text-judged .ensures))
 
 pub work-spec : {M : Type 1} → statement M

@@ -8,7 +8,7 @@ use Rattle.making.proofs.judge_few.Statement.{statement}
 use Rattle.making.proofs.judge_few.Tie as tie
 
 judge-entries-requires : tie.Need-judge-entries-requires
-judge-entries-requires c κs = zeros-roomy (now (c .before .before .before .before .before .args .numbers)) 1536 256 129
+judge-entries-requires c κs = zeros-roomy (now (c .before .before .before .before .before .args .numbers)) 1536 385 129 refl
     (inl (omega (arith, c .before .before .before .before .before .pre))) (omega arith) (omega arith) (omega arith)
 
 pub judge-few-spec : {M : Type 1} → statement M

@@ -8,7 +8,7 @@ use Rattle.making.proofs.judge_many.Statement.{statement}
 use Rattle.making.proofs.judge_many.Tie as tie
 
 judge-entries-requires : tie.Need-judge-entries-requires
-judge-entries-requires c κs = zeros-roomy (now (c .before .before .before .before .before .args .numbers)) 24564 4096 2048 (inr (omega arith))
+judge-entries-requires c κs = zeros-roomy (now (c .before .before .before .before .before .args .numbers)) 24564 6144 2048 refl (inr (omega arith))
     (omega arith) (omega arith) (omega arith)
 
 pub judge-many-spec : {M : Type 1} → statement M

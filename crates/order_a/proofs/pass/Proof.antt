@@ -10,10 +10,10 @@ use Rattle.order_a.proofs.pass.Statement.{statement}
 use Rattle.order_a.proofs.pass.Tie as tie
 
 abbrev Inv-loop : tie.InvT-loop
-Inv-loop s rows head next n w₀ k₀ w k = Walking s rows n k w
+Inv-loop s rows index n w₀ k₀ w k = Walking s rows n k w
 
 abbrev μ-loop : tie.MeasureT-loop
-μ-loop s rows head next n w₀ k₀ w k = n - k
+μ-loop s rows index n w₀ k₀ w k = n - k
 
 loop-holds : tie.Need-loop-holds Inv-loop μ-loop
 loop-holds c = let start = c .before .before .before .before .before in rw (c .first-walk .ensures) (walking-first (start .pre .1 .1 .0) (start .pre .1 .1 .1))

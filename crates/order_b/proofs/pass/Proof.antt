@@ -18,13 +18,13 @@ use Rattle.order_b.proofs.pass.Statement.{statement}
 use Rattle.order_b.proofs.pass.Tie as tie
 
 abbrev Inv-loop : tie.InvT-loop
-Inv-loop s rows head next n state₀ j₀ state j =
+Inv-loop s rows index n state₀ j₀ state j =
     (1 ≤ j) × (j ≤ n)
     × ((elements : List Element) → RowsTell s rows n elements → LimitsAside elements → passFrom elements (stateOf state₀) 1 ≡ passFrom elements
     (stateOf state) j)
 
 abbrev μ-loop : tie.MeasureT-loop
-μ-loop s rows head next n state₀ j₀ state j = n - j
+μ-loop s rows index n state₀ j₀ state j = n - j
 
 loop-holds : tie.Need-loop-holds Inv-loop μ-loop
 loop-holds c = let some-rows = c .before .before .before .before .pre .1 .1 in (omega arith, omega arith, λ elements ready aside. refl)

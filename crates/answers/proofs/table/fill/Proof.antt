@@ -6,10 +6,10 @@ use Rattle.answers.proofs.table.fill.Statement.{statement}
 use Rattle.answers.proofs.table.fill.Tie as tie
 
 abbrev Inv-loop : tie.InvT-loop
-Inv-loop s rows head next count table₀ j₀ table j = Filling s rows count table₀ table j
+Inv-loop s rows index count table₀ j₀ table j = Filling s rows count table₀ table j
 
 abbrev μ-loop : tie.MeasureT-loop
-μ-loop s rows head next count table₀ j₀ table j = count - j
+μ-loop s rows index count table₀ j₀ table j = count - j
 
 loop-holds : tie.Need-loop-holds Inv-loop μ-loop
 loop-holds c = let a = c .before .before .before .before .before .args in filling-all (a .s .now) (a .rows .now) (a .count) (a .table .now)
