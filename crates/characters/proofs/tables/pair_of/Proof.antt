@@ -1,0 +1,21 @@
+-- `characters::tables::pair_of` meets its contract: ISO 8859-1 has none.
+use Prim.Native.Nat.{ℕ, _+_, _-_, _*_, _/_, _%_, _≤_, _<_}
+use native.Mathlib.Omega.{arith}
+use mathlib.Core.Path.{_≡_, refl, sym, ap, _∙_}
+use mathlib.Core.List.{List, [], _∷_, _++_}
+use denote.Ref.{now}
+use lib.ListN.{length, getD, length-set, length-append}
+use lib.Seq.{sets, length-sets}
+use borrow.Author.Tests.{lt-ltb, le-ltb, le-leb, lt-leb, eq-eqb, ne-eqb}
+use borrow.Author.Needs.{needs}
+use Rattle.characters.proofs.tables.pair_of.Statement.{statement}
+use Rattle.characters.proofs.tables.pair_of.Tie as tie
+
+returns : tie.Need-returns
+returns c = rw (c .if1 .taken)
+
+returns-2 : tie.Need-returns-2
+returns-2 c = rw (ne-eqb _ 2 (c .before .if1 .left)) (c .composed-of .ensures)
+
+pub pair-of-spec : {M : Type 1} → statement M
+pair-of-spec = tie.close (tie.spec returns (λ c κs. search needs) returns-2)
