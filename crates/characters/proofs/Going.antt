@@ -11,6 +11,7 @@ use lib.Seq.{drop-cons, drop-drop}
 use borrow.Author.Tests.{lt-ltb, le-ltb, ltb-true, ltb-false}
 use Rattle.characters.specs.declared.Points.{Points}
 use Rattle.characters.specs.declared.Points.the-variants.{One, Two, Number}
+use Rattle.characters.specs.declared.Sign.{Sign}
 use Rattle.characters.specs.declared.Step.{Step}
 use Rattle.characters.specs.Utf8.{utf8}
 use Rattle.characters.specs.Sets.{isPlain}
@@ -45,6 +46,11 @@ few-numbers (Two p q) = omega arith
 few-numbers (Number o) =
     let rest : List ℕ = utf8 (hexDigit (o / 16)) ++ (utf8 (hexDigit (o % 16)) ++ utf8 0x27E7) in
     rw (number-octets o) (omega (arith, length-append (utf8 0x27E6) rest, bracket-long .0))
+
+pub few-all : (xs : List Sign) → numbersIn xs ≤ length (utf8Of xs)
+unfolding numbersIn utf8Of
+few-all [] = omega arith
+few-all (x ∷ xs) = omega (arith, few-numbers (x .points), few-all xs, length-append (octetsOf (x .points)) (utf8Of xs))
 
 -- what is known of a step
 pub record Goes (s : ℕ) (xs : List ℕ) (at : ℕ) (r : Step) : Type 0 where
