@@ -76,9 +76,14 @@ module _ (s : ℕ) (xs : List ℕ) (at : ℕ) (h : at < length xs) where
   by-run : 0 < length front → Known (step (length front) (length front) 0) front
   by-run some =
       let short : length front ≤ length (drop at xs) = front-short (drop at xs) in
-      let rest : drop (length front) (drop at xs) ≡ drop (at + length front) xs = drop-drop (length front) at xs in
-      (some, omega (arith, short, length-drop at xs), front-text s (drop at xs) ∙ ap (λ r. front ++ utf8Of (signs s r)) rest, refl,
-      front-numbers s (drop at xs) ∙ ap (λ r. numbersIn (signs s r)) rest ∙ omega arith, omega arith)
+      let rest : drop (length front) (drop at xs) ≡ drop (at + length front) xs = drop-drop (length front) at xs in (
+        some,
+        omega (arith, short, length-drop at xs),
+        front-text s (drop at xs) ∙ ap (λ r. front ++ utf8Of (signs s r)) rest,
+        refl,
+        front-numbers s (drop at xs) ∙ ap (λ r. numbersIn (signs s r)) rest ∙ omega arith,
+        omega arith,
+      )
 
   by-sign : Known (ofSign (signAt s xs at)) (octetsOf (signAt s xs at .points))
   by-sign =

@@ -67,10 +67,10 @@ module _ (s : ℕ) (xs : List ℕ) (at : ℕ) (h : at < length xs) where
           let two : drop (at + 1) xs ≡ y ∷ drop (suc (at + 1)) xs = drop-cons xs (at + 1) 0 more in
           let both : drop at xs ≡ x ∷ y ∷ drop (suc (at + 1)) xs = one ∙ ap (λ r. x ∷ r) two in
           rw e (
-            ap (signs s) both
-            ∙ (signs-more s x y (drop (suc (at + 1)) xs) (sign-wide s x y)
-            ∙ (ap (λ r. firstSign s x y ∷ signs s (drop (firstSign s x y .wide) r)) (sym both)
-            ∙ ap (λ r. firstSign s x y ∷ signs s r) (drop-drop (firstSign s x y .wide) at xs)))
+          ap (signs s) both
+          ∙ (signs-more s x y (drop (suc (at + 1)) xs) (sign-wide s x y)
+          ∙ (ap (λ r. firstSign s x y ∷ signs s (drop (firstSign s x y .wide) r)) (sym both)
+          ∙ ap (λ r. firstSign s x y ∷ signs s r) (drop-drop (firstSign s x y .wide) at xs)))
           )
       go false e =
           let x : ℕ = getD xs at 0 in

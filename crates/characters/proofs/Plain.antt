@@ -39,9 +39,11 @@ lies o t = go (leb 0x20 o) refl t
     last : (eqb o 0x09 ≡ true) ⊎ (eqb o 0x0C ≡ true) → Lies o
     last (inl u) = lies-at o 0x09 (omega arith) (omega arith) u
     last (inr u) = lies-at o 0x0C (omega arith) (omega arith) u
+
     control : (eqb o 0x0A ≡ true) ⊎ ((eqb o 0x09 || eqb o 0x0C) ≡ true) → Lies o
     control (inl u) = lies-at o 0x0A (omega arith) (omega arith) u
     control (inr u) = last (either (eqb o 0x09) (eqb o 0x0C) u)
+
     go : (b : Bool) → leb 0x20 o ≡ b → cond b (leb o 0x7E) (eqb o 0x0A || (eqb o 0x09 || eqb o 0x0C)) ≡ true → Lies o
     go true e u =
         let l : 0x20 ≤ o = leb-true 0x20 o e in

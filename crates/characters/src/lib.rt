@@ -9,13 +9,16 @@ ghost use Rattle.characters.specs.Pairs.{PairTable};
 ghost use Rattle.characters.specs.Signs.{signs, utf8Of};
 ghost use Rattle.characters.specs.Answers.{roomOf, measured, ShownOutcome};
 
+mod pairing; // pairing.rt: the table of pairs
 mod putting; // putting.rt: how a sign is written
 mod signs; // signs.rt: octets as signs
 mod steps; // steps.rt: a run of plain octets, or a sign
 mod tables; // tables.rt: the tables of the sets
 
 const ISO6937: usize = 0;
+
 const T61: usize = 1;
+
 const LATIN1: usize = 2;
 
 const OUTPUT_TOO_SHORT: u32 = 18;
@@ -141,7 +144,7 @@ pub fn show(set: u32, octets: &[u8], out: &mut [u8]) -> Shown
     ensures { λ r. ⌜ ShownOutcome set (now (octets .entry)) (now (out .entry)) r (now (out .exit)) ⌝ }
 {
     let s = set_of(set);
-    let pairs = tables::PAIRS;
+    let pairs = pairing::PAIRS;
     let size = measure(s, &pairs, octets, room_of(out.len()));
     if size.fits {
         write(s, &pairs, octets, out);

@@ -128,4 +128,3 @@ valid s xs os = record {
   scalars = scalars-of (signs (setOf s) xs) (all-fine (setOf s) xs os);
   coded = coded-of (signs (setOf s) xs);
 }
-

@@ -51,7 +51,7 @@ first-of s (a ∷ rest) x after e = past
     past : signs s (drop (x .wide) (a ∷ rest)) ≡ after
     past =
         let one : signs s (a ∷ rest) ≡ signAt s (a ∷ rest) 0 ∷ signs s (drop (0 + signAt s (a ∷ rest) 0 .wide) (a ∷ rest)) =
-          next s (a ∷ rest) 0 (omega arith) (signAt s (a ∷ rest) 0) refl in
+        next s (a ∷ rest) 0 (omega arith) (signAt s (a ∷ rest) 0) refl in
         let two = head-is (sym one ∙ e) in
         let from : 0 + signAt s (a ∷ rest) 0 .wide ≡ x .wide = zero-add _ ∙ ap (λ (y : Sign). y .wide) (two .0) in
         ap (λ n. signs s (drop n (a ∷ rest))) (sym from) ∙ two .1

@@ -28,14 +28,18 @@ single-small s o h = go (leb 0xA0 o) refl
     right : (b : Bool) → 0xA0 ≤ o → cond b o (getD supplement (o - 0xA0) 0) < 0xD800
     right true l = omega arith
     right false l = supplement-small (o - 0xA0) (omega arith)
+
     left : (b c : Bool) → cond b 0xA4 (cond c o 0) < 0xD800
     left true c = omega arith
     left false true = omega arith
     left false false = omega arith
+
     by-right : 0xA0 ≤ o → rightPoint s o < 0xD800
     by-right l = right (eqb s latin1) l
+
     by-left : leftPoint s o < 0xD800
     by-left = left (isCurrency s o) (isOwn o)
+
     go : (b : Bool) → leb 0xA0 o ≡ b → cond b (rightPoint s o) (leftPoint s o) < 0xD800
     go true e = by-right (leb-true 0xA0 o e)
     go false e = by-left

@@ -69,9 +69,13 @@ again c =
     let xs = now (a .octets) in
     let within : l .at < length xs = omega arith in
     let step = c .before .before .before .before .before .step-at in
-    let g = goes (a .set) xs (l .at) within (step .result) (step .ensures) in
-    (omega (arith, g .within), omega (arith, c .before .before .before .if1 .left), omega (arith, g .few),
-    omega (arith, l .inv .3, size-left (a .set) xs (l .at) (step .result) g), omega (arith, l .inv .4, g .counted))
+    let g = goes (a .set) xs (l .at) within (step .result) (step .ensures) in (
+      omega (arith, g .within),
+      omega (arith, c .before .before .before .if1 .left),
+      omega (arith, g .few),
+      omega (arith, l .inv .3, size-left (a .set) xs (l .at) (step .result) g),
+      omega (arith, l .inv .4, g .counted),
+    )
 
 returns-2 : tie.Need-returns-2 Inv-loop μ-loop
 returns-2 c =

@@ -73,9 +73,12 @@ again c =
     let g = goes (a .set) xs (l .at) within (step .result) (step .ensures .0) in
     let text = stepText (a .set) xs (l .at) in
     let rest = utf8Of (signs (a .set) (drop (l .at + step .result .wide) xs)) in
-    let past : l .here + step .result .length ≡ l .here + length text = ap (λ n. l .here + n) (sym (g .long)) in
-    (omega (arith, g .within), step .kept .1 .1 .1 .1 .0 ∙ l .inv .1, omega (arith, l .inv .2, size-left (a .set) xs (l .at) (step .result) g),
-    rw (step .ensures .1) (join (l .out) (l .here) _ text rest past ∙ (ap (sets (l .out) (l .here)) (sym (g .text)) ∙ l .inv .3)))
+    let past : l .here + step .result .length ≡ l .here + length text = ap (λ n. l .here + n) (sym (g .long)) in (
+      omega (arith, g .within),
+      step .kept .1 .1 .1 .1 .0 ∙ l .inv .1,
+      omega (arith, l .inv .2, size-left (a .set) xs (l .at) (step .result) g),
+      rw (step .ensures .1) (join (l .out) (l .here) _ text rest past ∙ (ap (sets (l .out) (l .here)) (sym (g .text)) ∙ l .inv .3)),
+    )
 
 returns : tie.Need-returns Inv-loop μ-loop
 returns c =

@@ -26,7 +26,7 @@ slice-write-out-3 : tie.Need-slice-write-out-3
 slice-write-out-3 c = simp length-set (omega (arith, two-long (c .before .before .args .p) (c .before .if1 .left) (c .if2 .taken)))
 
 returns-2 : tie.Need-returns-2
-returns-2 c = 
+returns-2 c =
     let a = c .before .before .args in
     rw (utf8-two (a .p) (c .before .if1 .left) (c .if2 .taken)) (refl, two-stores (now (a .out)) (a .at) _ _)
 
@@ -40,7 +40,7 @@ slice-write-out-6 : tie.Need-slice-write-out-6
 slice-write-out-6 c = simp length-set (omega (arith, three-long (c .before .before .args .p) (c .if2 .left) (omega arith)))
 
 returns-3 : tie.Need-returns-3
-returns-3 c = 
+returns-3 c =
     let a = c .before .before .args in
     let small : a .p < 0x10000 = omega arith in
     rw (utf8-three (a .p) (c .if2 .left) small) (refl, three-stores (now (a .out)) (a .at) _ _ _)

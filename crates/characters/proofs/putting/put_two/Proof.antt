@@ -17,13 +17,13 @@ put-point-requires : tie.Need-put-point-requires
 put-point-requires c κs = omega (arith, length-append (utf8 (c .before .before .args .p)) (utf8 (c .before .before .args .q)))
 
 put-point-requires-2 : tie.Need-put-point-requires-2
-put-point-requires-2 c κs = 
+put-point-requires-2 c κs =
     let a = c .before .before .before .before .before .before .args in
     let put = c .before .before .before .put-point in
     omega (arith, length-append (utf8 (a .p)) (utf8 (a .q)), put .ensures .0, put .kept .0)
 
 returns : tie.Need-returns
-returns c = 
+returns c =
     let a = c .before .before .before .before .before .before .before .before .before .args in
     let one = c .before .before .before .before .before .before .put-point .ensures in
     let two = c .before .before .put-point2 .ensures in

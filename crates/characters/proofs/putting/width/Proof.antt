@@ -17,7 +17,7 @@ returns : tie.Need-returns
 returns c = c .point-width .ensures .0 ∙ sym (ap length (is-point _ _ (c .before .before .points .given .1)))
 
 returns-2 : tie.Need-returns-2
-returns-2 c = 
+returns-2 c =
     let p = c .before .point-width2 .ensures .0 in
     let q = c .point-width3 .ensures .0 in
     let two = ap length (is-two _ _ _ (c .before .before .before .points2 .given .1)) in

@@ -14,13 +14,13 @@ use Rattle.characters.proofs.signs.alone_of.Tie as tie
 
 returns : tie.Need-returns
 unfolding alone
-returns c = 
+returns c =
     let e = c .before .point-of .ensures in
     rw (← e, c .if1 .taken)
 
 returns-2 : tie.Need-returns-2
 unfolding alone
-returns-2 c = 
+returns-2 c =
     let e = c .before .point-of .ensures in
     rw (← e, ne-eqb _ 0 (c .if1 .left))
 

@@ -43,9 +43,14 @@ again c =
     let l = c .before .before .before .before .loop in
     let xs = now (c .before .before .before .before .before .before .before .args .octets) in
     let within : l .end < length xs = omega arith in
-    let so = front-more xs (l .end) within (sym (c .before .is-plain .ensures) ∙ not-false _ (c .if1 .left)) in
-    (omega arith, omega arith, omega (arith, l .inv .2, ap length so), omega (arith, l .inv .3), simp length-set (l .inv .4),
-    rw (add-one (l .place)) (ap (sets (l .out) (l .place)) (sym so)) ∙ l .inv .5)
+    let so = front-more xs (l .end) within (sym (c .before .is-plain .ensures) ∙ not-false _ (c .if1 .left)) in (
+      omega arith,
+      omega arith,
+      omega (arith, l .inv .2, ap length so),
+      omega (arith, l .inv .3),
+      simp length-set (l .inv .4),
+      rw (add-one (l .place)) (ap (sets (l .out) (l .place)) (sym so)) ∙ l .inv .5,
+    )
 
 returns-2 : tie.Need-returns-2 Inv-loop μ-loop
 returns-2 c =

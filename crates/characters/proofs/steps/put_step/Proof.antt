@@ -23,9 +23,10 @@ returns : tie.Need-returns
 returns c =
     let a = c .before .before .before .before .before .before .before .before .args in
     let xs = now (a .octets) in
-    let put = c .before .before .before .put-plain .ensures in
-    (run-step (a .set) xs (a .at) _ (put .0) (c .if1 .taken),
-    put .1 ∙ ap (sets (now (a .out)) (a .here)) (sym (run-text (a .set) xs (a .at) _ (put .0) (c .if1 .taken))))
+    let put = c .before .before .before .put-plain .ensures in (
+      run-step (a .set) xs (a .at) _ (put .0) (c .if1 .taken),
+      put .1 ∙ ap (sets (now (a .out)) (a .here)) (sym (run-text (a .set) xs (a .at) _ (put .0) (c .if1 .taken))),
+    )
 
 put-requires : tie.Need-put-requires
 put-requires c κs =
@@ -48,9 +49,10 @@ returns-2 c =
     let long : put .result - a .here ≡ length (octetsOf (sign .result .points)) = omega (arith, put .ensures .0) in
     let told : step (sign .result .wide) (put .result - a .here) (c .number .result) ≡ ofSign (sign .result) = rw (long, c .number .ensures .0) in
     let face = ap (λ (x : Sign). octetsOf (x .points)) (sign .ensures) ∙ sym (sign-text (a .set) xs (a .at) _ (plain .ensures .0) left) in
-    let before = plain .ensures .1 ∙ ap (sets (now (a .out)) (a .here)) (no-run (a .set) xs (a .at) _ (plain .ensures .0) left) in
-    (told ∙ (ap ofSign (sign .ensures) ∙ sign-step (a .set) xs (a .at) _ (plain .ensures .0) left),
-    put .ensures .1 ∙ rw (before, face))
+    let before = plain .ensures .1 ∙ ap (sets (now (a .out)) (a .here)) (no-run (a .set) xs (a .at) _ (plain .ensures .0) left) in (
+      told ∙ (ap ofSign (sign .ensures) ∙ sign-step (a .set) xs (a .at) _ (plain .ensures .0) left),
+      put .ensures .1 ∙ rw (before, face),
+    )
 
 pub put-step-spec : {M : Type 1} → statement M
 put-step-spec =
