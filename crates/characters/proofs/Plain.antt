@@ -1,17 +1,17 @@
 -- ASCII is shown as it is, but for T.61's currency sign: so is each plain octet in every set, and a run of them.
 use Prim.Native.Nat.{ℕ, _≤_, _<_}
 use native.Mathlib.Omega.{arith}
-use mathlib.Core.Path.{_≡_, refl, sym, ap, _∙_}
+use mathlib.Core.Path.{_≡_, refl, ap, _∙_}
 use mathlib.Core.Bool.{Bool, true, false, cond, not, _&&_, _||_, false≢true}
 use mathlib.Core.Logic.{_⊎_, inl, inr}
 use mathlib.Core.List.{List, [], _∷_, _++_}
-use lib.Dec.{ltb, leb, eqb}
+use lib.Dec.{leb, eqb}
 use lib.ListN.{length, drop}
 use borrow.Author.Tests.{lt-leb, leb-true, ne-eqb, eqb-true}
 use Rattle.characters.specs.declared.Points.the-variants.{One}
 use Rattle.characters.specs.Sets.{leftPoint, pointOf, isOwn, isPlain, isCurrency, t61, latin1, dollar}
 use Rattle.characters.specs.Pairs.{composed, pairOf}
-use Rattle.characters.specs.Signs.{octetsOf, alone, firstSign, sign, signs, utf8Of, numbersIn, isNumber}
+use Rattle.characters.specs.Signs.{octetsOf, alone, firstSign, sign, signs, utf8Of, numbersIn}
 use Rattle.characters.specs.Steps.{plainFront}
 use Rattle.characters.proofs.Utf8.{is-point, utf8-one}
 use Rattle.characters.proofs.Rules.{no-accent-below}

@@ -6,12 +6,12 @@ use mathlib.Core.Bool.{Bool, true, false, cond, _&&_, true≢false, false≢true
 use mathlib.Core.Logic.{_⊎_, inl, inr}
 use mathlib.Core.List.{List, [], _∷_, _++_, append-assoc}
 use lib.Dec.{T, eqb, leb, eqb→eq}
-use lib.ListN.{getD, length}
+use lib.ListN.{getD}
 use borrow.Author.Tests.{le-leb, eqb-true, eqb-false}
 use Rattle.characters.specs.declared.Points.{Points}
 use Rattle.characters.specs.declared.Points.the-variants.{One, Two, Number}
 use Rattle.characters.specs.declared.Sign.{Sign}
-use Rattle.characters.specs.Sets.{supplement, rightPoint, leftPoint, pointOf, latin1, isOwn, isCurrency}
+use Rattle.characters.specs.Sets.{supplement, rightPoint, leftPoint, pointOf, latin1}
 use Rattle.characters.specs.Pairs.{pairOf, composed}
 use Rattle.characters.specs.Signs.{octetsOf, isNumber, alone, isLineEnd, accented, sign, firstSign, signs, utf8Of, numbersIn}
 use Rattle.characters.proofs.Next.{sign-wide}

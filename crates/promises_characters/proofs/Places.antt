@@ -2,7 +2,7 @@
 use Prim.Native.Nat.{ℕ, _+_, _-_, _≤_, _<_}
 use native.Mathlib.Nat.{zero-add}
 use native.Mathlib.Omega.{arith}
-use mathlib.Core.Path.{_≡_, refl, sym, ap, subst, _∙_}
+use mathlib.Core.Path.{_≡_, refl, sym, ap, _∙_}
 use mathlib.Core.Bool.{Bool, true, false}
 use mathlib.Core.Logic.{_⊎_, inl, inr}
 use mathlib.Core.List.{List, [], _∷_, _++_}
@@ -11,7 +11,7 @@ use lib.ListN.{length, drop}
 use lib.Seq.{drop-drop, drop-append-seam}
 use borrow.Author.Tests.{ltb-true, ltb-false}
 use Rattle.characters.specs.declared.Sign.{Sign}
-use Rattle.characters.specs.Signs.{octetsOf, firstSign, signAt, signs, utf8Of}
+use Rattle.characters.specs.Signs.{firstSign, signAt, signs, utf8Of}
 use Rattle.characters.proofs.Next.{sign-wide, next}
 use Rattle.promises_characters.specs.Promises.{widths, Placed, Holds}
 use Rattle.promises_characters.proofs.Cutting.{utf8-append}

@@ -6,15 +6,15 @@ use mathlib.Core.Bool.{Bool, true, false, cond}
 use mathlib.Core.Logic.{_⊎_, inl, inr}
 use mathlib.Core.List.{List, [], _∷_, _++_}
 use lib.Dec.{leb, eqb}
-use lib.ListN.{length, drop, replicate, length-append}
-use borrow.Author.Tests.{le-leb, lt-leb, leb-true, leb-false, ne-eqb}
+use lib.ListN.{length, drop, replicate}
+use borrow.Author.Tests.{le-leb, lt-leb, leb-false, ne-eqb}
 use Rattle.characters.specs.declared.Shown.{Shown}
 use Rattle.characters.specs.declared.Points.the-variants.{Number}
 use Rattle.characters.specs.Utf8.{utf8, utf8s}
 use Rattle.characters.specs.Sets.{setOf, isCurrency, leftPoint, pointOf, t61, latin1}
 use Rattle.characters.specs.Pairs.{composed, pairOf}
 use Rattle.characters.specs.Signs.{alone, sign, firstSign, signs, utf8Of, textOf, numbersOf}
-use Rattle.characters.specs.Answers.{most, roomOf, fitsIn, shown, shownAs, shownOutput, ShownOutcome}
+use Rattle.characters.specs.Answers.{most, roomOf, fitsIn, shown, shownAs, shownOutput}
 use Rattle.characters.proofs.Plain.{own-text}
 use Rattle.characters.proofs.Rules.{no-accent-below}
 use Rattle.promises_characters.specs.Promises.{Octets, Ascii, Characters}

@@ -3,9 +3,8 @@ use Prim.Native.Nat.{ℕ, _+_, _-_, _*_, _/_, _%_, _≤_, _<_}
 use native.Mathlib.Omega.{arith}
 use mathlib.Core.Path.{_≡_, refl, sym, ap, _∙_}
 use mathlib.Core.Bool.{Bool, true, false, cond}
-use mathlib.Core.List.{List}
 use lib.Dec.{ltb, leb, eqb, eqb→eq}
-use lib.ListN.{getD, length, replicate}
+use lib.ListN.{getD, replicate}
 use borrow.Author.Tests.{ltb-true, ltb-false, leb-true, eqb-true, eqb-false, ne-eqb}
 use Rattle.characters.specs.Sets.{supplement, isOwn, isCurrency, leftPoint, rightPoint, pointOf, latin1}
 use Rattle.characters.specs.Pairs.{composed, combining, pairOf, column}

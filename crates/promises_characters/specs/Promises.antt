@@ -5,12 +5,12 @@ use mathlib.Core.Bool.{Bool, true, _||_, _&&_}
 use mathlib.Core.Logic.{_⊎_}
 use mathlib.Core.List.{List, [], _∷_, _++_}
 use lib.Dec.{leb, ltb}
-use lib.ListN.{length, take, drop, replicate}
+use lib.ListN.{length, drop, replicate}
 use Rattle.characters.specs.declared.Sign.{Sign}
 use Rattle.characters.specs.declared.Shown.{Shown}
 use Rattle.characters.specs.Utf8.{utf8s}
 use Rattle.characters.specs.Sets.{setOf, isOwn, t61}
-use Rattle.characters.specs.Signs.{octetsOf, firstSign, signs, utf8Of, numbersIn, textOf, numbersOf}
+use Rattle.characters.specs.Signs.{octetsOf, firstSign, signs, utf8Of, textOf, numbersOf}
 use Rattle.characters.specs.Answers.{most, roomOf, shownAs, shownOutput, ShownOutcome}
 
 -- numbers that are octets

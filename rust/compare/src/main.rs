@@ -61,7 +61,7 @@ fn main() -> ExitCode {
         part("made letters", &mut total, hold_made);
         part("characters", &mut total, hold_characters);
     }
-    part("texts at random", &mut total, || in_threads(options.jobs, hold_texts_at_random(&options)));
+    part("random texts", &mut total, || in_threads(options.jobs, hold_texts_at_random(&options)));
     part("made at random", &mut total, || in_threads(options.jobs, hold_made_at_random(&options)));
     part("in order", &mut total, || in_threads(options.jobs, hold_in_order(&options)));
     part("generated", &mut total, || in_threads(options.jobs, hold_generated(&options)));

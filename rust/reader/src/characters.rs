@@ -43,12 +43,14 @@ static TABLES: LazyLock<Tables> = LazyLock::new(|| {
         let point = |word: &str| u32::from_str_radix(word, 16).ok();
         let [first, second, third] = [0, 1, 2].map(|place| point(words[place]));
         let first = first.expect("an octet or a letter");
-        match (words[0].len(), words[1].len() == 2) {
-            (2, true) => {
-                drop(tables.pairs.insert((first as u8, second.expect("a letter") as u8), third.expect("a point")))
-            }
-            (2, false) => drop(tables.octets.insert(first as u8, [second, third])),
-            _ => drop(tables.composed.insert((first, second.expect("an accent")), third.expect("a point"))),
+        let second = || second.expect("an octet or a point");
+        let third = || third.expect("a point");
+        if words[0].len() > 2 {
+            tables.composed.insert((first, second()), third());
+        } else if words[1].len() == 2 {
+            tables.pairs.insert((first as u8, second() as u8), third());
+        } else {
+            tables.octets.insert(first as u8, [point(words[1]), point(words[2])]);
         }
     }
     // T.61 has all of ASCII here, and what ISO 6937 has besides.

@@ -1,6 +1,5 @@
 -- `characters::room_of` meets its contract: the lesser of the two.
 use borrow.Author.Tests.{le-leb, lt-leb}
-use borrow.Author.Needs.{needs}
 use Rattle.characters.proofs.room_of.Statement.{statement}
 use Rattle.characters.proofs.room_of.Tie as tie
 

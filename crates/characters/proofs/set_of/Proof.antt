@@ -1,6 +1,5 @@
 -- `characters::set_of` meets its contract: three numbers are sets.
 use borrow.Author.Tests.{le-leb, lt-leb}
-use borrow.Author.Needs.{needs}
 use Rattle.characters.proofs.set_of.Statement.{statement}
 use Rattle.characters.proofs.set_of.Tie as tie
 

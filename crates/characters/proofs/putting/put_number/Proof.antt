@@ -1,15 +1,12 @@
 -- `characters::putting::put_number` meets its contract: four points, one after another.
-use Prim.Native.Nat.{ℕ, _+_, _-_, _*_, _/_, _%_, _≤_, _<_}
+use Prim.Native.Nat.{_+_, _/_, _%_}
 use native.Mathlib.Omega.{arith}
-use mathlib.Core.Path.{_≡_, refl, sym, ap, _∙_}
-use mathlib.Core.List.{List, [], _∷_, _++_}
+use mathlib.Core.Path.{ap, _∙_}
 use denote.Ref.{now}
-use lib.ListN.{length, getD, length-set, length-append}
-use lib.Seq.{sets, length-sets}
-use borrow.Author.Tests.{lt-ltb, le-ltb, le-leb, lt-leb, eq-eqb, ne-eqb}
+use lib.ListN.{length}
 use Rattle.characters.specs.Utf8.{utf8}
-use Rattle.characters.proofs.Utf8.{utf8-one, utf8-two, utf8-three, one-long, two-long, three-long, at-most-three, two-stores, three-stores, join, join-four, is-point, is-two, is-number, digit-small, number-octets, bracket-long, digit-long, number-long}
-use Rattle.characters.specs.Signs.{hexDigit, numberOctets}
+use Rattle.characters.proofs.Utf8.{join-four, number-octets, bracket-long, digit-long, number-long}
+use Rattle.characters.specs.Signs.{hexDigit}
 use borrow.Author.Needs.{needs}
 use Rattle.characters.proofs.putting.put_number.Statement.{statement}
 use Rattle.characters.proofs.putting.put_number.Tie as tie

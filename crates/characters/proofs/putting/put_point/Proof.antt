@@ -1,14 +1,10 @@
 -- `characters::putting::put_point` meets its contract: the stores are those of `utf8`, by the size of the point.
-use Prim.Native.Nat.{ℕ, _+_, _-_, _*_, _/_, _%_, _≤_, _<_}
+use Prim.Native.Nat.{_<_}
 use native.Mathlib.Omega.{arith}
-use mathlib.Core.Path.{_≡_, refl, sym, ap, _∙_}
-use mathlib.Core.List.{List, [], _∷_, _++_}
+use mathlib.Core.Path.{refl}
 use denote.Ref.{now}
-use lib.ListN.{length, getD, length-set, length-append}
-use lib.Seq.{sets, length-sets}
-use borrow.Author.Tests.{lt-ltb, le-ltb, le-leb, lt-leb, eq-eqb, ne-eqb}
-use Rattle.characters.specs.Utf8.{utf8}
-use Rattle.characters.proofs.Utf8.{utf8-one, utf8-two, utf8-three, one-long, two-long, three-long, at-most-three, two-stores, three-stores, join, join-four, is-point, is-two, is-number, digit-small, number-octets, bracket-long, digit-long, number-long}
+use lib.ListN.{length-set}
+use Rattle.characters.proofs.Utf8.{utf8-one, utf8-two, utf8-three, one-long, two-long, three-long, two-stores, three-stores}
 use borrow.Author.Needs.{needs}
 use Rattle.characters.proofs.putting.put_point.Statement.{statement}
 use Rattle.characters.proofs.putting.put_point.Tie as tie

@@ -1,14 +1,8 @@
 -- `characters::putting::width` meets its contract: by the kind of the sign.
-use Prim.Native.Nat.{ℕ, _+_, _-_, _*_, _/_, _%_, _≤_, _<_}
-use native.Mathlib.Omega.{arith}
-use mathlib.Core.Path.{_≡_, refl, sym, ap, _∙_}
-use mathlib.Core.List.{List, [], _∷_, _++_}
-use denote.Ref.{now}
-use lib.ListN.{length, getD, length-set, length-append}
-use lib.Seq.{sets, length-sets}
-use borrow.Author.Tests.{lt-ltb, le-ltb, le-leb, lt-leb, eq-eqb, ne-eqb}
+use mathlib.Core.Path.{sym, ap, _∙_}
+use lib.ListN.{length, length-append}
 use Rattle.characters.specs.Utf8.{utf8}
-use Rattle.characters.proofs.Utf8.{utf8-one, utf8-two, utf8-three, one-long, two-long, three-long, at-most-three, two-stores, three-stores, join, join-four, is-point, is-two, is-number, digit-small, number-octets, bracket-long, digit-long, number-long}
+use Rattle.characters.proofs.Utf8.{is-point, is-two, is-number}
 use borrow.Author.Needs.{needs}
 use Rattle.characters.proofs.putting.width.Statement.{statement}
 use Rattle.characters.proofs.putting.width.Tie as tie

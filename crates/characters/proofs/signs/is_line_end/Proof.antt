@@ -1,12 +1,5 @@
 -- `characters::signs::is_line_end` meets its contract: both octets are compared.
-use Prim.Native.Nat.{ℕ, _+_, _-_, _*_, _/_, _%_, _≤_, _<_}
-use native.Mathlib.Omega.{arith}
-use mathlib.Core.Path.{_≡_, refl, sym, ap, _∙_}
-use mathlib.Core.List.{List, [], _∷_, _++_}
-use denote.Ref.{now}
-use lib.ListN.{length, getD, length-set, length-append}
-use lib.Seq.{sets, length-sets}
-use borrow.Author.Tests.{lt-ltb, le-ltb, le-leb, lt-leb, eq-eqb, ne-eqb}
+use borrow.Author.Tests.{ne-eqb}
 use Rattle.characters.proofs.signs.is_line_end.Statement.{statement}
 use Rattle.characters.proofs.signs.is_line_end.Tie as tie
 

@@ -1,5 +1,5 @@
 -- `characters::steps::step_at` meets its contract: a run, or else the sign.
-use mathlib.Core.Path.{_≡_, sym, ap, _∙_}
+use mathlib.Core.Path.{_≡_, ap, _∙_}
 use denote.Ref.{now}
 use Rattle.characters.specs.Steps.{step, ofSign}
 use Rattle.characters.proofs.Going.{run-step, sign-step}

@@ -1,6 +1,5 @@
 -- `characters::tables::is_currency` meets its contract: both are compared.
 use borrow.Author.Tests.{ne-eqb}
-use borrow.Author.Needs.{needs}
 use Rattle.characters.proofs.tables.is_currency.Statement.{statement}
 use Rattle.characters.proofs.tables.is_currency.Tie as tie
 

@@ -1,6 +1,5 @@
 -- `characters::tables::is_own` meets its contract: the tests are those of the definition.
 use borrow.Author.Tests.{le-leb, lt-leb, ne-eqb}
-use borrow.Author.Needs.{needs}
 use Rattle.characters.proofs.tables.is_own.Statement.{statement}
 use Rattle.characters.proofs.tables.is_own.Tie as tie
 

@@ -1,5 +1,5 @@
 -- `characters::tables::right_point` meets its contract: the table is the supplement.
-use mathlib.Core.Path.{_≡_, ap}
+use mathlib.Core.Path.{ap}
 use lib.ListN.{getD}
 use borrow.Author.Tests.{ne-eqb}
 use Rattle.characters.specs.Sets.{supplement, rightPoint}
