@@ -60,7 +60,7 @@
    15   an identifier or portion twice                                                the later element
    16   the table has fewer rows than there are elements                              0
    17   the normal form is over 1,048,576 octets                                      0
-   18   the output is shorter than the normal form                                    0
+   18   the output is shorter than the normal form, or than the text in UTF-8         0
    19   the list is shorter than the matches, or the lines are fewer                  0
    20   the asked element is no text unit or does not exist; or no such row           0
    21   a part is asked of content in pieces or tiles, which is no one part           0
@@ -140,6 +140,7 @@ extern "C" {
 #define ODIF_MOST_ENTRIES  2047    /* the most entries of a letter that is made */
 #define ODIF_SHORT_LIMIT   65535   /* the most octets of a stream that odif_normal_short takes */
 #define ODIF_STACK_LENT    2048    /* octets of stack: odif_normal_short_lent takes no more of any stream */
+#define ODIF_UTF8_MOST     8       /* the most octets that odif_utf8 writes for one */
 
 /* How much to lend. A side has no more matches than the letter has text units, nor than portions are listed on that
    side: a list of as many records, or as many lines, as there are text units never meets 19. An output as long as the
@@ -457,6 +458,32 @@ ODIF_INLINE odif_written odif_make(const uint8_t *ODIF_APART buffer, size_t buff
                                    uint8_t *ODIF_APART out, size_t out_len) {
     return odif_make_numbers(buffer, buffer_len, (const uint32_t *)entries, 6 * entries_len, out, out_len);
 }
+
+/* The sets of characters that odif_utf8 knows. */
+enum {
+    ODIF_ISO6937 = 0,  /* and any number from 3 on */
+    ODIF_T61     = 1,
+    ODIF_LATIN1  = 2   /* ISO 8859-1 */
+};
+
+typedef struct {
+    uint32_t number;   /* 0, or 18 */
+    uint32_t place;    /* 0 */
+    uint32_t length;   /* the octets written */
+    uint32_t numbers;  /* how many octets of the text were shown by their number */
+} odif_shown;
+
+/* Shows the octets of a text as UTF-8. Every octet is shown, in order: as its character, as a part of a character of two
+   octets (an accent stands before its letter in ISO 6937 and T.61; CR LF is an end of a line), or by its number, as
+   U+27E6, two hexadecimal digits, U+27E7, where the set has no character for it: so are controls but TAB, LF and FF, a CR
+   that no LF follows, an accent that no letter and no space follows, and an escape. An accent and its letter are composed
+   where Unicode has such a character, else they are the letter and a combining accent. Which set a text is in is for the
+   caller to know. 18 where the output is shorter, or the text is over 4,294,967,295 octets: the output is as it was then.
+   Octets past the text stay. Eight octets for each octet are always enough. It asks about no stream, so it has no twin. A
+   text may be cut between two octets and shown in parts, where as many are shown by their number as of each alone. It
+   takes less than 4 KiB of stack. */
+odif_shown odif_utf8(uint32_t set, const uint8_t *ODIF_APART octets, size_t octets_len,
+                     uint8_t *ODIF_APART out, size_t out_len);
 
 /* A letter that arrives in blocks and is not held: rules 1 to 8 and the header count, as odif_check gives them of the
    whole stream, for any cutting. Start with the total, hand over the blocks in order, of any length, none included, and

@@ -91,8 +91,19 @@ export class Odif {
     letter(stream: Octets, edition?: Edition): Letter;
     /** The date of a document by its first element alone: no octet after it is read. */
     firstDate(stream: Octets, edition?: Edition): Dated;
+    /** The octets of a text as text; those that the set has no character for are shown by their number, as \u27E6C8\u27E7. */
+    utf8(text: Octets, set?: CharacterSet): Shown;
     /** Makes a letter of entries. */
     make(entries: Iterable<Entry>): Uint8Array;
+}
+
+/** A set of characters that a text may be in. */
+export type CharacterSet = 'iso6937' | 't61' | 'latin1';
+
+/** A text, and how many of its octets are shown by their number. */
+export interface Shown {
+    readonly text: string;
+    readonly numbers: number;
 }
 
 /** An accepted letter: a stream, and its elements in stream order. */

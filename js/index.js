@@ -45,6 +45,17 @@ function numbered(element) {
     return element;
 }
 
+// The sets of characters, by their numbers in the library.
+const CHARACTER_SETS = ['iso6937', 't61', 'latin1'];
+// A text is shown in parts, since eight octets are lent for each: so many octets, and on to one behind which no character is cut. An accent is above
+// ASCII, and a carriage return may belong to the line feed after it.
+const PART = 65536;
+function partEnd(text, from) {
+    let past = Math.min(from + PART, text.length);
+    while (past < text.length && (text[past - 1] > 0x7F || text[past - 1] === 0x0D)) past++;
+    return past;
+}
+
 // No accepted stream of this length has more elements: one has at least two octets.
 const mostElements = stream => Math.min(stream.length >> 1, MOST_ELEMENTS);
 const range = (first, past) => Object.freeze({ first, past });
@@ -97,6 +108,22 @@ export class Odif {
     // The date of a document by its first element alone: no octet after it is read.
     firstDate(stream, edition = 1988) {
         return this.#questions.ask('odif_first_date', edition, [copyOf(stream)], answer => new Dated(answer));
+    }
+    // The octets of a text as text: of 'iso6937', 't61' or 'latin1'. Each is shown as its character, as a part of a character of two octets, or by its
+    // number, as \u27E6C8\u27E7; `numbers` says how many are.
+    utf8(text, set = 'iso6937') {
+        const number = CHARACTER_SETS.indexOf(set), all = viewOf(text), parts = [];
+        if (number < 0) throw new RangeError(`the set is one of ${CHARACTER_SETS.join(', ')}, and not ${set}`);
+        let numbers = 0;
+        for (let from = 0; from < all.length;) {
+            const part = all.slice(from, partEnd(all, from));
+            parts.push(this.#questions.ask('odif_utf8', 1988, [number, part, octets(8 * part.length)], (answer, out) => {
+                numbers += answer.numbers;
+                return new TextDecoder('utf-8', { ignoreBOM: true, fatal: true }).decode(out.octets().slice(0, answer.length));
+            }));
+            from += part.length;
+        }
+        return { text: parts.join(''), numbers };
     }
     // Makes a letter of entries, each with the octets of an identifier, a portion and a text.
     make(entries) {

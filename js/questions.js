@@ -14,6 +14,7 @@ export const STRUCTS = {
     ordered: 'number place',
     text_read: 'number place elements lines length',
     line: 'element portion unit first past',
+    shown: 'number place length numbers',
     entry: 'identifier_first identifier_past portion_first portion_past text_first text_past',
 };
 
@@ -30,7 +31,7 @@ export const OF_BOTH_EDITIONS = {
     odif_layout_text_numbers: 'text_read',
     odif_logical_text_numbers: 'text_read',
 };
-export const OF_NONE = { odif_make_numbers: 'written' };
+export const OF_NONE = { odif_make_numbers: 'written', odif_utf8: 'shown' };
 
 // A refusal: its number, its place in octets from 0, and the sentence of its number.
 export class Refusal extends Error {

@@ -100,6 +100,19 @@ test('a letter is made', () => {
     assert.throws(() => odif.make([entry('1', '0', 'a'.repeat(2 * STREAM_LIMIT))]), RangeError);
 });
 
+test('the octets of a text as text', () => {
+    const shown = (text, set) => odif.utf8(octets(text), set);
+    assert.deepEqual(shown('M\xC8uller, Fran\xCBcois\r\n'), { text: 'Müller, François\r\n', numbers: 0 });
+    assert.deepEqual(shown('5$ \xA45', 't61'), { text: '5¤ $5', numbers: 0 });
+    assert.deepEqual(shown('M\xFCller\x07\xC8', 'latin1'), { text: 'Müller\u27E607\u27E7È', numbers: 1 });
+    assert.deepEqual(shown('x\xC8'), { text: 'x\u27E6C8\u27E7', numbers: 1 });
+    assert.deepEqual(shown(''), { text: '', numbers: 0 });
+    const long = 'a\xC8u\r\n'.repeat(40000); // cut in parts, and never within a character
+    for (const before of ['', 'x', 'xx', 'xxx', 'xxxx']) assert.deepEqual(shown(before + long), { text: before + 'aü\r\n'.repeat(40000), numbers: 0 });
+    assert.equal(shown('\0'.repeat(200000)).numbers, 200000);
+    assert.throws(() => odif.utf8(octets('a'), 'utf8'), RangeError);
+});
+
 test('a refusal has number, place and sentence', () => {
     const refused = refusal(() => letter('cut-short'));
     assert.ok(refused instanceof Error);

@@ -191,6 +191,23 @@ static void made(Stream s, size_t numbers, size_t room) {
     if (a.number == 0 && a.length == room) made(s, numbers, room - 1);
 }
 
+/* The front of a stream as a text of each set: with room for all, exactly and one short. */
+static odif_shown shown(Stream s, uint32_t set, size_t room) {
+    odif_shown a;
+    fill_octets(room + 8);
+    ASK(ASK_UTF8, a, odif_utf8(set, s.at, s.length, out, room));
+    ANSWER(a);
+    octets(out, room + 8);
+    return a;
+}
+static void characters(Stream s) {
+    s.length = least(s.length, 4096);
+    for (uint32_t set = 0; set < 4; set++) {
+        uint32_t length = shown(s, set, ODIF_UTF8_MOST * s.length).length;
+        if (length > 0) shown(s, set, length), shown(s, set, length - 1);
+    }
+}
+
 /* The state number by number: what stands between the numbers of a struct is no answer. */
 static void state_is(const odif_blocks *state) {
     word((uint32_t)state->total); word((uint32_t)state->taken); word((uint32_t)state->at); word((uint32_t)state->level);
@@ -332,6 +349,7 @@ static void all_of(const uint8_t *at, size_t n, uint32_t seed) {
         entries[i] = seed & 127;
     }
     made(s, 36, 4096);
+    characters(s);
     if (n == NAMES_OCTETS) made_of_names(s);
     in_blocks(s, n < 400 ? 1 : 97, 0);
     in_blocks(s, 7 + n / 5, 0);

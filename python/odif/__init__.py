@@ -19,8 +19,8 @@ from . import _library
 from ._library import MOST_ELEMENTS, NO_PARENT, ROW_WIDTH, STREAM_LIMIT
 
 __all__ = [
-    "Checked", "Date", "Element", "Kind", "Letter", "Line", "MOST_ELEMENTS", "NO_PARENT", "Page", "ROW_WIDTH", "Refusal", "STREAM_LIMIT",
-    "Side", "Verdict", "check", "first_date", "identity", "make", "read", "sentence", "version",
+    "CharacterSet", "Checked", "Date", "Element", "Kind", "Letter", "Line", "MOST_ELEMENTS", "NO_PARENT", "Page", "ROW_WIDTH", "Refusal",
+    "STREAM_LIMIT", "Shown", "Side", "Verdict", "check", "first_date", "identity", "make", "read", "sentence", "utf8", "version",
 ]
 
 
@@ -208,6 +208,35 @@ def make(entries: Iterable[Tuple[bytes, bytes, bytes]]) -> bytes:
     answer = _library.odif.odif_make_numbers(buffer, len(buffer), lent, len(lent), out, len(out))
     _unless_refused(answer)
     return ctypes.string_at(out, answer.length)
+
+
+class CharacterSet(enum.IntEnum):
+    """A set of characters that a text may be in. Which one it is in, the caller knows."""
+
+    ISO6937 = 0
+    T61 = 1
+    LATIN1 = 2
+
+
+@dataclass(frozen=True)
+class Shown:
+    """A text, and how many of its octets are shown by their number, as \u27e6C8\u27e7."""
+
+    text: str
+    numbers: int
+
+
+def utf8(octets: bytes, character_set: CharacterSet = CharacterSet.ISO6937) -> Shown:
+    """Shows the octets of a text: each as its character, as a part of a character of two octets, or by its number."""
+    octets = bytes(octets)
+    # Most texts take little more room than they have octets, and eight for each are always enough.
+    for room in len(octets) + len(octets) // 4 + 32, 8 * len(octets):
+        out = ctypes.create_string_buffer(max(room, 1))
+        answer = _library.odif.odif_utf8(character_set, octets, len(octets), out, room)
+        if answer.number == 0:
+            break
+    _unless_refused(answer)
+    return Shown(ctypes.string_at(out, answer.length).decode(), answer.numbers)
 
 
 def read(file: Union[str, "os.PathLike[str]"], edition: int = 1988) -> "Letter":

@@ -28,6 +28,7 @@ TextRead = _answer("TextRead", "number place elements lines length")
 TextLine = _answer("TextLine", "element portion unit first past")
 Listed = _answer("Listed", "number place elements pages")
 ListedPage = _answer("ListedPage", "element verdict")
+Shown = _answer("Shown", "number place length numbers")
 Entry = _answer("Entry", "identifier_first identifier_past portion_first portion_past text_first text_past")
 
 _STREAM: List[Any] = [ctypes.c_char_p, ctypes.c_size_t]
@@ -48,6 +49,7 @@ _OF_BOTH_EDITIONS = {
 }
 _OF_NONE = {
     "odif_make_numbers": (Written, _STREAM + 2 * _LENT),
+    "odif_utf8": (Shown, [ctypes.c_uint32] + _STREAM + _LENT),
     "odif_sentence": (ctypes.c_char_p, [ctypes.c_uint32]),
     "odif_version": (ctypes.c_char_p, []),
     "odif_identity": (ctypes.c_char_p, []),

@@ -72,6 +72,14 @@ class Letters(unittest.TestCase):
         pages = odif.read(LETTERS / "annex-d-1.odif").pages()
         self.assertEqual([page.verdict for page in pages], 3 * [odif.Verdict.NON_ESSENTIAL])
 
+    def test_characters(self):
+        shown = odif.utf8(b"M\xc8uller, Fran\xcbcois\r\n")
+        self.assertEqual((shown.text, shown.numbers), ("M\u00fcller, Fran\u00e7ois\r\n", 0))
+        self.assertEqual(odif.utf8(b"5$ \xa45", odif.CharacterSet.T61).text, "5\u00a4 $5")
+        self.assertEqual(odif.utf8(b"M\xfcller\x07", odif.CharacterSet.LATIN1), odif.Shown("M\u00fcller\u27e607\u27e7", 1))
+        self.assertEqual(odif.utf8(bytes(1000)), odif.Shown("\u27e600\u27e7" * 1000, 1000))
+        self.assertEqual(odif.utf8(b""), odif.Shown("", 0))
+
     def test_a_letter_is_made(self):
         octets = odif.make([(b"1 0 0", b"0", b"Dear Sir,\r\n"), (b"1 0 1", b"0", b"a\0b")])
         letter = odif.Letter(octets)

@@ -11,6 +11,7 @@ pub use answers::Reason;
 pub use answers::Related;
 pub use answers::TextRead;
 pub use answers::Written;
+pub use characters::Shown;
 pub use elements::Edition;
 use normal::Answer;
 pub use order::Class;
@@ -28,6 +29,7 @@ mod family; // family.rt: the children of a row
 mod in_order; // in_order.rt: the order of a letter by an interchange class
 mod made; // made.rt: a letter that is made
 mod mailroom; // mailroom.rt: the normal form of a short stream
+mod showing; // showing.rt: the characters of a text
 mod side_text; // side_text.rt: the whole reading of a side
 
 pub use dating::date;
@@ -38,6 +40,7 @@ pub use in_order::order;
 pub use made::make;
 pub use mailroom::normal_short;
 pub use mailroom::normal_short_lent;
+pub use showing::utf8;
 pub use side_text::text;
 
 // Checks a stream and fills the element table, thirteen numbers a row. The viewer asks this first.

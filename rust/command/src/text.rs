@@ -173,6 +173,19 @@ pub fn declared(stream: &[u8]) -> Declared {
     charset::declared(values.map(|item| &stream[item.value()]))
 }
 
+/// Tells on standard error that escape sequences in a text that was turned into UTF-8 designate other sets: they are heeded, and not shown.
+fn note_designated(source: &Source<'_>, text: &Text) {
+    let (octets, _) = in_blocks(&text.whole);
+    let escapes = charset::designations(&octets);
+    if escapes > 0 {
+        let sequences = show::counted(escapes, "escape sequence");
+        tell(&format!(
+            "odif: {}: {sequences} in the text designated a character set, and the text is split there\n",
+            source.shown
+        ));
+    }
+}
+
 /// Tells on standard error which set of characters was taken, if none was named and another would give other text.
 fn note_assumed(source: &Source<'_>, text: &Text) {
     let (octets, _) = in_blocks(&text.whole);
@@ -204,6 +217,9 @@ pub fn run(words: &Words) -> Outcome {
         write(&mut out, words, &text, &pages, escape)?;
         out.flush()?;
         note_assumed(source, &text);
+        if words.how.utf8.is_some() {
+            note_designated(source, &text);
+        }
         let all = Units::of(text.side, &text.whole).note(source);
         protected::note(source, text.whole.elements());
         let is_there = has_pages(source, &words.page, text.side, &pages);

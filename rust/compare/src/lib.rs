@@ -5,6 +5,7 @@
 //! stream is in the crate `second`. The program `bench` measures the two beside each other.
 
 pub mod blocks;
+pub mod characters;
 pub mod coding;
 pub mod damage;
 pub mod dates;

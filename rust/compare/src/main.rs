@@ -8,7 +8,7 @@ use std::time::Instant;
 use compare::hold::Holder;
 use compare::rng::Rng;
 use compare::tally::{LAST_NUMBER, Origin, Tally};
-use compare::{blocks, examples, limits, making, openssl, order, pages, seeded, short};
+use compare::{blocks, characters, examples, limits, making, openssl, order, pages, seeded, short};
 
 const HELP: &str = "\
 compare [--seed N] [--streams N] [--from N] [--jobs N]
@@ -16,7 +16,7 @@ compare [--seed N] [--streams N] [--from N] [--jobs N]
 Holds the proved library against the independent reader, by the editions of 1988 and of
 1993: document 01's examples, X.209's and Annex D, every limit from both sides, all short
 streams, and generated letters, good, damaged and noise; letters in the order of class A or
-B, and nearly so; and made letters, which are read again. Its last line is `N passed, M failed`.
+B, and nearly so; made letters, which are read again; and the characters of texts. Its last line is `N passed, M failed`.
 
   --seed N     the generated streams of this seed (1)
   --streams N  so many of them (30000, as the gate does); with more it runs longer
@@ -59,7 +59,9 @@ fn main() -> ExitCode {
         part("limits", &mut total, || in_threads(options.jobs, hold_limits()));
         part("short streams", &mut total, || in_threads(options.jobs, hold_short_streams()));
         part("made letters", &mut total, hold_made);
+        part("characters", &mut total, hold_characters);
     }
+    part("random texts", &mut total, || in_threads(options.jobs, hold_texts_at_random(&options)));
     part("made at random", &mut total, || in_threads(options.jobs, hold_made_at_random(&options)));
     part("in order", &mut total, || in_threads(options.jobs, hold_in_order(&options)));
     part("generated", &mut total, || in_threads(options.jobs, hold_generated(&options)));
@@ -174,6 +176,20 @@ fn hold_made() -> Tally {
     let told = making::NUMBERS.iter().zip(met).map(|(number, count)| format!("{number}: {count}"));
     println!("made letters: {}", told.collect::<Vec<_>>().join(", "));
     tally
+}
+
+fn hold_characters() -> Tally {
+    let mut tally = Tally::default();
+    characters::hold_fixed(&mut tally);
+    tally
+}
+
+/// One text for each stream that is generated.
+fn hold_texts_at_random(options: &Options) -> impl Fn(&mut Holder) + Sync {
+    let seed = options.seed;
+    in_turn(options.from.unwrap_or(0), options.streams, move |holder, number| {
+        characters::hold_seeded(seed, number, &mut holder.tally);
+    })
 }
 
 /// One letter is made for each ten streams that are generated.

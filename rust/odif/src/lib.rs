@@ -25,6 +25,9 @@
 //! [`Letter::order`] says whether the elements stand in the order of interchange format class A or B. With the feature `pm1`
 //! the module of that name says whether the pages are within the dimensions of PM1.
 //!
+//! [`utf8`] shows the octets of a text as UTF-8, each as its character or by its number; [`utf8_at`] says besides where places of the one are in the
+//! other.
+//!
 //! [`Builder`] makes a letter, of texts with an identifier and a portion each.
 //!
 //! Letters are read by the edition of 1988. [`Letter::read_in`], and the other functions with `_in` at the end of their
@@ -36,6 +39,7 @@
 //! [`raw`] has the functions of the C header as they stand, for callers who lend their own memory.
 
 mod blocks;
+mod characters;
 mod date;
 mod edition;
 mod letter;
@@ -48,6 +52,7 @@ mod refusal;
 mod text;
 
 pub use blocks::{Blocks, ClosedEarly, PastTotal, Walked};
+pub use characters::{CharacterSet, Utf8, utf8, utf8_at};
 pub use date::{Date, FirstDate, first_date, first_date_in};
 pub use edition::Edition;
 pub use letter::{Checked, Element, Kind, Letter, Match, Side, check, check_in, content, content_in};

@@ -83,6 +83,20 @@ pub struct Copied {
     pub length: u32,
 }
 
+/// The answer of [`utf8`].
+#[repr(C)]
+#[derive(Clone, Copy, Debug, PartialEq, Eq)]
+pub struct Shown {
+    /// 0, or 18.
+    pub number: u32,
+    /// 0.
+    pub place: u32,
+    /// The octets written.
+    pub length: u32,
+    /// How many octets of the text were shown by their number.
+    pub numbers: u32,
+}
+
 /// The answer of [`children`].
 #[repr(C)]
 #[derive(Clone, Copy, Debug, PartialEq, Eq)]
@@ -309,6 +323,16 @@ pub const fn lent_index(elements: usize) -> usize {
         size *= 2;
     }
     6 * size + 2
+}
+
+unsafe extern "C" {
+    fn odif_utf8(set: u32, octets: *const u8, octets_len: usize, out: *mut u8, out_len: usize) -> Shown;
+}
+
+/// Shows the octets of a text as UTF-8: of ISO 6937 (0, and any number from 3 on), T.61 (1) or ISO 8859-1 (2). It has no edition.
+pub fn utf8(set: u32, octets: &[u8], out: &mut [u8]) -> Shown {
+    // SAFETY: as of the questions.
+    unsafe { odif_utf8(set, octets.as_ptr(), octets.len(), out.as_mut_ptr(), out.len()) }
 }
 
 /// The numbers of a [`Line`].

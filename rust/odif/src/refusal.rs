@@ -187,7 +187,7 @@ impl Rule {
             Rule::Repeated => "an identifier or a portion number stands twice",
             Rule::TableTooShort => "the table has fewer rows than there are elements",
             Rule::NormalFormTooLong => "the normal form is over 1,048,576 octets",
-            Rule::OutputTooShort => "the output is shorter than the normal form",
+            Rule::OutputTooShort => "the output is shorter than the normal form, or than the text in UTF-8",
             Rule::ListTooShort => "the list is shorter than the matches, or the lines are fewer",
             Rule::NoTextUnit => "the asked element is no text unit or does not exist",
             Rule::InPieces => "the content is in pieces or tiles, and no one part of the stream",

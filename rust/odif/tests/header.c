@@ -140,6 +140,13 @@ int main(void) {
            memcmp(out, letter, length) ? "differs" : "same", out[length]);
     written = odif_make((const uint8_t *)"1 0 20Hi", 8, entries, 2, out, sizeof out);
     printf("made twice %" PRIu32 " %" PRIu32 " %" PRIu32 "\n", written.number, written.place, written.length);
+    memset(out, '.', sizeof out);
+    odif_shown shown = odif_utf8(ODIF_ISO6937, (const uint8_t *)"M\xC8ul\xE5", 5, out, 5 * ODIF_UTF8_MOST);
+    printf("utf8 %" PRIu32 " %" PRIu32 " %" PRIu32 " %" PRIu32 " %.13s\n", shown.number, shown.place, shown.length,
+           shown.numbers, (const char *)out);
+    shown = odif_utf8(ODIF_T61, (const uint8_t *)"$", 1, out, 1);
+    printf("utf8, too short %" PRIu32 " %" PRIu32 " %" PRIu32 " %" PRIu32 "\n", shown.number, shown.place, shown.length,
+           shown.numbers);
     checked = odif_check(NULL, 0, NULL, 0);
     printf("empty %" PRIu32 " %" PRIu32 "\n", checked.number, checked.place);
     checked = odif_check(letter, length, table, 3 * ODIF_ROW_WIDTH - 1);

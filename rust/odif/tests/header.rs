@@ -42,6 +42,8 @@ no date 23 0
 first date 0 0 8 18 1988 6 5 1
 make 0 0 38 same .
 made twice 15 1 0
+utf8 0 0 12 1 Mül⟦E5⟧.
+utf8, too short 18 0 0 0
 empty 11 0
 short 16 0 11 0
 1988 12 2
@@ -111,5 +113,5 @@ fn no_more_stack_than_the_header_says() {
     let output = run("stack", "-std=gnu99", &[]);
     let told = String::from_utf8_lossy(&output.stdout);
     assert!(output.status.success(), "{told}");
-    assert_eq!(told.lines().count(), 28, "{told}");
+    assert_eq!(told.lines().count(), 29, "{told}");
 }

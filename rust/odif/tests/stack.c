@@ -34,6 +34,7 @@ static void ask_content(void) { odif_content(stream, length, 1); }
 static void ask_joined(void) { odif_joined(stream, length, 1, out, sizeof out); }
 
 static void ask_make(void) { odif_make(names, sizeof names, entries, entry_count, out, sizeof out); }
+static void ask_utf8(void) { odif_utf8(ODIF_T61, stream, length < 1000 ? length : 1000, out, sizeof out); }
 static void ask_check_1993(void) { odif_check_1993(stream, length, table, sizeof table / sizeof *table); }
 static void ask_normal_1993(void) { odif_normal_1993(stream, length, out, sizeof out); }
 static void ask_lent(void) {
@@ -97,6 +98,7 @@ static const struct {
     {"content", ask_content, ODIF_STACK_SMALL, ODIF_STACK},
     {"joined content", ask_joined, ODIF_STACK_SMALL, ODIF_STACK},
     {"making a letter", ask_make, ODIF_STACK_MAKE, ODIF_STACK_MAKE},
+    {"characters", ask_utf8, 4096, 4096},
     {"check, 1993", ask_check_1993, ODIF_STACK_SMALL, ODIF_STACK},
     {"normal form, 1993", ask_normal_1993, ODIF_STACK_SMALL, ODIF_STACK},
     {"layout list, 1993", ask_layout_1993, ODIF_STACK_SMALL_LISTS, ODIF_STACK_LISTS},

@@ -17,6 +17,7 @@
 //! ```
 
 mod answers;
+mod characters;
 mod date;
 mod edition;
 mod elements;
@@ -34,6 +35,7 @@ mod refusal;
 
 pub use answers::text::{Line, Shown};
 pub use answers::{Checked, Copied, Found, Listed, Match, Reading, Related, Side, Written, lent_for};
+pub use characters::{InUtf8, utf8};
 pub use date::{Dated, first_date};
 pub use edition::Edition;
 pub use items::{Item, Tree};
