@@ -89,7 +89,6 @@ def is_here(room, name):
 
 # Of a machine: what is tested, and the test, which is told the room and the machine's name.
 TESTS = {
-    'x86_64-linux': [('copies stand as a strict machine is told', box.copies_stand)],
     'aarch64-linux': [('installed', installed)],
     'x86_64-windows': [('letter.c', letters_on_windows), ('the DLLs', answers_of_dll)],
     'wasm32': [('odif.wasm in its room', wasm_in_its_room)],
@@ -97,3 +96,6 @@ TESTS = {
     'rv32i': [('no product', box.refers_to_no_product)],
     'thumbv6m': [('no product', box.refers_to_no_product)],
 }
+
+# On the machine at hand, whichever it is.
+TESTS_HERE = [('target/here', is_here), ('copies stand as a strict machine is told', box.copies_stand)]

@@ -88,7 +88,7 @@ def stack_taken(room, name):
 
 
 def copies_stand(room, name):
-    """What strict machines are told of where copies stand holds: on that machine each is looked at before it is made, over the whole corpus."""
+    """What strict machines are told of where copies stand holds: on this machine each is looked at before it is made, over the whole corpus."""
     out = room.folder / 'checked'
     build(TARGETS[name], out, '-O1', lambda text: retarget.aligned(text, checked=True))
     return room.asked(*room.digest(name, out, out / 'digest', DIGEST / 'stands.c')).splitlines()[0]
