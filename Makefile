@@ -2,7 +2,7 @@
 #
 #   make                                      build all under target/install
 #   make install PREFIX=/usr DESTDIR=stage    headers, archives, shared libraries, odif.pc, pm1.pc, command, manual pages, completions
-#   make install-lib                          the same without the command: it needs rt, for the proved library, and a C compiler alone
+#   make install-lib                          the same without the command: it needs rt, for the proved library, a C compiler and, on ARM, python3
 #   make uninstall                            take away what install put there
 #   make portable TARGET=aarch64-linux        the libraries for another machine, under target/portable; `portable/build --list` has the machines
 #   make install-lib TARGET=aarch64-linux CC=aarch64-linux-gnu-gcc    the same installed, on Linux with shared libraries, which CC makes

@@ -1,8 +1,9 @@
 /* odif.h: a reader of ODIF letters (CCITT T.415, ISO 8613-5, of 1988 and of 1993), proved to its contracts.
 
-   Link with target/staticlib/libodif.a, the proved archive, for Linux on x86-64. `portable/build TARGET FOLDER` makes
-   libraries for other machines of the module that this archive is compiled from: Linux on ARM, RISC-V and s390x, Windows,
-   macOS, WebAssembly, and boxes with no system; `portable/build --list` has them. The proof is of the language's machine,
+   Link with target/here/libodif.a, the library for the machine at hand. On Linux on x86-64 it is the proved archive itself,
+   target/staticlib/libodif.a. `portable/build TARGET FOLDER` makes libraries for other machines of the module that this
+   archive is compiled from: Linux on ARM, RISC-V and s390x, Windows, macOS, WebAssembly, and boxes with no system;
+   `portable/build --list` has them, and on Linux on ARM target/here has that one. The proof is of the language's machine,
    and Rattle vouches for x86-64. The others are compiled from the same module and tested to answer alike; they rest
    besides on LLVM's back end for that machine, on the step that fits the module to it and on the C functions over it
    (docs/MACHINES.md says which are run and which are compiled alone). There is none for i386.

@@ -1,7 +1,7 @@
 /* pm1.h: the PM1 desk, a question over the reader of odif.h: which pages of a letter are within PM1 (CCITT T.502, table
    10), proved to its contract.
 
-   Link with target/staticlib/libpm1.a, and with libodif.a beside it, in either order, if the questions of odif.h are
+   Link with target/here/libpm1.a, and with libodif.a beside it, in either order, if the questions of odif.h are
    asked too: each archive shows the names of its own header alone. Installed, `pkg-config --libs pm1` names both. What odif.h says of its functions holds for these:
    no state, nothing allocated, any octets whatever, and what is lent is valid, aligned and apart. On the stack they
    take no more than ODIF_STACK, and of a small stream no less than of a large one.

@@ -2,9 +2,9 @@
 import subprocess
 
 import box
-from machines import DIGEST, HERE, Failed, run
+from machines import DIGEST, HERE, HOSTED, Failed, run
 from kit import TOP
-from targets import TARGETS
+from targets import PROVED, TARGETS
 
 SAMPLES = sorted((TOP / 'samples/letters').glob('*.odif'))
 
@@ -18,19 +18,20 @@ def shown(*words, file, **more):
 
 def shown_here(room):
     """Of each sample what examples/letter.c writes over the proved archive, with its status."""
-    own = room.folder / 'letter'
-    if not own.exists():
-        room.compiled('gcc', [TOP / 'examples/letter.c', TOP / 'include/odif_sentence.c'], [TOP / 'target/staticlib/libodif.a'], own)
-    return {file: shown(own, file=file) for file in SAMPLES}
+    if not room.samples:
+        sources, library = [TOP / 'examples/letter.c', TOP / 'include/odif_sentence.c'], TOP / 'target/staticlib/libodif.a'
+        own = room.on_linux(PROVED, sources, [library], room.folder / 'letter')
+        room.samples = {file: shown(*own, file=file) for file in SAMPLES}
+    return room.samples
 
 
 def same_on_samples(room, way):
-    """A way to show a letter gives on every sample what the proved archive gives here."""
+    """A way to show a letter gives on every sample what the proved archive gives."""
     expected = shown_here(room)
     for file in SAMPLES:
         if (got := way(file)) != expected[file]:
             raise Failed(f'{file.name}: {got}, and not {expected[file]}')
-    return f'{len(SAMPLES)} samples, as here'
+    return f'{len(SAMPLES)} samples, as the proved archive'
 
 
 def letters_on_windows(room, name):
@@ -47,7 +48,7 @@ def answers_of_dll(room, name):
     """The digest over odif.dll and pm1.dll, which stand beside the program."""
     out = room.built(name)
     libraries = [out / 'libpm1.dll.a', out / 'libodif.dll.a']
-    return room.on_wine(room.compiled('x86_64-w64-mingw32-gcc', [DIGEST / 'digest.c', DIGEST / 'hosted.c'], libraries, out / 'digest-dll.exe')).splitlines()[0]
+    return room.on_wine(room.compiled('x86_64-w64-mingw32-gcc', HOSTED, libraries, out / 'digest-dll.exe')).splitlines()[0]
 
 
 def wasm_in_its_room(room, name):
@@ -60,10 +61,11 @@ def wasm_in_its_room(room, name):
     return same_on_samples(room, lambda file: shown('node', TOP / 'examples/letter.mjs', out, file, file=file))
 
 
-def installed(room, _):
+def installed(room, name):
     """`make install-lib TARGET=aarch64-linux` into a folder, and examples/letter.c over the shared library that stands there."""
-    at = room.folder / 'at'
-    run('make', '-s', '-C', TOP, 'install-lib', 'TARGET=aarch64-linux', 'CC=aarch64-linux-gnu-gcc', 'PREFIX=/opt/odif', f'DESTDIR={at}', stderr=subprocess.STDOUT)
+    at, is_here = room.folder / 'at', TARGETS[name].tested == 'here'
+    compiler = 'gcc' if is_here else 'aarch64-linux-gnu-gcc'
+    run('make', '-s', '-C', TOP, 'install-lib', 'TARGET=aarch64-linux', f'CC={compiler}', 'PREFIX=/opt/odif', f'DESTDIR={at}', stderr=subprocess.STDOUT)
     lib = at / 'opt/odif/lib'
     here = sorted(str(file.relative_to(at / 'opt/odif')) for file in (at / 'opt/odif').rglob('*') if not file.is_dir())
     if len(here) != 14 or 'lib/libpm1.so' not in here:
@@ -71,14 +73,22 @@ def installed(room, _):
     names = run(room.kit.tool('llvm-nm'), '-D', '--defined-only', '--format=just-symbols', lib / 'libodif.so').decode().split()
     if any(not name.startswith('odif_') for name in names):
         raise Failed(f'libodif.so shows {", ".join(names)}')
-    program = room.compiled('aarch64-linux-gnu-gcc', [TOP / 'examples/letter.c'], [lib / 'libodif.so'], room.folder / 'letter-aarch64')
-    emulator = ['qemu-aarch64', '-L', '/usr/aarch64-linux-gnu', '-E', f'LD_LIBRARY_PATH={lib}']
-    return same_on_samples(room, lambda file: shown(*emulator, program, file=file))
+    program = room.compiled(compiler, [TOP / 'examples/letter.c'], [lib / 'libodif.so'], room.folder / 'letter-aarch64')
+    before = ['env', f'LD_LIBRARY_PATH={lib}'] if is_here else ['qemu-aarch64', '-L', '/usr/aarch64-linux-gnu', '-E', f'LD_LIBRARY_PATH={lib}']
+    return same_on_samples(room, lambda file: shown(*before, program, file=file))
+
+
+def is_here(room, name):
+    """The libraries in target/here, which all that is compiled on this machine links: the proved archives, and elsewhere what is tested here."""
+    libraries = TOP / 'target/staticlib' if name == PROVED else room.built(name)
+    for library in 'libodif.a', 'libpm1.a':
+        if (TOP / 'target/here' / library).read_bytes() != (libraries / library).read_bytes():
+            raise Failed(f'target/here/{library} is another: packaging/archive makes it')
+    return 'octet for octet the proved archives' if name == PROVED else 'octet for octet these'
 
 
 # Of a machine: what is tested, and the test, which is told the room and the machine's name.
 TESTS = {
-    'x86_64-linux': [('copies stand as a strict machine is told', box.copies_stand)],
     'aarch64-linux': [('installed', installed)],
     'x86_64-windows': [('letter.c', letters_on_windows), ('the DLLs', answers_of_dll)],
     'wasm32': [('odif.wasm in its room', wasm_in_its_room)],
@@ -86,3 +96,6 @@ TESTS = {
     'rv32i': [('no product', box.refers_to_no_product)],
     'thumbv6m': [('no product', box.refers_to_no_product)],
 }
+
+# On the machine at hand, whichever it is.
+TESTS_HERE = [('target/here', is_here), ('copies stand as a strict machine is told', box.copies_stand)]

@@ -91,5 +91,4 @@ def copies_stand(room, name):
     """What strict machines are told of where copies stand holds: on this machine each is looked at before it is made, over the whole corpus."""
     out = room.folder / 'checked'
     build(TARGETS[name], out, '-O1', lambda text: retarget.aligned(text, checked=True))
-    program = room.hosted('gcc', out, out / 'digest', DIGEST / 'stands.c')
-    return room.asked(program).splitlines()[0]
+    return room.asked(*room.digest(name, out, out / 'digest', DIGEST / 'stands.c')).splitlines()[0]

@@ -8,10 +8,11 @@ import sys
 from building import build
 from calls import assertions
 from kit import TOP, Kit
-from targets import TARGETS
+from targets import PROVED, TARGETS
 
 HERE = pathlib.Path(__file__).resolve().parent
 DIGEST = HERE / 'digest'
+HOSTED = [DIGEST / 'digest.c', DIGEST / 'hosted.c']  # the digest program, where there is a C library
 
 
 class Failed(Exception):
@@ -33,7 +34,7 @@ class Room:
     """A folder with the corpus and with what is built for each machine."""
 
     def __init__(self, folder, count):
-        self.folder, self.kit = pathlib.Path(folder), Kit()
+        self.folder, self.kit, self.proved, self.samples = pathlib.Path(folder), Kit(), [], {}
         self.corpus = self.folder / 'corpus'
         self.corpus.write_bytes(run(sys.executable, DIGEST / 'corpus.py', count))
         # the structs as the machine's own C compiler has them
@@ -51,9 +52,26 @@ class Room:
             *words, '-o', program)
         return program
 
+    def on_linux(self, name, sources, libraries, program, *words):
+        """Such a program for a Linux machine: the words that run it, by qemu where that is not this machine."""
+        target = TARGETS[name]
+        if target.tested == 'here':
+            return [self.compiled('gcc', sources, libraries, program, *words)]
+        return [f'qemu-{target.machine}', self.compiled(f'{target.compiler}-gcc', sources, libraries, program, *words, '-static')]
+
+    def digest(self, name, out, program, *words):
+        """The digest program for a Linux machine, over the libraries in a folder: the words that run it."""
+        return self.on_linux(name, HOSTED, [out / 'libpm1.a', out / 'libodif.a'], program, *words)
+
+    def own(self):
+        """What that prints over the proved archives: a line with the digest, and of each question the numbers that it gave."""
+        if not self.proved:
+            self.proved = self.asked(*self.digest(PROVED, TOP / 'target/staticlib', self.folder / 'own'), 'numbers').splitlines()
+        return self.proved
+
     def hosted(self, compiler, out, program, *words):
         """The digest program with a C library."""
-        return self.compiled(compiler, [DIGEST / 'digest.c', DIGEST / 'hosted.c'], [out / 'libpm1.a', out / 'libodif.a'], program, *words)
+        return self.compiled(compiler, HOSTED, [out / 'libpm1.a', out / 'libodif.a'], program, *words)
 
     def objects(self, target, out, sources, *words):
         """C files, compiled with no C library."""
@@ -78,10 +96,10 @@ class Room:
 
     def windows(self, out):
         """The digest program for Windows. Microsoft's name of the routine that touches the stack is another than MinGW's."""
-        sources, compiler = [DIGEST / 'digest.c', DIGEST / 'hosted.c'], 'x86_64-w64-mingw32-gcc'
+        compiler = 'x86_64-w64-mingw32-gcc'
         if (out / 'libodif.a').exists():
             return self.hosted(compiler, out, out / 'digest.exe')
-        return self.compiled(compiler, sources, [out / 'pm1.lib', out / 'odif.lib'], out / 'digest.exe', '-Wl,--defsym,__chkstk=___chkstk_ms')
+        return self.compiled(compiler, HOSTED, [out / 'pm1.lib', out / 'odif.lib'], out / 'digest.exe', '-Wl,--defsym,__chkstk=___chkstk_ms')
 
     def wine_env(self):
         """wine makes itself a folder the first time."""
@@ -110,12 +128,10 @@ class Room:
     def answers(self, name):
         """What the digest program prints on a machine."""
         target, out = TARGETS[name], self.built(name)
-        if target.tested == 'here':
-            return self.asked(self.hosted('gcc', out, out / 'digest'))
         if target.tested.startswith('wine'):
             return self.on_wine(self.windows(out))
         if target.tested == 'node':
             return run('node', DIGEST / 'wasm.mjs', self.wasm(target, out), self.corpus).decode()
         if target.compiler:
-            return self.asked(f'qemu-{target.machine}', self.hosted(f'{target.compiler}-gcc', out, out / 'digest', '-static'))
+            return self.asked(*self.digest(name, out, out / 'digest'))
         return self.asked(f'qemu-{target.machine}', self.bare(target, out))

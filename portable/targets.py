@@ -1,6 +1,8 @@
 """The machines that the library is compiled for: one row each."""
+import os
 from collections import namedtuple
 
+HERE = os.uname().machine  # this machine
 # words: what clang is told. bits: how wide a length is. probes: whether the module's stack probes stay, which need a page that traps below the stack.
 # aligned: whether the machine reads no number across its bounds, so that copies have to be told where they stand. shifts: the numbers whose products
 # are to be shifts and sums again, since the machine multiplies by a call. tested: how portable/test runs the digest there; '' where it is compiled and
@@ -13,23 +15,30 @@ def target(name, words, tested='', needs='', bits=64, probes=True, aligned=False
 
 
 def linux(machine, words, compiler, libc, name='', **more):
-    needs = f'qemu-user gcc-{compiler} libc6-dev-{libc}-cross'
-    return target(f'{name or machine}-linux', f'--target={words} -fPIC', 'qemu', needs, machine=machine, compiler=compiler, **more)
+    needs = f'qemu-user gcc-{compiler.replace("_", "-")} libc6-dev-{libc}-cross'
+    how = ('here', 'gcc') if machine == HERE else ('qemu', needs)
+    return target(f'{name or machine}-linux', f'--target={words} -fPIC', *how, machine=machine, compiler=compiler, **more)
 
 
 def bare(name, words, machine, **more):
     return target(name, f'--target={words}', 'qemu, no C library', 'qemu-user', probes=False, machine=machine, **more)
 
 
-WINDOWS = 'gcc-mingw-w64-x86-64-win32 wine64'
+def windows(name, words, how):
+    """Windows on x86-64, whose programs wine runs on that processor alone."""
+    run = (how, 'gcc-mingw-w64-x86-64-win32 wine64') if HERE == 'x86_64' else ()
+    return target(name, f'--target={words} -march=x86-64', *run, probes=False)
+
+
+PROVED = 'x86_64-linux'  # what the proved archive is for
 TARGETS = {row.name: row for row in [
-    target('x86_64-linux', '--target=x86_64-unknown-linux-gnu -march=x86-64 -fPIC', 'here', 'gcc'),
+    linux('x86_64', 'x86_64-unknown-linux-gnu -march=x86-64', 'x86_64-linux-gnu', 'amd64'),
     linux('aarch64', 'aarch64-unknown-linux-gnu', 'aarch64-linux-gnu', 'arm64'),
     linux('riscv64', 'riscv64-unknown-linux-gnu -march=rv64gc -mabi=lp64d', 'riscv64-linux-gnu', 'riscv64'),
     linux('s390x', 's390x-unknown-linux-gnu -march=z13', 's390x-linux-gnu', 's390x'),
     linux('arm', 'armv7-unknown-linux-gnueabihf', 'arm-linux-gnueabihf', 'armhf', name='armv7', bits=32, probes=False),
-    target('x86_64-windows', '--target=x86_64-w64-windows-gnu -march=x86-64', 'wine', WINDOWS, probes=False),
-    target('x86_64-msvc', '--target=x86_64-pc-windows-msvc -march=x86-64', 'wine, linked by MinGW', WINDOWS, probes=False),
+    windows('x86_64-windows', 'x86_64-w64-windows-gnu', 'wine'),
+    windows('x86_64-msvc', 'x86_64-pc-windows-msvc', 'wine, linked by MinGW'),
     target('aarch64-windows', '--target=aarch64-w64-windows-gnu', probes=False),
     target('aarch64-macos', '--target=arm64-apple-macos11 -fPIC'),
     target('wasm32', '--target=wasm32-unknown-unknown -mbulk-memory', 'node', 'nodejs', bits=32, probes=False),

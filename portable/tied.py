@@ -106,7 +106,7 @@ NUMBERS = {
 
 def every_number(room):
     """Over the corpus each question gives every number that the header says it may give, and no other."""
-    lines = dict(line.split(':') for line in room.asked(room.folder / 'own', 'numbers').splitlines()[1:])
+    lines = dict(line.split(':') for line in room.own()[1:])
     met = {question: [int(number) for number in numbers.split()] for question, numbers in lines.items()}
     for question, numbers in NUMBERS.items():
         if met.get(question) != numbers:
