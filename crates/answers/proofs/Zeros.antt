@@ -1,5 +1,5 @@
 -- Numbers that are all 0: an index of them has no row, and so have both indexes of a letter.
-use mathlib.Core.Path.{_≡_, _∙_}
+use mathlib.Core.Path.{_≡_, sym, ap, _∙_, subst}
 use mathlib.Core.List.{List}
 use Prim.Native.Nat.{ℕ, _+_, _-_, _<_, _≤_}
 use native.Mathlib.Omega.{arith}
@@ -45,8 +45,9 @@ pub record AllUnused (size : ℕ) : Type 0 where
 pub zeros-unused : (size : ℕ) → 0 < linksBegin size → linksBegin size ≤ hashes → AllUnused size
 zeros-unused size some few =
     let long = length-replicate {A = ℕ} size 0 in record {
-      unused = unused (replicate size 0) (zeros-all size) (omega (arith, long)) (omega (arith, long));
-      links = links-size (replicate size 0) ∙ omega (arith, long);
+      unused = unused (replicate size 0) (zeros-all size) (subst (λ (l : ℕ). 0 < linksBegin l) (sym long) some)
+          (subst (λ (l : ℕ). linksBegin l ≤ hashes) (sym long) few);
+      links = links-size (replicate size 0) ∙ ap (λ (l : ℕ). l - linksBegin l) long;
     }
 
 -- twice as many: both indexes of a letter
@@ -63,11 +64,11 @@ zeros-both size half twice some few =
     let second : length (logicalIndex (replicate size 0)) ≡ half =
     length-drop (halfOf (length (replicate {A = ℕ} size 0))) (replicate size 0) ∙ omega (arith, long) in record {
       identifiers = unused (identifierIndex (replicate size 0)) (zeros-take (halfOf (length (replicate {A = ℕ} size 0))) (replicate size 0) (zeros-all size))
-          (omega (arith, first)) (omega (arith, first));
+          (subst (λ (l : ℕ). 0 < linksBegin l) (sym first) some) (subst (λ (l : ℕ). linksBegin l ≤ hashes) (sym first) few);
       logicals = unused (logicalIndex (replicate size 0)) (zeros-drop (halfOf (length (replicate {A = ℕ} size 0))) (replicate size 0) (zeros-all size))
-          (omega (arith, second)) (omega (arith, second));
+          (subst (λ (l : ℕ). 0 < linksBegin l) (sym second) some) (subst (λ (l : ℕ). linksBegin l ≤ hashes) (sym second) few);
       links = λ n l. record {
-        identifiers = omega (arith, links-size (identifierIndex (replicate size 0)), first);
-        logicals = omega (arith, links-size (logicalIndex (replicate size 0)), second);
+        identifiers = subst (λ (k : ℕ). n < k) (sym (links-size (identifierIndex (replicate size 0)) ∙ ap (λ (k : ℕ). k - linksBegin k) first)) l;
+        logicals = subst (λ (k : ℕ). n < k) (sym (links-size (logicalIndex (replicate size 0)) ∙ ap (λ (k : ℕ). k - linksBegin k) second)) l;
       };
     }

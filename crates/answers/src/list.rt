@@ -79,6 +79,7 @@ pub fn list_judged(
 {
     let lent = table.len() / TABLE_WIDTH;
     let listed = find_matches(edition, stream, side, room, rows, index, count, lent, flat);
-    table::finish(edition, stream, rows, index, count, listed.number, table);
+    let names = rows::identifiers(index);
+    table::finish(edition, stream, rows, names, count, listed.number, table);
     listed
 }

@@ -185,7 +185,8 @@ pub fn text_judged(
     let found = wide(listed.matches);
     let needed = measure(edition, stream, rows, count, numbers, found);
     let shown = answer(listed, needed, out.len());
-    table::finish(edition, stream, rows, index, count, shown.number, table);
+    let names = rows::identifiers(index);
+    table::finish(edition, stream, rows, names, count, shown.number, table);
     let lines = wide(shown.lines);
     put_texts(edition, stream, rows, count, numbers, lines, out);
     shown

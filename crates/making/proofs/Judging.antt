@@ -18,27 +18,30 @@ use Rattle.making.proofs.Fitting.{fit-few, fitting-from, count-said}
 use Rattle.making.proofs.Flat.{count-in, fits-on, refused-at}
 use Rattle.making.proofs.Keeping.{keeps-none}
 
--- more links than entries, or than fit
-linked : (count links : ℕ) → (count < links) ⊎ (2047 < links) → (k : ℕ) → k < count → k < 2047 → k + 1 < links
-linked count links (inl e) k l m = omega arith
-linked count links (inr e) k l m = omega arith
-
-some-of : (count links : ℕ) → (count < links) ⊎ (2047 < links) → 0 < links
-some-of count links (inl e) = omega arith
-some-of count links (inr e) = omega arith
+-- an entry that is kept is one of so many
+below : (count most : ℕ) → (count ≤ most) ⊎ (2047 ≤ most) → (k : ℕ) → k < count → k < 2047 → k < most
+below count most (inl e) k l m = omega arith
+below count most (inr e) k l m = omega arith
 
 -- arrays of zeros are what is lent
-pub zeros-roomy : (numbers : List ℕ) (rows index links : ℕ) → links ≡ index - linksBegin index → (length numbers / entryWidth < links) ⊎ (2047 < links)
-    → links * scratchWidth ≤ rows + scratchWidth → 0 < linksBegin index → linksBegin index ≤ hashes
-    → Roomy numbers (replicate rows 0) (replicate index 0)
-zeros-roomy numbers rows index links is enough room some few =
-    let z = zeros-unused index some few in
-    let size : length (linksOf (replicate index 0)) ≡ links = z .links ∙ sym is in record {
+pub zeros-roomy : (numbers : List ℕ) (rows index most : ℕ) → (length numbers / entryWidth ≤ most) ⊎ (2047 ≤ most) → most * scratchWidth ≤ rows
+    → most < index - linksBegin index → 0 < linksBegin index → linksBegin index ≤ hashes → Roomy numbers (replicate rows 0) (replicate index 0)
+zeros-roomy numbers rows index most enough room links some few =
+    let z = zeros-unused index some few in record {
       unused = z .unused;
-      some-links = omega (arith, size, some-of (length numbers / entryWidth) links enough);
-      rows-fit = λ k l m. let n = linked (length numbers / entryWidth) links enough k l m in omega (arith, length-replicate {A = ℕ} rows 0);
-      links-fit = λ k l m. omega (arith, size, linked (length numbers / entryWidth) links enough k l m);
+      some-links = omega (arith, z .links);
+      rows-fit = λ k l m. omega (arith, below (length numbers / entryWidth) most enough k l m, length-replicate {A = ℕ} rows 0);
+      links-fit = λ k l m. omega (arith, below (length numbers / entryWidth) most enough k l m, z .links);
     }
+
+-- where the links begin in the arrays of either size
+pub few-links : linksBegin 385 ≡ 256
+unfolding linksBegin
+few-links = refl
+
+pub many-links : linksBegin 6145 ≡ 4096
+unfolding linksBegin
+many-links = refl
 
 pub record Judging (buffer numbers rows index : List ℕ) (k : ℕ) : Type 0 where
   pub done : List Said

@@ -76,7 +76,7 @@ fn judge_many(buffer: &[u8], numbers: &[u32]) -> Reason
     ensures { λ r. ⌜ r ≡ reasonOf (judgeEntries (now (buffer .entry)) (entriesOf (now (numbers .entry)))) ⌝ }
 {
     let mut rows = [0u32; 24564];
-    let mut index = [0u16; 6144];
+    let mut index = [0u16; 6145];
     rules::judge_entries(buffer, numbers, &mut rows, &mut index)
 }
 

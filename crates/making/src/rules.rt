@@ -41,8 +41,8 @@ const MOST_ENTRIES: usize = 2047;
 
 const LONGEST_NAME: usize = 64;
 
-// The kind of a block, as a row has it.
-const BLOCK: u32 = 2;
+// The kind of a block, a layout object, as a row has it.
+const BLOCK: u32 = rows::LAYOUT_OBJECT as u32;
 
 // Whether a part lies in the buffer.
 fn lies(buffer: &[u8], part: Span) -> bool

@@ -1,5 +1,5 @@
 -- Arrays of zeros are the scratch that the judge asks for.
-use mathlib.Core.Path.{_≡_, ap, _∙_}
+use mathlib.Core.Path.{_≡_, refl, ap, _∙_}
 use mathlib.Core.List.{List}
 use Prim.Native.Nat.{ℕ, _+_, _-_, _*_, _/_, _<_, _≤_}
 use native.Mathlib.Omega.{arith}
@@ -31,6 +31,15 @@ lent s rows index half twice needed room some few =
       links = both .links (rowsNeeded s) needed;
       portions = omega (arith, zeros 128);
     }
+
+-- where the links begin in the arrays of either size
+pub few-links : linksBegin 1537 ≡ 1024
+unfolding linksBegin
+few-links = refl
+
+pub many-links : linksBegin 12289 ≡ 8192
+unfolding linksBegin
+many-links = refl
 
 -- what the judge asks of a stream: that the walk passed it
 pub walked-fine : (s : List ℕ) (at headers : ℕ) → walkOf s ≡ Ended at headers → Fine s (wholeStream s) × (length s ≤ streamLimit)
