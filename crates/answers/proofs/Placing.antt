@@ -25,7 +25,7 @@ use Rattle.letters.proofs.Telling.{rows-tell}
 use Rattle.order.specs.declared.Class.{Class}
 use Rattle.order.specs.declared.Fault.{Fault}
 use Rattle.order.specs.declared.Fault.the-variants.{Nowhere, At}
-use Rattle.order.specs.Question.{verdict, outOfOrder, octetAt}
+use Rattle.order.specs.Question.{verdict, outOfOrder, elementStart}
 use Rattle.order.specs.Computed.{byFound, byLetter, orderIn}
 use Rattle.order.specs.Fault.{FaultIn}
 use Rattle.order.proofs.Accepted.{judged-aside}
@@ -77,5 +77,5 @@ module _ {edition : Edition} {s rows : List ℕ} {count : ℕ} (held : LetterRow
         by-count : cond (ltb k count) (firstAt rows wholeColumn k) (length s) ≡ cond (ltb k count) (placeOf k (itemsOfStream s)) (length s)
         by-count = cases (ltb k count) (λ t. rw (t, place-at k (ltb-true k count t))) (λ t. rw t)
 
-        same-octet : cond (ltb k count) (firstAt rows wholeColumn k) (length s) ≡ octetAt s (held .elements) k
+        same-octet : cond (ltb k count) (firstAt rows wholeColumn k) (length s) ≡ elementStart s (held .elements) k
         same-octet = by-count ∙ ap (λ (n : ℕ). cond (ltb k n) (placeOf k (itemsOfStream s)) (length s)) (sym (held .holds .counted))

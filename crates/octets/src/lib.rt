@@ -79,13 +79,11 @@ fn walk_run(s: &[u8], from: usize, limit: usize, marked: bool, room: usize) -> O
                     number,
                     place,
                     count: inside,
-                } => {
-                    return Outcome::Refused {
-                        number,
-                        place,
-                        count: count + 1 + inside,
-                    };
-                }
+                } => return Outcome::Refused {
+                    number,
+                    place,
+                    count: count + 1 + inside,
+                },
             },
         }
     }

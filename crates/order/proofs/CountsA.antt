@@ -12,7 +12,7 @@ use borrow.Author.Tests.{eqb-true, eq-eqb, ltb-true, ltb-false}
 use borrow.Table.Steps.{cases}
 use Rattle.headers.specs.Head.{isIn}
 use Rattle.elements.specs.Judge.{Element}
-use Rattle.order.specs.Represents.{_∈_, sideOf, represents, LimitsAside, Listed, listedBy, everything, keep}
+use Rattle.order.specs.Represents.{_∈_, sideOf, represents, LimitsAside, Listed, listingOf, everything, keep}
 use Rattle.order.specs.ClassA.{classKinds, objectKinds, representsSome, listedOf}
 use Rattle.order.specs.PassA.{listedIn, representsOf, slotIn, countIf}
 use Rattle.order.proofs.Lacking.{keep-in, Apart, AllApart, apart-keep, apart-everything}
@@ -116,27 +116,27 @@ module _ (pre : List Element) (e : Element) (post : List Element) (ps : List (Li
   abbrev ofKind : Listed → Bool
   ofKind l = eqb (l .by .kind) (e .kind)
 
-  listed-parts : (rs : List (List ℕ)) → listedBy e (rs ++ p ∷ qs) ≡ listedBy e rs ++ listed e p ∷ listedBy e qs
+  listed-parts : (rs : List (List ℕ)) → listingOf e (rs ++ p ∷ qs) ≡ listingOf e rs ++ listed e p ∷ listingOf e qs
   listed-parts [] = refl
   listed-parts (r ∷ rs) = ap (λ (l : List Listed). listed e r ∷ l) (listed-parts rs)
 
-  own-kind : (l : Listed) → l ∈ listedBy e (e .portions) → ofKind l ≡ true
+  own-kind : (l : Listed) → l ∈ listingOf e (e .portions) → ofKind l ≡ true
   own-kind l m =
       let (q, n, r) = Memᴰ·of-map (λ (q : List ℕ). listed e q) (e .portions) m in
       ap ofKind (sym r) ∙ eq-eqb (e .kind) (e .kind) refl
 
   -- what is listed before it, it, and what is listed after it
-  parts : listedOf (e .kind) (pre ++ e ∷ post) ≡ (listedOf (e .kind) pre ++ listedBy e ps) ++ listed e p ∷ (listedBy e qs ++ keep ofKind (everything post))
+  parts : listedOf (e .kind) (pre ++ e ∷ post) ≡ (listedOf (e .kind) pre ++ listingOf e ps) ++ listed e p ∷ (listingOf e qs ++ keep ofKind (everything post))
   unfolding listedOf everything
   parts =
       ap (keep ofKind) (everything-append pre (e ∷ post))
-      ∙ keep-append ofKind (everything pre) (listedBy e (e .portions) ++ everything post)
+      ∙ keep-append ofKind (everything pre) (listingOf e (e .portions) ++ everything post)
       ∙ ap (λ (r : List Listed). keep ofKind (everything pre) ++ r)
-      (keep-append ofKind (listedBy e (e .portions)) (everything post)
-      ∙ ap (λ (r : List Listed). r ++ keep ofKind (everything post)) (keep-all ofKind (listedBy e (e .portions)) own-kind ∙ ap (listedBy e) lists
+      (keep-append ofKind (listingOf e (e .portions)) (everything post)
+      ∙ ap (λ (r : List Listed). r ++ keep ofKind (everything post)) (keep-all ofKind (listingOf e (e .portions)) own-kind ∙ ap (listingOf e) lists
       ∙ listed-parts ps)
-      ∙ append-assoc (listedBy e ps) (listed e p ∷ listedBy e qs) (keep ofKind (everything post)))
-      ∙ sym (append-assoc (keep ofKind (everything pre)) (listedBy e ps) (listed e p ∷ (listedBy e qs ++ keep ofKind (everything post))))
+      ∙ append-assoc (listingOf e ps) (listed e p ∷ listingOf e qs) (keep ofKind (everything post)))
+      ∙ sym (append-assoc (keep ofKind (everything pre)) (listingOf e ps) (listed e p ∷ (listingOf e qs ++ keep ofKind (everything post))))
 
   -- the number that the pass looks at: the portions that elements of the kind list before, the place of the portion, and one
   pub slot-is : LimitsAside (pre ++ e ∷ post) → (x : Element) → represents e p x ≡ true
@@ -144,22 +144,22 @@ module _ (pre : List Element) (e : Element) (post : List Element) (ps : List (Li
   unfolding listedOf
   slot-is aside x t =
       ap (λ (l : List Listed). slotIn 0 l x) parts
-      ∙ slot-at 0 before (listedBy e qs ++ keep ofKind (everything post)) (listed e p) x (subst AllApart parts apart) side t
+      ∙ slot-at 0 before (listingOf e qs ++ keep ofKind (everything post)) (listed e p) x (subst AllApart parts apart) side t
       ∙ ap suc count
     where
       before : List Listed
-      before = listedOf (e .kind) pre ++ listedBy e ps
+      before = listedOf (e .kind) pre ++ listingOf e ps
 
       apart : AllApart (listedOf (e .kind) (pre ++ e ∷ post))
       apart = apart-keep ofKind (everything (pre ++ e ∷ post)) (apart-everything (pre ++ e ∷ post) aside)
 
       side : (k : Listed) → k ∈ before → sideOf (k .by) ≡ sideOf e
       side k m =
-          let n = subst (λ (ls : List Listed). k ∈ ls) (sym parts) (Memᴰ·append-left (listed e p ∷ (listedBy e qs ++ keep ofKind (everything post))) m) in
+          let n = subst (λ (ls : List Listed). k ∈ ls) (sym parts) (Memᴰ·append-left (listed e p ∷ (listingOf e qs ++ keep ofKind (everything post))) m) in
           kind-side (k .by) e (eqb-true (k .by .kind) (e .kind) (keep-in ofKind (everything (pre ++ e ∷ post)) k n .1))
 
       count : 0 + length before ≡ length (listedOf (e .kind) pre) + length ps
       count =
-          let a : length before ≡ length (listedOf (e .kind) pre) + length (listedBy e ps) = length-append (listedOf (e .kind) pre) (listedBy e ps) in
-          let b : length (listedBy e ps) ≡ length ps = length-map ps (listed e) in
+          let a : length before ≡ length (listedOf (e .kind) pre) + length (listingOf e ps) = length-append (listedOf (e .kind) pre) (listingOf e ps) in
+          let b : length (listingOf e ps) ≡ length ps = length-map ps (listed e) in
           omega arith

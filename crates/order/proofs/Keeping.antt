@@ -9,7 +9,7 @@ use lib.Dec.{leb}
 use borrow.Author.Tests.{leb-true, le-leb}
 use borrow.Table.Steps.{cases}
 use Rattle.elements.specs.Judge.{Element}
-use Rattle.order.specs.Represents.{_∈_, Ascending, listedBy, everything, keep}
+use Rattle.order.specs.Represents.{_∈_, Ascending, listingOf, everything, keep}
 use Rattle.order.specs.ClausesA.{ascends}
 use Rattle.portions.specs.Portions.{all}
 use Rattle.order.proofs.Tests.{both, all-in, all-of}
@@ -96,7 +96,7 @@ ascends-told f (x ∷ xs) t =
 pub everything-append : (xs ys : List Element) → everything (xs ++ ys) ≡ everything xs ++ everything ys
 unfolding everything
 everything-append [] ys = refl
-everything-append (x ∷ xs) ys = rw (everything-append xs ys, append-assoc (listedBy x (x .portions)) (everything xs) (everything ys))
+everything-append (x ∷ xs) ys = rw (everything-append xs ys, append-assoc (listingOf x (x .portions)) (everything xs) (everything ys))
 
 pub everything-none : (xs : List Element) → ((e : Element) → e ∈ xs → e .portions ≡ []) → everything xs ≡ []
 unfolding everything

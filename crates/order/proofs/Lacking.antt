@@ -23,7 +23,7 @@ use Rattle.reading.specs.declared.Side.{Side}
 use Rattle.reading.specs.declared.Side.the-variants.{Layout, Logical}
 use Rattle.reading.specs.Match.{unitKind, nameOn}
 use Rattle.order.specs.Represents.{_∈_, present, named, sideOf, represents, isRepresented, listing, speltAside, FitAside, NoClash, LimitsAside, Listed}
-use Rattle.order.specs.Represents.{listedBy, everything, keep}
+use Rattle.order.specs.Represents.{listingOf, everything, keep}
 use Rattle.order.specs.Missing.{missing, label, unitNamed, unitFor, lacking}
 use Rattle.order.proofs.Tests.{both, all-in, any-of}
 use Rattle.order.proofs.Representing.{represents-told, represents-of, represented-of, listing-side, side-space, unit-space, Clashing, clash-told}
@@ -55,12 +55,12 @@ module _ {A : Type 0} (test : A → Bool) where
 pub everything-in : (es : List Element) (l : Listed) → l ∈ everything es → (l .by ∈ es) × (l .portion ∈ l .by .portions)
 unfolding everything
 everything-in [] l m = absurd (List·Memᴰ·not-nil m)
-everything-in (e ∷ es) l m = step (everything-in es l) (List·Memᴰ·append-cases (listedBy e (e .portions)) m)
+everything-in (e ∷ es) l m = step (everything-in es l) (List·Memᴰ·append-cases (listingOf e (e .portions)) m)
   where
     first : ((p : List ℕ) × (p ∈ e .portions) × (record { by = e; portion = p } ≡ l)) → (l .by ∈ e ∷ es) × (l .portion ∈ l .by .portions)
     first (p, n, q) = (List·Memᴰ·head (ap (λ (k : Listed). k .by) (sym q)), subst (λ (k : Listed). k .portion ∈ k .by .portions) q n)
 
-    step : (l ∈ everything es → (l .by ∈ es) × (l .portion ∈ l .by .portions)) → (l ∈ listedBy e (e .portions)) ⊎ (l ∈ everything es)
+    step : (l ∈ everything es → (l .by ∈ es) × (l .portion ∈ l .by .portions)) → (l ∈ listingOf e (e .portions)) ⊎ (l ∈ everything es)
         → (l .by ∈ e ∷ es) × (l .portion ∈ l .by .portions)
     step below (inl n) = first (Memᴰ·of-map (λ (p : List ℕ). record { by = e; portion = p }) (e .portions) n)
     step below (inr n) = let r = below n in (List·Memᴰ·tail (r .0), r .1)
@@ -74,10 +74,10 @@ everything-of (d ∷ es) e p m n = step (λ o. everything-of es e p o n) (List·
     this : Element → Listed
     this x = record { by = x; portion = p }
 
-    step : (e ∈ es → this e ∈ everything es) → (e ≡ d) ⊎ (e ∈ es) → this e ∈ listedBy d (d .portions) ++ everything es
+    step : (e ∈ es → this e ∈ everything es) → (e ≡ d) ⊎ (e ∈ es) → this e ∈ listingOf d (d .portions) ++ everything es
     step below (inl q) = Memᴰ·append-left (everything es)
-        (subst (λ (x : Element). this e ∈ listedBy x (x .portions)) q (Memᴰ·map (λ (r : List ℕ). record { by = e; portion = r }) n))
-    step below (inr o) = Memᴰ·append-right (listedBy d (d .portions)) (below o)
+        (subst (λ (x : Element). this e ∈ listingOf x (x .portions)) q (Memᴰ·map (λ (r : List ℕ). record { by = e; portion = r }) n))
+    step below (inr o) = Memᴰ·append-right (listingOf d (d .portions)) (below o)
 
 pub record Missing (es : List Element) (l : Listed) : Type 0 where
   pub by : l .by ∈ es
@@ -193,7 +193,7 @@ label-told (octets x) (octets y) p q bytes a b e f =
     (r .1, (y, ap octets (r .0), refl))
 
 -- of one element, since it lists no portion twice
-apart-listed : (e : Element) (ps : List (List ℕ)) → all (map isPortion ps) ≡ true → repeats ps ≡ false → AllApart (listedBy e ps)
+apart-listed : (e : Element) (ps : List (List ℕ)) → all (map isPortion ps) ≡ true → repeats ps ≡ false → AllApart (listingOf e ps)
 unfolding repeats among
 apart-listed e [] a r = tt
 apart-listed e (p ∷ ps) a r =
@@ -216,7 +216,7 @@ apart-everything [] a = tt
 apart-everything (e ∷ es) a =
     let here = a .fit e (List·Memᴰ·head refl) in
     let later : LimitsAside es = record { fit = λ x m. a .fit x (List·Memᴰ·tail m); apart = a .apart .1 } in
-    apart-append (listedBy e (e .portions)) (everything es) (apart-listed e (e .portions) (here .portions) (here .once)) (apart-everything es later)
+    apart-append (listingOf e (e .portions)) (everything es) (apart-listed e (e .portions) (here .portions) (here .once)) (apart-everything es later)
     (λ l k m n s bytes x y. cross here l k (Memᴰ·of-map (λ (q : List ℕ). record { by = e; portion = q }) (e .portions) m) (everything-in es k n) s bytes x y)
   where
     cross : FitAside e → (l k : Listed) → ((q : List ℕ) × (q ∈ e .portions) × (record { by = e; portion = q } ≡ l)) → (k .by ∈ es)

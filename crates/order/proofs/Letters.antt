@@ -27,7 +27,7 @@ use Rattle.order.specs.Begins.{InOrder, FaultAt}
 use Rattle.order.specs.ClausesB.{scanB, orderedB}
 use Rattle.order.specs.Fault.{faultOf}
 use Rattle.order.specs.Promises.{look, SameVerdict, OrderOf}
-use Rattle.order.specs.Question.{verdict, outOfOrder, octetAt, OrderIs, by-rule, in-order, out-of-order, Answered}
+use Rattle.order.specs.Question.{verdict, outOfOrder, elementStart, OrderIs, by-rule, in-order, out-of-order, Answered}
 use Rattle.order.specs.Computed.{byFound, byLetter, orderIn, passOf, ComputedOf}
 use Rattle.order.proofs.Representing.{all-represented-of}
 use Rattle.order.proofs.Fronts.{fails-on}
@@ -142,10 +142,10 @@ module _ (edition : Edition) (class : Class) (s : List ℕ) where
             subst (λ (p : ℕ). OrderIs edition class s (verdict outOfOrder p)) (end-octet elements) (out-of-order e f);
       }
     where
-      element-octet : (n : ℕ) (elements : List Element) → n < length elements → octetAt s elements n ≡ placeOf n (itemsOfStream s)
+      element-octet : (n : ℕ) (elements : List Element) → n < length elements → elementStart s elements n ≡ placeOf n (itemsOfStream s)
       element-octet n elements l = rw (lt-ltb n (length elements) l)
 
-      end-octet : (elements : List Element) → octetAt s elements (length elements) ≡ length s
+      end-octet : (elements : List Element) → elementStart s elements (length elements) ≡ length s
       end-octet elements = rw (le-ltb (length elements) (length elements) (omega arith))
 
 -- the profile alone is in both orders

@@ -17,7 +17,7 @@ use Rattle.portions.specs.Portions.{all, any}
 use Rattle.elements.specs.Judge.{Element, clash}
 use Rattle.reading.specs.Match.{unitKind}
 use Rattle.order.specs.Represents.{_∈_, Ascending, named, represents, isAssociated, isRepresented, allRepresented, profileKind, ProfileFirst}
-use Rattle.order.specs.Represents.{LimitsAside, Listed, listedBy, everything, keep}
+use Rattle.order.specs.Represents.{LimitsAside, Listed, listingOf, everything, keep}
 use Rattle.order.specs.ClassA.{endA, genericRank, specificRank, classKinds, objectKinds, representsSome, rankA, orderedBy, listedOf, unitsOf, inStep}
 use Rattle.order.specs.ClassA.{InOrderA}
 use Rattle.order.specs.ClausesA.{awaited, mayCome, placedA, beginsA}
@@ -238,25 +238,25 @@ module _ (front : List Element) (x : Element) (aside : LimitsAside (front ++ x �
       ap (keep (λ l. isIn (l .by .kind) kinds)) (everything-append front (x ∷ []))
       ∙ keep-append (λ l. isIn (l .by .kind) kinds) (everything front) (everything (x ∷ []))
 
-  everything-one : everything (x ∷ []) ≡ listedBy x (x .portions)
+  everything-one : everything (x ∷ []) ≡ listingOf x (x .portions)
   unfolding everything
-  everything-one = append-nil (listedBy x (x .portions))
+  everything-one = append-nil (listingOf x (x .portions))
 
   listed-one : (kinds : List ℕ) → length (listedIn kinds (x ∷ [])) ≡ countIf (isIn (x .kind) kinds) (length (x .portions))
   unfolding listedIn
   listed-one kinds =
       ap (λ (ls : List Listed). length (keep (λ l. isIn (l .by .kind) kinds) ls)) everything-one
       ∙ cases (isIn (x .kind) kinds)
-      (λ t. ap length (keep-all (λ (l : Listed). isIn (l .by .kind) kinds) (listedBy x (x .portions)) (λ l m. by-x l m ∙ t))
+      (λ t. ap length (keep-all (λ (l : Listed). isIn (l .by .kind) kinds) (listingOf x (x .portions)) (λ l m. by-x l m ∙ t))
       ∙ length-map (x .portions) (λ (p : List ℕ). record { by = x; portion = p })
       ∙ sym (ap (λ (b : Bool). countIf b (length (x .portions))) t))
-      (λ t. ap length (keep-none (λ (l : Listed). isIn (l .by .kind) kinds) (listedBy x (x .portions)) (λ l m. by-x l m ∙ t))
+      (λ t. ap length (keep-none (λ (l : Listed). isIn (l .by .kind) kinds) (listingOf x (x .portions)) (λ l m. by-x l m ∙ t))
       ∙ sym (ap (λ (b : Bool). countIf b (length (x .portions))) t))
     where
       step : (l : Listed) → ((p : List ℕ) × (p ∈ x .portions) × (record { by = x; portion = p } ≡ l)) → isIn (l .by .kind) kinds ≡ isIn (x .kind) kinds
       step l (p, n, i) = ap (λ (k : Listed). isIn (k .by .kind) kinds) (sym i)
 
-      by-x : (l : Listed) → l ∈ listedBy x (x .portions) → isIn (l .by .kind) kinds ≡ isIn (x .kind) kinds
+      by-x : (l : Listed) → l ∈ listingOf x (x .portions) → isIn (l .by .kind) kinds ≡ isIn (x .kind) kinds
       by-x l m = step l (Memᴰ·of-map (λ (p : List ℕ). record { by = x; portion = p }) (x .portions) m)
 
   open-next : ((u : Element) → u ∈ front → isAssociated x u ≡ true → ⊥) → (kinds : List ℕ)

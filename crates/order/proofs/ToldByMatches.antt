@@ -19,7 +19,7 @@ use Rattle.reading.specs.declared.Side.the-variants.{Layout, Logical}
 use Rattle.reading.specs.Match.{kindsOf, matches}
 use Rattle.order.specs.declared.Class.{Class}
 use Rattle.order.specs.declared.Class.the-variants.{A, B}
-use Rattle.order.specs.Represents.{_∈_, named, sideOf, represents, isAssociated, Listed, listedBy, everything, keep}
+use Rattle.order.specs.Represents.{_∈_, named, sideOf, represents, isAssociated, Listed, listingOf, everything, keep}
 use Rattle.order.specs.ClassA.{classKinds, objectKinds, orderedBy, listedOf}
 use Rattle.order.specs.PassB.{layoutOwner, Sight, sightOf, placeB}
 use Rattle.order.specs.PassA.{listedIn, representsOf, slotIn, SightA, sightA, sightsA, placeA}
@@ -91,8 +91,8 @@ module _ (es fs : List Element) where
     kind : l .by .kind ≡ m .by .kind
     units : SameUnits (l .by) (m .by) (l .portion) (m .portion)
 
-  listed-by-alike : (e f : Element) → e .kind ≡ f .kind → (ps qs : List (List ℕ)) → Along (SameUnits e f) ps qs → Along AlikeListed (listedBy e ps)
-      (listedBy f qs)
+  listed-by-alike : (e f : Element) → e .kind ≡ f .kind → (ps qs : List (List ℕ)) → Along (SameUnits e f) ps qs → Along AlikeListed (listingOf e ps)
+      (listingOf f qs)
   listed-by-alike e f k [] [] r = tt
   listed-by-alike e f k [] (q ∷ qs) r = absurd r
   listed-by-alike e f k (p ∷ ps) [] r = absurd r
@@ -104,7 +104,7 @@ module _ (es fs : List Element) where
   everything-alike [] (y ∷ ys) r = absurd r
   everything-alike (x ∷ xs) [] r = absurd r
   everything-alike (x ∷ xs) (y ∷ ys) r =
-      along-append AlikeListed (listedBy x (x .portions)) (listedBy y (y .portions)) (everything xs) (everything ys)
+      along-append AlikeListed (listingOf x (x .portions)) (listingOf y (y .portions)) (everything xs) (everything ys)
       (listed-by-alike x y (r .0 .kind) (x .portions) (y .portions) (r .0 .portions)) (everything-alike xs ys (r .1))
 
   -- the numbers that the pass for class A looks at

@@ -14,14 +14,14 @@ use Rattle.order.specs.declared.Fault.{Fault}
 use Rattle.order.specs.declared.Fault.the-variants.{Nowhere, At}
 use Rattle.order.specs.declared.Ordered.{Ordered}
 use Rattle.order.specs.Begins.{InOrder, Begins, FaultAt}
-use Rattle.order.specs.Question.{verdict, outOfOrder, octetAt}
+use Rattle.order.specs.Question.{verdict, outOfOrder, elementStart}
 use Rattle.order.specs.Fault.{begins, faultOf}
 use Rattle.order.specs.PassA.{sightsA, placeA}
 use Rattle.order.specs.PassB.{sightOf, placeB}
 
 abbrev pub byFound : (s : List ℕ) → List Element → Fault → Ordered
 byFound s elements Nowhere = verdict 0 0
-byFound s elements (At n) = verdict outOfOrder (octetAt s elements n)
+byFound s elements (At n) = verdict outOfOrder (elementStart s elements n)
 
 abbrev pub byLetter : Class → (s : List ℕ) → Letter → Ordered
 byLetter class s (refusal number place headers) = verdict number place

@@ -23,8 +23,8 @@ abbrev pub outOfOrder : ℕ
 outOfOrder = 26
 
 -- the first octet of element n; the stream's length if n is how many there are
-abbrev pub octetAt : (s : List ℕ) → List Element → (n : ℕ) → ℕ
-octetAt s elements n = cond (ltb n (length elements)) (placeOf n (itemsOfStream s)) (length s)
+abbrev pub elementStart : (s : List ℕ) → List Element → (n : ℕ) → ℕ
+elementStart s elements n = cond (ltb n (length elements)) (placeOf n (itemsOfStream s)) (length s)
 
 -- THE ORDER of a stream: what is answered of it, by `InOrder` and `FaultAt` alone
 pub data OrderIs (edition : Edition) (class : Class) (s : List ℕ) : Ordered → Type 0 where
@@ -33,7 +33,7 @@ pub data OrderIs (edition : Edition) (class : Class) (s : List ℕ) : Ordered �
   in-order : {headers : ℕ} {elements : List Element} → letterIn edition s ≡ letter headers elements
       → InOrder class elements → OrderIs edition class s (verdict 0 0)
   out-of-order : {headers n : ℕ} {elements : List Element} → letterIn edition s ≡ letter headers elements
-      → FaultAt class elements n → OrderIs edition class s (verdict outOfOrder (octetAt s elements n))
+      → FaultAt class elements n → OrderIs edition class s (verdict outOfOrder (elementStart s elements n))
 
 -- What is promised of the answer.
 pub record Answered (edition : Edition) (class : Class) (s : List ℕ) : Type 0 where

@@ -62,13 +62,14 @@ pub record Listed : Type 0 where
   pub by : Element
   pub portion : List ℕ
 
-abbrev pub listedBy : (e : Element) → (portions : List (List ℕ)) → List Listed
-listedBy e ps = map (λ p. record { by = e; portion = p }) ps
+-- some portions, as this element lists them
+abbrev pub listingOf : (e : Element) → (portions : List (List ℕ)) → List Listed
+listingOf e ps = map (λ p. record { by = e; portion = p }) ps
 
 -- all that is listed, in stream order and then portion order
 unfoldable pub everything : List Element → List Listed
 everything [] = []
-everything (e ∷ es) = listedBy e (e .portions) ++ everything es
+everything (e ∷ es) = listingOf e (e .portions) ++ everything es
 
 -- those that pass a test
 unfoldable pub keep : {A : Type 0} → (A → Bool) → List A → List A

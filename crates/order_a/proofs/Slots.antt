@@ -15,7 +15,7 @@ use Rattle.reading.specs.declared.Side.{Side}
 use Rattle.reading.specs.Match.{matches}
 use Rattle.letters.specs.Telling.{elementAt, noElement}
 use Rattle.reading.proofs.Lists.{at-getD}
-use Rattle.order.specs.Represents.{_∈_, represents, LimitsAside, Listed, listedBy, everything, keep}
+use Rattle.order.specs.Represents.{_∈_, represents, LimitsAside, Listed, listingOf, everything, keep}
 use Rattle.order.specs.ClassA.{representsSome, listedOf}
 use Rattle.order.specs.PassA.{slotIn, countIf}
 use Rattle.order.proofs.Representing.{associated-of}
@@ -43,16 +43,16 @@ one-lists kind e =
     test l = eqb (l .by .kind) kind
 
     own : List Listed
-    own = listedBy e (e .portions) ++ []
+    own = listingOf e (e .portions) ++ []
 
     of-e : (l : Listed) → l ∈ own → test l ≡ eqb (e .kind) kind
     of-e l m =
         let (q, n, r) = Memᴰ·of-map (λ (q : List ℕ). record { by = e; portion = q }) (e .portions)
-        (subst (λ (ls : List Listed). l ∈ ls) (append-nil (listedBy e (e .portions))) m) in
+        (subst (λ (ls : List Listed). l ∈ ls) (append-nil (listingOf e (e .portions))) m) in
         ap test (sym r)
 
     count : length own ≡ length (e .portions)
-    count = ap length (append-nil (listedBy e (e .portions))) ∙ length-map (e .portions) (λ (q : List ℕ). record { by = e; portion = q })
+    count = ap length (append-nil (listingOf e (e .portions))) ∙ length-map (e .portions) (λ (q : List ℕ). record { by = e; portion = q })
 
 lists-more : (kind : ℕ) (xs ys : List Element) → length (listedOf kind (xs ++ ys)) ≡ length (listedOf kind xs) + length (listedOf kind ys)
 unfolding listedOf

@@ -17,7 +17,7 @@ use Rattle.order.specs.declared.Fault.{Fault}
 use Rattle.order.specs.declared.Fault.the-variants.{Nowhere, At}
 use Rattle.order.specs.declared.Ordered.{Ordered}
 use Rattle.order.specs.Fault.{faultOf}
-use Rattle.order.specs.Question.{verdict, outOfOrder, octetAt, OrderIs, by-rule}
+use Rattle.order.specs.Question.{verdict, outOfOrder, elementStart, OrderIs, by-rule}
 use Rattle.order.specs.Computed.{byFound, byLetter, orderIn}
 use Rattle.order.specs.Streams.{Stream, asked, profile, streams}
 use Rattle.order.proofs.Letters.{answered, computed-is, is-computed}
@@ -34,7 +34,7 @@ module _ (edition : Edition) (class : Class) (s : List ℕ) where
     at-start : r .number ≡ 0 → r .place ≡ 0
     accepted : (r .number ≡ 0) ⊎ (r .number ≡ outOfOrder) → IsAccepted edition s
 
-  octet-inside : (elements : List Element) (n : ℕ) → octetAt s elements n ≤ length s
+  octet-inside : (elements : List Element) (n : ℕ) → elementStart s elements n ≤ length s
   octet-inside elements n = cases (ltb n (length elements)) (λ t. rw t (place-inside s n)) (λ t. rw t (omega arith))
 
   known-found : (headers : ℕ) (elements : List Element) → letterIn edition s ≡ letter headers elements → (f : Fault)

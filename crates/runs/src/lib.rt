@@ -99,12 +99,11 @@ pub fn meet(s: &[u8], r: Run) -> Met
 {
     let at = r.at;
     let limit = r.limit;
-    let marked = r.marked;
     let room = r.room;
     if at == limit {
         return Met::End;
     }
-    match headers::passed_head(s, at, limit, marked, room) {
+    match headers::passed_head(s, at, limit, r.marked, room) {
         Head::ClosingMark => Met::End,
         Head::Refusal {
             number: _,
@@ -126,12 +125,7 @@ pub fn meet(s: &[u8], r: Run) -> Met
                         marked: true,
                         room: below,
                     },
-                    rest: Run {
-                        at: next,
-                        limit,
-                        marked,
-                        room,
-                    },
+                    rest: Run { at: next, ..r },
                 };
             }
             Met::Item {
@@ -139,12 +133,7 @@ pub fn meet(s: &[u8], r: Run) -> Met
                 first,
                 past: bound,
                 inner: inside_of(h, room),
-                rest: Run {
-                    at: bound,
-                    limit,
-                    marked,
-                    room,
-                },
+                rest: Run { at: bound, ..r },
             }
         }
     }
