@@ -45,7 +45,7 @@ use Rattle.order.specs.declared.Ordered.{Ordered}
 use Rattle.order.specs.Question.{OrderIs, by-rule, in-order, out-of-order}
 use Rattle.answers.specs.Dates.{dateOf, dated}
 use Rattle.answers.specs.FirstDates.{firstTree, firstRule, ruledAlone, firstRuled, firstDateOf, firstDated}
-use Rattle.answers.proofs.Letters.{refused-element, letter-found}
+use Rattle.letters.proofs.Letters.{refused-element, letter-found}
 use Rattle.answers.proofs.Checks.{checks-refused}
 use Rattle.answers.proofs.Listing.{lists-refused}
 use Rattle.answers.proofs.Fetching.{fetches-refused}
