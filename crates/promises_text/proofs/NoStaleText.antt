@@ -219,7 +219,7 @@ module _ (edition : Edition) (side : Side) (s : List ℕ) where
       unfolding textRead
       told = outcome .answered ∙ fit .told
 
-      how-long : answer .length ≡ length texts
+      pub how-long : answer .length ≡ length texts
       how-long = ap (λ (r : TextRead). r .length) told
 
       lines-are : linesAfter ≡ all-numbers ++ drop (length all-numbers) lines

@@ -34,7 +34,7 @@ octets-append s (p ∷ ps) qs =
     ap (λ (z : List ℕ). slice (p .first) (p .past) s ++ z) (octets-append s ps qs) ∙ sym (append-assoc (slice (p .first) (p .past) s) (octetsAt s ps) (octetsAt s qs))
 
 -- what is not there has no octets
-slice-none : (first past : ℕ) (s : List ℕ) → past ≤ first → slice first past s ≡ []
+pub slice-none : (first past : ℕ) (s : List ℕ) → past ≤ first → slice first past s ≡ []
 slice-none first past s l = drop-of-length-le (take past s) {i = first} (omega (arith, length-take past s))
 
 -- one place has the value of its piece, and an empty one has none

@@ -33,7 +33,7 @@ use Rattle.sources.specs.Units.{placesWith, placesAt, contentPlaces, pla
 use Rattle.sources.proofs.Places.{one-read, read-places, one-ascends, ascends}
 
 -- the value of the first primitive item with an octet stands at its bounds
-value-read : (s : List ℕ) (octet : ℕ) → constructed octet ≡ false → (i : Items)
+pub value-read : (s : List ℕ) (octet : ℕ) → constructed octet ≡ false → (i : Items)
     → octetsAt s (pieceAt (boundsOf octet i .first) (boundsOf octet i .past)) ≡ bytesOf (firstValue octet (plain s i))
 unfolding octetsAt boundsOf firstValue
 value-read s octet c noItems = refl
@@ -47,7 +47,7 @@ value-read s octet c (item at type first past inside after) =
     (λ t. cases (constructed type) (λ f. rw (t, f) more) (λ f. rw (t, f, is-field octet type) (rw t more)))
 
 -- the run inside the first constructed item with an octet
-run-there : (s : List ℕ) (octet : ℕ) → constructed octet ≡ true → (i : Items) → plain s (itemsIn octet i) ≡ firstRun octet (plain s i)
+pub run-there : (s : List ℕ) (octet : ℕ) → constructed octet ≡ true → (i : Items) → plain s (itemsIn octet i) ≡ firstRun octet (plain s i)
 unfolding itemsIn firstRun
 run-there s octet c noItems = refl
 run-there s octet c (item at type first past inside after) =
