@@ -26,9 +26,8 @@ use Rattle.text_lines.specs.Text.{textsOf}
 use Rattle.sources.specs.Places.{octetsAt}
 use Rattle.sources.specs.Sources.{Source, lineSources, sourcesFrom, placesFor, sourceNumbers, sourcesIn}
 use Rattle.sources.specs.Units.{placesIn}
-use Rattle.sources.proofs.Kept.{shownAt, same-shown}
 use Rattle.sources.proofs.Sides.{source-length}
-use Rattle.sources.proofs.Promise.{sources-are, whole-items, from-this-stream}
+use Rattle.sources.proofs.Promise.{sources-are, from-this-stream}
 use Rattle.answers.specs.declared.Sourced.{Sourced}
 use Rattle.answers.specs.declared.TextRead.{TextRead}
 use Rattle.answers.specs.Answers.{matchesIn}
@@ -41,6 +40,7 @@ use Rattle.promises.specs.Demands.{Answered}
 use Rattle.promises.proofs.Demand1.{told-small, told-own, told-zero}
 use Rattle.promises.proofs.Demand2.{normal-accepted, normal-tree}
 use Rattle.promises_text.specs.Sources.{Piece, piecesAt, Unsourced, Traced}
+use Rattle.promises_text.proofs.Kept.{shownAt, whole-items, same-shown}
 use Rattle.promises_text.proofs.NoStaleText.{how-long, no-stale-text}
 
 -- ---- what may be answered, and what a refusal leaves
@@ -139,7 +139,7 @@ normal-pieces edition side s headers elements e within =
     let form = normalForm s in
     let f = normal-accepted edition s headers elements e within in
     let ms = matches side elements in
-    let same = same-shown edition s form (whole-items edition side s headers elements e) (whole-items edition side form headers elements f)
+    let same = same-shown edition s form (whole-items edition s headers elements e) (whole-items edition form headers elements f)
     (normal-tree edition s headers elements e) in
     ap (piecesAt form) (sources-are edition side form headers elements f) ∙ pieces-from form (placesIn edition form) 0 ms
     ∙ same-pieces (λ u. shownAt form (placesIn edition form u)) (λ u. shownAt s (placesIn edition s u)) same 0 ms

@@ -13,7 +13,6 @@ use lib.Dec.{eqb, ltb, leb}
 use lib.ListN.{length, getD, getElem?}
 use Rattle.octets.specs.declared.Outcome.the-variants.{Ended, Refused}
 use Rattle.octets.specs.Walk.{Items, End, ends, stops, count, outcomeOf, answer, streamLimit, walkOf, deepest}
-use Rattle.octets.proofs.Walks.{EndOk, run-ok}
 use Rattle.octets.proofs.RulesHold.{derives}
 use Rattle.tree.specs.Tree.{treeOf}
 use Rattle.tree.specs.Accepts.{Whole}
@@ -27,7 +26,6 @@ use Rattle.judging.proofs.Lists.{below-length, at-below}
 use Rattle.letters.specs.Letter.{letter, itemsOfStream, rowsIn, letterIn}
 use Rattle.letters.proofs.Apart.{accepted-apart}
 use Rattle.letters.proofs.Letters.{Found, letter-found}
-use Rattle.letters.proofs.Nested.{stays}
 use Rattle.letters.proofs.Standing.{Hollow, hollow}
 use Rattle.reading.specs.declared.Match.{Match}
 use Rattle.reading.specs.declared.Side.{Side}
@@ -45,7 +43,6 @@ use Rattle.sources.specs.Promise.{Shows, LineFrom, FromThisStream}
 use Rattle.sources.proofs.Places.{octets-append, run-ascends, places-items, ascend-few}
 use Rattle.sources.proofs.Origins.{InStream, PlacesApart, origin-read, origin-lies, origin-once}
 use Rattle.sources.proofs.Units.{Own, owns, element-read, elements-rows, row-ascends}
-use Rattle.sources.proofs.Kept.{WholeItems}
 use Rattle.sources.proofs.Among.{flat, each-ascends, each-few, lies, one-ascends-in, in-one-in-all, before-later}
 
 -- the places of sources, and of one line
@@ -238,17 +235,6 @@ owns-all : {s : List ℕ} → Fine s (wholeStream s) → (e : End) → walkIn s 
 owns-all {s} fine (ends next) e w = owns (derives deepest s 0 (length s) false (fine .order)) next e
 owns-all fine (stops number place) e w = absurd w
 
-whole-by : {s : List ℕ} → Fine s (wholeStream s) → (e : End) → walkIn s (wholeStream s) .how ≡ e → Whole e → Hollow (itemsOfStream s) → WholeItems s
-whole-by {s} fine (ends next) e w h =
-    let ok = subst (EndOk 0 (length s) (count (itemsOfStream s))) e (run-ok deepest s 0 (length s) false (fine .order)) in
-    record {
-      hollow = h;
-      end = next;
-      inside = omega arith;
-      nested = stays (derives deepest s 0 (length s) false (fine .order)) next e .nested;
-    }
-whole-by fine (stops number place) e w h = absurd w
-
 module _ (edition : Edition) (side : Side) (s : List ℕ) (headers : ℕ) (elements : List Element) (is-letter : letterIn edition s ≡ letter headers elements) where
   abbrev known : Found edition s headers elements
   known = letter-found edition s headers elements is-letter
@@ -261,9 +247,6 @@ module _ (edition : Edition) (side : Side) (s : List ℕ) (headers : ℕ) (eleme
 
   hollow-all : Hollow items
   hollow-all = hollow (derives deepest s 0 (length s) false (fine .order))
-
-  pub whole-items : WholeItems s
-  whole-items = whole-by fine (walkIn s (wholeStream s) .how) refl (fine .whole) hollow-all
 
   abbrev places : ℕ → List Span
   places = placesIn edition s
