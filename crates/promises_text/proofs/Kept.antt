@@ -1,9 +1,9 @@
 -- What the pieces of a letter show is told by its tree of items: of two streams with one tree, each element shows the same pieces, wherever they stand.
 use mathlib.Core.Path.{_≡_, refl, ap, sym, _∙_, subst}
-use mathlib.Core.Bool.{true, false, cond}
+use mathlib.Core.Bool.{false, cond}
 use mathlib.Core.List.{List, [], _∷_, _++_, map}
 use mathlib.Core.Option.{Option, none, some}
-use Prim.Native.Nat.{ℕ, _-_, _<_, _≤_}
+use Prim.Native.Nat.{ℕ, _<_, _≤_}
 use native.Mathlib.Omega.{arith}
 use borrow.Author.Tests.{ltb-true, ltb-false}
 use borrow.Table.Steps.{cases}
@@ -28,7 +28,7 @@ use Rattle.letters.specs.Letter.{letter, letterIn, itemsOfStream, Within, not-t
 use Rattle.letters.proofs.Letters.{letter-found}
 use Rattle.letters.proofs.Nested.{Nested, stays, bounds-within, items-within}
 use Rattle.letters.proofs.Standing.{Hollow, hollow}
-use Rattle.sources.specs.Places.{pieceAt, placesOf, octetsAt}
+use Rattle.sources.specs.Places.{pieceAt, placesOf}
 use Rattle.sources.specs.Units.{placesWith, placesAt, contentPlaces, placesOfEach, placesIn}
 use Rattle.sources.proofs.Places.{slice-none, one-read}
 use Rattle.sources.proofs.Units.{value-read, run-there}

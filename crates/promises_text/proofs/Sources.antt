@@ -29,9 +29,8 @@ use Rattle.sources.specs.Units.{placesIn}
 use Rattle.sources.proofs.Sides.{source-length}
 use Rattle.sources.proofs.Promise.{sources-are, from-this-stream}
 use Rattle.answers.specs.declared.Sourced.{Sourced}
-use Rattle.answers.specs.declared.TextRead.{TextRead}
 use Rattle.answers.specs.Answers.{matchesIn}
-use Rattle.answers.specs.Sources.{sourcesLent, unsourced, sourcedBy, sourced, sourcedList, SourcesOutcome}
+use Rattle.answers.specs.Sources.{sourcesLent, sourcedBy, sourced, sourcedList, SourcesOutcome}
 use Rattle.answers.specs.Text.{textIn, textsIn}
 use Rattle.answers.proofs.Small.{refusal-small}
 use Rattle.answers.proofs.Sources.{sources-refused}

@@ -5,7 +5,7 @@ use mathlib.Core.Bool.{false, cond}
 use mathlib.Core.List.{List, [], _∷_, _++_, List·Memᴰ, List·Memᴰ·not-nil, List·Memᴰ·cases-cons, Memᴰ·append-left, Memᴰ·append-right}
 use mathlib.Core.Logic.{_⊎_, inl, inr}
 use mathlib.Core.Option.{Option, none, some}
-use Prim.Native.Nat.{ℕ, zero, suc, _+_, _<_, _≤_}
+use Prim.Native.Nat.{ℕ, zero, suc, _<_, _≤_}
 use native.Mathlib.Omega.{arith}
 use borrow.Author.Tests.{eqb-true}
 use borrow.Table.Steps.{cases}
@@ -29,10 +29,6 @@ data Among : List Span → List Span → Type 0 where
   nothing : {qs : List Span} → Among [] qs
   kept : {p : Span} {ps qs : List Span} → Among ps qs → Among (p ∷ ps) (p ∷ qs)
   passed : {p : Span} {ps qs : List Span} → Among ps qs → Among ps (p ∷ qs)
-
-among-self : (ps : List Span) → Among ps ps
-among-self [] = nothing
-among-self (p ∷ ps) = kept (among-self ps)
 
 among-later : (qs : List Span) {ps rs : List Span} → Among ps rs → Among ps (qs ++ rs)
 among-later [] a = a
