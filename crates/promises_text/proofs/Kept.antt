@@ -124,7 +124,8 @@ module _ (edition : Edition) (s : List ℕ) (from to : ℕ) (in-stream : to ≤ 
       cases (constructed code)
       (λ t. rw (t, own, more))
       (λ t.
-      let bare : shownAt s (contentPlaces contents s inside) ≡ contentValues contents empty = own ∙ ap (λ (i : Items). contentValues contents (plain s i)) (h .0 t) in
+      let bare : shownAt s (contentPlaces contents s inside) ≡ contentValues contents empty =
+      own ∙ ap (λ (i : Items). contentValues contents (plain s i)) (h .0 t) in
       rw (t, bare, more))
 
 -- what is known of the items of a stream that ended

@@ -91,7 +91,8 @@ module _ (edition : Edition) (side : Side) (s list : List ℕ) where
     refused some-number =
         let n : told .number ≡ sourced edition side s list .number = ap (λ (r : Sourced). r .number) (outcome .answered) in
         let t : eqb (sourced edition side s list .number) 0 ≡ false = ne-eqb _ 0 (λ z. some-number (n ∙ z)) in
-        let (no-lines, no-sources) = subst Counts (sym (outcome .answered)) (counts-if (letterIn edition s) (sourcesIn edition side s) (sourcesLent list)) some-number in
+        let counts = counts-if (letterIn edition s) (sourcesIn edition side s) (sourcesLent list) in
+        let (no-lines, no-sources) = subst Counts (sym (outcome .answered)) counts some-number in
         record { no-lines = no-lines; no-sources = no-sources; list-kept = outcome .filled ∙ rw t }
 
     list-is : told .number ≡ 0 → let numbers = sourceNumbers (sourcesIn edition side s) in listAfter ≡ numbers ++ drop (length numbers) list

@@ -104,7 +104,8 @@ saidBy edition s noItems = []
 saidBy edition s (item at code first past inside after) = elementOf (shapeOf edition (typeField code)) (plain s inside) ∷ saidBy edition s after
 
 module _ (edition : Edition) (s : List ℕ) where
-  judged-said : (i : Items) (done elements : List Element) → Hollow i → judgeFrom edition done (plain s i) ≡ accepted elements → elements ≡ done ++ saidBy edition s i
+  judged-said : (i : Items) (done elements : List Element) → Hollow i → judgeFrom edition done (plain s i) ≡ accepted elements
+      → elements ≡ done ++ saidBy edition s i
   unfolding judgeFrom saidBy
   judged-said noItems done elements w e = let f : done ≡ elements = cc in sym f ∙ sym (append-nil done)
   judged-said (item at code first past inside after) done elements w e =
@@ -113,7 +114,8 @@ module _ (edition : Edition) (s : List ℕ) where
       (sym (judged-one edition s done at code first past inside after (w .0)) ∙ e) in
       judged-said after (done ++ own ∷ []) elements (w .1) p ∙ append-assoc done (own ∷ []) (saidBy edition s after)
 
-  each-read : (i : Items) (j : ℕ) (e : Element) → getElem? (saidBy edition s i) j ≡ some e → octetsAt s (getD (placesOfEach edition s i) j []) ≡ joinedContent (e .content)
+  each-read : (i : Items) (j : ℕ) (e : Element) → getElem? (saidBy edition s i) j ≡ some e
+      → octetsAt s (getD (placesOfEach edition s i) j []) ≡ joinedContent (e .content)
   unfolding saidBy placesOfEach elementOf
   each-read noItems j e there = let z : _≡_ {A = ℕ} 0 1 = cc in absurd (omega arith)
   each-read (item at code first past inside after) zero e there =
@@ -140,7 +142,8 @@ module _ (edition : Edition) (s : List ℕ) where
   said-rows noItems = refl
   said-rows (item at code first past inside after) = ap suc (said-rows after)
 
-  pub elements-rows : Hollow (itemsOfStream s) → (elements : List Element) → judge edition (treeOf s) ≡ accepted elements → length elements ≡ length (rowsIn edition s)
+  pub elements-rows : Hollow (itemsOfStream s) → (elements : List Element) → judge edition (treeOf s) ≡ accepted elements
+      → length elements ≡ length (rowsIn edition s)
   elements-rows w elements judged =
       ap length (judged-said (itemsOfStream s) [] elements w (judge-from (itemsOfStream s) elements judged)) ∙ said-rows (itemsOfStream s)
 
