@@ -9,8 +9,7 @@ ghost use lib.ListN.{length};
 ghost use Rattle.tree.specs.Tree.{treeOf};
 ghost use Rattle.tree.specs.Accepts.{Accepts};
 ghost use Rattle.letters.specs.Lent.{rowsNeeded};
-ghost use Rattle.rows.specs.Columns.{identifierColumn, logicalColumn};
-ghost use Rattle.rows.specs.Lookup.{Filed};
+ghost use Rattle.rows.specs.Index.{BothFiled};
 ghost use Rattle.letters.specs.Scratch.{LetterRows};
 ghost use Rattle.answers.specs.Sources.{SourcesOutcome};
 
@@ -20,21 +19,18 @@ pub fn sources_judged(
     stream: &[u8],
     side: Side,
     rows: &[u32],
-    head: &[u16],
-    next: &[u16],
-    head2: &[u16],
-    next2: &[u16],
+    index: &[u16],
     count: usize,
     list: &mut [u32],
     numbers: &mut [u32],
 ) -> Sourced
     requires { ⌜ Accepts (now stream) (treeOf (now stream)) ⌝ }
     requires { ⌜ LetterRows edition (now stream) (now rows) count ⌝ }
-    requires { ⌜ Filed (now stream) (now rows) identifierColumn (now head) (now next) count × Filed (now stream) (now rows) logicalColumn (now head2) (now next2) count ⌝ }
+    requires { ⌜ BothFiled (now stream) (now rows) (now index) count ⌝ }
     requires { ⌜ 3 * rowsNeeded (now stream) ≤ length (now numbers) ⌝ }
     ensures { λ r. ⌜ SourcesOutcome edition side (now (stream .entry)) (now (list .entry)) r (now (list .exit)) ⌝ }
 {
-    let lines = reading::list_matches(stream, rows, head, next, head2, next2, count, side, numbers);
+    let lines = reading::list_matches(stream, rows, index, count, side, numbers);
     let total = sources::count_sources(edition, stream, rows, count, numbers, lines);
     if list.len() / SOURCE_WIDTH < total {
         return Sourced {

@@ -9,13 +9,13 @@ use Rattle.answers.proofs.sourcing.sources_judged.Tie as tie
 
 list-matches-requires : tie.Need-list-matches-requires
 list-matches-requires c κs =
-    let start = c .before .before .before .before .before .before .before .before .before in
+    let start = c .before .before .before .before .before .before in
     let l = accepted-judged (start .pre .0 .ended) (start .pre .1 .0) in
     ((start .args .edition, start .pre .1 .0), (start .pre .1 .1 .0, omega (arith, start .pre .1 .1 .1, l .needed)))
 
 count-sources-requires : tie.Need-count-sources-requires
 count-sources-requires c κs =
-    let start = c .before .before .before .before .before .before .before .before .before .before .before .before .before in
+    let start = c .before .before .before .before .before .before .before .before .before .before in
     let walk = start .pre .0 in
     let l = accepted-judged (walk .ended) (start .pre .1 .0) in
     let lists = c .before .before .before .list-matches .ensures (start .args .edition) (l .held) in
@@ -23,14 +23,14 @@ count-sources-requires c κs =
 
 returns : tie.Need-returns
 returns c =
-    let start = c .before .before .before .before .before .before .before .before .before .before .before .before .before .before .before in
+    let start = c .before .before .before .before .before .before .before .before .before .before .before .before in
     let l = accepted-judged (start .pre .0 .ended) (start .pre .1 .0) in
     let lists = c .before .before .before .before .before .list-matches .ensures (start .args .edition) (l .held) in
     too-short l (start .args .side) lists (start .args .list .now) (omega (arith, c .if1 .taken, c .before .count-sources .ensures))
 
 put-sources-requires : tie.Need-put-sources-requires
 put-sources-requires c κs =
-    let start = c .before .before .before .before .before .before .before .before .before .before .before .before .before .before .before .before .before in
+    let start = c .before .before .before .before .before .before .before .before .before .before .before .before .before .before in
     let walk = start .pre .0 in
     let l = accepted-judged (walk .ended) (start .pre .1 .0) in
     let lists = c .before .before .before .before .before .before .before .list-matches .ensures (start .args .edition) (l .held) in
@@ -40,21 +40,21 @@ put-sources-requires c κs =
 
 cast-lines : tie.Need-cast-t26
 cast-lines c =
-    let start = c .before .before .before .before .before .before .before .before .before .before .before .before .before .before .before .before .before .before .before .before in
+    let start = c .before .before .before .before .before .before .before .before .before .before .before .before .before .before .before .before .before in
     let l = accepted-judged (start .pre .0 .ended) (start .pre .1 .0) in
     let lists = c .before .before .before .before .before .before .before .before .before .before .list-matches .ensures (start .args .edition) (l .held) in
     omega (arith, few-lines l (start .args .side) lists)
 
 cast-total : tie.Need-cast-t27
 cast-total c =
-    let start = c .before .before .before .before .before .before .before .before .before .before .before .before .before .before .before .before .before .before .before .before in
+    let start = c .before .before .before .before .before .before .before .before .before .before .before .before .before .before .before .before .before in
     let l = accepted-judged (start .pre .0 .ended) (start .pre .1 .0) in
     let lists = c .before .before .before .before .before .before .before .before .before .before .list-matches .ensures (start .args .edition) (l .held) in
     omega (arith, few-sources l (start .args .side) lists, c .before .before .before .before .before .before .count-sources .ensures)
 
 returns-2 : tie.Need-returns-2
 returns-2 c =
-    let start = c .before .before .before .before .before .before .before .before .before .before .before .before .before .before .before .before .before .before .before .before in
+    let start = c .before .before .before .before .before .before .before .before .before .before .before .before .before .before .before .before .before in
     let l = accepted-judged (start .pre .0 .ended) (start .pre .1 .0) in
     let lists = c .before .before .before .before .before .before .before .before .before .before .list-matches .ensures (start .args .edition) (l .held) in
     let room = c .before .before .before .before .before .if1 .left in
