@@ -25,7 +25,7 @@ fill-requires c κs =
 
 cast-t14 : tie.Need-cast-t14
 cast-t14 c =
-    let a = c .before .before .before .before .before .before .before .before .before .before in
+    let a = c .before .before .before .before .before .before .before .before .before in
     let l = accepted-judged (a .pre .0) (a .pre .1 .0) in
     omega (arith, l .few)
 

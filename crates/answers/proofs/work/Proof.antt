@@ -131,11 +131,10 @@ returns-9 c =
 
 pub work-spec : {M : Type 1} → statement M
 work-spec =
-    tie.close (tie.spec enum-told (λ c κs. search needs) (λ c. search needs) check-judged-requires (λ c κs. search needs)
-    (λ c. search needs) (λ c κs. search needs) (λ c κs. search needs) (λ c. search needs) (λ c κs. search needs) (λ c κs. search needs)
-    (λ c. search needs) list-judged-requires (λ c κs. search needs) (λ c. search needs) children-judged-requires (λ c κs. search needs)
-    (λ c. search needs) order-judged-requires (λ c κs. search needs) (λ c. search needs) text-judged-requires (λ c κs. search needs)
-    (λ c. search needs) sources-judged-requires (λ c κs. search needs) returns (λ c. search needs) returns-2 returns-3 (λ c. search needs)
-    returns-4 (λ c. search needs) (λ c. search needs) returns-5
-    (λ c. search needs) (λ c. search needs) returns-6 returns-7 (λ c. search needs) (λ c. search needs) (λ c. search needs) returns-8
-    (λ c. search needs) (λ c. search needs) returns-9)
+    tie.close (tie.spec (λ c κs. search needs) enum-told (λ c κs. search needs) (λ c. search needs) check-judged-requires
+    (λ c κs. search needs) (λ c. search needs) (λ c κs. search needs) (λ c κs. search needs) (λ c. search needs) (λ c κs. search needs)
+    (λ c κs. search needs) (λ c. search needs) list-judged-requires (λ c κs. search needs) (λ c. search needs) children-judged-requires
+    (λ c κs. search needs) (λ c. search needs) order-judged-requires (λ c κs. search needs) (λ c. search needs) text-judged-requires
+    (λ c κs. search needs) (λ c. search needs) sources-judged-requires (λ c κs. search needs) returns (λ c. search needs) returns-2 returns-3
+    (λ c. search needs) returns-4 (λ c. search needs) (λ c. search needs) returns-5 (λ c. search needs) (λ c. search needs) returns-6 returns-7
+    (λ c. search needs) (λ c. search needs) (λ c. search needs) returns-8 (λ c. search needs) (λ c. search needs) returns-9)

@@ -68,15 +68,15 @@ put-children-requires c κs =
       omega (arith, counted, c .before .before .if3 .left, a .pre .1 .1 .1),
     )
 
-cast-t24 : tie.Need-cast-t24
-cast-t24 c =
+cast-t23 : tie.Need-cast-t23
+cast-t23 c =
     let a = c .before .before .before .before .before .before .before .before .before .before .before .before .before .before .before .before .before .before .before in
     let l = accepted-judged (a .pre .0 .ended) (a .pre .1 .0) in
     omega (arith, l .few)
 
-cast-t23 : tie.Need-cast-t23
-cast-t23 c =
-    let a = c .before .before .before .before .before .before .before .before .before .before .before .before .before .before .before .before .before .before .before .before in
+cast-t24 : tie.Need-cast-t24
+cast-t24 c =
+    let a = c .before .before .before .before .before .before .before .before .before .before .before .before .before .before .before .before .before .before .before in
     let l = accepted-judged (a .pre .0 .ended) (a .pre .1 .0) in
     let low : a .args .row < noParent = omega (
       arith,
@@ -108,5 +108,5 @@ returns-4 c =
 pub children-judged-spec : {M : Type 1} → statement M
 children-judged-spec =
     tie.close (tie.spec (λ c κs. search needs) returns (λ c κs. search needs) returns-2 fill-requires count-children-requires
-    refuse-requires-3 (λ c. search needs) returns-3 put-children-requires cast-t24 cast-t23 (λ c. search needs) (λ c. search needs)
+    refuse-requires-3 (λ c. search needs) returns-3 put-children-requires cast-t23 cast-t24 (λ c. search needs) (λ c. search needs)
     returns-4)

@@ -21,4 +21,5 @@ returns-2 c =
     (c .fault-b .ensures)
 
 pub fault-in-spec : {M : Type 1} → statement M
-fault-in-spec = tie.close (tie.spec enum-told (λ c κs. search needs) (λ c. search needs) (λ c κs. search needs) returns returns-2)
+fault-in-spec =
+    tie.close (tie.spec enum-told (λ c κs. search needs) (λ c. search needs) (λ c κs. search needs) returns returns-2)

@@ -24,7 +24,7 @@ list-matches-requires c κs =
 
 cast-t14 : tie.Need-cast-t14
 cast-t14 c =
-    let a = c .before .before .before .before .before .before .before .before .before .before .before .before .before in
+    let a = c .before .before .before .before .before .before .before .before .before .before in
     let l = accepted-judged (a .pre .0 .ended) (a .pre .1 .0) in
     omega (arith, l .few)
 
@@ -38,13 +38,13 @@ returns-2 c =
 
 cast-t15 : tie.Need-cast-t15
 cast-t15 c =
-    let a = c .before .before .before .before .before .before .before .before .before .before .before .before .before in
+    let a = c .before .before .before .before .before .before .before .before .before .before in
     let l = accepted-judged (a .pre .0 .ended) (a .pre .1 .0) in
     omega (arith, l .few)
 
 cast-t16 : tie.Need-cast-t16
 cast-t16 c =
-    let a = c .before .before .before .before .before .before .before .before .before .before .before .before .before in
+    let a = c .before .before .before .before .before .before .before .before .before .before in
     let l = accepted-judged (a .pre .0 .ended) (a .pre .1 .0) in
     let lists = c .before .before .before .list-matches .ensures (a .args .edition) (l .held) in
     let few = no-more-than-elements (l .held .elements) (letter-apart (l .held)) (a .args .side) in
@@ -60,4 +60,5 @@ returns-3 c =
 
 pub find-matches-spec : {M : Type 1} → statement M
 find-matches-spec =
-    tie.close (tie.spec returns list-matches-requires cast-t14 (λ c. search needs) returns-2 cast-t15 cast-t16 (λ c. search needs) returns-3)
+    tie.close (tie.spec returns list-matches-requires cast-t14 (λ c. search needs) returns-2 cast-t15 cast-t16 (λ c. search needs)
+    returns-3)

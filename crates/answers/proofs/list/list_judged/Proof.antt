@@ -20,10 +20,10 @@ find-matches-requires c κs = let a = c .before .before .before .before .before 
 
 finish-requires : tie.Need-finish-requires
 finish-requires c κs =
-    let a = c .before .before .before .before .before .before .before .before .before .before in
+    let a = c .before .before .before .before .before .before .before .before .before .before .before in
     let x = a .args in
     let l = accepted-judged (a .pre .0 .ended) (a .pre .1 .0) in
-    let found = c .before .before .before .find-matches .ensures in (
+    let found = c .before .before .before .before .find-matches .ensures in (
       a .pre .0,
       (
         a .pre .1 .0,
@@ -39,9 +39,10 @@ finish-requires c κs =
 
 returns : tie.Need-returns
 returns c =
-    let x = c .before .before .before .before .before .before .before .before .before .before .before .before .before .args in
+    let x = c .before .before .before .before .before .before .before .before .before .before .before .before .before .before .args in
     lists-finished (x .edition) (x .side) (now (x .stream)) (now (x .table)) (x .room) refl
-    (c .before .before .before .before .before .before .find-matches .ensures) (c .before .before .finish .ensures)
+    (c .before .before .before .before .before .before .before .find-matches .ensures) (c .before .before .finish .ensures)
 
 pub list-judged-spec : {M : Type 1} → statement M
-list-judged-spec = tie.close (tie.spec find-matches-requires finish-requires (λ c. search needs) (λ c. search needs) returns)
+list-judged-spec =
+    tie.close (tie.spec find-matches-requires (λ c κs. search needs) finish-requires (λ c. search needs) (λ c. search needs) returns)

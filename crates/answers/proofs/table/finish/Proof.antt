@@ -27,4 +27,5 @@ returns-2 c =
     filled ∙ rw (sym (c .before .before .before .before .before .is-finishing .ensures) ∙ not-false _ (c .before .before .before .before .if1 .left))
 
 pub finish-spec : {M : Type 1} → statement M
-finish-spec = tie.close (tie.spec (λ c κs. search needs) returns fill-requires (λ c. search needs) returns-2)
+finish-spec =
+    tie.close (tie.spec (λ c κs. search needs) returns fill-requires (λ c. search needs) returns-2)

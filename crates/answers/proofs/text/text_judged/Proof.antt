@@ -52,10 +52,10 @@ answer-requires c κs =
 
 finish-requires : tie.Need-finish-requires
 finish-requires c κs =
-    let a = c .before .before .before .before .before .before .before .before .before .before .before .before .before .before .before in
+    let a = c .before .before .before .before .before .before .before .before .before .before .before .before .before .before .before .before in
     let x = a .args in
     let l = accepted-judged (a .pre .0 .ended) (a .pre .1 .0) in
-    let find = c .before .before .before .before .before .before .before .find-matches in (
+    let find = c .before .before .before .before .before .before .before .before .find-matches in (
       a .pre .0,
       (
         a .pre .1 .0,
@@ -64,7 +64,7 @@ finish-requires c κs =
               (a .pre .1 .1 .0 .identifiers),
           λ finished.
               let rows = finished-rows (x .edition) (x .side) (now (x .stream)) (now (x .table)) (x .room) refl (find .ensures) (l .judged)
-              (finished-list (find .result) (c .before .before .measure .result) (length (now (x .out))) (c .before .answer .ensures) finished) in
+              (finished-list (find .result) (c .before .before .before .measure .result) (length (now (x .out))) (c .before .before .answer .ensures) finished) in
               omega (arith, l .held .holds .counted),
         ),
       ),
@@ -72,30 +72,30 @@ finish-requires c κs =
 
 put-texts-requires : tie.Need-put-texts-requires
 put-texts-requires c κs =
-    let a = c .before .before .before .before .before .before .before .before .before .before .before .before .before .before .before .before .before .before .before .before .before in
+    let a = c .before .before .before .before .before .before .before .before .before .before .before .before .before .before .before .before .before .before .before .before .before .before in
     let x = a .args in
     let l = accepted-judged (a .pre .0 .ended) (a .pre .1 .0) in
-    let find = c .before .before .before .before .before .before .before .before .before .before .before .before .before .find-matches in
-    let ends = subst (Ends _ _ (length (now (x .out)))) (sym (c .before .before .before .before .before .before .before .answer .ensures))
+    let find = c .before .before .before .before .before .before .before .before .before .before .before .before .before .before .find-matches in
+    let ends = subst (Ends _ _ (length (now (x .out)))) (sym (c .before .before .before .before .before .before .before .before .answer .ensures))
     (reading-ends _ _ (length (now (x .out)))) in
     let put = puts (x .edition) (x .side) (now (x .stream)) (now (x .table)) (x .room) (now (x .out)) refl (find .ensures) l
     (stream-fine (now (x .stream)) _ _ (a .pre .0 .ended)) (omega (
       arith,
       a .pre .1 .1 .1,
       find .kept .1 .1 .1 .1 .1 .1 .1 .1 .0,
-    )) (c .before .before .before .before .before .before .before .before .before .before .wide .ensures)
-    (c .before .before .before .before .before .before .before .before .measure .ensures) ends (c .before .before .wide2 .ensures) in
+    )) (c .before .before .before .before .before .before .before .before .before .before .before .wide .ensures)
+    (c .before .before .before .before .before .before .before .before .before .measure .ensures) ends (c .before .before .wide2 .ensures) in
     (a .pre .0, (a .pre .1 .0, (put .0, put .1)))
 
 returns : tie.Need-returns
 returns c =
-    let a = c .before .before .before .before .before .before .before .before .before .before .before .before .before .before .before .before .before .before .before .before .before .before .before .before .before .before in
+    let a = c .before .before .before .before .before .before .before .before .before .before .before .before .before .before .before .before .before .before .before .before .before .before .before .before .before .before .before in
     let x = a .args in
     let l = accepted-judged (a .pre .0 .ended) (a .pre .1 .0) in
-    let find = c .before .before .before .before .before .before .before .before .before .before .before .before .before .before .before .before .before .before .find-matches in
-    let all = c .before .before .before .before .before .before .before .before .before .before .before .before .before .before .before .wide .ensures in
-    let size = c .before .before .before .before .before .before .before .before .before .before .before .before .before .measure .ensures in
-    let told = c .before .before .before .before .before .before .before .before .before .before .before .before .answer .ensures in
+    let find = c .before .before .before .before .before .before .before .before .before .before .before .before .before .before .before .before .before .before .before .find-matches in
+    let all = c .before .before .before .before .before .before .before .before .before .before .before .before .before .before .before .before .wide .ensures in
+    let size = c .before .before .before .before .before .before .before .before .before .before .before .before .before .before .measure .ensures in
+    let told = c .before .before .before .before .before .before .before .before .before .before .before .before .before .answer .ensures in
     let ends = subst (Ends _ _ (length (now (x .out)))) (sym told) (reading-ends _ _ (length (now (x .out)))) in
     let lines = c .before .before .before .before .before .before .before .wide2 .ensures in
     let put = c .before .before .before .before .put-texts in
@@ -112,5 +112,5 @@ returns c =
 
 pub text-judged-spec : {M : Type 1} → statement M
 text-judged-spec =
-    tie.close (tie.spec find-matches-requires (λ c κs. search needs) measure-requires answer-requires finish-requires (λ c κs. search needs)
-    put-texts-requires (λ c. search needs) (λ c. search needs) (λ c. search needs) returns)
+    tie.close (tie.spec find-matches-requires (λ c κs. search needs) measure-requires answer-requires (λ c κs. search needs)
+    finish-requires (λ c κs. search needs) put-texts-requires (λ c. search needs) (λ c. search needs) (λ c. search needs) returns)
