@@ -44,6 +44,7 @@ static uint8_t out[ODIF_STREAM_LIMIT], their_out[ODIF_STREAM_LIMIT];
 static uint32_t table[NUMBERS], their_table[NUMBERS], their_list[5 * MOST];
 static odif_match matches[MOST];
 static odif_line lines[MOST];
+static odif_source sources[ODIF_STREAM_LIMIT / 2];
 static pm1_page pages[MOST];
 
 static size_t lent(size_t all) { return most < all ? most : all; }
@@ -123,6 +124,10 @@ static uint32_t logical(void) { return listed(PLAIN_LOGICAL).matches; }
 static uint32_t normal(void) { return written().length; }
 static uint32_t content(void) { return found().past; }
 static uint32_t text(void) { return text_read().lines; }
+static uint32_t list_sources(void) {
+    if (side == PLAIN_LAYOUT) return OF(odif_layout_sources)(STREAM, sources, lent(ODIF_STREAM_LIMIT / 2)).sources;
+    return OF(odif_logical_sources)(STREAM, sources, lent(ODIF_STREAM_LIMIT / 2)).sources;
+}
 static uint32_t order_a(void) { return ordered(PLAIN_A).number; }
 static uint32_t order_b(void) { return ordered(PLAIN_B).number; }
 static uint32_t list_pages(void) { return paged().pages; }
@@ -157,6 +162,7 @@ static const struct {
     {"pages", list_pages, their_pages, list_pages},
     {"make", make, their_make, text},
     {"text over the check", text, check, text},
+    {"sources over the text", list_sources, text, text},
 #ifdef WITH_OPENSSL
     {"check over OpenSSL's walk", check, openssl_walk, always},
 #endif

@@ -1,6 +1,6 @@
 // The questions of include/odif.h that this package asks, and how each is put: memory is lent for one question, and given back with its answer.
 
-export const NO_PARENT = 65535, LINE_WIDTH = 5;
+export const NO_PARENT = 65535, LINE_WIDTH = 5, SOURCE_WIDTH = 3;
 export const SERIES = '0.2'; // the first two numbers of the module's version that this is written for
 
 // The structs of the header: numbers of 32 bits.
@@ -15,6 +15,8 @@ export const STRUCTS = {
     text_read: 'number place elements lines length',
     line: 'element portion unit first past',
     shown: 'number place length numbers',
+    sourced: 'number place lines sources',
+    source: 'line first past',
     entry: 'identifier_first identifier_past portion_first portion_past text_first text_past',
 };
 
@@ -30,6 +32,8 @@ export const OF_BOTH_EDITIONS = {
     odif_first_date: 'first_dated',
     odif_layout_text_numbers: 'text_read',
     odif_logical_text_numbers: 'text_read',
+    odif_layout_sources_numbers: 'sourced',
+    odif_logical_sources_numbers: 'sourced',
 };
 export const OF_NONE = { odif_make_numbers: 'written', odif_utf8: 'shown' };
 

@@ -75,6 +75,16 @@ test('pieces are joined', () => {
     assert.ok(past - first > 2);
 });
 
+test('where the text stands', () => {
+    assert.deepEqual(letter('in-pieces').sources('layout').map(({ line, place }) => [line, place.first, place.past]), [[0, 38, 39], [0, 41, 42]]);
+    for (const name of ['annex-d-1', 'annex-d-2', 'claim']) for (const side of ['layout', 'logical']) {
+        const read = letter(name), lines = read.lines(side).map(() => '');
+        for (const { line, place } of read.sources(side)) lines[line] += latin(read.stream.slice(place.first, place.past));
+        assert.deepEqual(lines, read.lines(side).map(line => latin(line.octets)), `${name}, ${side}`);
+    }
+    assert.throws(() => letter('claim').sources(), /'layout' or 'logical'/);
+});
+
 test('sides', () => {
     const read = letter('annex-d-2');
     assert.deepEqual(read.lines('layout'), []);

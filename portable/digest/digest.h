@@ -3,11 +3,11 @@
 #include <stdint.h>
 
 enum {
-    ASK_CHECK, ASK_LIST, ASK_TEXT, ASK_NORMAL, ASK_SHORT, ASK_LENT, ASK_CONTENT, ASK_JOINED, ASK_CHILDREN, ASK_ORDER, ASK_DATE,
+    ASK_CHECK, ASK_LIST, ASK_TEXT, ASK_SOURCES, ASK_NORMAL, ASK_SHORT, ASK_LENT, ASK_CONTENT, ASK_JOINED, ASK_CHILDREN, ASK_ORDER, ASK_DATE,
     ASK_FIRST, ASK_MAKE, ASK_PAGES, ASK_START, ASK_TAKE, ASK_CLOSE, ASK_UTF8, QUESTIONS
 };
-#define QUESTION_NAMES { "check", "list", "text", "normal", "normal_short", "normal_short_lent", "content", "joined", "children", "order", \
-    "date", "first_date", "make", "pages", "blocks_start", "blocks_take", "blocks_close", "utf8" }
+#define QUESTION_NAMES { "check", "list", "text", "sources", "normal", "normal_short", "normal_short_lent", "content", "joined", "children", \
+    "order", "date", "first_date", "make", "pages", "blocks_start", "blocks_take", "blocks_close", "utf8" }
 enum { NUMBERS = 64 }; /* refusal numbers, and one for any other */
 
 extern uint32_t met[QUESTIONS][NUMBERS]; /* how often a question gave a number */

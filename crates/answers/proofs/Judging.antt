@@ -1,36 +1,29 @@
 -- What is known once a stream is walked and judged: what the stream is, and where its rows are.
-use mathlib.Core.Path.{_≡_, refl, ap, sym, _∙_}
+use mathlib.Core.Path.{_≡_, refl, sym, _∙_}
 use mathlib.Core.List.{List}
-use Prim.Native.Nat.{ℕ, suc, _≤_}
+use Prim.Native.Nat.{ℕ, _≤_}
 use native.Mathlib.Omega.{arith}
 use lib.ListN.{length}
 use Rattle.octets.specs.declared.Outcome.the-variants.{Ended}
-use Rattle.octets.specs.Walk.{Items, noItems, item, streamLimit, walkOf}
+use Rattle.octets.specs.Walk.{streamLimit, walkOf}
 use Rattle.tree.specs.Tree.{treeOf}
 use Rattle.tree.specs.Accepts.{Accepts}
-use Rattle.runs.specs.Runs.{tops}
 use Rattle.runs.proofs.Laws.{stream-within}
 use Rattle.elements.specs.declared.Edition.{Edition}
 use Rattle.elements.specs.Judge.{mostElements}
-use Rattle.elements.specs.ElementRows.{rowsOf}
 use Rattle.letters.specs.Letter.{itemsOfStream, letter, refusal, letterIn}
 use Rattle.letters.specs.Lent.{rowsNeeded}
 use Rattle.letters.specs.Scratch.{LetterRows, Stopped}
 use Rattle.judging.proofs.Rows.{saying-length}
 use Rattle.letters.proofs.Table.{letter-apart}
-use Rattle.answers.proofs.Letters.{refused-element, accepted-letter}
+use Rattle.letters.proofs.Standing.{rows-length}
+use Rattle.letters.proofs.Letters.{refused-element, accepted-letter}
 use Rattle.answers.proofs.Small.{Small, refusal-small}
 
 -- a stream that the walk passed and an element refused
 pub record Refusing (edition : Edition) (s : List ℕ) (number place headers : ℕ) : Type 0 where
   pub judged : letterIn edition s ≡ refusal number place headers
   pub small : Small s number place headers
-
--- there is a row for each item of the stream
-rows-tops : (edition : Edition) (s : List ℕ) (items : Items) → length (rowsOf edition s items) ≡ tops items
-unfolding rowsOf
-rows-tops edition s noItems = refl
-rows-tops edition s (item at code first past inside after) = ap suc (rows-tops edition s after)
 
 -- a letter by its rows, once it was walked
 pub record Accepting (edition : Edition) (s rows : List ℕ) (count headers : ℕ) : Type 0 where
@@ -58,7 +51,7 @@ accepted-judged {edition} {s} {rows} {count} {at} {headers} walked held =
       held = held;
       judged = accepted-letter edition s at headers (held .elements) walked (held .judged);
       few = few;
-      needed = omega (arith, few, rows-tops edition s (itemsOfStream s), saying-length (held .holds .saying), counted);
+      needed = omega (arith, few, rows-length edition s (itemsOfStream s), saying-length (held .holds .saying), counted);
       within-limit = stream-within s at headers walked;
     }
 

@@ -13,7 +13,7 @@ ghost use Rattle.rows.specs.Index.{Filed, BothFiled};
 ghost use Rattle.letters.specs.Scratch.{LetterRows};
 ghost use Rattle.answers.specs.Answers.{refusedCheck, CheckOutcome};
 ghost use Rattle.answers.specs.Questions.{toldWith, checkTold, locatedTold, refusedTold};
-ghost use Rattle.answers.specs.Questions.{listedOf, textReadOf, Leaves, Roomy};
+ghost use Rattle.answers.specs.Questions.{listedOf, textReadOf, sourcedOf, Leaves, Roomy};
 
 mod children; // children.rt: the children of a row
 mod content; // content.rt: the content of one element, as a part or copied
@@ -21,6 +21,7 @@ mod date; // date.rt: the date of the document
 mod first_date; // first_date.rt: the same by the first element alone
 mod in_order; // in_order.rt: the order of a letter, as number and place
 mod list; // list.rt: the reading list of a side
+mod sourcing; // sourcing.rt: where each octet of a side stands
 mod table; // table.rt: the lent table
 mod text; // text.rt: the whole reading of a side
 
@@ -31,6 +32,7 @@ pub use date::date_of_letter;
 pub use date::refused_date;
 pub use first_date::date_of_first;
 use list::list_judged;
+use sourcing::sources_judged;
 pub use table::TABLE_WIDTH;
 use text::text_judged;
 
@@ -49,6 +51,8 @@ const COPY_TOO_SHORT: u32 = 22;
 const NO_ROW: u32 = 20;
 
 const CHILDREN_TOO_SHORT: u32 = 25;
+
+const SOURCES_TOO_SHORT: u32 = 31;
 
 // What the check answers. Number 0 is accepted.
 #[repr(C)]
@@ -144,6 +148,15 @@ pub struct TextRead {
     pub length: u32,
 }
 
+// What is answered of the sources of a side: how many lines it has, and how many records were put.
+#[repr(C)]
+pub struct Sourced {
+    pub number: u32,
+    pub place: u32,
+    pub lines: u32,
+    pub sources: u32,
+}
+
 // A question that is put to a stream. Those that want a list say how many records or rows it has room for.
 pub enum Question {
     Rules,
@@ -154,6 +167,7 @@ pub enum Question {
     Children { row: usize, room: usize },
     Order { class: Class },
     Text { side: Side, room: usize },
+    Sources { side: Side },
 }
 
 // What the work of any question tells. What the question does not ask for is 0.
@@ -262,6 +276,18 @@ fn tell_located(r: Found) -> Told
     }
 }
 
+// The sources' answer, of what was told.
+pub fn sourced_of(told: Told) -> Sourced
+    ensures { λ r. ⌜ r ≡ sourcedOf told ⌝ }
+{
+    Sourced {
+        number: told.number,
+        place: told.place,
+        lines: told.listed,
+        sources: told.length,
+    }
+}
+
 // The whole reading's answer, of what was told.
 pub fn text_read_of(told: Told) -> TextRead
     ensures { λ r. ⌜ r ≡ textReadOf told ⌝ }
@@ -300,10 +326,12 @@ pub fn tell_refused(question: Question, number: u32, place: u32, headers: u32) -
         Question::Children { row: _, room: _ } => tell(number, place, 0, 0, 0),
         Question::Order { class: _ } => tell(number, place, 0, 0, 0),
         Question::Text { side: _, room: _ } => tell(number, place, 0, 0, 0),
+        Question::Sources { side: _ } => tell(number, place, 0, 0, 0),
     }
 }
 
-// The work of a question, of a letter. The rows and their index are what the judge left in its scratch.
+// The work of a question, of a letter. The rows and their index are what the judge left in its scratch. The list of the sources is lent where others lend
+// the table: they have none.
 pub fn work(
     edition: Edition,
     s: &[u8],
@@ -353,6 +381,10 @@ pub fn work(
         Question::Text { side, room } => {
             let r = text_judged(edition, s, side, room, rows, index, count, table, flat, out);
             tell(r.number, r.place, r.elements, r.lines, r.length)
+        }
+        Question::Sources { side } => {
+            let r = sources_judged(edition, s, side, rows, index, count, table, flat);
+            tell(r.number, r.place, 0, r.lines, r.sources)
         }
     }
 }

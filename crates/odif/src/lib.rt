@@ -9,6 +9,7 @@ pub use answers::Listed;
 use answers::Question;
 pub use answers::Reason;
 pub use answers::Related;
+pub use answers::Sourced;
 pub use answers::TextRead;
 pub use answers::Written;
 pub use characters::Shown;
@@ -30,6 +31,7 @@ mod in_order; // in_order.rt: the order of a letter by an interchange class
 mod made; // made.rt: a letter that is made
 mod mailroom; // mailroom.rt: the normal form of a short stream
 mod showing; // showing.rt: the characters of a text
+mod side_sources; // side_sources.rt: where each octet of a side stands
 mod side_text; // side_text.rt: the whole reading of a side
 
 pub use dating::date;
@@ -41,6 +43,7 @@ pub use made::make;
 pub use mailroom::normal_short;
 pub use mailroom::normal_short_lent;
 pub use showing::utf8;
+pub use side_sources::sources;
 pub use side_text::text;
 
 // Checks a stream and fills the element table, thirteen numbers a row. The viewer asks this first.

@@ -99,6 +99,8 @@ pub enum Rule {
     PartOutside,
     /// 30; only `raw::pm1::pages` gives it
     PagesTooShort,
+    /// 31; only [`crate::raw::layout_sources`] and the like give it
+    SourcesTooShort,
     /// 32; only the short normal form in lent scratch gives it
     ScratchTooSmall,
     /// Another number: the library is newer than this crate.
@@ -137,12 +139,13 @@ impl Rule {
         Rule::OutOfOrder,
         Rule::PartOutside,
         Rule::PagesTooShort,
+        Rule::SourcesTooShort,
         Rule::ScratchTooSmall,
     ];
 
     /// Their numbers.
     const NUMBERS: [u32; Rule::ALL.len()] =
-        [1, 2, 3, 4, 5, 6, 7, 8, 9, 10, 11, 12, 13, 14, 15, 16, 17, 18, 19, 20, 21, 22, 23, 24, 25, 26, 27, 30, 32];
+        [1, 2, 3, 4, 5, 6, 7, 8, 9, 10, 11, 12, 13, 14, 15, 16, 17, 18, 19, 20, 21, 22, 23, 24, 25, 26, 27, 30, 31, 32];
 
     /// The number of the rule.
     pub fn number(self) -> u32 {
@@ -198,6 +201,7 @@ impl Rule {
             Rule::OutOfOrder => "the elements are not in the order that was asked",
             Rule::PartOutside => "a part of an entry is outside the buffer, or ends before it begins",
             Rule::PagesTooShort => "the list is shorter than the pages",
+            Rule::SourcesTooShort => "the list is shorter than the sources",
             Rule::ScratchTooSmall => "the lent scratch is too small for the elements of the stream",
             Rule::Unknown(_) => "a rule that is newer than this program",
         }
@@ -216,18 +220,18 @@ mod tests {
 
     #[test]
     fn numbers_and_rules_agree() {
-        for (number, rule) in (1..28).chain([30, 32]).zip(Rule::ALL) {
+        for (number, rule) in (1..28).chain(30..33).zip(Rule::ALL) {
             assert_eq!((rule.number(), Rule::from_number(number)), (number, Some(rule)));
             assert_eq!(Refusal::unless_accepted(number, 7), Err(Refusal { rule, place: 7 }));
         }
-        assert_eq!(Rule::ALL.last().map(|rule| rule.number()), Some(30));
+        assert_eq!(Rule::ALL.last().map(|rule| rule.number()), Some(31));
         assert_eq!(Refusal::unless_accepted(0, 0), Ok(()));
     }
 
     /// The library of today gives no such number, so this is asked of what reads its answers.
     #[test]
     fn a_number_of_a_newer_library_is_a_refusal_too() {
-        for number in [31, 255, u32::MAX] {
+        for number in [99, 255, u32::MAX] {
             let refusal = Refusal::unless_accepted(number, 5).unwrap_err();
             assert_eq!((refusal.number(), refusal.place), (number, 5));
             assert_eq!(refusal.to_string(), format!("number {number} at 5: a rule that is newer than this program"));

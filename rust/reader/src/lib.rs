@@ -33,6 +33,7 @@ mod pages;
 mod parents;
 mod refusal;
 
+pub use answers::sources::{Source, Sourced};
 pub use answers::text::{Line, Shown};
 pub use answers::{Checked, Copied, Found, Listed, Match, Reading, Related, Side, Written, lent_for};
 pub use characters::{InUtf8, utf8};

@@ -6,8 +6,8 @@ use odif::Edition;
 
 /// The greatest refusal number.
 pub const LAST_NUMBER: usize = 32;
-/// Those that questions about a stream never give: 27 is of making a letter, 28 and 29 are of blocks, and no question gives 31.
-const OF_OTHERS: [usize; 4] = [27, 28, 29, 31];
+/// Those that questions about a stream never give: 27 is of making a letter, 28 and 29 are of blocks.
+const OF_OTHERS: [usize; 3] = [27, 28, 29];
 /// How many failures each thread prints in full.
 const SHOWN: u64 = 10;
 
@@ -40,6 +40,10 @@ pub enum Question {
     LayoutText,
     /// `odif_logical_text`
     LogicalText,
+    /// `odif_layout_sources`
+    LayoutSources,
+    /// `odif_logical_sources`
+    LogicalSources,
     /// `odif_order_a`
     OrderA,
     /// `odif_order_b`
@@ -49,7 +53,7 @@ pub enum Question {
 }
 
 impl Question {
-    const ALL: [Question; 16] = {
+    const ALL: [Question; 18] = {
         use Question::*;
         [
             Check,
@@ -65,6 +69,8 @@ impl Question {
             FirstDate,
             LayoutText,
             LogicalText,
+            LayoutSources,
+            LogicalSources,
             OrderA,
             OrderB,
             Pages,
@@ -85,6 +91,7 @@ impl Question {
             Question::Date => matches!(number, 1..=15 | 23 | 24),
             Question::FirstDate => matches!(number, 1..=8 | 10 | 11 | 23 | 24),
             Question::LayoutText | Question::LogicalText => matches!(number, 1..=16 | 19 | 22),
+            Question::LayoutSources | Question::LogicalSources => matches!(number, 1..=15 | 31),
             Question::OrderA | Question::OrderB => matches!(number, 1..=15 | 26),
             Question::Pages => matches!(number, 1..=16 | 30),
         }
