@@ -91,6 +91,13 @@ test('dates', () => {
     assert.equal(refusal(() => letter('claim').date()).number, 23);
 });
 
+test('pages', () => {
+    const read = letter('annex-d-1'), pages = read.pages();
+    assert.deepEqual(pages.map(page => latin(read.identifier(page.element))), ['1 0', '1 1', '1 2']);
+    assert.ok(pages.every(page => page.verdict === module.Verdict.NON_ESSENTIAL));
+    assert.deepEqual(odif.letter(hex('A000')).pages(), []);
+});
+
 test('a letter is made', () => {
     const entry = (...parts) => Object.fromEntries(['identifier', 'portion', 'text'].map((name, i) => [name, octets(parts[i])]));
     const made = odif.make([entry('1 0 0', '0', 'Dear Sir,\r\n'), entry('1 0 1', '0', 'a\0b')]), read = odif.letter(made);
@@ -226,13 +233,17 @@ test('vectors: orders', () => {
 test('numbers, structs and questions are those of include/', () => {
     const facts = text(`include/facts-${own.SERIES}.txt`).split('\n');
     for (const name of ['STREAM_LIMIT', 'MOST_ELEMENTS', 'ROW_WIDTH', 'NO_PARENT']) assert.ok(facts.includes(`ODIF_${name} ${module[name]}`), name);
+    const whole = struct => struct.startsWith('pm1_') ? struct : `odif_${struct}`;
     for (const [struct, fields] of Object.entries(own.STRUCTS)) {
-        const wanted = fields.split(' ').map((field, i) => `odif_${struct}.${field} at ${4 * i}, 4 octets`);
-        assert.deepEqual(facts.filter(fact => fact.startsWith(`odif_${struct}.`)), wanted);
+        const wanted = fields.split(' ').map((field, i) => `${whole(struct)}.${field} at ${4 * i}, 4 octets`);
+        assert.deepEqual(facts.filter(fact => fact.startsWith(`${whole(struct)}.`)), wanted);
     }
     assert.equal(own.LINE_WIDTH, own.STRUCTS.line.split(' ').length);
+    assert.equal(own.PAGE_WIDTH, own.STRUCTS.pm1_page.split(' ').length);
+    const verdicts = [...text('include/pm1.h').matchAll(/^ +PM1_([A-Z_]+) += (\d),?/gm)].map(([, name, number]) => [name, Number(number)]);
+    assert.deepEqual({ ...module.Verdict }, Object.fromEntries(verdicts));
     const both = Object.entries(own.OF_BOTH_EDITIONS).flatMap(([name, struct]) => [[name, struct], [`${name}_1993`, struct]]);
-    for (const [name, struct] of [...both, ...Object.entries(own.OF_NONE)]) assert.ok(facts.some(fact => fact.startsWith(`odif_${struct} ${name}(`)), name);
+    for (const [name, struct] of [...both, ...Object.entries(own.OF_NONE)]) assert.ok(facts.some(fact => fact.startsWith(`${whole(struct)} ${name}(`)), name);
 });
 
 test('the kinds are those of the Python package', () => {
@@ -252,7 +263,7 @@ test('the types name what is there', () => {
     assert.deepEqual(values.sort(), Object.keys(module).sort());
     const read = letter('claim'), refused = refusal(() => letter('cut-short'));
     const all = {
-        Odif: odif, Letter: read, Refusal: refused, Element: read.elements[0], Line: read.lines()[0], Dated: letter('dated').date(), Checked: odif.check(read.stream),
+        Odif: odif, Letter: read, Refusal: refused, Element: read.elements[0], Line: read.lines()[0], Dated: letter('dated').date(), Page: letter('annex-d-1').pages()[0], Checked: odif.check(read.stream),
     };
     for (const [name, one] of Object.entries(all)) {
         const body = types.match(new RegExp(`^export (?:class|interface) ${name}\\b[^{]*\\{(.*?)^\\}`, 'ms'))[1];
