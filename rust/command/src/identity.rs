@@ -10,6 +10,8 @@ const VERSION: &str = concat!(
     env!("ODIF_LIBRARY"),
     "\ndesk      libpm1.a, sha256 ",
     env!("ODIF_DESK"),
+    "\nreader    odif.wasm, sha256 ",
+    env!("ODIF_READER_HASH"),
     "\ncommit    ",
     env!("ODIF_COMMIT"),
     "\ntoolchain ",

@@ -1,0 +1,22 @@
+// The largest letter: 1 MiB with 2,000 units.
+import { readFileSync } from 'node:fs';
+import { LIT, TEXT, asText, ask, clickLine, expected, is, made } from './support.mjs';
+
+const OPENED = 3, EVERY = 7; // the tenth line and each tenth after it are in pieces
+
+export async function largest(page, file) {
+    const url = made(file), wanted = expected(file, 'layout'), octets = readFileSync(file), times = [];
+    await page.size(1400, 900);
+    for (let i = 0; i < OPENED; i++) {
+        await page.open(url);
+        times.push(Number(await page.run('document.documentElement.dataset.ready')));
+    }
+    console.log(`the largest letter, ${octets.length} octets, ${wanted.length} units, a page of ${readFileSync(url.slice('file://'.length)).length} octets: open in ${times.join(', ')} ms`);
+    is('the largest: accepted, no alarm', await page.run(`[document.querySelector('#facts dd b').textContent, document.querySelector('#alarm').hidden]`), ['Accepted', true]);
+    const blocks = await page.run(TEXT);
+    is('the largest: the text', asText(blocks).equals(ask('text', file).stdout), true);
+    is('the largest: as many lines', blocks.flat().length, wanted.length);
+    const some = [...wanted.keys()].filter(line => line % EVERY === 0);
+    const lit = await page.run(`[${some}].map(line => { ((line) => ${clickLine('line')})(line); return ${LIT}; })`);
+    is('the largest: each line that is chosen lights up its octets and no others', lit, some.map(line => wanted[line]));
+}
