@@ -72,6 +72,7 @@
    27   a part of an entry is outside the buffer, or ends before it begins            the entry's number
    28   a block is past the total that was told                                       0
    29   a letter in blocks is closed before all its octets have come                  0
+   31   the list is shorter than the sources                                          0
 
    1 comes first, then the first fault of 2 to 8 in stream order, then the elements in order, 9 to 15 in order within
    each, then 16, 17, 18, 19 or 20 where the question can give it; 21, 22 and 25 come after 20, 23, 24 and 26 after 15; of
@@ -140,7 +141,7 @@ extern "C" {
 /* How much to lend. A side has no more matches than the letter has text units, nor than portions are listed on that
    side: a list of as many records, or as many lines, as there are text units never meets 19. An output as long as the
    stream never meets 18 of odif_normal_short, nor 22 of a whole reading: a text unit stands once on a side, so all its
-   texts are no longer than the stream. */
+   texts are no longer than the stream. As many sources as the check counts headers never meet 31. */
 
 /* A small stream has no more elements and no more items than this; then less stack is enough. */
 #define ODIF_SMALL_ELEMENTS    512
@@ -265,6 +266,20 @@ typedef struct {
     uint32_t past;     /* where the next line's text begins */
 } odif_line;
 
+typedef struct {
+    uint32_t number;   /* 0, or the refusal: 1 to 15, 31 */
+    uint32_t place;    /* the refusal's place */
+    uint32_t lines;    /* the lines of the side */
+    uint32_t sources;  /* the records filled */
+} odif_sourced;
+
+/* One source of a whole reading: which octets of the stream are shown in which line. All count from 0. */
+typedef struct {
+    uint32_t line;     /* the line of odif_layout_text, or of odif_logical_text */
+    uint32_t first;    /* the octets are stream[first] to stream[past - 1] */
+    uint32_t past;
+} odif_source;
+
 /* One entry of a letter that is made: where its identifier, its portion and its text stand in the buffer. Each is from
    first to past - 1; parts may overlap one another. */
 typedef struct {
@@ -312,6 +327,19 @@ odif_text_read odif_logical_text_numbers(const uint8_t *ODIF_APART stream, size_
                                      uint32_t *ODIF_APART table, size_t table_len,
                                      uint32_t *ODIF_APART lines, size_t lines_len,
                                      uint8_t *ODIF_APART out, size_t out_len);
+
+/* Where each octet of the whole reading of the layout side stands: fills a record for each piece of a text unit that has
+   octets, line by line in the order of odif_layout_text and piece by piece in each line. The octets of the stream at these
+   places, one after another, are what odif_layout_text puts to out; those of a line are its text. Each place lies in the
+   content fields of the line's unit, places ascend in a line, and no octet of the stream is in two records. list_len counts
+   numbers, three a record in the order of odif_source, and an incomplete last record is not used; records past the last
+   one filled stay. Nothing but the list is lent. */
+odif_sourced odif_layout_sources_numbers(const uint8_t *ODIF_APART stream, size_t stream_len,
+                                         uint32_t *ODIF_APART list, size_t list_len);
+
+/* Of the logical side. */
+odif_sourced odif_logical_sources_numbers(const uint8_t *ODIF_APART stream, size_t stream_len,
+                                          uint32_t *ODIF_APART list, size_t list_len);
 
 /* Writes the normal form of a stream of at most 65,535 octets, for machines with little memory: 1 is given where the
    stream is longer, and never 17. There the normal form is never longer than the stream. A program that asks no other
@@ -382,6 +410,11 @@ odif_text_read odif_logical_text_numbers_1993(const uint8_t *ODIF_APART stream, 
                                           uint32_t *ODIF_APART lines, size_t lines_len,
                                           uint8_t *ODIF_APART out, size_t out_len);
 
+odif_sourced odif_layout_sources_numbers_1993(const uint8_t *ODIF_APART stream, size_t stream_len,
+                                              uint32_t *ODIF_APART list, size_t list_len);
+odif_sourced odif_logical_sources_numbers_1993(const uint8_t *ODIF_APART stream, size_t stream_len,
+                                               uint32_t *ODIF_APART list, size_t list_len);
+
 /* The whole readings with so many lines. */
 ODIF_INLINE odif_text_read odif_layout_text(const uint8_t *ODIF_APART stream, size_t stream_len,
                                         uint32_t *ODIF_APART table, size_t table_len,
@@ -410,6 +443,24 @@ ODIF_INLINE odif_text_read odif_logical_text_1993(const uint8_t *ODIF_APART stre
                                               uint8_t *ODIF_APART out, size_t out_len) {
     return odif_logical_text_numbers_1993(stream, stream_len, table, table_len, (uint32_t *)lines, 5 * lines_len,
         out, out_len);
+}
+
+/* The sources with so many records. */
+ODIF_INLINE odif_sourced odif_layout_sources(const uint8_t *ODIF_APART stream, size_t stream_len,
+                                             odif_source *ODIF_APART list, size_t list_len) {
+    return odif_layout_sources_numbers(stream, stream_len, (uint32_t *)list, 3 * list_len);
+}
+ODIF_INLINE odif_sourced odif_logical_sources(const uint8_t *ODIF_APART stream, size_t stream_len,
+                                              odif_source *ODIF_APART list, size_t list_len) {
+    return odif_logical_sources_numbers(stream, stream_len, (uint32_t *)list, 3 * list_len);
+}
+ODIF_INLINE odif_sourced odif_layout_sources_1993(const uint8_t *ODIF_APART stream, size_t stream_len,
+                                                  odif_source *ODIF_APART list, size_t list_len) {
+    return odif_layout_sources_numbers_1993(stream, stream_len, (uint32_t *)list, 3 * list_len);
+}
+ODIF_INLINE odif_sourced odif_logical_sources_1993(const uint8_t *ODIF_APART stream, size_t stream_len,
+                                                   odif_source *ODIF_APART list, size_t list_len) {
+    return odif_logical_sources_numbers_1993(stream, stream_len, (uint32_t *)list, 3 * list_len);
 }
 
 /* Makes a letter of entries, which lie apart from the output as all that is lent does: an empty profile, and for each

@@ -31,7 +31,7 @@ use Rattle.answers.specs.declared.Dated.{Dated}
 use Rattle.answers.specs.Answers.{ruled}
 use Rattle.answers.specs.Dates.{DateAnswer, dateAfter, profileIn, dateOf, datePlaces, soleSpan, dateSpan, datedAt, dated, Bounds}
 use Rattle.answers.specs.Dating.{refusedDated, datedAs, Narrow, DateTells}
-use Rattle.answers.proofs.Letters.{letter-found}
+use Rattle.letters.proofs.Letters.{letter-found}
 use Rattle.answers.proofs.Working.{is-letter}
 
 -- ---- the first element of a letter is its profile

@@ -9,6 +9,7 @@ use lib.Dec.{eqb}
 use lib.ListN.{length, getD, getElem?}
 use lib.Seq.{length-slice}
 use borrow.Author.Tests.{eq-eqb, ne-eqb}
+use Rattle.octets.specs.Walk.{Items}
 use Rattle.runs.specs.declared.Run.{Run}
 use Rattle.rows.specs.Rows.{scratchWidth}
 use Rattle.rows.specs.Columns.{kindAt}
@@ -22,7 +23,7 @@ use Rattle.letters.specs.Letter.{letter, refusal, letterIn, rowsIn}
 use Rattle.letters.specs.Content.{HeldWhole, HeldInPieces}
 use Rattle.judging.proofs.Lists.{at-below}
 use Rattle.judging.proofs.Rows.{RowOf, row-of, cell-at}
-use Rattle.letters.proofs.Fetching.{part-joined}
+use Rattle.letters.proofs.Fetching.{held-element, part-joined}
 use Rattle.reading.specs.Match.{unitKind}
 use Rattle.answers.specs.declared.ContentFound.{ContentFound}
 use Rattle.answers.specs.declared.Found.{Found}
@@ -119,7 +120,7 @@ module _ (edition : Edition) (s : List ℕ) (asked : ℕ) where
             short = omega arith;
           }
 
-      finds-pieces : (run : Run) → element .kind ≡ unitKind → HeldInPieces s run (element .content) → FindsContent edition s asked (Pieces run)
+      finds-pieces : (run : Run) {inside : Items} → element .kind ≡ unitKind → HeldInPieces s run inside (element .content) → FindsContent edition s asked (Pieces run)
       unfolding fetched located joinedIn
       finds-pieces run kind h =
           let within = l .within-limit in
@@ -137,9 +138,9 @@ module _ (edition : Edition) (s : List ℕ) (asked : ℕ) where
         → kindAt rows asked ≡ element .kind → {found : ContentFound} → ContentAt edition s rows asked found → FindsContent edition s asked found
     finds-by element there row kind (otherKind other) = finds-other element there (λ k. other (kind ∙ k))
     finds-by element there row kind (heldWhole {first} {past} is holds) =
-        finds-part element there row first past (sym kind ∙ is) (holds (l .held .elements) (row .row) element (l .held .judged) (row .stands) there)
+        finds-part element there row first past (sym kind ∙ is) (held-element holds (l .held .elements) (row .row) element (l .held .judged) (row .stands) there)
     finds-by element there row kind (heldInPieces {run} is holds) =
-        finds-pieces element there run (sym kind ∙ is) (holds (l .held .elements) (row .row) element (l .held .judged) (row .stands) there)
+        finds-pieces element there run (sym kind ∙ is) (held-element holds (l .held .elements) (row .row) element (l .held .judged) (row .stands) there)
 
     -- what was found of it
     pub finds-at : {found : ContentFound} → asked < count → ContentAt edition s rows asked found → FindsContent edition s asked found

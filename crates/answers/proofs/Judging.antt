@@ -18,19 +18,14 @@ use Rattle.letters.specs.Lent.{rowsNeeded}
 use Rattle.letters.specs.Scratch.{LetterRows, Stopped}
 use Rattle.judging.proofs.Rows.{saying-length}
 use Rattle.letters.proofs.Table.{letter-apart}
-use Rattle.answers.proofs.Letters.{refused-element, accepted-letter}
+use Rattle.letters.proofs.Standing.{rows-length}
+use Rattle.letters.proofs.Letters.{refused-element, accepted-letter}
 use Rattle.answers.proofs.Small.{Small, refusal-small}
 
 -- a stream that the walk passed and an element refused
 pub record Refusing (edition : Edition) (s : List ℕ) (number place headers : ℕ) : Type 0 where
   pub judged : letterIn edition s ≡ refusal number place headers
   pub small : Small s number place headers
-
--- there is a row for each item of the stream
-rows-tops : (edition : Edition) (s : List ℕ) (items : Items) → length (rowsOf edition s items) ≡ tops items
-unfolding rowsOf
-rows-tops edition s noItems = refl
-rows-tops edition s (item at code first past inside after) = ap suc (rows-tops edition s after)
 
 -- a letter by its rows, once it was walked
 pub record Accepting (edition : Edition) (s rows : List ℕ) (count headers : ℕ) : Type 0 where
@@ -58,7 +53,7 @@ accepted-judged {edition} {s} {rows} {count} {at} {headers} walked held =
       held = held;
       judged = accepted-letter edition s at headers (held .elements) walked (held .judged);
       few = few;
-      needed = omega (arith, few, rows-tops edition s (itemsOfStream s), saying-length (held .holds .saying), counted);
+      needed = omega (arith, few, rows-length edition s (itemsOfStream s), saying-length (held .holds .saying), counted);
       within-limit = stream-within s at headers walked;
     }
 

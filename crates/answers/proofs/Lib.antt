@@ -1,10 +1,8 @@
--- Small: the numbers and places of refusals. Letters: what a stream is, by its walk and its judge. Judging: what a verdict tells of it.
--- Checks, Fetching, Copying, Listing: what the check, the fetch, the copy and the list say, case by case. Working: what the work of any leaves.
+-- Small: the numbers and places of refusals. Judging: what a verdict tells of a stream.
 -- Dating: the date of a letter. FirstDating: the date by the first element alone.
 -- Checks, Fetching, Copying, Listing: what the check, the fetch, the copy and the list say, case by case. Tabling: the lent table while it is
--- filled, and what it tells of parents. Relating: the children of a row. Showing: the whole reading. Working: what the work of any leaves.
+-- filled, and what it tells of parents. Relating: the children of a row. TextSteps: the whole reading. Sources: its sources. Working: what the work of any leaves.
 pub mod Small
-pub mod Letters
 pub mod Judging
 pub mod Checks
 pub mod Fetching
@@ -13,6 +11,7 @@ pub mod Listing
 pub mod Tabling
 pub mod Relating
 pub mod TextSteps
+pub mod Sources
 pub mod Working
 pub mod Dating
 pub mod FirstDating

@@ -21,17 +21,19 @@ use Rattle.answers.specs.declared.Found.{Found}
 use Rattle.answers.specs.declared.Copied.{Copied}
 use Rattle.answers.specs.declared.Related.{Related}
 use Rattle.answers.specs.declared.TextRead.{TextRead}
+use Rattle.answers.specs.declared.Sourced.{Sourced}
 use Rattle.answers.specs.declared.Told.{Told}
 use Rattle.answers.specs.declared.Question.{Question}
-use Rattle.answers.specs.declared.Question.the-variants.{Rules, Check, Content, Joined, List as Reading, Children, Order, Text}
+use Rattle.answers.specs.declared.Question.the-variants.{Rules, Check, Content, Joined, List as Reading, Children, Order, Text, Sources}
 use Rattle.answers.specs.Answers.{ruledBy, ruled, CheckOutcome, JoinedOutcome}
 use Rattle.answers.specs.Asking.{ListsFlat, Fetches}
 use Rattle.answers.specs.Related.{ChildrenOutcome, relatedList, related}
 use Rattle.answers.specs.Filling.{Relates}
 use Rattle.answers.specs.Questions.{reasonTold, checkTold, locatedTold, copiedTold, listedTold, relatedTold, orderedTold, checkOf, locatedOf, copiedOf}
 use Rattle.answers.specs.Questions.{listedOf, relatedOf, orderedOf, refusedTold, Leaves}
-use Rattle.answers.specs.Questions.{textTold, textReadOf}
+use Rattle.answers.specs.Questions.{textTold, textReadOf, sourcedTold, sourcedOf}
 use Rattle.answers.specs.TextSteps.{TextsFlat}
+use Rattle.answers.specs.Sources.{SourcesOutcome}
 use Rattle.answers.proofs.Small.{refusal-small}
 use Rattle.answers.proofs.Checks.{checks-refused}
 use Rattle.answers.proofs.Fetching.{fetches-refused, joins-refused}
@@ -39,6 +41,7 @@ use Rattle.answers.proofs.Copying.{joins-none}
 use Rattle.answers.proofs.Listing.{lists-refused}
 use Rattle.answers.proofs.Relating.{relates-refused}
 use Rattle.answers.proofs.TextSteps.{text-ruled}
+use Rattle.answers.proofs.Sources.{sources-refused}
 
 -- a stream that is refused by one of rules 1 to 15
 pub ruled-refused : (edition : Edition) (s : List ℕ) {number place headers : ℕ} → letterIn edition s ≡ refusal number place headers
@@ -128,6 +131,10 @@ module _ (edition : Edition) (s table flat out : List ℕ) where
       → Leaves edition (Text side room) s table flat out (textTold r) after flatAfter outAfter
   leaves-text e = record { answered = ap textTold (e .answered); tabled = e .tabled; put = e .put; beside = e .lined }
 
+  pub leaves-sources : {side : Side} {r : Sourced} {after flatAfter : List ℕ} → SourcesOutcome edition side s table r after
+      → Leaves edition (Sources side) s table flat out (sourcedTold r) after flatAfter out
+  leaves-sources e = record { answered = ap sourcedTold (e .answered); tabled = e .filled; put = refl; beside = tt }
+
   -- whatever is asked, nothing that was lent is touched
   pub leaves-refused : (question : Question) (number place headers : ℕ) → letterIn edition s ≡ refusal number place headers
       → Leaves edition question s table flat out (refusedTold question number place headers) table flat out
@@ -141,6 +148,7 @@ module _ (edition : Edition) (s table flat out : List ℕ) where
   leaves-refused (Children row room) number place headers e = leaves-children (relates-refused edition s table row room flat number place headers e)
   leaves-refused (Order class) number place headers e = leaves-order (sym (ordered-refused edition class s number place headers e))
   leaves-refused (Text side room) number place headers e = leaves-text (text-ruled edition side s table flat room out number place headers e)
+  leaves-refused (Sources side) number place headers e = leaves-sources (sources-refused edition side s table number place headers e)
 
 -- what each question answers, from what its work left
 module _ {edition : Edition} {s table flat out : List ℕ} {told : Told} {tableAfter flatAfter outAfter : List ℕ} where
@@ -178,3 +186,8 @@ module _ {edition : Edition} {s table flat out : List ℕ} {told : Told} {tableA
   text-told {side} {room} e l =
       subst (λ (r : TextRead). TextsFlat edition side s table room out r tableAfter flatAfter outAfter) (sym e)
       (record { answered = ap textReadOf (l .answered); tabled = l .tabled; put = l .put; lined = l .beside })
+
+  pub sources-told : {side : Side} {answer : Sourced} → answer ≡ sourcedOf told → Leaves edition (Sources side) s table flat out told tableAfter flatAfter outAfter
+      → SourcesOutcome edition side s table answer tableAfter
+  sources-told {side} e l =
+      subst (λ (r : Sourced). SourcesOutcome edition side s table r tableAfter) (sym e) (record { answered = ap sourcedOf (l .answered); filled = l .tabled })

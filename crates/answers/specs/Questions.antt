@@ -19,13 +19,15 @@ use Rattle.answers.specs.declared.Found.{Found}
 use Rattle.answers.specs.declared.Copied.{Copied}
 use Rattle.answers.specs.declared.Related.{Related}
 use Rattle.answers.specs.declared.TextRead.{TextRead}
+use Rattle.answers.specs.declared.Sourced.{Sourced}
 use Rattle.answers.specs.declared.Told.{Told}
 use Rattle.answers.specs.declared.Question.{Question}
-use Rattle.answers.specs.declared.Question.the-variants.{Rules, Check, Content, Joined, List as Reading, Children, Order, Text}
+use Rattle.answers.specs.declared.Question.the-variants.{Rules, Check, Content, Joined, List as Reading, Children, Order, Text, Sources}
 use Rattle.answers.specs.Answers.{checked, checkedTable, listed, listedTable, matchesIn, ruled, refusedCheck, located, Stands, copied, copiedOutput}
 use Rattle.answers.specs.Related.{related, relatedTable, childrenOnto}
 use Rattle.answers.specs.Text.{textRead, shownTable, textOutput}
 use Rattle.answers.specs.TextSteps.{LinesNumbered}
+use Rattle.answers.specs.Sources.{sourced, sourcedList}
 
 -- each answer in the one form in which the work tells it: what a question does not ask for is 0
 abbrev pub reasonTold : Reason → Told
@@ -52,6 +54,9 @@ orderedTold r = record { number = r .number; place = r .place; headers = 0; elem
 abbrev pub textTold : TextRead → Told
 textTold r = record { number = r .number; place = r .place; headers = 0; elements = r .elements; listed = r .lines; length = r .length; first = 0; past = 0 }
 
+abbrev pub sourcedTold : Sourced → Told
+sourcedTold r = record { number = r .number; place = r .place; headers = 0; elements = 0; listed = r .lines; length = r .sources; first = 0; past = 0 }
+
 -- and the answer again, of what was told
 abbrev pub checkOf : Told → Checked
 checkOf t = record { number = t .number; place = t .place; headers = t .headers; elements = t .elements }
@@ -74,7 +79,10 @@ orderedOf t = record { number = t .number; place = t .place }
 abbrev pub textReadOf : Told → TextRead
 textReadOf t = record { number = t .number; place = t .place; elements = t .elements; lines = t .listed; length = t .length }
 
--- what is told of a stream, with this table and this buffer lent
+abbrev pub sourcedOf : Told → Sourced
+sourcedOf t = record { number = t .number; place = t .place; lines = t .listed; sources = t .length }
+
+-- what is told of a stream, with this table and this buffer lent. The sources have no table: their list is lent in its place.
 abbrev pub toldTo : Edition → Question → (s table out : List ℕ) → Told
 toldTo edition Rules s table out = reasonTold (ruled edition s)
 toldTo edition Check s table out = checkTold (checked edition s table)
@@ -84,6 +92,7 @@ toldTo edition (Reading side room) s table out = listedTold (listed edition side
 toldTo edition (Children row room) s table out = relatedTold (related edition s table row room)
 toldTo edition (Order class) s table out = orderedTold (orderIn edition class s)
 toldTo edition (Text side room) s table out = textTold (textRead edition side s table room out)
+toldTo edition (Sources side) s table out = sourcedTold (sourced edition side s table)
 
 -- what is told of a stream that rules 1 to 15 refuse: the check alone is told how many headers passed
 abbrev pub refusedTold : Question → (number place headers : ℕ) → Told
@@ -95,6 +104,7 @@ refusedTold (Reading side room) number place headers = reasonTold (record { numb
 refusedTold (Children row room) number place headers = reasonTold (record { number = number; place = place })
 refusedTold (Order class) number place headers = reasonTold (record { number = number; place = place })
 refusedTold (Text side room) number place headers = reasonTold (record { number = number; place = place })
+refusedTold (Sources side) number place headers = reasonTold (record { number = number; place = place })
 
 -- the table at exit
 abbrev pub tableLeft : Edition → Question → (s table out : List ℕ) → List ℕ
@@ -106,6 +116,7 @@ tableLeft edition (Reading side room) s table out = listedTable edition side s t
 tableLeft edition (Children row room) s table out = relatedTable edition s table row room
 tableLeft edition (Order class) s table out = table
 tableLeft edition (Text side room) s table out = shownTable edition side s table room out
+tableLeft edition (Sources side) s table out = sourcedList edition side s table
 
 -- the buffer at exit
 abbrev pub outLeft : Edition → Question → (s table out : List ℕ) → List ℕ
@@ -117,6 +128,7 @@ outLeft edition (Reading side room) s table out = out
 outLeft edition (Children row room) s table out = out
 outLeft edition (Order class) s table out = out
 outLeft edition (Text side room) s table out = textOutput edition side s table room out
+outLeft edition (Sources side) s table out = out
 
 -- the reading list as numbers, three a record: as many as are told, all matches if the number is 0
 pub record Numbered (edition : Edition) (side : Side) (s : List ℕ) (room number count : ℕ) (flat : List ℕ) : Type 0 where
@@ -134,6 +146,7 @@ Beside edition (Reading side room) s told flat flatAfter = Numbered edition side
 Beside edition (Children row room) s told flat flatAfter = flatAfter ≡ childrenOnto edition s row (told .number) flat
 Beside edition (Order class) s told flat flatAfter = Unit {0}
 Beside edition (Text side room) s told flat flatAfter = LinesNumbered edition side s room (told .number) (told .listed) flatAfter
+Beside edition (Sources side) s told flat flatAfter = Unit {0}
 
 -- the contract of the work, and of all that leads to it
 pub record Leaves (edition : Edition) (question : Question) (s table flat out : List ℕ) (told : Told) (tableAfter flatAfter outAfter : List ℕ) : Type 0 where
@@ -142,7 +155,8 @@ pub record Leaves (edition : Edition) (question : Question) (s table flat out : 
   pub put : outAfter ≡ outLeft edition question s table out
   pub beside : Beside edition question s told flat flatAfter
 
--- a reading list is made as numbers, so there is room for a record of each element, and of a whole reading for the end of each text besides;
+-- a reading list is made as numbers, so there is room for a record of each element, for the sources too, and of a whole reading for the end of each text
+-- besides;
 -- children are put to the lent list, which has the room that is told
 abbrev pub Roomy : Question → (s : List ℕ) → (numbers : ℕ) → Type 0
 Roomy Rules s numbers = Unit {0}
@@ -153,3 +167,4 @@ Roomy (Reading side room) s numbers = 3 * rowsNeeded s ≤ numbers
 Roomy (Children row room) s numbers = room ≤ numbers
 Roomy (Order class) s numbers = Unit {0}
 Roomy (Text side room) s numbers = 4 * rowsNeeded s ≤ numbers
+Roomy (Sources side) s numbers = 3 * rowsNeeded s ≤ numbers

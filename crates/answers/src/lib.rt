@@ -15,7 +15,7 @@ ghost use Rattle.letters.specs.Scratch.{LetterRows};
 ghost use Rattle.answers.specs.Answers.{refusedCheck, CheckOutcome};
 ghost use Rattle.answers.specs.Questions.{reasonTold, checkTold, locatedTold, copiedTold, listedTold, relatedTold, orderedTold};
 ghost use Rattle.answers.specs.Questions.{listedOf, refusedTold, Leaves, Roomy};
-ghost use Rattle.answers.specs.Questions.{textTold, textReadOf};
+ghost use Rattle.answers.specs.Questions.{textTold, textReadOf, sourcedTold, sourcedOf};
 
 mod children; // children.rt: the children of a row
 mod content; // content.rt: the content of one element, as a part or copied
@@ -23,6 +23,7 @@ mod date; // date.rt: the date of the document
 mod first_date; // first_date.rt: the same by the first element alone
 mod in_order; // in_order.rt: the order of a letter, as number and place
 mod list; // list.rt: the reading list of a side
+mod sourcing; // sourcing.rt: where each octet of a side stands
 mod table; // table.rt: the lent table
 mod text; // text.rt: the whole reading of a side
 
@@ -33,6 +34,7 @@ pub use date::date_of_letter;
 pub use date::refused_date;
 pub use first_date::date_of_first;
 use list::list_judged;
+use sourcing::sources_judged;
 pub use table::TABLE_WIDTH;
 use text::text_judged;
 
@@ -51,6 +53,8 @@ const COPY_TOO_SHORT: u32 = 22;
 const NO_ROW: u32 = 20;
 
 const CHILDREN_TOO_SHORT: u32 = 25;
+
+const SOURCES_TOO_SHORT: u32 = 31;
 
 // What the check answers. Number 0 is accepted.
 #[repr(C)]
@@ -146,6 +150,15 @@ pub struct TextRead {
     pub length: u32,
 }
 
+// What is answered of the sources of a side: how many lines it has, and how many records were put.
+#[repr(C)]
+pub struct Sourced {
+    pub number: u32,
+    pub place: u32,
+    pub lines: u32,
+    pub sources: u32,
+}
+
 // A question that is put to a stream. Those that want a list say how many records or rows it has room for.
 pub enum Question {
     Rules,
@@ -156,6 +169,7 @@ pub enum Question {
     Children { row: usize, room: usize },
     Order { class: Class },
     Text { side: Side, room: usize },
+    Sources { side: Side },
 }
 
 // What the work of any question tells. What the question does not ask for is 0.
@@ -332,6 +346,33 @@ fn tell_text(r: TextRead) -> Told
     }
 }
 
+fn tell_sourced(r: Sourced) -> Told
+    ensures { λ told. ⌜ told ≡ sourcedTold r ⌝ }
+{
+    Told {
+        number: r.number,
+        place: r.place,
+        headers: 0,
+        elements: 0,
+        listed: r.lines,
+        length: r.sources,
+        first: 0,
+        past: 0,
+    }
+}
+
+// The sources' answer, of what was told.
+pub fn sourced_of(told: Told) -> Sourced
+    ensures { λ r. ⌜ r ≡ sourcedOf told ⌝ }
+{
+    Sourced {
+        number: told.number,
+        place: told.place,
+        lines: told.listed,
+        sources: told.length,
+    }
+}
+
 // The whole reading's answer, of what was told.
 pub fn text_read_of(told: Told) -> TextRead
     ensures { λ r. ⌜ r ≡ textReadOf told ⌝ }
@@ -370,10 +411,12 @@ pub fn tell_refused(question: Question, number: u32, place: u32, headers: u32) -
         Question::Children { row: _, room: _ } => tell_reason(Reason { number, place }),
         Question::Order { class: _ } => tell_reason(Reason { number, place }),
         Question::Text { side: _, room: _ } => tell_reason(Reason { number, place }),
+        Question::Sources { side: _ } => tell_reason(Reason { number, place }),
     }
 }
 
-// The work of a question, of a letter. The rows and their indexes are what the judge left in its scratch.
+// The work of a question, of a letter. The rows and their indexes are what the judge left in its scratch. The list of the sources is lent where others
+// lend the table: they have none.
 pub fn work(
     edition: Edition,
     stream: &[u8],
@@ -475,6 +518,19 @@ pub fn work(
             table,
             flat,
             out,
+        )),
+        Question::Sources { side } => tell_sourced(sources_judged(
+            edition,
+            stream,
+            side,
+            rows,
+            head,
+            next,
+            head2,
+            next2,
+            count,
+            table,
+            flat,
         )),
     }
 }

@@ -79,6 +79,9 @@ without s octet (item at type start past inside after) e =
 pub none-bounds : (s : List ℕ) (octet : ℕ) (i : Items) → amount octet (plain s i) ≡ 0 → boundsOf octet i ≡ noSpan
 none-bounds s octet i e = without s octet i e .bounds
 
+pub none-items : (s : List ℕ) (octet : ℕ) (i : Items) → amount octet (plain s i) ≡ 0 → itemsIn octet i ≡ noItems
+none-items s octet i e = without s octet i e .items
+
 -- what is not counted is lacked
 pub none-lacked : {s : List ℕ} {r : Run} {octet : ℕ} → amount octet (treeIn s r) ≡ 0 → Lacks s r octet
 none-lacked {s} {r} {octet} e =

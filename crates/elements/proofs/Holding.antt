@@ -39,6 +39,7 @@ module _ {s : List ℕ} {shape : Slots} {r : Run} (made : WellMade shape) where
         placed = held-placed h;
         fine = h .inner-fine;
         held = rw (none, some) (record { pieced = refl; there = held-there h; tree = sym (h .tree (constructed-by h (made .tiles))) });
+        items = λ _. rw (none, some) (sym (h .items));
       }
   pieced-holding {p} (with-pieces h) =
       let some = ne-eqb (amount (shape .pieces) (treeIn s r)) 0 (h .there) in
@@ -47,6 +48,7 @@ module _ {s : List ℕ} {shape : Slots} {r : Run} (made : WellMade shape) where
         placed = held-placed h;
         fine = h .inner-fine;
         held = rw some (record { pieced = refl; there = held-there h; tree = sym (h .tree (constructed-by h (made .pieces))) });
+        items = λ _. rw some (sym (h .items));
       }
 
   -- none is there
@@ -61,6 +63,7 @@ module _ {s : List ℕ} {shape : Slots} {r : Run} (made : WellMade shape) where
         placed = b .placed;
         fine = empty-fine s 0;
         held = rw (none, no-tiles) (record { pieced = refl; bounds = b .value (made .content) });
+        items = λ e. absurd (true≢false (sym e));
       }
 
   -- a seal in pieces is there

@@ -3,6 +3,7 @@
 use mathlib.Core.Path.{_≡_, refl, ap, subst}
 use mathlib.Core.Bool.{Bool, true, false, cond, not, _&&_, _||_}
 use mathlib.Core.List.{List}
+use mathlib.Core.Option.{Option, none, some}
 use Prim.Native.Nat.{ℕ, _+_}
 use native.Mathlib.Omega.{arith}
 use borrow.Author.Tests.{eqb-true}
@@ -23,12 +24,12 @@ use Rattle.elements.specs.Shape.{Contents, profile, described, unit, sty
 use Rattle.elements.specs.Judge.{required, optional, asked, noneOf, typeOctet, typesOf, valueAt, Content, single, inPieces, contentOf, Element, bodyOf}
 use Rattle.elements.specs.Judge.{elementOf, itemsInOrder, asTabled, typeFits}
 use Rattle.elements.specs.ShapeRefusal.{shapeRefusal}
-use Rattle.elements.specs.ElementRows.{bodyIn, contentOctet, boundsAt, rowOf}
+use Rattle.elements.specs.ElementRows.{bodyIn, contentOctet, boundsAt, itemsAt, rowOf}
 use Rattle.elements.specs.Frames.{Holding, HoldingShape, HoldingSlots}
 use Rattle.elements.specs.Sees.{Sees, SeesShape, SeesSlots}
 use Rattle.elements.specs.Slots.{noItem, slotsBy, slotsOf, slotBody, slotItems, slotContent, slotOctet, slotElement, slotOrdered, slotTabled}
 use Rattle.elements.specs.Slots.{slotRefusal, slotRow}
-use Rattle.elements.proofs.Bounding.{none-bounds}
+use Rattle.elements.proofs.Bounding.{none-bounds, none-items}
 use Rattle.elements.proofs.Zero.{no-zero, no-zero-inside, no-zero-items}
 
 and-false : (b : Bool) → b && false ≡ false
@@ -204,35 +205,42 @@ object-same octet style run z = rw (no-value 0 run z)
 object-same octet (protected true) run z = rw (no-value 0 run z)
 object-same octet (protected false) run z = rw (no-value 0 run z)
 
--- the fields of the content
+-- the octet of the item that holds the content, by slots and by shape; one that is not there is none
+data Sought (run : Tree) : ℕ → Option ℕ → Type 0 where
+  found : (octet : ℕ) → Sought run octet (some octet)
+  lacking : (octet : ℕ) → amount octet run ≡ 0 → Sought run octet none
+
+one-sought : (octet : ℕ) (run : Tree) → Sought run octet (cond (noneOf octet run) none (some octet))
+one-sought octet run = cases (noneOf octet run) (λ e. rw e (lacking octet (eqb-true (amount octet run) 0 e))) (λ e. rw e (found octet))
+
+holder-sought : (octet : ℕ) (contents : Contents) (run : Tree) → amount 0 run ≡ 0
+    → Sought run (slotOctet (slotsBy octet contents) run) (contentOctet contents run)
+unfolding slotOctet contentOctet
+holder-sought octet profile run z = rw z (lacking 0 z)
+holder-sought octet (described needed types) run z = rw z (lacking 0 z)
+holder-sought octet (unit needed false) run z = cases (noneOf 0x24 run) (λ e. rw (e, z) (one-sought 0x04 run)) (λ e. rw e (found 0x24))
+holder-sought octet (unit needed true) run z =
+    cases (noneOf 0x24 run)
+    (λ e. cases (noneOf 0x30 run) (λ d. rw (e, d) (one-sought 0x04 run)) (λ d. rw (e, d) (found 0x30)))
+    (λ e. rw e (found 0x24))
+holder-sought octet style run z = rw z (lacking 0 z)
+holder-sought octet (protected true) run z = cases (noneOf 0x24 run) (λ e. rw (e, z) (one-sought 0x04 run)) (λ e. rw e (found 0x24))
+holder-sought octet (protected false) run z = rw z (lacking 0 z)
+
+-- the fields of the content, and the items inside what holds it
+bounds-sought : (s : List ℕ) (items : Items) {octet : ℕ} {holder : Option ℕ} → Sought (plain s items) octet holder
+    → boundsOf octet items ≡ boundsAt holder items
+bounds-sought s items (found octet) = refl
+bounds-sought s items (lacking octet z) = none-bounds s octet items z
+
+items-sought : (s : List ℕ) (items : Items) {octet : ℕ} {holder : Option ℕ} → Sought (plain s items) octet holder
+    → itemsIn octet items ≡ itemsAt holder items
+items-sought s items (found octet) = refl
+items-sought s items (lacking octet z) = none-items s octet items z
+
 fields-same : (octet : ℕ) (contents : Contents) (s : List ℕ) (items : Items) → amount 0 (plain s items) ≡ 0
     → boundsOf (slotOctet (slotsBy octet contents) (plain s items)) items ≡ boundsAt (contentOctet contents (plain s items)) items
-unfolding slotOctet contentOctet
-fields-same octet profile s items z = rw z (none-bounds s 0 items z)
-fields-same octet (described needed types) s items z = rw z (none-bounds s 0 items z)
-fields-same octet (unit needed false) s items z =
-    let run = plain s items in
-    cases (noneOf 0x24 run)
-    (λ e.
-    cases (noneOf 0x04 run) (λ f. rw (e, z, f) (none-bounds s 0x04 items (eqb-true (amount 0x04 run) 0 f))) (λ f. rw (e, z, f)))
-    (λ e. rw e)
-fields-same octet (unit needed true) s items z =
-    let run = plain s items in
-    cases (noneOf 0x24 run)
-    (λ e.
-    cases (noneOf 0x30 run)
-    (λ d.
-    cases (noneOf 0x04 run) (λ f. rw (e, d, f) (none-bounds s 0x04 items (eqb-true (amount 0x04 run) 0 f))) (λ f. rw (e, d, f)))
-    (λ d. rw (e, d)))
-    (λ e. rw e)
-fields-same octet style s items z = rw z (none-bounds s 0 items z)
-fields-same octet (protected true) s items z =
-    let run = plain s items in
-    cases (noneOf 0x24 run)
-    (λ e.
-    cases (noneOf 0x04 run) (λ f. rw (e, z, f) (none-bounds s 0x04 items (eqb-true (amount 0x04 run) 0 f))) (λ f. rw (e, z, f)))
-    (λ e. rw e)
-fields-same octet (protected false) s items z = rw z (none-bounds s 0 items z)
+fields-same octet contents s items z = bounds-sought s items (holder-sought octet contents (plain s items) z)
 
 -- its row
 row-same : (octet : ℕ) (contents : Contents) (s : List ℕ) (first past : ℕ) (items : Items) → amount 0 (plain s items) ≡ 0
@@ -310,7 +318,12 @@ module _ {s : List ℕ} {r : Run} (fine : Fine s r) where
 
     pub holding-shape : {holder : Holder} → HoldingSlots s (slotsOf shape) r holder → HoldingShape s shape r holder
     holding-shape {holder} h =
-        subst (λ (v : Span). Holding s v (contentOf its-contents (treeIn s r)) holder)
-        (fields-same its-octet its-contents s (itemsOf s r) (no-zero fine))
-        (subst (λ (c : Content). Holding s (boundsOf (slotOctet (slotsOf shape) (treeIn s r)) (itemsOf s r)) c holder)
-        (content-same its-octet its-contents (treeIn s r) (no-zero fine)) h)
+        let items = itemsOf s r in
+        let run = treeIn s r in
+        let sought = holder-sought its-octet its-contents run (no-zero fine) in
+        let inside = itemsIn (slotOctet (slotsOf shape) run) items in
+        subst (λ (i : Items). Holding s (boundsAt (contentOctet its-contents run) items) i (contentOf its-contents run) holder)
+        (items-sought s items sought)
+        (subst (λ (v : Span). Holding s v inside (contentOf its-contents run) holder) (bounds-sought s items sought)
+        (subst (λ (c : Content). Holding s (boundsOf (slotOctet (slotsOf shape) run) items) inside c holder)
+        (content-same its-octet its-contents run (no-zero fine)) h))

@@ -42,6 +42,11 @@ abbrev pub boundsAt : Option ℕ → Items → Span
 boundsAt none items = noSpan
 boundsAt (some octet) items = boundsOf octet items
 
+-- the items inside that item
+abbrev pub itemsAt : Option ℕ → Items → Items
+itemsAt none items = noItems
+itemsAt (some octet) items = itemsIn octet items
+
 -- the row of an element of a shape that stands from first to past and has these items
 unfoldable pub rowOf : Shape → List ℕ → (first past : ℕ) → Items → Row
 rowOf shape s first past items =

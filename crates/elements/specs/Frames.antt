@@ -4,6 +4,7 @@ use mathlib.Core.Bool.{true, false}
 use mathlib.Core.List.{List}
 use Prim.Native.Nat.{ℕ, _<_}
 use Rattle.headers.specs.Head.{constructed}
+use Rattle.octets.specs.Walk.{Items}
 use Rattle.runs.specs.declared.Run.{Run}
 use Rattle.tree.specs.Tree.{Tree}
 use Rattle.runs.specs.Runs.{itemsOf, treeIn, definiteRun, Fine}
@@ -17,7 +18,7 @@ use Rattle.elements.specs.declared.Slots.{Slots}
 use Rattle.elements.specs.declared.Typed.{Typed}
 use Rattle.elements.specs.Judge.{Content, single, inPieces, contentOf, typeOf, typeFits}
 use Rattle.elements.specs.Slots.{slotBody, slotContent, slotOrdered, slotItems, slotOctet}
-use Rattle.elements.specs.ElementRows.{contentOctet, boundsAt}
+use Rattle.elements.specs.ElementRows.{contentOctet, boundsAt, itemsAt}
 use Rattle.elements.specs.Shape.{Shape}
 use Rattle.elements.specs.Says.{Placed, Bounds}
 
@@ -54,21 +55,25 @@ abbrev pub HoldsContent : List ℕ → Holder → Content → Type 0
 HoldsContent s holder (single value) = HoldsWhole s holder value
 HoldsContent s holder (inPieces run) = HoldsPieces s holder run
 
--- what holds a content, of which the row has the fields
-pub record Holding (s : List ℕ) (fields : Span) (content : Content) (holder : Holder) : Type 0 where
+-- what holds a content, of which the row has the fields: an item with these items inside, which are the pieces if there are any
+pub record Holding (s : List ℕ) (fields : Span) (inside : Items) (content : Content) (holder : Holder) : Type 0 where
   pub pair : holder .value ≡ fields
   pub placed : Placed s (holder .value)
   pub fine : Fine s (holder .pieces)
   pub held : HoldsContent s holder content
+  pub items : holder .pieced ≡ true → itemsOf s (holder .pieces) ≡ inside
 
 -- what holds the content of an element with the run r, by its shape, and by its slots
 abbrev pub HoldingShape : (s : List ℕ) → Shape → Run → Holder → Type 0
 HoldingShape s shape r holder =
     let contents = shape .contents in
-    Holding s (boundsAt (contentOctet contents (treeIn s r)) (itemsOf s r)) (contentOf contents (treeIn s r)) holder
+    let octet = contentOctet contents (treeIn s r) in
+    Holding s (boundsAt octet (itemsOf s r)) (itemsAt octet (itemsOf s r)) (contentOf contents (treeIn s r)) holder
 
 abbrev pub HoldingSlots : (s : List ℕ) → Slots → Run → Holder → Type 0
-HoldingSlots s shape r holder = Holding s (boundsOf (slotOctet shape (treeIn s r)) (itemsOf s r)) (slotContent shape (treeIn s r)) holder
+HoldingSlots s shape r holder =
+    let octet = slotOctet shape (treeIn s r) in
+    Holding s (boundsOf octet (itemsOf s r)) (itemsIn octet (itemsOf s r)) (slotContent shape (treeIn s r)) holder
 
 -- p is the first item of the run r with pieces; or, where there is none, the first with tiles
 pub data PiecesFirst (s : List ℕ) (shape : Slots) (r : Run) (p : Part) : Type 0 where

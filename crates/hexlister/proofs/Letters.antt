@@ -28,7 +28,7 @@ use Rattle.answers.specs.declared.Checked.{Checked}
 use Rattle.answers.specs.declared.Listed.{Listed}
 use Rattle.answers.specs.Answers.{elementsBy, elementsIn, onto, tableOf, checked, checkedBy, matchesIn, CheckOutcome, ListOutcome}
 use Rattle.answers.proofs.Small.{refusal-small}
-use Rattle.answers.proofs.Letters.{letter-found}
+use Rattle.letters.proofs.Letters.{letter-found}
 use Rattle.promises.proofs.Demand2.{demand2}
 use Rattle.promises.proofs.Demand3.{demand3}
 use Rattle.hexlister.specs.Output.{rowsLent, recordsLent, tableRoom, lentTable, noRecord, lentList, elementLines, acceptedLines, streamLines}

@@ -1,12 +1,15 @@
 -- The content of element j of a letter stands where its element holds it, and the content fields of its row bound it.
 use mathlib.Core.Path.{_≡_, refl, ap, sym, _∙_, subst}
+use mathlib.Core.Bool.{true}
 use mathlib.Core.List.{List}
 use mathlib.Core.Option.{some}
 use Prim.Native.Nat.{ℕ, _+_, _*_, _<_, _≤_}
 use native.Mathlib.Omega.{arith}
 use lib.ListN.{length, getElem?}
 use lib.Seq.{slice, slice-empty}
-use Rattle.runs.specs.Runs.{treeIn, Fine}
+use Rattle.octets.specs.Walk.{Items}
+use Rattle.tree.specs.Tree.{treeOf}
+use Rattle.runs.specs.Runs.{itemsOf, treeIn, Fine}
 use Rattle.contents.specs.declared.Span.{Span}
 use Rattle.contents.specs.Search.{Value, absent, octets}
 use Rattle.rows.specs.Rows.{scratchWidth}
@@ -14,12 +17,13 @@ use Rattle.rows.specs.Columns.{wholeColumn, firstAt}
 use Rattle.elements.specs.declared.Edition.{Edition}
 use Rattle.elements.specs.declared.Holder.{Holder}
 use Rattle.elements.specs.declared.Row.{Row}
-use Rattle.elements.specs.Judge.{Content, single, inPieces, contentOf, joinedContent, Element, elementOf}
-use Rattle.elements.specs.ElementRows.{rowOf}
+use Rattle.elements.specs.Judge.{Content, single, inPieces, contentOf, joinedContent, Element, elementOf, accepted, judge}
+use Rattle.elements.specs.ElementRows.{contentOctet, boundsAt, itemsAt, rowOf}
 use Rattle.elements.specs.Says.{Bounds}
 use Rattle.elements.specs.Frames.{HoldsContent, HoldingShape}
 use Rattle.judging.specs.declared.PlacedItem.{PlacedItem}
 use Rattle.judging.specs.Judges.{shapeBy}
+use Rattle.letters.specs.declared.Held.{Held}
 use Rattle.letters.specs.Letter.{rowsIn}
 use Rattle.letters.specs.Scratch.{LetterRows}
 use Rattle.letters.specs.Content.{ElementAt, heldBy, HeldWhole, HeldAs, HoldsElement}
@@ -27,21 +31,46 @@ use Rattle.judging.proofs.Lists.{at-below}
 use Rattle.judging.proofs.Rows.{first-at, saying-length}
 
 -- a holder as where the content stands, if the fields are its pair
-held-by : (s : List ℕ) (holder : Holder) (fields : Span) → fields ≡ holder .value → Fine s (holder .pieces)
-    → (content : Content) → HoldsContent s holder content → HeldAs s fields content (heldBy holder)
-held-by s holder fields e fine (single value) h =
+held-by : (s : List ℕ) (holder : Holder) (fields : Span) (inside : Items) → fields ≡ holder .value → Fine s (holder .pieces)
+    → (holder .pieced ≡ true → itemsOf s (holder .pieces) ≡ inside)
+    → (content : Content) → HoldsContent s holder content → HeldAs s fields inside content (heldBy holder)
+held-by s holder fields inside e fine items (single value) h =
     rw (h .pieced) (record { fields-are = e; value = value; content-is = refl; bounds = subst (λ (v : Span). Bounds s v value) (sym e) (h .bounds) })
-held-by s holder fields e fine (inPieces run) h = rw (h .pieced) (record { fine = fine; content-is = ap inPieces (sym (h .tree)) })
+held-by s holder fields inside e fine items (inPieces run) h =
+    let pieced = h .pieced in rw pieced (record { fine = fine; items = items pieced; content-is = ap inPieces (sym (h .tree)) })
 
 -- the item that an element is holds its content
-pub holds-element : {edition : Edition} {s : List ℕ} {j : ℕ} {item : PlacedItem} → ElementAt edition s j item
-    → {holder : Holder} → HoldingShape s (shapeBy edition (item .code)) (item .inner) holder → HoldsElement edition s j (heldBy holder)
+pub holds-element : {edition : Edition} {s : List ℕ} {j : ℕ} {placed : PlacedItem} → ElementAt edition s j placed
+    → {holder : Holder} → HoldingShape s (shapeBy edition (placed .code)) (placed .inner) holder → HoldsElement edition s j (heldBy holder)
+holds-element {edition} {s} {j} {placed} at {holder} holding =
+    let contents = shapeBy edition (placed .code) .contents in
+    let items = itemsOf s (placed .inner) in
+    let run = treeIn s (placed .inner) in
+    let octet = contentOctet contents run in
+    record {
+      placed = placed;
+      at = at;
+      holds = held-by s holder (boundsAt octet items) (itemsAt octet items) (sym (holding .pair)) (holding .fine) (holding .items) (contentOf contents run)
+          (holding .held);
+    }
+
+-- the items inside what holds the content of element j
+abbrev pub insideOf : {edition : Edition} {s : List ℕ} {j : ℕ} {held : Held} → HoldsElement edition s j held → Items
+insideOf {edition} {s} h =
+    let contents = shapeBy edition (h .placed .code) .contents in
+    itemsAt (contentOctet contents (treeIn s (h .placed .inner))) (itemsOf s (h .placed .inner))
+
+-- if the stream is a letter, row and element j say what is held
+pub held-element : {edition : Edition} {s : List ℕ} {j : ℕ} {held : Held} → (h : HoldsElement edition s j held)
+    → (elements : List Element) (row : Row) (element : Element) → judge edition (treeOf s) ≡ accepted elements
+    → getElem? (rowsIn edition s) j ≡ some row → getElem? elements j ≡ some element → HeldAs s (row .content) (insideOf h) (element .content) held
 unfolding elementOf rowOf
-holds-element {edition} {s} {j} {item} at {holder} holding elements row element judged stands there =
-    let said = at .said elements row element judged stands there in
-    let fields : row .content ≡ holder .value = ap (λ (r : Row). r .content) (said .row-is) ∙ sym (holding .pair) in
-    subst (λ (e : Element). HeldAs s (row .content) (e .content) (heldBy holder)) (sym (said .element-is))
-    (held-by s holder (row .content) fields (holding .fine) (contentOf (shapeBy edition (item .code) .contents) (treeIn s (item .inner))) (holding .held))
+held-element {edition} {s} {j} {held} h elements row element judged stands there =
+    let said = h .at .said elements row element judged stands there in
+    let inside = insideOf h in
+    let content = contentOf (shapeBy edition (h .placed .code) .contents) (treeIn s (h .placed .inner)) in
+    subst (λ (e : Element). HeldAs s (row .content) inside (e .content) held) (sym (said .element-is))
+    (subst (λ (r : Row). HeldAs s (r .content) inside content held) (sym (said .row-is)) (h .holds))
 
 -- row j of a letter is in the scratch, and tells where its element begins
 pub record RowAt (edition : Edition) (s scratch : List ℕ) (j : ℕ) : Type 0 where

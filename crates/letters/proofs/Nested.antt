@@ -104,7 +104,7 @@ module _ (from to : ℕ) where
   bounds-within octet (item at type first past inside after) w =
       cases (eqb type octet) (λ t. rw t (present (w .0) (w .1) (w .2))) (λ t. rw t (bounds-within octet after (w .4)))
 
-  items-within : (octet : ℕ) (i : Items) → Nested from to i → Nested from to (itemsIn octet i)
+  pub items-within : (octet : ℕ) (i : Items) → Nested from to i → Nested from to (itemsIn octet i)
   unfolding itemsIn
   items-within octet noItems w = tt
   items-within octet (item at type first past inside after) w =

@@ -25,16 +25,10 @@ use Rattle.elements.specs.ElementRows.{rowOf, rowsOf}
 use Rattle.judging.specs.declared.PlacedItem.{PlacedItem}
 use Rattle.judging.specs.Judges.{shapeBy, elementBy}
 use Rattle.letters.specs.Letter.{itemsOfStream, rowsIn}
-use Rattle.letters.specs.Content.{ElementAt}
+use Rattle.letters.specs.Content.{from, ElementAt}
 use Rattle.runs.proofs.Laws.{start-at}
 use Rattle.judging.proofs.Lists.{below-length, at-front, at-end}
 use Rattle.judging.proofs.Steps.{judged-one, judge-some}
-
--- the items of a run from its item j on
-abbrev pub from : ℕ → Items → Items
-from zero items = items
-from (suc j) noItems = noItems
-from (suc j) (item at code first past inside after) = from j after
 
 -- a run from one of its items on, by its rules
 pub record Begins (s : List ℕ) (room limit : ℕ) (marked : Bool) (items : Items) (end : End) : Type 0 where
@@ -76,17 +70,17 @@ rows-from edition s noItems (suc j) at code first past inside after e = let z : 
 rows-from edition s (item a o f p i t) zero at code first past inside after e = ap (λ (x : Items). getElem? (rowsOf edition s x) 0) e
 rows-from edition s (item a o f p i t) (suc j) at code first past inside after e = rows-from edition s t j at code first past inside after e
 
-rows-length : (edition : Edition) (s : List ℕ) (items : Items) → length (rowsOf edition s items) ≡ tops items
+pub rows-length : (edition : Edition) (s : List ℕ) (items : Items) → length (rowsOf edition s items) ≡ tops items
 unfolding rowsOf
 rows-length edition s noItems = refl
 rows-length edition s (item at code first past inside after) = ap suc (rows-length edition s after)
 
 -- primitive items have nothing inside
-abbrev Hollow : Items → Type 0
+abbrev pub Hollow : Items → Type 0
 Hollow noItems = Unit {0}
 Hollow (item at code first past inside after) = (constructed code ≡ false → inside ≡ noItems) × Hollow after
 
-hollow : {s : List ℕ} {room at limit : ℕ} {marked : Bool} {items : Items} {end : End} → Runs s room at limit marked items end → Hollow items
+pub hollow : {s : List ℕ} {room at limit : ℕ} {marked : Bool} {items : Items} {end : End} → Runs s room at limit marked items end → Hollow items
 hollow (at-limit p) = tt
 hollow (unclosed p) = tt
 hollow (closes l h) = tt
@@ -96,7 +90,7 @@ hollow (passes l p q v r) = (λ c. absurd (false≢true (sym c ∙ q)), hollow r
 hollow (breaks l p q v) = (λ c. absurd (false≢true (sym c ∙ q)), tt)
 
 -- an element that passes, and what is judged after it
-passes-one : (edition : Edition) (done : List Element) (type : List ℕ) (run : Tree) (more : List Element → Judged) (elements : List Element)
+pub passes-one : (edition : Edition) (done : List Element) (type : List ℕ) (run : Tree) (more : List Element → Judged) (elements : List Element)
     → judgeOne edition done type run more ≡ accepted elements
     → more (done ++ elementOf (shapeOf edition type) run ∷ []) ≡ accepted elements
 unfolding judgeOne
@@ -216,6 +210,11 @@ module _ (edition : Edition) {s : List ℕ} (fine : Fine s (wholeStream s)) (j :
       → placed .first ≡ row .whole .first → placed .past ≡ rest .at → ElementAt edition s j placed
   element-at placed {first} {past} {rest} m starts ends = record {
     fine = m .inner-fine;
+    first = first;
+    past = past;
+    after = itemsOf s rest;
+    stands = sym rest-items ∙ m .tree
+        ∙ ap (λ (at : ℕ). item at (placed .code) first past (itemsOf s (placed .inner)) (itemsOf s rest)) (sym starts);
     said = λ elements other element judged other-stands there.
         let same : row ≡ other = cc in
         let inside = itemsOf s (placed .inner) in

@@ -22,7 +22,7 @@ use Rattle.answers.specs.Answers.{ruled}
 use Rattle.answers.specs.Questions.{reasonTold}
 use Rattle.answers.specs.Short.{writtenShort, writtenShortOutput, ShortOutcome}
 use Rattle.answers.proofs.Small.{refusal-small}
-use Rattle.answers.proofs.Letters.{letter-found}
+use Rattle.letters.proofs.Letters.{letter-found}
 use Rattle.answers.proofs.Judging.{accepts-walked}
 use Rattle.answers.proofs.Working.{IsLetter, IsRefused}
 use Rattle.answers.specs.Asking.{writtenAs}

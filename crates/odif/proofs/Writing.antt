@@ -21,7 +21,7 @@ use Rattle.answers.specs.declared.Reason.{Reason}
 use Rattle.answers.specs.Answers.{ruled, written, writtenOutput, NormalOutcome}
 use Rattle.answers.specs.Asking.{writtenAs}
 use Rattle.answers.proofs.Small.{refusal-small}
-use Rattle.answers.proofs.Letters.{letter-found}
+use Rattle.letters.proofs.Letters.{letter-found}
 use Rattle.answers.proofs.Working.{IsLetter, IsRefused, is-letter, is-refused}
 
 -- what `written_as` needs: all that is answered fits 32 bits

@@ -9,6 +9,7 @@ pub use answers::Listed;
 use answers::Question;
 pub use answers::Reason;
 pub use answers::Related;
+pub use answers::Sourced;
 pub use answers::TextRead;
 pub use answers::Written;
 pub use elements::Edition;
@@ -28,6 +29,7 @@ mod family; // family.rt: the children of a row
 mod in_order; // in_order.rt: the order of a letter by an interchange class
 mod made; // made.rt: a letter that is made
 mod mailroom; // mailroom.rt: the normal form of a short stream
+mod side_sources; // side_sources.rt: where each octet of a side stands
 mod side_text; // side_text.rt: the whole reading of a side
 
 pub use dating::date;
@@ -37,6 +39,7 @@ pub use family::children;
 pub use in_order::order;
 pub use made::make;
 pub use mailroom::normal_short;
+pub use side_sources::sources;
 pub use side_text::text;
 
 // Checks a stream and fills the element table, thirteen numbers a row. The viewer asks this first.

@@ -17,6 +17,7 @@ mod family; // family.rt: the children of a row
 mod in_order; // in_order.rt: the order of a letter by an interchange class
 mod made; // made.rt: a letter that is made
 mod mailroom; // mailroom.rt: the normal form of a short stream
+mod side_sources; // side_sources.rt: where each octet of a side stands
 mod side_text; // side_text.rt: the whole reading of a side
 
 #[no_mangle]

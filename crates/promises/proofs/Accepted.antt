@@ -22,7 +22,8 @@ use Rattle.answers.specs.declared.Checked.{Checked}
 use Rattle.answers.specs.Table.{rowsLent, tooFewRows}
 use Rattle.answers.specs.Answers.{tableOf, checkedBy, checked, checkedTable}
 use Rattle.answers.proofs.Small.{refusal-small}
-use Rattle.answers.proofs.Letters.{letter-found}
+use Rattle.letters.proofs.Standing.{rows-length}
+use Rattle.letters.proofs.Letters.{letter-found}
 use Rattle.promises.proofs.Demand2.{counted}
 use Rattle.promises.proofs.Telling.{Proper, proper}
 
@@ -55,11 +56,6 @@ module _ (edition : Edition) (s table : List ℕ) where
   unfolding checked
   check-high = high-if (letterIn edition s) refl
 
-rows-tops : (edition : Edition) (s : List ℕ) (items : Items) → length (rowsOf edition s items) ≡ tops items
-unfolding rowsOf
-rows-tops edition s noItems = refl
-rows-tops edition s (item at code first past inside after) = ap suc (rows-tops edition s after)
-
 module _ {edition : Edition} {s table : List ℕ} (a : Accepted edition s table) where
   -- its items can be met, one after another,
   pub fine : Fine s (wholeStream s)
@@ -70,7 +66,7 @@ module _ {edition : Edition} {s table : List ℕ} (a : Accepted edition s table)
 
   -- as many as there are elements,
   pub as-many : tops (itemsOf s (wholeStream s)) ≡ length (a .elements)
-  as-many = sym (rows-tops edition s (itemsOfStream s)) ∙ counted edition s (a .headers) (a .elements) (a .judged)
+  as-many = sym (rows-length edition s (itemsOfStream s)) ∙ counted edition s (a .headers) (a .elements) (a .judged)
 
   pub few : length (a .elements) ≤ mostElements
   few = accepted-apart edition (treeOf s) (a .elements) (letter-found edition s (a .headers) (a .elements) (a .judged) .judged) .few

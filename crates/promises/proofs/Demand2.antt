@@ -30,7 +30,7 @@ use Rattle.judging.proofs.Lists.{below-length, at-below}
 use Rattle.answers.specs.Answers.{onto, tableOf, checked, checkedTable, written, writtenOutput, listed, Fetched, fetched, located, Stands, joinedIn, copied}
 use Rattle.promises.specs.Refusals.{TopItem, topItems}
 use Rattle.promises.specs.Demands.{IsLetterOf, TellsContent, RowTells, UnitAt, OfLetter, RefusedByAll, Demand2, itemCount}
-use Rattle.answers.proofs.Letters.{Found, letter-found, accepted-letter}
+use Rattle.letters.proofs.Letters.{Found, letter-found, accepted-letter}
 use Rattle.answers.proofs.Judging.{accepts-walked}
 use Rattle.answers.proofs.Small.{refusal-small}
 use Rattle.promises.proofs.Demand1.{demand1}

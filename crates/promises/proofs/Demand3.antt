@@ -22,9 +22,10 @@ use Rattle.reading.specs.declared.Match.{Match}
 use Rattle.reading.specs.declared.Side.{Side}
 use Rattle.reading.specs.Match.{matches, IsMatch, Before, units, portionsOn}
 use Rattle.reading.specs.Lists.{Sorted}
+use Rattle.reading.proofs.Lists.{in-member, sorted-at}
 use Rattle.reading.proofs.Matches.{matches-are, matches-all, matches-sorted}
 use Rattle.reading.proofs.Single.{no-more-than-portions, no-more-than-units}
-use Rattle.answers.proofs.Letters.{letter-found}
+use Rattle.letters.proofs.Letters.{letter-found}
 use Rattle.answers.specs.Answers.{onto, tableOf, listed, listedTable, matchesIn, listedList}
 use Rattle.promises.specs.Demands.{In, Demand3}
 
@@ -33,18 +34,6 @@ module _ {A : Type 0} where
   pub member-in : (m : A) (ms : List A) → List·Memᴰ m ms → (i : ℕ) × (getElem? ms i ≡ some m)
   member-in m (x ∷ ms) (List·Memᴰ·head e) = (0, ap some (sym e))
   member-in m (x ∷ ms) (List·Memᴰ·tail i) = let (k, e) = member-in m ms i in (suc k, e)
-
-  pub in-member : (m : A) (ms : List A) (i : ℕ) → getElem? ms i ≡ some m → List·Memᴰ m ms
-  in-member m [] i e = let z : _≡_ {A = ℕ} 0 1 = cc in absurd (omega arith)
-  in-member m (x ∷ ms) zero e = let f : m ≡ x = cc in List·Memᴰ·head f
-  in-member m (x ∷ ms) (suc i) e = List·Memᴰ·tail (in-member m ms i e)
-
-  -- of a sorted list an earlier one stands before a later one
-  pub sorted-at : (R : A → A → Type 0) (ms : List A) → Sorted R ms → (i j : ℕ) (m n : A) → i < j → getElem? ms i ≡ some m → getElem? ms j ≡ some n → R m n
-  sorted-at R [] o i j m n l p q = let z : _≡_ {A = ℕ} 0 1 = cc in absurd (omega arith)
-  sorted-at R (x ∷ ms) o i zero m n l p q = absurd (omega arith)
-  sorted-at R (x ∷ ms) o zero (suc j) m n l p q = let f : x ≡ m = cc in subst (λ (y : A). R y n) f (o .0 n (in-member n ms j q))
-  sorted-at R (x ∷ ms) o (suc i) (suc j) m n l p q = sorted-at R ms (o .1) i j m n (omega arith) p q
 
 never-itself : (m : Match) → Before m m → ⊥
 never-itself m (inl l) = omega arith

@@ -15,10 +15,12 @@ use Rattle.answers.specs.declared.Dated.{Dated}
 use Rattle.answers.specs.declared.FirstDated.{FirstDated}
 use Rattle.answers.specs.declared.Related.{Related}
 use Rattle.answers.specs.declared.TextRead.{TextRead}
+use Rattle.answers.specs.declared.Sourced.{Sourced}
 use Rattle.answers.specs.Dates.{DateOutcome, DatePartOutcome}
 use Rattle.answers.specs.FirstDates.{FirstDateOutcome}
 use Rattle.answers.specs.Related.{ChildrenOutcome}
 use Rattle.answers.specs.Text.{TextOutcome}
+use Rattle.answers.specs.Sources.{SourcesOutcome}
 use Rattle.answers.specs.Short.{ShortOutcome}
 use Rattle.order.specs.declared.Class.{Class}
 use Rattle.order.specs.declared.Ordered.{Ordered}
@@ -76,3 +78,7 @@ order-determined edition class s = answered edition class s .one
 pub text-determined : {edition : Edition} {side : Side} {s table lines out : List ℕ} {a b : TextRead} {t u l m o p : List ℕ}
     → TextOutcome edition side s table lines out a t l o → TextOutcome edition side s table lines out b u m p → (a ≡ b) × (t ≡ u) × (l ≡ m) × (o ≡ p)
 text-determined x y = (x .answered ∙ sym (y .answered), x .tabled ∙ sym (y .tabled), x .filled ∙ sym (y .filled), x .put ∙ sym (y .put))
+
+pub sources-determined : {edition : Edition} {side : Side} {s list : List ℕ} {a b : Sourced} {l m : List ℕ}
+    → SourcesOutcome edition side s list a l → SourcesOutcome edition side s list b m → (a ≡ b) × (l ≡ m)
+sources-determined x y = (x .answered ∙ sym (y .answered), x .filled ∙ sym (y .filled))

@@ -37,7 +37,7 @@ use Rattle.answers.specs.declared.Reason.{Reason}
 use Rattle.answers.specs.Answers.{ruled}
 use Rattle.answers.specs.Dates.{DateAnswer, noDate, dateAfter, profileIn, dateOf, datePlaces, soleSpan, dateSpan, datedAt, dated, Bounds}
 use Rattle.answers.specs.Dating.{refusedDated}
-use Rattle.answers.proofs.Letters.{letter-found}
+use Rattle.letters.proofs.Letters.{letter-found}
 use Rattle.answers.proofs.Small.{refusal-small}
 use Rattle.answers.proofs.Working.{ruled-letter, ruled-refused, is-letter, is-refused}
 use Rattle.answers.proofs.Dating.{refused-told}

@@ -6,7 +6,7 @@ use mathlib.Core.Option.{some}
 use Prim.Native.Nat.{ℕ, zero, suc, _+_, _%_, _<_}
 use native.Mathlib.Omega.{arith}
 use lib.Dec.{eqb, leb}
-use lib.ListN.{length, take, getElem?}
+use lib.ListN.{length, take, getD, getElem?}
 use lib.Seq.{length-take-le}
 use borrow.Author.Tests.{eqb-true, ne-eqb, leb-true, not-true, not-false}
 use borrow.Table.Steps.{cases}
@@ -16,6 +16,7 @@ use Rattle.octets.specs.declared.Outcome.{Outcome}
 use Rattle.octets.specs.declared.Outcome.the-variants.{Ended, Refused}
 use Rattle.octets.specs.Walk.{Items, noItems, item, End, ends, stops, walkOf}
 use Rattle.tree.specs.Tree.{Tree, empty, leaf, branch, formed, plain, treeOf}
+use Rattle.contents.specs.declared.Span.{Span}
 use Rattle.contents.specs.Search.{is, amount}
 use Rattle.contents.proofs.Firsts.{is-field}
 use Rattle.portions.specs.Portions.{values}
@@ -30,14 +31,17 @@ use Rattle.letters.specs.Letter.{Letter, letter, refusal, itemsOfStream, afterW
 use Rattle.reading.specs.declared.Match.{Match}
 use Rattle.reading.specs.declared.Side.{Side}
 use Rattle.reading.specs.declared.Side.the-variants.{Layout, Logical}
-use Rattle.reading.specs.Match.{kindsOf, IsMatch}
+use Rattle.reading.specs.Match.{kindsOf, matches, IsMatch}
 use Rattle.judging.proofs.Lists.{below-length}
 use Rattle.fronts.specs.First.{walkFirst}
+use Rattle.sources.specs.Sources.{Source, lineSources, sourcesFrom, sourcesIn}
+use Rattle.sources.specs.Units.{contentPlaces, placesOfEach, placesIn}
 use Rattle.answers.specs.Answers.{fetchedBy, allOf, matchesBy, matchesIn}
 use Rattle.answers.specs.Answers.{checked, checkedTable, written, writtenOutput, listed, listedTable, listedList, fetched, located, joinedIn, copied}
 use Rattle.answers.specs.Answers.{copiedOutput, ruled}
 use Rattle.answers.specs.Related.{related, relatedTable, relatedList}
 use Rattle.text_lines.specs.Text.{textsOf, Line, lineOf, linesFrom}
+use Rattle.answers.specs.Sources.{sourced, sourcedList}
 use Rattle.answers.specs.Text.{textIn, textsIn, linesIn, textRead, shownTable, textLines, textOutput}
 use Rattle.answers.specs.Short.{writtenShort, writtenShortOutput}
 use Rattle.order.specs.declared.Class.{Class}
@@ -45,7 +49,7 @@ use Rattle.order.specs.declared.Ordered.{Ordered}
 use Rattle.order.specs.Question.{OrderIs, by-rule, in-order, out-of-order}
 use Rattle.answers.specs.Dates.{dateOf, dated}
 use Rattle.answers.specs.FirstDates.{firstTree, firstRule, ruledAlone, firstRuled, firstDateOf, firstDated}
-use Rattle.answers.proofs.Letters.{refused-element, letter-found}
+use Rattle.letters.proofs.Letters.{refused-element, letter-found}
 use Rattle.answers.proofs.Checks.{checks-refused}
 use Rattle.answers.proofs.Listing.{lists-refused}
 use Rattle.answers.proofs.Fetching.{fetches-refused}
@@ -233,6 +237,22 @@ module _ (s : List ℕ) where
       let (here, rest) = whole-run code _ (plain s inside) (plain s after) (constructed code) refl h in
       ap₂ (λ (row : Row) (rows : List Row). row ∷ rows) (row-agrees code at _ inside here) (rows-agree after rest)
 
+  -- the places
+  content-agrees : (code : ℕ) (inside : Items) → Untiled (typeField code) (plain s inside)
+      → contentPlaces (shapeOf Of1993 (typeField code) .contents) s inside ≡ contentPlaces (shapeOf Of1988 (typeField code) .contents) s inside
+  unfolding shapeOf contentPlaces contentOctet
+  content-agrees code inside h =
+      cases (is 0xA3 (typeField code))
+      (λ t. let e : codeOf (typeField code) ≡ 0xA3 = eqb-true (codeOf (typeField code)) 0xA3 t in rw (e, h .untiled t))
+      (λ t. let same = shapes-agree (typeField code) t (h .unprotected) in rw same)
+
+  places-agree : (items : Items) → AllUntiled (plain s items) → placesOfEach Of1993 s items ≡ placesOfEach Of1988 s items
+  unfolding placesOfEach
+  places-agree noItems h = refl
+  places-agree (item at code first past inside after) h =
+      let (here, rest) = whole-run code _ (plain s inside) (plain s after) (constructed code) refl h in
+      ap₂ (λ (places : List Span) (more : List (List Span)). places ∷ more) (content-agrees code inside here) (places-agree after rest)
+
 contained : (s : List ℕ) (headers : ℕ) (elements : List Element) → letterIn Of1988 s ≡ letter headers elements → SameLetterIn s headers elements
 contained s headers elements e =
     let (all-alike, untiled) = judge-contained (treeOf s) elements (letter-found Of1988 s headers elements e .judged) in
@@ -311,6 +331,24 @@ module _ (s : List ℕ) (same : letterIn Of1993 s ≡ letterIn Of1988 s) where
   unfolding linesIn
   lines-alike side = some-lines 0 (matchesIn Of1993 side s) ∙ ap (λ (l : Letter). linesFrom (textIn Of1988 s) 0 (matchesBy side l)) same
 
+  some-sources : ((u : ℕ) → placesIn Of1993 s u ≡ placesIn Of1988 s u) → (line : ℕ) (ms : List Match)
+      → sourcesFrom (placesIn Of1993 s) line ms ≡ sourcesFrom (placesIn Of1988 s) line ms
+  unfolding sourcesFrom
+  some-sources places line [] = refl
+  some-sources places line (m ∷ ms) =
+      ap₂ (λ (own more : List Source). own ++ more) (ap (lineSources line) (places (m .unit))) (some-sources places (suc line) ms)
+
+  sources-by : (l : Letter) → letterIn Of1988 s ≡ l → (side : Side) → sourcesIn Of1993 side s ≡ sourcesIn Of1988 side s
+  unfolding sourcesIn placesIn
+  sources-by (letter headers elements) e side =
+      let untiled = judge-contained (treeOf s) elements (letter-found Of1988 s headers elements e .judged) .1 in
+      let each = places-agree s (itemsOfStream s) untiled in
+      rw (same, e) (some-sources (λ u. ap (λ (ps : List (List Span)). getD ps u []) each) 0 (matches side elements))
+  sources-by (refusal number place headers) e side = rw (same, e)
+
+  sources-alike : (side : Side) → sourcesIn Of1993 side s ≡ sourcesIn Of1988 side s
+  sources-alike side = sources-by (letterIn Of1988 s) refl side
+
   text-table-by : (l : Letter) → letterIn Of1988 s ≡ l → (side : Side) (table : List ℕ) (room : ℕ) (out : List ℕ)
       → shownTable Of1993 side s table room out ≡ shownTable Of1988 side s table room out
   unfolding listed textRead shownTable
@@ -322,7 +360,7 @@ module _ (s : List ℕ) (same : letterIn Of1993 s ≡ letterIn Of1988 s) where
       ∙ text-ruled Of1988 side s table [] room out number place headers e .tabled
 
   same-answers : SameAnswers s
-  unfolding checked written writtenOutput writtenShort writtenShortOutput listed listedList fetched joinedIn copied copiedOutput related relatedList textRead textLines textOutput ruled dateOf dated
+  unfolding checked written writtenOutput writtenShort writtenShortOutput listed listedList fetched joinedIn copied copiedOutput related relatedList textRead textLines textOutput sourced sourcedList ruled dateOf dated
   same-answers =
       let tables = by-letter (letterIn Of1988 s) refl in
       record {
@@ -346,6 +384,8 @@ module _ (s : List ℕ) (same : letterIn Of1993 s ≡ letterIn Of1988 s) where
         text-table = text-table-by (letterIn Of1988 s) refl;
         text-lines = λ side table lines out. rw (same, texts-alike side, lines-alike side);
         text-output = λ side table room out. rw (same, texts-alike side);
+        sources = λ side list. rw (same, sources-alike side);
+        sources-list = λ side list. rw (same, sources-alike side);
         date = rw same;
         date-bounds = rw same;
         order = λ class r. (order-alike Of1993 Of1988 s same class r, order-alike Of1988 Of1993 s (sym same) class r);

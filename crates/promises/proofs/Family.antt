@@ -18,14 +18,15 @@ use Rattle.answers.specs.declared.Related.{Related}
 use Rattle.answers.specs.Table.{tooFewRows}
 use Rattle.answers.specs.Related.{relatedBy, related, relatedTable, relatedList}
 use Rattle.answers.specs.Filling.{Relates}
-use Rattle.answers.proofs.Letters.{letter-found}
+use Rattle.letters.proofs.Letters.{letter-found}
 use Rattle.answers.proofs.Tabling.{table-tells}
 use Rattle.answers.proofs.Relating.{relates-refused, relates-16, relates-20, relates-25, relates-letter}
 use Rattle.promises.specs.Demands.{Answered}
 use Rattle.promises.specs.Family.{Tells, Family}
 use Rattle.promises.proofs.Demand1.{told-small, told-own, told-zero, small-in}
 use Rattle.promises.proofs.Demand2.{counted, normal-accepted}
-use Rattle.promises.proofs.Demand3.{member-in, in-member, sorted-at}
+use Rattle.reading.proofs.Lists.{in-member, sorted-at}
+use Rattle.promises.proofs.Demand3.{member-in}
 
 -- what the question tells, from a case of it
 tells-by : {edition : Edition} {s table : List ℕ} {row : ℕ} {list : List ℕ} {answer : Related} {after listAfter : List ℕ}

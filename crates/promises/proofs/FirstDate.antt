@@ -33,7 +33,7 @@ use Rattle.answers.specs.Answers.{ruled}
 use Rattle.answers.specs.Dates.{DateAnswer, dateAfter, profileIn, dateOf, datePlaces, dateSpan, datedAt, dated, Bounds}
 use Rattle.answers.specs.Dating.{refusedDated}
 use Rattle.answers.specs.FirstDates.{firstTree, firstRule, ruledAlone, firstRuled, firstDateOf, withUnread, firstDated}
-use Rattle.answers.proofs.Letters.{letter-found}
+use Rattle.letters.proofs.Letters.{letter-found}
 use Rattle.answers.proofs.Working.{ruled-letter}
 use Rattle.answers.proofs.Dating.{FirstPasses, first-let, letter-first, passed-profile, met-some}
 use Rattle.answers.proofs.FirstDating.{rule-formed}

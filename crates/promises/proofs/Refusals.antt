@@ -26,7 +26,7 @@ use Rattle.elements.specs.ElementRows.{placeOf}
 use Rattle.elements.proofs.Zero.{none-zero}
 use Rattle.letters.specs.Letter.{refusal, itemsOfStream, afterWalk, byWalk, letterIn}
 use Rattle.judging.proofs.Lists.{below-length}
-use Rattle.answers.proofs.Letters.{refused-walk, refused-element}
+use Rattle.letters.proofs.Letters.{refused-walk, refused-element}
 use Rattle.promises.specs.Refusals.{TopItem, topItems, contentsIn, saysIn, Refuses, too-many, unknown, no-profile, later-profile, misshapen, mistyped}
 use Rattle.promises.specs.Refusals.{misspelt, repeated, RefusedAt, RefusedBy, no-element, at-element, RefusedWith, too-long, at-fault, by-element}
 

@@ -28,7 +28,7 @@ use Rattle.elements.specs.ElementRows.{placeOf}
 use Rattle.letters.specs.Letter.{Letter, letter, refusal, letterIn}
 use Rattle.answers.specs.declared.Written.{Written}
 use Rattle.answers.specs.Answers.{writtenBy, written}
-use Rattle.answers.proofs.Letters.{letter-found}
+use Rattle.letters.proofs.Letters.{letter-found}
 use Rattle.answers.proofs.Judging.{accepts-walked}
 use Rattle.answers.proofs.Small.{refusal-small}
 use Rattle.promises.specs.SameLetter.{formWritten, SameLetter, oneOrder, otherOrder, OrderCounts}

@@ -23,6 +23,7 @@ use Rattle.answers.specs.Answers.{checked, checkedTable, written, writtenOutput
 use Rattle.answers.specs.Answers.{copied, copiedOutput}
 use Rattle.answers.specs.Related.{related, relatedTable, relatedList}
 use Rattle.answers.specs.Text.{textRead, shownTable, textLines, textOutput}
+use Rattle.answers.specs.Sources.{sourced, sourcedList}
 use Rattle.answers.specs.Short.{writtenShort, writtenShortOutput}
 use Rattle.order.specs.declared.Class.{Class}
 use Rattle.order.specs.declared.Ordered.{Ordered}
@@ -66,6 +67,8 @@ pub record SameAnswers (s : List ℕ) : Type 0 where
   pub text-lines : (side : Side) (table lines out : List ℕ) → textLines Of1993 side s table lines out ≡ textLines Of1988 side s table lines out
   pub text-output : (side : Side) (table : List ℕ) (room : ℕ) (out : List ℕ)
       → textOutput Of1993 side s table room out ≡ textOutput Of1988 side s table room out
+  pub sources : (side : Side) (list : List ℕ) → sourced Of1993 side s list ≡ sourced Of1988 side s list
+  pub sources-list : (side : Side) (list : List ℕ) → sourcedList Of1993 side s list ≡ sourcedList Of1988 side s list
   pub date : dateOf Of1993 s ≡ dateOf Of1988 s
   pub date-bounds : dated Of1993 s ≡ dated Of1988 s
   pub order : (class : Class) (r : Ordered) → OrderIs Of1993 class s r ↔ OrderIs Of1988 class s r

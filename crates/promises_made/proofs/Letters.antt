@@ -16,7 +16,7 @@ use Rattle.elements.specs.declared.Edition.{Edition}
 use Rattle.elements.specs.Judge.{judge}
 use Rattle.letters.proofs.Apart.{accepted-apart}
 use Rattle.letters.specs.Letter.{letter}
-use Rattle.answers.proofs.Letters.{accepted-letter}
+use Rattle.letters.proofs.Letters.{accepted-letter}
 use Rattle.promises.specs.Demands.{itemCount}
 use Rattle.promises.proofs.Telling.{count-tree}
 use Rattle.making.specs.Entries.{Said}

@@ -13,7 +13,7 @@ use Rattle.reading.specs.Match.{only}
 use Rattle.reading.specs.Lists.{Sorted}
 use Rattle.reading.proofs.Lists.{sorted-once}
 use Rattle.reading.proofs.Each.{only-in, only-out, only-sorted, each-out, each-in, each-sorted, each-few}
-use Rattle.answers.proofs.Letters.{letter-found}
+use Rattle.letters.proofs.Letters.{letter-found}
 use Rattle.promises.specs.Refusals.{TopItem, topItems, saysIn}
 use Rattle.promises.specs.Demands.{IsAccepted}
 use Rattle.promises.proofs.Refusals.{accepted-elements}

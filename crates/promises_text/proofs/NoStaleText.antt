@@ -22,6 +22,7 @@ use Rattle.letters.proofs.Apart.{accepted-apart}
 use Rattle.reading.specs.declared.Match.{Match}
 use Rattle.reading.specs.declared.Side.{Side}
 use Rattle.reading.specs.Match.{matches}
+use Rattle.reading.proofs.Lists.{in-member}
 use Rattle.reading.proofs.Matches.{matches-are}
 use Rattle.text_lines.specs.Text.{textsOf, lineOf, linesFrom, lineWidth, lineCells, lineNumbers}
 use Rattle.text_lines.proofs.Fits.{texts-fit}
@@ -30,19 +31,13 @@ use Rattle.answers.specs.declared.TextRead.{TextRead}
 use Rattle.answers.specs.Table.{tooFewRows}
 use Rattle.answers.specs.Answers.{tableOf, listed, matchesIn}
 use Rattle.answers.specs.Text.{textIn, textsIn, linesIn, linesLent, textReadFrom, textRead, shownTable, textLines, textOutput, TextOutcome}
-use Rattle.answers.proofs.Letters.{letter-found}
+use Rattle.letters.proofs.Letters.{letter-found}
 use Rattle.answers.proofs.Small.{refusal-small}
 use Rattle.answers.proofs.TextSteps.{text-content, text-ruled}
 use Rattle.promises.specs.Demands.{Answered}
 use Rattle.promises.proofs.Demand1.{told-own, told-zero, demand1}
 use Rattle.promises_text.specs.NoStaleText.{ShowsMatch, OnScreen, Untouched, NoStaleText}
 use Rattle.promises_text.proofs.Places.{part-of, text-at}
-
--- what stands at a place is a member
-member-at : (ms : List Match) (k : ℕ) (m : Match) → getElem? ms k ≡ some m → List·Memᴰ m ms
-member-at [] k m e = let z : _≡_ {A = ℕ} 0 1 = cc in absurd (omega arith)
-member-at (x ∷ ms) zero m e = let f : m ≡ x = cc in List·Memᴰ·head f
-member-at (x ∷ ms) (suc k) m e = List·Memᴰ·tail (member-at ms k m e)
 
 -- five numbers a line
 lines-long : (edition : Edition) (s : List ℕ) (first : ℕ) (ms : List Match) → length (lineNumbers (linesFrom (textIn edition s) first ms)) ≡ 5 * length ms
@@ -224,7 +219,7 @@ module _ (edition : Edition) (side : Side) (s : List ℕ) where
       unfolding textRead
       told = outcome .answered ∙ fit .told
 
-      how-long : answer .length ≡ length texts
+      pub how-long : answer .length ≡ length texts
       how-long = ap (λ (r : TextRead). r .length) told
 
       lines-are : linesAfter ≡ all-numbers ++ drop (length all-numbers) lines
@@ -259,7 +254,7 @@ module _ (edition : Edition) (side : Side) (s : List ℕ) where
             let t = text-at text 0 (matchesIn edition side s) k m there in
             let line = lineOf text (0 + length (t .before)) m in
             let same : matchesIn edition side s ≡ matches side elements = rw e in
-            let is-match = matches-are side elements m (subst (λ (ms : List Match). List·Memᴰ m ms) same (member-at (matchesIn edition side s) k m there)) in
+            let is-match = matches-are side elements m (subst (λ (ms : List Match). List·Memᴰ m ms) same (in-member m (matchesIn edition side s) k there)) in
             let rest = drop (length texts) out in
             let more = drop (length all-numbers) lines in
             let shape : outAfter ≡ t .before ++ (own ++ (t .after ++ rest)) =

@@ -1,2 +1,3 @@
--- NoStaleText: what is promised of the whole reading.
+-- NoStaleText: what is promised of the whole reading. Sources: and of where each octet of it stands.
 pub mod NoStaleText
+pub mod Sources

@@ -1,5 +1,5 @@
 -- Lists in order, lists with nothing twice, and which of their members stands where.
-use mathlib.Core.Path.{_≡_, refl, ap, sym, _∙_}
+use mathlib.Core.Path.{_≡_, refl, ap, sym, _∙_, subst}
 use mathlib.Core.Logic.{_⊎_, inl, inr}
 use mathlib.Core.Option.{some}
 use mathlib.Core.List.{List, [], _∷_, _++_, map, List·Memᴰ, List·Memᴰ·head, List·Memᴰ·tail, List·Memᴰ·not-nil, List·Memᴰ·cases-cons, List·Memᴰ·append-cases}
@@ -15,6 +15,19 @@ module _ {A : Type 0} where
   at-getD [] k d l = absurd (omega arith)
   at-getD (y ∷ xs) zero d l = refl
   at-getD (y ∷ xs) (suc k) d l = at-getD xs k d (omega arith)
+
+  -- what stands at a place is a member
+  pub in-member : (x : A) (xs : List A) (i : ℕ) → getElem? xs i ≡ some x → List·Memᴰ x xs
+  in-member x [] i e = let z : _≡_ {A = ℕ} 0 1 = cc in absurd (omega arith)
+  in-member x (y ∷ xs) zero e = let f : x ≡ y = cc in List·Memᴰ·head f
+  in-member x (y ∷ xs) (suc i) e = List·Memᴰ·tail (in-member x xs i e)
+
+  -- of a sorted list an earlier one stands before a later one
+  pub sorted-at : (R : A → A → Type 0) (xs : List A) → Sorted R xs → (i j : ℕ) (x y : A) → i < j → getElem? xs i ≡ some x → getElem? xs j ≡ some y → R x y
+  sorted-at R [] o i j x y l p q = let z : _≡_ {A = ℕ} 0 1 = cc in absurd (omega arith)
+  sorted-at R (z ∷ xs) o i zero x y l p q = absurd (omega arith)
+  sorted-at R (z ∷ xs) o zero (suc j) x y l p q = let f : z ≡ x = cc in subst (λ (a : A). R a y) f (o .0 y (in-member y xs j q))
+  sorted-at R (z ∷ xs) o (suc i) (suc j) x y l p q = sorted-at R xs (o .1) i j x y (omega arith) p q
 
   module _ (R : A → A → Type 0) where
     before-either : (x y : A) (xs ys : List A) → (List·Memᴰ y xs → R x y) → (List·Memᴰ y ys → R x y) → List·Memᴰ y xs ⊎ List·Memᴰ y ys → R x y

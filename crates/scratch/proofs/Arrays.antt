@@ -56,6 +56,9 @@ walked-lent s at headers w rows heads links needed room some few =
 pub sized-array : (n most : ℕ) → 4 * most ≤ n → {s : List ℕ} {walked : Outcome} → Sized s walked most → Sized s walked (length (replicate {A = ℕ} n 0) / 4)
 sized-array n most room sized = record { outcome = sized .outcome; enough = omega (arith, sized .enough, zeros n) }
 
+pub sized-matches : (n most : ℕ) → 3 * most ≤ n → {s : List ℕ} {walked : Outcome} → Sized s walked most → Sized s walked (length (replicate {A = ℕ} n 0) / 3)
+sized-matches n most room sized = record { outcome = sized .outcome; enough = omega (arith, sized .enough, zeros n) }
+
 -- a walk that ended came to the stream's end
 pub walked-whole : (s : List ℕ) (at headers : ℕ) → walkOf s ≡ Ended at headers → walkOf s ≡ Ended (length s) headers
 walked-whole s at headers w = w ∙ ap (λ (end : ℕ). Ended end headers) (stream-count s at headers w .0)

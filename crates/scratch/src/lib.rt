@@ -15,10 +15,13 @@ ghost use Rattle.answers.specs.Questions.{Leaves, Roomy};
 
 mod frames; // frames.rt: the arrays of either size
 mod list; // list.rt: the reading list of a side
+mod sources; // sources.rt: where each octet of a side stands
 mod text; // text.rt: the whole reading of a side
 
 pub use list::list_few;
 pub use list::list_many;
+pub use sources::sources_few;
+pub use sources::sources_many;
 pub use text::text_few;
 pub use text::text_many;
 

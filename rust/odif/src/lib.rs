@@ -4,7 +4,7 @@
 //! [`Text`] of either side, the content of single text units, the tree of its objects, and its normal form. The content of
 //! a unit is a part of the caller's own stream, or, where it was saved in pieces, those joined. What is refused comes back as
 //! a [`Refusal`], with the rule, its number, a sentence and the place. Where the text alone is wanted, [`text()`] is enough:
-//! the stream is judged once.
+//! the stream is judged once. [`Letter::sources`] tells where each octet of the text stands in the stream.
 //!
 //! ```
 //! # fn main() -> Result<(), odif::Refusal> {
@@ -45,6 +45,7 @@ mod order;
 pub mod pm1;
 pub mod raw;
 mod refusal;
+mod sources;
 mod text;
 
 pub use blocks::{Blocks, ClosedEarly, PastTotal, Walked};
@@ -55,6 +56,7 @@ pub use letter::{normal_form, normal_form_in, short_normal_form, short_normal_fo
 pub use making::Builder;
 pub use order::{Class, order, order_in};
 pub use refusal::{Refusal, Rule};
+pub use sources::{Source, sources, sources_in};
 pub use text::{Line, Text, text, text_in};
 
 /// The most octets of a stream, and of a normal form.

@@ -171,6 +171,35 @@ pub struct Line {
     pub past: u32,
 }
 
+/// The answer of [`layout_sources`] and [`logical_sources`].
+#[repr(C)]
+#[derive(Clone, Copy, Debug, Default, PartialEq, Eq)]
+pub struct Sourced {
+    /// 0, or the number of the refusal.
+    pub number: u32,
+    /// The place of the refusal.
+    pub place: u32,
+    /// The lines of the side.
+    pub lines: u32,
+    /// The records filled.
+    pub sources: u32,
+}
+
+/// One source of a text: which octets of the stream are shown in which line.
+#[repr(C)]
+#[derive(Clone, Copy, Debug, Default, PartialEq, Eq)]
+pub struct Source {
+    /// The line.
+    pub line: u32,
+    /// Where the octets begin in the stream.
+    pub first: u32,
+    /// Past them.
+    pub past: u32,
+}
+
+const _: () =
+    assert!(size_of::<Source>() == SOURCE_WIDTH * size_of::<u32>() && align_of::<Source>() == align_of::<u32>());
+
 const _: () = assert!(size_of::<Line>() == LINE_WIDTH * size_of::<u32>() && align_of::<Line>() == align_of::<u32>());
 
 /// Writes the questions of the C header, each with its name of 1988 and that of 1993: declares both, and makes of them a
@@ -239,6 +268,12 @@ twins! {
     /// [`logical_text`] with the lines as numbers, those of a [`Line`] each; an incomplete last line is not used.
     pub logical_text_numbers logical_text_numbers_in =
         odif_logical_text_numbers odif_logical_text_numbers_1993(table: u32, lines: u32, out: u8) -> TextRead;
+    /// [`layout_sources`] with the records as numbers, those of a [`Source`] each; an incomplete last record is not used.
+    pub layout_sources_numbers layout_sources_numbers_in =
+        odif_layout_sources_numbers odif_layout_sources_numbers_1993(list: u32) -> Sourced;
+    /// [`logical_sources`] with the records as numbers, those of a [`Source`] each; an incomplete last record is not used.
+    pub logical_sources_numbers logical_sources_numbers_in =
+        odif_logical_sources_numbers odif_logical_sources_numbers_1993(list: u32) -> Sourced;
 }
 
 /// Fills the table, and puts the text of the layout side into the output and its lines: of each match of the list, in that
@@ -274,6 +309,27 @@ pub fn logical_text_in(
     logical_text_numbers_in(edition, stream, table, numbers_of(lines), out)
 }
 
+/// Fills a record for each piece that has octets of each line of the layout side, in the order of [`layout_text`]. As many
+/// records as [`check`] counts headers are always enough.
+pub fn layout_sources(stream: &[u8], list: &mut [Source]) -> Sourced {
+    layout_sources_numbers(stream, numbers_of_sources(list))
+}
+
+/// Fills the records of the logical side, as [`layout_sources`] does.
+pub fn logical_sources(stream: &[u8], list: &mut [Source]) -> Sourced {
+    logical_sources_numbers(stream, numbers_of_sources(list))
+}
+
+/// [`layout_sources`] by an edition.
+pub fn layout_sources_in(edition: Edition, stream: &[u8], list: &mut [Source]) -> Sourced {
+    layout_sources_numbers_in(edition, stream, numbers_of_sources(list))
+}
+
+/// [`logical_sources`] by an edition.
+pub fn logical_sources_in(edition: Edition, stream: &[u8], list: &mut [Source]) -> Sourced {
+    logical_sources_numbers_in(edition, stream, numbers_of_sources(list))
+}
+
 unsafe extern "C" {
     fn odif_make_numbers(
         buffer: *const u8,
@@ -300,4 +356,13 @@ pub const LINE_WIDTH: usize = 5;
 fn numbers_of(lines: &mut [Line]) -> &mut [u32] {
     // SAFETY: a line is its five numbers and nothing else, in their order, and any numbers are a line.
     unsafe { slice::from_raw_parts_mut(lines.as_mut_ptr().cast(), LINE_WIDTH * lines.len()) }
+}
+
+/// The numbers of a [`Source`].
+pub const SOURCE_WIDTH: usize = 3;
+
+/// Sources as the numbers that they are.
+fn numbers_of_sources(sources: &mut [Source]) -> &mut [u32] {
+    // SAFETY: a source is its three numbers and nothing else, in their order, and any numbers are a source.
+    unsafe { slice::from_raw_parts_mut(sources.as_mut_ptr().cast(), SOURCE_WIDTH * sources.len()) }
 }

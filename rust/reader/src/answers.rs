@@ -1,5 +1,7 @@
 //! The questions and their answers, in the numbers that document 01 gives back.
 
+use std::ops::Range;
+
 use crate::ROW_WIDTH;
 use crate::SHORT_LIMIT;
 use crate::STREAM_LIMIT;
@@ -15,6 +17,7 @@ use crate::pages::{self, Page, Paged};
 use crate::parents;
 use crate::refusal::Refusal;
 
+pub mod sources;
 pub mod text;
 
 /// One side of a letter.
@@ -314,10 +317,15 @@ impl<'a> Reading<'a> {
         row.filter(|row| row.kind == kind::TEXT_UNIT).ok_or((20, 0))
     }
 
-    /// The octets of each piece of a unit's content, in order; none where it has no content.
-    fn pieces(&self, row: &Row) -> impl Iterator<Item = &[u8]> {
+    /// Where each piece of a unit's content stands, in order; none where it has no content.
+    fn places(&self, row: &Row) -> impl Iterator<Item = Range<usize>> {
         let items = row.unit_content.into_iter().flat_map(|place| elements::pieces(&self.tree, place));
-        items.map(|item| &self.stream[item.value()])
+        items.map(|item| item.value())
+    }
+
+    /// The octets of each.
+    fn pieces(&self, row: &Row) -> impl Iterator<Item = &[u8]> {
+        self.places(row).map(|place| &self.stream[place])
     }
 
     /// The letter, if the stream is accepted and a table of `numbers` numbers holds its rows.

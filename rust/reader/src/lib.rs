@@ -32,6 +32,7 @@ mod pages;
 mod parents;
 mod refusal;
 
+pub use answers::sources::{Source, Sourced};
 pub use answers::text::{Line, Shown};
 pub use answers::{Checked, Copied, Found, Listed, Match, Reading, Related, Side, Written};
 pub use date::{Dated, first_date};

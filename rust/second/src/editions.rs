@@ -5,6 +5,7 @@ use std::cmp::Ordering;
 use odif::{Edition, MOST_ELEMENTS, ROW_WIDTH, raw};
 use reader::{Item, Reading};
 
+use crate::sources;
 use crate::tally::{Origin, Tally, hex};
 use crate::text;
 
@@ -48,6 +49,7 @@ struct Answers {
     normal: (raw::Written, Vec<u8>),
     short: (raw::Written, Vec<u8>),
     texts: [(raw::TextRead, Vec<raw::Line>, Vec<u8>); 2],
+    sources: [(raw::Sourced, Vec<(u32, Vec<u8>)>); 2],
     contents: Vec<(raw::Found, raw::Copied, Vec<u8>)>,
 }
 
@@ -74,8 +76,8 @@ impl Answers {
         });
         let contents = contents.collect();
         table.truncate(check.elements as usize * ROW_WIDTH);
-        let texts = text::told(edition, stream);
-        Answers { check, rows: table, lists: [layout, logical], normal, short, texts, contents }
+        let (texts, sources) = (text::told(edition, stream), sources::told(edition, stream));
+        Answers { check, rows: table, lists: [layout, logical], normal, short, texts, sources, contents }
     }
 }
 

@@ -12,6 +12,7 @@ use crate::one::One;
 use crate::order;
 use crate::pages;
 use crate::rng::Rng;
+use crate::sources;
 use crate::tally::{Origin, Question, Tally, hex};
 use crate::text;
 
@@ -44,6 +45,7 @@ pub(crate) fn hold_by(one: &mut One<'_>, rng: &mut Rng) {
     order::hold(one);
     pages::hold(one, rng);
     text::hold(one, rng);
+    sources::hold(one, rng);
     if one.reading.refusal().is_none() {
         one.ask_round_trip(rng);
         one.ask_binding(rng);
@@ -288,6 +290,8 @@ impl One<'_> {
         self.expect(mine == normal, "the normal form's date", || format!("{normal:?}, not {mine:?}"));
         let (mine, normal) = (text::told(self.edition, self.stream), text::told(self.edition, &out));
         self.expect(mine == normal, "the normal form's text", || format!("{normal:?}, not {mine:?}"));
+        let (mine, normal) = (sources::told(self.edition, self.stream), sources::told(self.edition, &out));
+        self.expect(mine == normal, "the normal form's sources", || format!("{normal:?}, not {mine:?}"));
         let (mine, normal) = (order::told(self.edition, self.stream), order::told(self.edition, &out));
         self.expect(mine == normal, "the normal form's order", || format!("{normal:?}, not {mine:?}"));
         let (mine, normal) = (pages::told(self.edition, self.stream), pages::told(self.edition, &out));

@@ -17,6 +17,7 @@ pub mod one;
 pub mod order;
 pub mod pages;
 pub mod rng;
+pub mod sources;
 pub mod tally;
 pub mod text;
 

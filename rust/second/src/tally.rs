@@ -5,7 +5,7 @@ use std::fmt;
 use odif::Edition;
 
 /// The greatest refusal number.
-pub const LAST_NUMBER: usize = 30;
+pub const LAST_NUMBER: usize = 31;
 /// Those that questions about a stream never give: 27 is of making a letter, 28 and 29 are of blocks.
 const OF_OTHERS: [usize; 3] = [27, 28, 29];
 /// How many failures each thread prints in full.
@@ -38,6 +38,10 @@ pub enum Question {
     LayoutText,
     /// `odif_logical_text`
     LogicalText,
+    /// `odif_layout_sources`
+    LayoutSources,
+    /// `odif_logical_sources`
+    LogicalSources,
     /// `odif_order_a`
     OrderA,
     /// `odif_order_b`
@@ -47,7 +51,7 @@ pub enum Question {
 }
 
 impl Question {
-    const ALL: [Question; 15] = {
+    const ALL: [Question; 17] = {
         use Question::*;
         [
             Check,
@@ -62,6 +66,8 @@ impl Question {
             FirstDate,
             LayoutText,
             LogicalText,
+            LayoutSources,
+            LogicalSources,
             OrderA,
             OrderB,
             Pages,
@@ -81,6 +87,7 @@ impl Question {
             Question::Date => matches!(number, 1..=15 | 23 | 24),
             Question::FirstDate => matches!(number, 1..=8 | 10 | 11 | 23 | 24),
             Question::LayoutText | Question::LogicalText => matches!(number, 1..=16 | 19 | 22),
+            Question::LayoutSources | Question::LogicalSources => matches!(number, 1..=15 | 31),
             Question::OrderA | Question::OrderB => matches!(number, 1..=15 | 26),
             Question::Pages => matches!(number, 1..=16 | 30),
         }

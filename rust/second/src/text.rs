@@ -185,14 +185,17 @@ fn ask(
 
 /// What the library says of the text of both sides: the answer, the lines and the octets.
 pub fn told(edition: Edition, stream: &[u8]) -> [(raw::TextRead, Vec<raw::Line>, Vec<u8>); 2] {
+    [Side::Layout, Side::Logical].map(|side| told_of(edition, side, stream))
+}
+
+/// What it says of one.
+pub(crate) fn told_of(edition: Edition, side: Side, stream: &[u8]) -> (raw::TextRead, Vec<raw::Line>, Vec<u8>) {
     let most = (stream.len() / 2).min(MOST_ELEMENTS);
-    [Side::Layout, Side::Logical].map(|side| {
-        let (mut lines, mut out) = (vec![raw::Line::default(); most], vec![0; stream.len()]);
-        let shown = ask(edition, side, stream, &mut vec![0; most * ROW_WIDTH], &mut lines, &mut out);
-        lines.truncate(shown.lines as usize);
-        out.truncate(shown.length as usize);
-        (shown, lines, out)
-    })
+    let (mut lines, mut out) = (vec![raw::Line::default(); most], vec![0; stream.len()]);
+    let shown = ask(edition, side, stream, &mut vec![0; most * ROW_WIDTH], &mut lines, &mut out);
+    lines.truncate(shown.lines as usize);
+    out.truncate(shown.length as usize);
+    (shown, lines, out)
 }
 
 /// The whole lines that some numbers are.

@@ -33,9 +33,12 @@ returns-7 c = refused-as _ _ _ (c .before .enum-told7 .given .1) (c .tell-reason
 returns-8 : tie.Need-returns-8
 returns-8 c = refused-as _ _ _ (c .before .enum-told8 .given .1) (c .tell-reason7 .ensures)
 
+returns-9 : tie.Need-returns-9
+returns-9 c = refused-as _ _ _ (c .before .enum-told9 .given .1) (c .tell-reason8 .ensures)
+
 pub tell-refused-spec : {M : Type 1} → statement M
 tell-refused-spec =
     tie.close (tie.spec enum-told (λ c κs. search needs) (λ c κs. search needs) (λ c. search needs) (λ c κs. search needs)
     (λ c. search needs) (λ c κs. search needs) (λ c. search needs) (λ c κs. search needs) (λ c. search needs) (λ c κs. search needs)
     (λ c. search needs) (λ c κs. search needs) (λ c. search needs) (λ c κs. search needs) (λ c. search needs) (λ c κs. search needs)
-    returns returns-2 returns-3 returns-4 returns-5 returns-6 returns-7 returns-8)
+    (λ c. search needs) (λ c κs. search needs) returns returns-2 returns-3 returns-4 returns-5 returns-6 returns-7 returns-8 returns-9)

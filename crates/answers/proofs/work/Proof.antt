@@ -7,7 +7,7 @@ use Rattle.answers.specs.declared.Question.{Question}
 use Rattle.answers.specs.Questions.{Roomy}
 use Rattle.answers.proofs.Judging.{accepts-walked, accepted-judged}
 use Rattle.answers.proofs.Working.{as-asked, ruled-letter, leaves-rules, leaves-check, leaves-content, leaves-joined, leaves-list, leaves-children}
-use Rattle.answers.proofs.Working.{leaves-order, leaves-text}
+use Rattle.answers.proofs.Working.{leaves-order, leaves-text, leaves-sources}
 use Rattle.answers.proofs.work.Statement.{statement}
 use Rattle.answers.proofs.work.Tie as tie
 
@@ -42,6 +42,13 @@ text-judged-requires c κs =
     let a = c .before .before .before .before .before .before .before .before .before .before .before .before .before .before .before in
     let room = subst (λ (q : Question). Roomy q (now (a .args .stream)) (length (now (a .args .flat))))
     (c .before .before .before .before .question6 .given .1) (a .pre .1 .1 .1) in
+    (accepts-walked (a .pre .0), (a .pre .1 .0, (a .pre .1 .1 .0, room)))
+
+sources-judged-requires : tie.Need-sources-judged-requires
+sources-judged-requires c κs =
+    let a = c .before .before .before .before .before .before .before .before .before .before .before .before .before .before in
+    let room = subst (λ (q : Question). Roomy q (now (a .args .stream)) (length (now (a .args .flat))))
+    (c .before .before .before .question7 .given .1) (a .pre .1 .1 .1) in
     (accepts-walked (a .pre .0), (a .pre .1 .0, (a .pre .1 .1 .0, room)))
 
 returns : tie.Need-returns
@@ -101,11 +108,19 @@ returns-8 c =
     (c .tell-text .ensures) (leaves-text (a .args .edition) (now (a .args .stream)) (now (a .args .table)) (now (a .args .flat)) (now (a .args .out))
     (c .before .before .before .before .before .before .before .text-judged .ensures))
 
+returns-9 : tie.Need-returns-9
+returns-9 c =
+    let a = c .before .before .before .before .before .before .before .before .before .before .before .before .before .before .before .before .before .before .before .before in
+    as-asked (c .before .before .before .before .before .before .before .before .before .question7 .given .1) (c .tell-sourced .ensures)
+    (leaves-sources (a .args .edition) (now (a .args .stream)) (now (a .args .table)) (now (a .args .flat)) (now (a .args .out))
+    (c .before .before .before .before .before .sources-judged .ensures))
+
 pub work-spec : {M : Type 1} → statement M
 work-spec =
     tie.close (tie.spec enum-told (λ c κs. search needs) (λ c. search needs) check-judged-requires (λ c κs. search needs)
     (λ c. search needs) (λ c κs. search needs) (λ c κs. search needs) (λ c. search needs) (λ c κs. search needs) (λ c κs. search needs)
     (λ c. search needs) list-judged-requires (λ c κs. search needs) (λ c. search needs) children-judged-requires (λ c κs. search needs)
     (λ c. search needs) order-judged-requires (λ c κs. search needs) (λ c. search needs) text-judged-requires (λ c κs. search needs)
-    returns (λ c. search needs) returns-2 returns-3 (λ c. search needs) returns-4 (λ c. search needs) (λ c. search needs) returns-5
-    (λ c. search needs) (λ c. search needs) returns-6 returns-7 (λ c. search needs) (λ c. search needs) (λ c. search needs) returns-8)
+    (λ c. search needs) sources-judged-requires (λ c κs. search needs) returns (λ c. search needs) returns-2 returns-3 (λ c. search needs) returns-4 (λ c. search needs) (λ c. search needs) returns-5
+    (λ c. search needs) (λ c. search needs) returns-6 returns-7 (λ c. search needs) (λ c. search needs) (λ c. search needs) returns-8
+    (λ c. search needs) (λ c. search needs) returns-9)

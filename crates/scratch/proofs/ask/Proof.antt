@@ -4,7 +4,7 @@ use borrow.Author.Needs.{needs}
 use native.Mathlib.Omega.{arith}
 use denote.Ref.{now}
 use Rattle.answers.proofs.Small.{walk-small, headers-small}
-use Rattle.answers.proofs.Letters.{refused-walk}
+use Rattle.letters.proofs.Letters.{refused-walk}
 use Rattle.answers.proofs.Working.{as-asked, leaves-refused}
 use Rattle.scratch.proofs.Arrays.{walked-whole}
 use Rattle.scratch.proofs.ask.Statement.{statement}

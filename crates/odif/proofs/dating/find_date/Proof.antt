@@ -6,7 +6,7 @@ use Rattle.runs.proofs.Laws.{stream-fine, stream-within}
 use Rattle.answers.specs.declared.Reason.{Reason}
 use Rattle.answers.specs.Answers.{ruled}
 use Rattle.answers.specs.Dating.{DateTells}
-use Rattle.answers.proofs.Letters.{letter-found}
+use Rattle.letters.proofs.Letters.{letter-found}
 use Rattle.answers.proofs.Dating.{date-refused}
 use Rattle.answers.proofs.Working.{is-letter}
 use Rattle.odif.proofs.dating.find_date.Statement.{statement}

@@ -10,7 +10,7 @@ use Rattle.octets.specs.declared.Outcome.{Outcome}
 use Rattle.letters.specs.Lent.{rowsNeeded}
 use Rattle.answers.specs.Asking.{rowsAfter}
 use Rattle.answers.proofs.Small.{walk-small, headers-small}
-use Rattle.answers.proofs.Letters.{refused-walk}
+use Rattle.letters.proofs.Letters.{refused-walk}
 use Rattle.answers.proofs.Listing.{lists-refused}
 use Rattle.answers.proofs.Working.{lists-told}
 use Rattle.scratch.proofs.Arrays.{walked-whole}
