@@ -50,6 +50,12 @@ export interface Line {
     readonly octets: Uint8Array;
 }
 
+/** Which octets of the stream are shown in which line of a side. */
+export interface Source {
+    readonly line: number;
+    readonly place: Range;
+}
+
 /** The date of a document, and where its octets stand in the stream. */
 export interface Dated {
     readonly year: number;
@@ -115,6 +121,8 @@ export class Letter {
     lines(side?: Side): Line[];
     /** The octets of all lines, one after another, and nothing else. */
     text(side?: Side): Uint8Array;
+    /** Where each octet of the lines of a side stands in the stream: a source for each piece that has octets, line by line, and in a line piece by piece. */
+    sources(side: Side): Source[];
     /** The content of a text unit, its pieces or tiles joined. What is no text unit is refused by 20. */
     content(unit: number): Uint8Array;
     /** The identifier of an element; of a text unit the layout identifier. */

@@ -8,7 +8,7 @@
 // What is refused throws `Refusal`, with its number, place and sentence. Every answer is the library's; this package lends the memory. Letters are
 // read by the edition of 1988, or by 1993 where that is named.
 import { Library, MOST_ELEMENTS, ROW_WIDTH, STREAM_LIMIT } from './odif.mjs';
-import { LINE_WIDTH, NO_PARENT, PAGE_WIDTH, Questions, Refusal, SERIES, numbers, octets } from './questions.js';
+import { LINE_WIDTH, NO_PARENT, PAGE_WIDTH, Questions, Refusal, SERIES, SOURCE_WIDTH, numbers, octets } from './questions.js';
 
 export { MOST_ELEMENTS, NO_PARENT, ROW_WIDTH, Refusal, STREAM_LIMIT };
 
@@ -156,6 +156,15 @@ export class Letter {
             at += line.octets.length;
         }
         return text;
+    }
+    // Where each octet of the lines of a side stands in the stream: a source for each piece that has octets, line by line, and in a line piece by piece.
+    sources(side) {
+        if (side !== 'layout' && side !== 'logical') throw new RangeError(`the side is 'layout' or 'logical', and not ${side}`);
+        // As many as there are headers are always enough.
+        return this.#ask(`odif_${side}_sources_numbers`, [numbers(SOURCE_WIDTH * this.headers)], (answer, list) => {
+            const told = list.numbers();
+            return Array.from({ length: answer.sources }, (_, i) => Object.freeze({ line: told[3 * i], place: range(told[3 * i + 1], told[3 * i + 2]) }));
+        });
     }
     // The content of a text unit, by its number among the elements, its pieces or tiles joined. Another number is refused by 20.
     content(unit) {

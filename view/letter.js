@@ -15,7 +15,7 @@ function orRefusal(ask) {
 // The lines of a side with their sources.
 function sideRead(letter, side) {
     const lines = letter.lines(side).map(line => ({ ...line, sources: [] }));
-    for (const { line, first, past } of letter.sources(side)) lines[line].sources.push({ first, past });
+    for (const { line, place } of letter.sources(side)) lines[line].sources.push(place);
     return lines;
 }
 

@@ -75,6 +75,23 @@ test('pieces are joined', () => {
     assert.ok(past - first > 2);
 });
 
+test('where the text stands', () => {
+    assert.deepEqual(letter('in-pieces').sources('layout').map(({ line, place }) => [line, place.first, place.past]), [[0, 38, 39], [0, 41, 42]]);
+    for (const name of ['annex-d-1', 'annex-d-2', 'claim']) for (const side of ['layout', 'logical']) {
+        const read = letter(name), lines = read.lines(side).map(() => '');
+        for (const { line, place } of read.sources(side)) lines[line] += latin(read.stream.slice(place.first, place.past));
+        assert.deepEqual(lines, read.lines(side).map(line => latin(line.octets)), `${name}, ${side}`);
+    }
+    assert.throws(() => letter('claim').sources(), /'layout' or 'logical'/);
+});
+
+test('memory is enough for the sources of the largest letter', () => {
+    const count = 349490, long = number => `83${number.toString(16).padStart(6, '0')}`, pieces = `24${long(3 * count)}${'040178'.repeat(count)}`;
+    const unit = `31094007312030203220 30${pieces}`.replace(' ', ''), read = odif.letter(hex(`A000 A211020104310C41053120302032A103120130 A3${long(unit.length / 2)}${unit}`));
+    assert.ok(read.stream.length > STREAM_LIMIT - 100);
+    assert.equal(read.sources('layout').length, count);
+});
+
 test('sides', () => {
     const read = letter('annex-d-2');
     assert.deepEqual(read.lines('layout'), []);
@@ -239,6 +256,7 @@ test('numbers, structs and questions are those of include/', () => {
         assert.deepEqual(facts.filter(fact => fact.startsWith(`${whole(struct)}.`)), wanted);
     }
     assert.equal(own.LINE_WIDTH, own.STRUCTS.line.split(' ').length);
+    assert.equal(own.SOURCE_WIDTH, own.STRUCTS.source.split(' ').length);
     assert.equal(own.PAGE_WIDTH, own.STRUCTS.pm1_page.split(' ').length);
     const verdicts = [...text('include/pm1.h').matchAll(/^ +PM1_([A-Z_]+) += (\d),?/gm)].map(([, name, number]) => [name, Number(number)]);
     assert.deepEqual({ ...module.Verdict }, Object.fromEntries(verdicts));
@@ -263,7 +281,7 @@ test('the types name what is there', () => {
     assert.deepEqual(values.sort(), Object.keys(module).sort());
     const read = letter('claim'), refused = refusal(() => letter('cut-short'));
     const all = {
-        Odif: odif, Letter: read, Refusal: refused, Element: read.elements[0], Line: read.lines()[0], Dated: letter('dated').date(), Page: letter('annex-d-1').pages()[0], Checked: odif.check(read.stream),
+        Odif: odif, Letter: read, Refusal: refused, Element: read.elements[0], Line: read.lines()[0], Dated: letter('dated').date(), Page: letter('annex-d-1').pages()[0], Source: letter('claim').sources('layout')[0], Checked: odif.check(read.stream),
     };
     for (const [name, one] of Object.entries(all)) {
         const body = types.match(new RegExp(`^export (?:class|interface) ${name}\\b[^{]*\\{(.*?)^\\}`, 'ms'))[1];

@@ -10,6 +10,7 @@ enum { NAMES_OCTETS = 8240 }; /* a stream of this length is names in a row (corp
 static uint32_t table[ODIF_ROW_WIDTH * ROWS], children[ROWS], entries[6 * (MOST_MADE + 4)], many[6 * NAMES_OCTETS / 4];
 static odif_match list[ROWS];
 static odif_line lines[ROWS];
+static odif_source sources[ROWS];
 static pm1_page pages[ROWS];
 static uint8_t out[OUT];
 
@@ -104,6 +105,15 @@ static odif_text_read text(Stream s, int logical, size_t numbers, size_t records
     words(table, numbers + GUARD);
     words(lines, 5 * records + 5);
     octets(out, room + 8);
+    return a;
+}
+static odif_sourced sourced(Stream s, int logical, size_t records) {
+    odif_sourced a;
+    fill_words(sources, 3 * records + 3);
+    if (logical) ASK(ASK_SOURCES, a, IN(s.edition, odif_logical_sources)(s.at, s.length, sources, records));
+    else ASK(ASK_SOURCES, a, IN(s.edition, odif_layout_sources)(s.at, s.length, sources, records));
+    ANSWER(a);
+    words(sources, 3 * records + 3);
     return a;
 }
 static odif_written normal(Stream s, int brief, size_t room) {
@@ -210,7 +220,7 @@ static void made_up(Stream s) {
     closed(now.state);
 }
 
-/* The two sides: more than enough, exactly, one record or line short, an output one short, a table one number short. */
+/* The two sides: more than enough, exactly, one record, line or source short, an output one short, a table one number short. */
 static void sides(Stream s, int accepted, size_t exact, size_t rows) {
     for (int logical = 0; logical < 2; logical++) {
         odif_listed l = side(s, logical, exact, rows);
@@ -219,6 +229,8 @@ static void sides(Stream s, int accepted, size_t exact, size_t rows) {
         if (t.lines > 0) text(s, logical, exact, t.lines - 1, s.length);
         if (t.length > 0) text(s, logical, exact, t.lines, t.length), text(s, logical, exact, t.lines, t.length - 1);
         if (accepted) text(s, logical, exact - 1, rows, s.length);
+        odif_sourced where = sourced(s, logical, least(s.length / 2, ROWS - 1));
+        if (where.sources > 0) sourced(s, logical, where.sources), sourced(s, logical, where.sources - 1);
     }
 }
 /* Entries of what the letter names: each identifier with a portion and a part of its element as the text; then one twice. */

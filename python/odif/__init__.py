@@ -20,7 +20,7 @@ from ._library import MOST_ELEMENTS, NO_PARENT, ROW_WIDTH, STREAM_LIMIT
 
 __all__ = [
     "Checked", "Date", "Element", "Kind", "Letter", "Line", "MOST_ELEMENTS", "NO_PARENT", "Page", "ROW_WIDTH", "Refusal", "STREAM_LIMIT",
-    "Side", "Verdict", "check", "first_date", "identity", "make", "read", "sentence", "version",
+    "Side", "Source", "Verdict", "check", "first_date", "identity", "make", "read", "sentence", "version",
 ]
 
 
@@ -93,6 +93,14 @@ class Line:
     portion: int
     unit: int
     octets: bytes
+
+
+@dataclass(frozen=True)
+class Source:
+    """Which octets of the stream are shown in which line of a side."""
+
+    line: int
+    place: range
 
 
 @dataclass(frozen=True)
@@ -244,6 +252,14 @@ class Letter:
     def text(self, side: Optional[Side] = None) -> bytes:
         """The octets of all lines, one after another, and nothing else."""
         return b"".join(line.octets for line in self.lines(side))
+
+    def sources(self, side: Side) -> List[Source]:
+        """Where each octet of the lines of a side stands in the stream: a source for each piece that has octets, line by line, and in a line piece
+        by piece."""
+        sources = (_library.TextSource * self.headers)()  # as many as there are headers are always enough
+        told = _ask(f"odif_{side.value}_sources_numbers", self.edition, self.stream, len(self.stream), sources, 3 * len(sources))
+        _unless_refused(told)
+        return [Source(source.line, range(source.first, source.past)) for source in sources[: told.sources]]
 
     def content(self, unit: int) -> bytes:
         """The content of a text unit, by its number among the elements, its pieces or tiles joined. Another number raises 20."""

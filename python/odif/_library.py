@@ -26,6 +26,8 @@ FirstDated = _answer("FirstDated", "number place first past year month day unrea
 Ordered = _answer("Ordered", "number place")
 TextRead = _answer("TextRead", "number place elements lines length")
 TextLine = _answer("TextLine", "element portion unit first past")
+Sourced = _answer("Sourced", "number place lines sources")
+TextSource = _answer("TextSource", "line first past")
 Listed = _answer("Listed", "number place elements pages")
 ListedPage = _answer("ListedPage", "element verdict")
 Entry = _answer("Entry", "identifier_first identifier_past portion_first portion_past text_first text_past")
@@ -45,6 +47,8 @@ _OF_BOTH_EDITIONS = {
     "odif_first_date": (FirstDated, _STREAM),
     "odif_layout_text_numbers": (TextRead, _STREAM + 3 * _LENT),
     "odif_logical_text_numbers": (TextRead, _STREAM + 3 * _LENT),
+    "odif_layout_sources_numbers": (Sourced, _STREAM + _LENT),
+    "odif_logical_sources_numbers": (Sourced, _STREAM + _LENT),
 }
 _OF_NONE = {
     "odif_make_numbers": (Written, _STREAM + 2 * _LENT),

@@ -53,6 +53,17 @@ class Letters(unittest.TestCase):
         unit = letter.elements[letter.lines()[0].unit]
         self.assertGreater(len(unit.content), 2)
 
+    def test_where_the_text_stands(self):
+        pieces = odif.read(LETTERS / "in-pieces.odif").sources(odif.Side.LAYOUT)
+        self.assertEqual([(source.line, source.place) for source in pieces], [(0, range(38, 39)), (0, range(41, 42))])
+        for name in "annex-d-1", "annex-d-2", "claim":
+            letter = odif.read(LETTERS / f"{name}.odif")
+            for side in odif.Side:
+                lines = [b""] * len(letter.lines(side))
+                for source in letter.sources(side):
+                    lines[source.line] += letter.stream[source.place.start : source.place.stop]
+                self.assertEqual(lines, [line.octets for line in letter.lines(side)])
+
     def test_sides(self):
         letter = odif.read(LETTERS / "annex-d-2.odif")
         self.assertEqual(letter.lines(odif.Side.LAYOUT), [])

@@ -51,12 +51,12 @@ const WRONG = 'This page marks the wrong octets';
 
 // A page that marks other octets than those of the text, or whose letter is another than at its making, says so.
 async function alarms(page) {
-    const pieces = join(samples, 'in-pieces.odif'), plain = join(samples, 'claim.odif'), push = 'lines[line].sources.push({ first, past });';
+    const pieces = join(samples, 'in-pieces.odif'), plain = join(samples, 'claim.odif'), push = 'lines[line].sources.push(place);';
     for (const [what, file, other] of [
-        ['a header too', pieces, 'lines[line].sources.push({ first: first - 2, past });'],
-        ['one octet late', plain, 'lines[line].sources.push({ first: first + 1, past: past + 1 });'],
-        ['a piece less', pieces, 'if (lines[line].sources.length === 0) lines[line].sources.push({ first, past });'],
-        ['another line', plain, 'lines[lines.length - 1 - line].sources.push({ first, past });'],
+        ['a header too', pieces, 'lines[line].sources.push({ first: place.first - 2, past: place.past });'],
+        ['one octet late', plain, 'lines[line].sources.push({ first: place.first + 1, past: place.past + 1 });'],
+        ['a piece less', pieces, 'if (lines[line].sources.length === 0) lines[line].sources.push(place);'],
+        ['another line', plain, 'lines[lines.length - 1 - line].sources.push(place);'],
     ]) {
         await page.open(forged(file, push, other));
         is(`${what}: alarm`, (await page.run(`document.querySelector('#alarm').textContent`)).slice(0, WRONG.length), WRONG);

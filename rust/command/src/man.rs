@@ -34,7 +34,7 @@ pub struct Words {
 /// Writes the completions of the command.
 pub fn completions(words: &Words, mut command: Command) -> Outcome {
     let mut text = Vec::new();
-    for name in ["text", "grep", "export", "catalog"] {
+    for name in ["text", "trace", "grep", "export", "catalog"] {
         command = command.mut_subcommand(name, plain_utf8);
     }
     clap_complete::generate(words.shell, &mut command, "odif", &mut text);

@@ -124,10 +124,35 @@ fn the_text_of_a_side() {
     let lines: Vec<_> = text.lines().iter().map(|line| (line.element, line.portion, line.unit, &line.place)).collect();
     assert_eq!(lines, [(4, 0, 2, &(0..6)), (5, 0, 1, &(6..11))]);
     assert_eq!(text.elements(), letter.elements());
+    let sources = letter.sources(Side::Layout).unwrap();
+    let places: Vec<_> = sources.iter().map(|source| (source.line, source.place.clone())).collect();
+    assert_eq!(places, [(0, 27..30), (0, 32..35), (1, 11..16)]);
+    assert_eq!(places.iter().flat_map(|(_, place)| &stream[place.clone()]).copied().collect::<Vec<_>>(), text.octets());
+    assert_eq!(odif::sources(&stream, Side::Layout).as_ref(), Ok(&sources));
+    assert_eq!(letter.sources(Side::Logical), Ok(vec![]));
+    assert_eq!(told(odif::sources(&stream[1..], Side::Layout)), told(Letter::read(&stream[1..])));
     assert_eq!(odif::text(&stream, Side::Layout).as_ref(), Ok(&text));
     let logical = letter.text(Side::Logical).unwrap();
     assert!(logical.lines().is_empty() && logical.octets().is_empty());
     assert_eq!(told(odif::text(&stream[1..], Side::Layout)), told(Letter::read(&stream[1..])));
+}
+
+#[test]
+fn the_question_behind_sources() {
+    let nothing = raw::Source { line: 9, first: 9, past: 9 };
+    let mut list = [nothing; 2];
+    let told = raw::layout_sources(LETTER, &mut list);
+    assert_eq!(told, raw::Sourced { number: 0, place: 0, lines: 1, sources: 1 });
+    assert_eq!(list, [raw::Source { line: 0, first: 36, past: 38 }, nothing]);
+    let mut numbers = [9; 3];
+    assert_eq!(
+        raw::layout_sources_numbers(LETTER, &mut numbers[..2]),
+        raw::Sourced { number: 31, ..Default::default() }
+    );
+    assert_eq!(numbers, [9; 3]);
+    assert_eq!(raw::layout_sources_numbers(LETTER, &mut numbers), told);
+    assert_eq!(numbers, [0, 36, 38]);
+    assert_eq!(raw::logical_sources(LETTER, &mut []), raw::Sourced::default());
 }
 
 #[test]

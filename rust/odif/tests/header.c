@@ -68,6 +68,23 @@ static void print_texts(void) {
            layout.elements, layout.lines, logical.number, logical.elements, logical.lines);
 }
 
+/* The sources of both sides, too short a list, and the twins of 1993. */
+static void print_sources(void) {
+    odif_source list[2] = {{9, 9, 9}, {9, 9, 9}};
+    odif_sourced answers[] = {
+        odif_layout_sources(letter, sizeof letter - 1, list, 2),
+        odif_layout_sources(letter, sizeof letter - 1, NULL, 0),
+        odif_logical_sources(letter, sizeof letter - 1, NULL, 0),
+        odif_layout_sources_1993(letter_1993, sizeof letter_1993 - 1, NULL, 0),
+        odif_logical_sources_1993(letter_1993, sizeof letter_1993 - 1, NULL, 0),
+    };
+    printf("sources");
+    for (size_t i = 0; i < sizeof answers / sizeof *answers; i++)
+        printf(" %" PRIu32 " %" PRIu32 " %" PRIu32 " %" PRIu32, answers[i].number, answers[i].place, answers[i].lines,
+               answers[i].sources);
+    printf(": %" PRIu32 " %" PRIu32 " %" PRIu32 ", %" PRIu32 "\n", list[0].line, list[0].first, list[0].past, list[1].line);
+}
+
 /* A page after the first of its frames. */
 static const uint8_t page[] =
     "\xA0\x00" "\xA2\x07\x31\x05\x41\x03" "1 0" "\xA2\x05\x31\x03\x41\x01" "1" "\xA2\x07\x31\x05\x41\x03" "1 1";
@@ -147,6 +164,7 @@ int main(void) {
            checked.elements);
     print_1993();
     print_texts();
+    print_sources();
     uint32_t rows[4 * ODIF_ROW_WIDTH], children[2];
     odif_related related = odif_children(page, sizeof page - 1, 2, rows, 4 * ODIF_ROW_WIDTH, children, 2);
     printf("children %" PRIu32 " %" PRIu32 " %" PRIu32 " %" PRIu32 ": %" PRIu32 " %" PRIu32 "\n", related.number,

@@ -59,6 +59,7 @@ logical text 0 0 3 0 0
 too few lines 19 0 3 0 0
 too short a text 22 0 0 0 0
 text 1993 0 4 0 0 4 0
+sources 0 0 1 1 31 0 0 0 0 0 0 0 0 0 0 0 0 0 0 0: 0 36 38, 9
 children 0 0 4 2: 1 3
 none 20 0 0 0
 too few 25 0 4 0

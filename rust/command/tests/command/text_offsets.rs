@@ -82,17 +82,17 @@ fn as_json() {
 fn characters_and_pages() {
     let (stream, words) = (letter(b"M\xC8uller\nend"), ["text", "--offsets", "--utf8=iso6937"]);
     let run = odif_with(&[&words[..], &["-"]].concat(), &stream);
-    assert_eq!(run.text(), "34..42\tMüller\n42..45\tend\n");
+    assert_eq!(run.text(), "36..44\tMüller\n44..47\tend\n");
     let run = odif_with(&[&words[..], &["--json", "-"]].concat(), &stream);
     let line = &json(run.text())["lines"][0];
     assert_eq!((&line["text"], &line["text_hex"]), (&"Müller\n".into(), &"4DC8756C6C65720A".into()));
     let escaped = odif_with(&["text", "--offsets", "--escape", "-"], &letter(b"a\x1Bb"));
-    assert_eq!(escaped.text(), "34..37\ta\\x1Bb\n");
+    assert_eq!(escaped.text(), "36..39\ta\\x1Bb\n");
     let all = odif(&["text", "--offsets", "samples/letters/annex-d-1.odif"]);
     let page = odif(&["text", "--offsets", "--page", "2", "samples/letters/annex-d-1.odif"]);
     assert!(!page.text().is_empty() && all.text().contains(page.text()) && page.text().len() < all.text().len());
     let scratch = Scratch::new("offsets-several");
     let (one, two) = (scratch.write("one", &letter(b"1")), scratch.write("two", &letter(b"2\n")));
     let several = odif(&["text", "--offsets", &one, &two]);
-    assert_eq!(several.text(), format!("==> {one} <==\n34..35\t1\n==> {two} <==\n34..36\t2\n"));
+    assert_eq!(several.text(), format!("==> {one} <==\n36..37\t1\n==> {two} <==\n36..38\t2\n"));
 }

@@ -36,20 +36,14 @@ fn every_place_is_that_of_an_item_and_has_the_text() {
             (json(&["trace", "--json", "--side", side, file]), json(&["list", "--json", "--side", side, file]));
         // The independent reader's octet strings.
         let tree = json(&["tree", "--json", file]);
+        let is_string = |item: &&Value| item["type"] == "OCTET STRING" && item["constructed"] == false;
         let strings: Vec<(usize, usize)> = tree["items"]
             .as_array()
             .unwrap()
             .iter()
-            .filter(|item| item["type"] == "OCTET STRING" && item["constructed"] == false)
-            .map(|item| number(&item["offset"]) + number(&item["header"]))
-            .zip(
-                tree["items"]
-                    .as_array()
-                    .unwrap()
-                    .iter()
-                    .filter(|item| item["type"] == "OCTET STRING" && item["constructed"] == false),
-            )
-            .map(|(first, item)| (first, first + number(&item["length"])))
+            .filter(is_string)
+            .map(|item| (number(&item["offset"]) + number(&item["header"]), number(&item["length"])))
+            .map(|(first, length)| (first, first + length))
             .collect();
         let (lines, matches) = (traced["lines"].as_array().unwrap(), listed["matches"].as_array().unwrap());
         assert_eq!(lines.len(), matches.len(), "{file}, {side}");
@@ -76,7 +70,7 @@ fn pieces_and_what_is_told_of_the_file() {
     let wanted = format!(
         "{IN_PIECES}: accepted by the edition of 1988
 octets   42
-sha256   c8b9ff5d3a2c4b2a1a4b8f7ad5d7b0b5a5c6c6b4f1f2a7f9e8f1d4e6b3a2c1d0
+sha256   ..
 library  libodif.a, sha256 {}
 
 no date of the document, number 23: the profile does not have exactly one date of the document, or that is constructed
@@ -163,7 +157,7 @@ fn the_file_is_read_once_more() {
     let run = odif_with(&["trace", "--check", "/dev/stdin"], &letter(b"Hi"));
     assert_eq!(run.status, 3, "{}", run.stderr);
     assert!(
-        run.text().ends_with("\ncheck: line 1 is not what the file, read once more, has at 34..36\n"),
+        run.text().ends_with("\ncheck: line 1 is not what the file, read once more, has at 36..38\n"),
         "{}",
         run.text()
     );
@@ -198,7 +192,7 @@ fn empty_content_and_tiles() {
     assert!(run.status == 0 && run.text().contains(": accepted by the edition of 1993\n"), "{}", run.text());
     let unit = odif_with(&["trace", "--json", "-"], &[letter(b"Hi"), item(0xA3, &item(0x04, b"lost"))].concat());
     assert!(
-        unit.text().contains("\"not_shown\":[{\"unit\":3,\"place\":36,\"first\":40,\"past\":44}]"),
+        unit.text().contains("\"not_shown\":[{\"unit\":3,\"place\":38,\"first\":42,\"past\":46}]"),
         "{}",
         unit.text()
     );

@@ -19,31 +19,30 @@ fn between<'a>(page: &'a str, begin: &str, end: &str) -> &'a str {
 }
 
 /// What a shell makes of a text.
-fn piped(command: &str, text: &str) -> Vec<u8> {
-    let scratch = Scratch::new("view-piped");
+fn piped(scratch: &Scratch, command: &str, text: &str) -> Vec<u8> {
     let file = scratch.write("text", text.as_bytes());
-    Command::new("bash").args(["-c", &format!("{command} < '{file}'")]).output().unwrap().stdout
+    Command::new("bash").args(["-c", &format!("cat '{file}' | {command}")]).output().unwrap().stdout
 }
 
 #[test]
 fn it_holds_the_letter_and_the_reader() {
-    let page = page(&[WITH_DATE]);
+    let (page, scratch) = (page(&[WITH_DATE]), Scratch::new("view-held"));
     let held = between(&page, " id=\"letter\"", "</script>");
-    assert_eq!(piped("base64 -d", held.split_once('>').unwrap().1), fs::read(repository().join(WITH_DATE)).unwrap());
+    assert_eq!(piped(&scratch, "base64 -d", held.split_once('>').unwrap().1), fs::read(repository().join(WITH_DATE)).unwrap());
     let about = "data-name=\"dated.odif\" data-size=\"342\" data-sha256=\"9099d48e381d4e7d833f3bdf5ee08ee9ee71b59ab06162d8523b761ac45b41ec\" data-edition=\"1988\"";
     assert!(held.contains(about), "{held}");
     let reader = between(&page, "id=\"reader\">", "</script>");
-    let sum = String::from_utf8(piped("base64 -d | sha256sum", reader)).unwrap();
+    let sum = String::from_utf8(piped(&scratch, "base64 -d | sha256sum", reader)).unwrap();
     let version = odif(&["--version"]);
     assert!(version.text().contains(&format!("\nreader    odif.wasm, sha256 {}\n", &sum[..64])), "{}", version.text());
 }
 
 #[test]
 fn the_policy_names_its_own_style_and_script() {
-    let page = page(&[CLAIM]);
+    let (page, scratch) = (page(&[CLAIM]), Scratch::new("view-policy"));
     let policy = between(&page, "Content-Security-Policy\" content=\"", "\">");
     let hash = |text: &str| {
-        String::from_utf8(piped("openssl dgst -sha256 -binary | base64", text)).unwrap().trim().to_string()
+        String::from_utf8(piped(&scratch, "openssl dgst -sha256 -binary | base64", text)).unwrap().trim().to_string()
     };
     let script = hash(between(&page, "<script type=\"module\">", "</script>"));
     let style = hash(between(&page, "<style>", "</style>"));
