@@ -64,14 +64,21 @@ def beside(kit, target, name, room, *words):
     return room / f'{name}.o'
 
 
+def put(file, out):
+    """Copies a file, unless it stands there as it is: what is made of it is then not made again."""
+    there = out / file.name
+    if not there.exists() or there.read_bytes() != file.read_bytes():
+        shutil.copy(file, out)
+
+
 def to_wasm(kit, target, libraries, objects, room, out):
     """odif.wasm: every function of the headers and a room to lend from. The stack is at the low end of the memory: one that is too short traps. Beside it its
     loader, and the package of js/ over that."""
     shown = [f'--export={name}' for library in libraries for name in names_of(library)] + ['--export=room', '--export=room_size']
     kit.run('wasm-ld', '--no-entry', '--gc-sections', '--strip-all', '-z', f'stack-size={STACK}', '--stack-first', *shown,
-            beside(kit, target, 'room', room), *objects, '-o', out / 'odif.wasm')
-    for file in HERE / 'odif.mjs', *(one for one in (TOP / 'js').iterdir() if one.is_file()):
-        shutil.copy(file, out)
+            beside(kit, target, 'room', room), *objects, '-o', room / 'odif.wasm')
+    for file in room / 'odif.wasm', HERE / 'odif.mjs', *(one for one in (TOP / 'js').iterdir() if one.is_file()):
+        put(file, out)
 
 
 def to_dll(kit, target, library, objects, room, out):

@@ -145,7 +145,7 @@ impl Line {
 pub fn write_row(out: &mut dyn Write, place: &Range<usize>, octets: &[u8], text: &str) -> io::Result<()> {
     let hex = octets.iter().map(|&octet| show::hex(&[octet])).collect::<Vec<_>>().join(" ");
     let place = format!("{}..{}", place.start, place.end);
-    writeln!(out, "{}", format!("{place:>16}  {hex:47}  {text}").trim_end())
+    writeln!(out, "{place:>16}  {hex:47}  |{text}|")
 }
 
 /// Characters without what would end a row or move on it.

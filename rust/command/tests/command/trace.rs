@@ -76,8 +76,8 @@ library  libodif.a, sha256 {}
 no date of the document, number 23: the profile does not have exactly one date of the document, or that is constructed
 
 line 1: block 1 0 2 (element 1), portion 0, unit 2, in 2 pieces
-          38..39  48                                               H
-          41..42  69                                               i
+          38..39  48                                               |H|
+          41..42  69                                               |i|
 ",
         library()
     );
@@ -96,7 +96,7 @@ fn some_lines() {
     assert_eq!(below[0], "line 2: page 1, block 1 0 0 (element 3), portion 1, unit 5");
     assert_eq!(
         below[1..],
-        ["        199..214  0A 38 20 41 70 72 69 6C 20 31 39 39 31 0A 0A     \\n8 April 1991\\n\\n"]
+        ["        199..214  0A 38 20 41 70 72 69 6C 20 31 39 39 31 0A 0A     |\\n8 April 1991\\n\\n|"]
     );
     let lines = &json(&["trace", "--json", "--line", "3,1", WITH_DATE])["lines"];
     assert_eq!((&lines[0]["line"], &lines[1]["line"], lines[2].is_null()), (&1.into(), &3.into(), true));
@@ -172,7 +172,7 @@ fn characters_over_rows() {
     let text = b"fifteen octets:\xC8u\x1B[1m\\";
     let run = odif_with(&["trace", "--utf8=iso6937", "-"], &letter(text));
     let rows: Vec<&str> = run.text().lines().filter(|line| line.starts_with("   ")).collect();
-    assert!(rows[0].ends_with(" C8  fifteen octets:ü") && rows[1].ends_with("  ⟦1B⟧[1m\\\\"), "{rows:?}");
+    assert!(rows[0].ends_with(" C8  |fifteen octets:ü|") && rows[1].ends_with("  |⟦1B⟧[1m\\\\|"), "{rows:?}");
     let run = odif_with(&["trace", "-"], &letter(text));
     assert!(run.stderr.contains("the letter declares no character set, so ISO 6937 is taken"), "{}", run.stderr);
     let run = odif_with(&["trace", "--json", "--utf8=latin1", "-"], &letter(b"\xFC"));

@@ -28,7 +28,10 @@ fn piped(scratch: &Scratch, command: &str, text: &str) -> Vec<u8> {
 fn it_holds_the_letter_and_the_reader() {
     let (page, scratch) = (page(&[WITH_DATE]), Scratch::new("view-held"));
     let held = between(&page, " id=\"letter\"", "</script>");
-    assert_eq!(piped(&scratch, "base64 -d", held.split_once('>').unwrap().1), fs::read(repository().join(WITH_DATE)).unwrap());
+    assert_eq!(
+        piped(&scratch, "base64 -d", held.split_once('>').unwrap().1),
+        fs::read(repository().join(WITH_DATE)).unwrap()
+    );
     let about = "data-name=\"dated.odif\" data-size=\"342\" data-sha256=\"9099d48e381d4e7d833f3bdf5ee08ee9ee71b59ab06162d8523b761ac45b41ec\" data-edition=\"1988\"";
     assert!(held.contains(about), "{held}");
     let reader = between(&page, "id=\"reader\">", "</script>");
