@@ -63,9 +63,11 @@ function octetInWords(octet) {
 
 function placeInWords(octet) {
     const { refusal, letter } = now.read;
-    if (refusal) return octet === refusal.place ? `Here the letter is refused by ${refusal.number}: ${refusal.sentence}` : 'The letter is refused, so no element is told';
+    if (refusal?.place === octet) return `Here the letter is refused by ${refusal.number}: ${refusal.sentence}`;
+    if (refusal) return 'The letter is refused, so no element is told';
     const { number, element, field, place } = standingAt(now.read, octet);
-    return `Row ${number}, ${named(letter, number)}, ${places(element.place)}: ${field ? `its ${field}, ${places(place)}` : 'in none of the fields of its row'}`;
+    const there = field ? `its ${field}, ${places(place)}` : 'in none of the fields of its row';
+    return `Row ${number}, ${named(letter, number)}, ${places(element.place)}: ${there}`;
 }
 
 function lineInWords(octet) {
@@ -88,7 +90,10 @@ function sentences({ line, part, run, what, octet }) {
     return said;
 }
 
-const NOTHING_CHOSEN = ['The octets of the file', 'Those in full ink are on a line. Choose a line or an octet, by mouse or arrow keys, to see where the other stands.'];
+const NOTHING_CHOSEN = [
+    'The octets of the file',
+    'Those in full ink are on a line. Choose a line or an octet, by mouse or arrow keys, to see where the other stands.',
+];
 
 // Says what is chosen.
 export function tell() {

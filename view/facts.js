@@ -64,8 +64,8 @@ function showSize() {
         $('size').replaceChildren(`${whose}${counted(about.size, 'octet')}, of which the beginning was read`);
         return;
     }
-    const sum = el('code', { id: 'sum' }, '…');
-    $('size').replaceChildren(`${whose}${counted(about.size, 'octet')} · SHA-256 `, sum, el('span', { class: 'screen' }, ' · ', link('save the letter', save)));
+    const sum = el('code', { id: 'sum' }, '…'), saving = el('span', { class: 'screen' }, ' · ', link('save the letter', save));
+    $('size').replaceChildren(`${whose}${counted(about.size, 'octet')} · SHA-256 `, sum, saving);
     sha256(stream).then(text => {
         sum.textContent = text;
         if (about.sha256 && /^[0-9a-f]{64}$/.test(text) && about.sha256 !== text) alarm('The octets in this page are not those that it was made of.');
@@ -79,18 +79,21 @@ function save() {
     setTimeout(() => URL.revokeObjectURL(url), 60000);
 }
 
+const ABOUT = [
+    'The verdict, the lines, their texts, the place of each of their octets, the date and the verdicts on pages are answers of a reader of ODIF (T.415) whose '
+    + 'source is proved to its contracts. This page holds it compiled for WebAssembly, which is tested to answer alike, and runs it on these octets each time '
+    + 'it is opened.',
+    'The page around it is not proved: it shows the answers, and says which characters the octets are. It holds the text of every line against the octets '
+    + 'that it marks. It connects to nothing.',
+    'A page cannot vouch for itself: who forges it forges its check too. If it comes from someone whom you do not trust, save the letter and open it in a '
+    + 'viewer of your own, which the command odif view -o viewer.html makes.',
+];
+
 // What the page says of itself.
 export async function showAbout(reader) {
-    const { version, identity } = now.odif;
-    const sentences = [
-        'The verdict, the lines, their texts, the place of each of their octets, the date and the verdicts on pages are answers of a reader of ODIF (T.415) '
-        + 'that is proved to its contracts. This page holds it as WebAssembly, and runs it on these octets each time it is opened.',
-        'The page around it is not proved: it shows the answers, and says which characters the octets are. It holds the text of every line against the octets that it '
-        + 'marks. It connects to nothing.',
-        'A page cannot vouch for itself: who forges it forges its check too. If it comes from someone whom you do not trust, save the letter and open it in a '
-        + 'viewer of your own, which `odif view -o viewer.html` makes.',
-    ];
-    const sum = await sha256(reader);
-    $('about').append(...sentences.map(sentence => el('p', {}, sentence)), el('p', {}, `Its reader: ${grouped(reader.length)} octets, SHA-256 `, el('code', { id: 'reader-sum' }, sum),
-        `, which should be that of odif.wasm, released with odif ${version}: `, el('code', {}, 'odif --version'), ' names it. It says of itself that it is made of libodif.a, SHA-256 ', el('code', {}, identity), '.'));
+    const { version, identity } = now.odif, code = words => el('code', {}, words);
+    const which = el('p', {}, `Its reader: ${grouped(reader.length)} octets, SHA-256 `, code(await sha256(reader)),
+        `, which should be that of odif.wasm, released with odif ${version}; the command odif --version names it. `,
+        'It says of itself that it is made of libodif.a, SHA-256 ', code(identity), '.');
+    $('about').append(...ABOUT.map(sentence => el('p', {}, sentence)), which);
 }

@@ -43,8 +43,8 @@ export function standing(line, part) {
 }
 
 function lineNode(line, number) {
-    const where = `line ${number + 1} · portion ${line.portion} · unit in row ${line.unit} · ${standing(line)}`;
-    const node = el('div', { class: 'line', role: 'option', tabindex: number ? -1 : 0, 'aria-selected': false }, el('p', { class: 'where' }, where), spelt(line.octets));
+    const words = `line ${number + 1} · portion ${line.portion} · unit in row ${line.unit} · ${standing(line)}`, where = el('p', { class: 'where' }, words);
+    const node = el('div', { class: 'line', role: 'option', tabindex: number ? -1 : 0, 'aria-selected': false }, where, spelt(line.octets));
     node.line = number;
     line.node = node;
     return node;
@@ -110,7 +110,8 @@ function takeSide(side) {
 function showBeyond() {
     const count = linesNow().reduce((sum, line) => sum + line.octets.reduce((n, octet) => n + (octet > 0x7E), 0), 0);
     $('beyond').hidden = setNow() !== 'ascii' || !count;
-    $('beyond').textContent = `${counted(count, 'octet')} of the text ${count === 1 ? 'is' : 'are'} outside ASCII, and shown in hexadecimal until you choose the set of characters.`;
+    const noun = `${counted(count, 'octet')} of the text ${count === 1 ? 'is' : 'are'}`;
+    $('beyond').textContent = `${noun} outside ASCII, and shown in hexadecimal until you choose the set of characters.`;
 }
 
 // Shows the side.

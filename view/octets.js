@@ -83,9 +83,9 @@ export function printedOctets() {
     const rows = [`The octets of ${visible(now.about.name)}${stream.length > all ? `: the first ${grouped(all)}` : ''}\n`];
     for (let first = 0; first < all; first += PRINTED_ROW) {
         const row = [...stream.subarray(first, first + PRINTED_ROW)], on = new Set(row.map((_, i) => lineAt(first + i)).filter(line => line >= 0));
-        const words = [...on].map(line => `line ${line + 1}`);
+        const words = [...on].map(line => `line ${line + 1}`), digits = row.map(hex).join(' ').padEnd(48), letters = row.map(asCharacter).join('').padEnd(17);
         if (date && first < date.place.past && first + PRINTED_ROW > date.place.first) words.push('date');
-        rows.push(`${String(first).padStart(7)}  ${row.map(hex).join(' ').padEnd(48)} ${row.map(asCharacter).join('').padEnd(17)} ${words.join(', ')}`.trimEnd());
+        rows.push(`${String(first).padStart(7)}  ${digits} ${letters} ${words.join(', ')}`.trimEnd());
     }
     return rows.join('\n');
 }

@@ -144,6 +144,7 @@ async function start() {
 try {
     await start();
 } catch (why) {
-    alarm(globalThis.WebAssembly ? `The letter could not be shown: ${why.message}` : 'This browser does not run WebAssembly, by which this page reads the letter.');
+    const lacking = 'This browser does not run WebAssembly, by which this page reads the letter.';
+    alarm(globalThis.WebAssembly ? `The letter could not be shown: ${why.message}` : lacking);
 }
 document.documentElement.dataset.ready = Math.round(performance.now());

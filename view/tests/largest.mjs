@@ -4,14 +4,24 @@ import { LIT, TEXT, asText, ask, clickLine, expected, is, made } from './support
 
 const OPENED = 3, EVERY = 7; // the tenth line and each tenth after it are in pieces
 
-export async function largest(page, file) {
-    const url = made(file), wanted = expected(file, 'layout'), octets = readFileSync(file), times = [];
-    await page.size(1400, 900);
+// How long it takes to open a page, in milliseconds, and of that the processor time of the page's own thread.
+async function opened(page, url) {
+    const times = [];
+    await page.tell('Performance.enable', { timeDomain: 'threadTicks' });
+    const worked = async () => (await page.tell('Performance.getMetrics')).metrics.find(({ name }) => name === 'TaskDuration').value;
     for (let i = 0; i < OPENED; i++) {
+        const before = await worked();
         await page.open(url);
-        times.push(Number(await page.run('document.documentElement.dataset.ready')));
+        times.push(`${await page.run('document.documentElement.dataset.ready')} (${Math.round(1000 * (await worked() - before))})`);
     }
-    console.log(`the largest letter, ${octets.length} octets, ${wanted.length} units, a page of ${readFileSync(url.slice('file://'.length)).length} octets: open in ${times.join(', ')} ms`);
+    return times;
+}
+
+export async function largest(page, file) {
+    const url = made(file), wanted = expected(file, 'layout'), octets = readFileSync(file), size = readFileSync(url.slice('file://'.length)).length;
+    await page.size(1400, 900);
+    const times = await opened(page, url);
+    console.log(`the largest letter, ${octets.length} octets, ${wanted.length} units, a page of ${size} octets: opened in ${times.join(', ')} ms`);
     is('the largest: accepted, no alarm', await page.run(`[document.querySelector('#facts dd b').textContent, document.querySelector('#alarm').hidden]`), ['Accepted', true]);
     const blocks = await page.run(TEXT);
     is('the largest: the text', asText(blocks).equals(ask('text', file).stdout), true);
