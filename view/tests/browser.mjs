@@ -42,7 +42,8 @@ export async function browser(program = process.env.CHROMIUM ?? 'chromium') {
 
     // Runs an expression in the page, as its own policy allows it.
     const run = async expression => {
-        const { result, exceptionDetails: thrown } = await tell('Runtime.evaluate', { expression, awaitPromise: true, returnByValue: true, allowUnsafeEvalBlockedByCSP: false });
+        const asked = { expression, awaitPromise: true, returnByValue: true, allowUnsafeEvalBlockedByCSP: false };
+        const { result, exceptionDetails: thrown } = await tell('Runtime.evaluate', asked);
         if (thrown) throw new Error(thrown.exception?.description ?? thrown.text);
         return result.value;
     };

@@ -22,11 +22,13 @@ const HIDDEN = { iso6937: 'FF', t61: 'FF', latin1: 'AD' };
 
 async function shownAsItStands(page, file) {
     await page.open(made(file));
-    is('hostile: not run', await page.run(`[typeof run, document.title, document.querySelectorAll('#text img, #text svg, #text script, #text b').length]`), ['undefined', 'hostile.odif – ODIF letter', 0]);
+    const isRun = `[typeof run, document.title, document.querySelectorAll('#text img, #text svg, #text script, #text b').length]`;
+    is('hostile: not run', await page.run(isRun), ['undefined', 'hostile.odif – ODIF letter', 0]);
     is('hostile: in the order of the octets', await page.run(IN_ORDER), true);
     for (const [set, hyphen] of Object.entries(HIDDEN)) {
         await page.run(`{ const set = document.querySelector('#set'); set.value = '${set}'; set.dispatchEvent(new Event('change')); }`);
-        const wanted = ask('text', `--utf8=${set}`, file).stdout.toString().replaceAll('\r', '⟦0D⟧').replaceAll('\f', '⟦0C⟧').replaceAll('\u00AD', `⟦${hyphen}⟧`);
+        const text = ask('text', `--utf8=${set}`, file).stdout.toString();
+        const wanted = text.replaceAll('\r', '⟦0D⟧').replaceAll('\f', '⟦0C⟧').replaceAll('\u00AD', `⟦${hyphen}⟧`);
         const blocks = (await page.run(TEXT)).map(texts => texts.join('')).map(text => text && !text.endsWith('\n') ? `${text}\n` : text);
         is(`characters of ${set}`, blocks.join(''), wanted);
     }
@@ -34,7 +36,9 @@ async function shownAsItStands(page, file) {
 
 async function policy(page) {
     is('policy: no connection', await page.run(`fetch('https://example.org').then(() => 'open', () => 'shut')`), 'shut');
-    is('policy: no markup from text', await page.run(`(() => { try { document.body.innerHTML = '<b>x</b>'; return 'set'; } catch (error) { return error.name; } })()`), 'TypeError');
+    is('policy: no markup from text', await page.run(`(() => {
+        try { document.body.innerHTML = '<b>x</b>'; return 'set'; } catch (error) { return error.name; }
+    })()`), 'TypeError');
     is('policy: no other script', await page.run(`(() => {
         const script = document.createElement('script');
         try { script.textContent = 'globalThis.run = 1'; document.body.append(script); } catch { }
@@ -72,7 +76,8 @@ export async function defended(page, hostile, oddly) {
     await shownAsItStands(page, hostile);
     await page.open(made(oddly));
     const shown = `⟦U+202E⟧fido.exe "<b>&'.odif`;
-    is('a name', await page.run(`[document.title, document.querySelector('h1').textContent, document.querySelector('h1').children.length]`), [`${shown} – ODIF letter`, shown, 0]);
+    const name = `[document.title, document.querySelector('h1').textContent, document.querySelector('h1').children.length]`;
+    is('a name', await page.run(name), [`${shown} – ODIF letter`, shown, 0]);
     await policy(page);
     await alarms(page);
 }

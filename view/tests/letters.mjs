@@ -42,7 +42,8 @@ export const hostile = () => letter(
 export function large(units = 2000) {
     const sentence = 'The water in the cellar rose by two feet before the pump was found to have been serviced in January.\n';
     const text = Buffer.from(sentence.repeat(5)), each = Math.floor((1048576 - 2) / units) - 44;
-    return letter(...Array.from({ length: units }, (_, i) => i % 10 ? text.subarray(0, Math.min(each, text.length)) : inPieces(text.subarray(0, each - 80), 64)));
+    const whole = text.subarray(0, Math.min(each, text.length)), pieces = inPieces(text.subarray(0, each - 80), 64);
+    return letter(...Array.from({ length: units }, (_, i) => i % 10 ? whole : pieces));
 }
 
 // A unit of a block, one whose name no object has, and one without a name.

@@ -2,7 +2,7 @@
 import { createHash } from 'node:crypto';
 import { readFileSync } from 'node:fs';
 import { basename } from 'node:path';
-import { FRAMES, LIT, SELECTED, TEXT, asText, ask, clickLine, clickSide, expected, is, json, made, octetsOf } from './support.mjs';
+import { FRAMES, LIT, SELECTED, TEXT, VERDICT, asText, ask, clickLine, clickSide, expected, is, json, made, octetsOf } from './support.mjs';
 
 const heardOf = (page, methods) => page.heard.filter(message => methods.includes(message.method)).map(message => message.params);
 
@@ -21,8 +21,9 @@ async function side(page, name, file, which, edition) {
     is(`${name}, ${which}: as many lines`, texts.length, wanted.length);
     is(`${name}, ${which}: all octets are drawn`, await page.run(`document.querySelectorAll('.r .h i').length >= ${octets.length}`), true);
     for (const [i, places] of wanted.entries()) {
-        is(`${name}, ${which}, line ${i + 1}: its octets and no others`, await page.run(`${clickLine(i)}, ${LIT}`), [...places].sort((a, b) => a - b));
-        is(`${name}, ${which}, line ${i + 1}: they are its text`, Buffer.from(places.map(octet => octets[octet])).toString('hex'), octetsOf(texts[i]).toString('hex'));
+        const line = `${name}, ${which}, line ${i + 1}`, there = Buffer.from(places.map(octet => octets[octet]));
+        is(`${line}: its octets and no others`, await page.run(`${clickLine(i)}, ${LIT}`), [...places].sort((a, b) => a - b));
+        is(`${line}: they are its text`, there.toString('hex'), octetsOf(texts[i]).toString('hex'));
     }
     const lines = Array(octets.length).fill(-1);
     wanted.forEach((places, i) => places.forEach(octet => { lines[octet] = i; }));
@@ -34,29 +35,33 @@ async function side(page, name, file, which, edition) {
     is(`${name}, ${which}: every octet tells its line`, told, lines);
 }
 
+const FACTS = `Object.fromEntries([...document.querySelectorAll('#facts div')].map(fact => [fact.firstChild.textContent, fact.querySelector('b').textContent]))`;
+const NOT_SHOWN = `[...document.querySelectorAll('#not-shown li')].map(li => +/row (\\d+)/.exec(li.textContent)[1])`;
+
 export async function accepted(page, file, edition = '1988') {
     const name = basename(file), url = made(file, '--edition', edition), pages = json('pages', '--json', '--edition', edition, file).pages;
     await page.open(url);
     isQuiet(page, name, url);
-    is(`${name}: accepted, no alarm`, await page.run(`[document.querySelector('#facts dd b').textContent, document.querySelector('#alarm').hidden]`), ['Accepted', true]);
+    is(`${name}: accepted, no alarm`, await page.run(VERDICT), ['Accepted', true]);
     await page.wait(`document.querySelector('#sum').textContent.length > 1`);
     is(`${name}: its SHA-256`, await page.run(`document.querySelector('#sum').textContent`), createHash('sha256').update(readFileSync(file)).digest('hex'));
     is(`${name}: the text`, asText(await page.run(TEXT)).toString('hex'), ask('text', '--edition', edition, file).stdout.toString('hex'));
-    const facts = await page.run(`Object.fromEntries([...document.querySelectorAll('#facts div')].map(fact => [fact.firstChild.textContent, fact.querySelector('b').textContent]))`);
+    const facts = await page.run(FACTS);
     is(`${name}: the date`, facts['Date of the document'], json('date', '--json', '--edition', edition, file).date ?? 'None');
     is(`${name}: the pages`, facts['Pages by PM1'], pages.length ? `${pages.length}` : undefined);
     await side(page, name, file, 'layout', edition);
     await side(page, name, file, 'logical', edition);
     const { side: read, not_shown: notShown } = json('list', '--json', '--edition', edition, file);
     await page.run(clickSide(read));
-    is(`${name}: what is not shown`, await page.run(`[...document.querySelectorAll('#not-shown li')].map(li => +/row (\\d+)/.exec(li.textContent)[1])`), notShown.map(({ unit }) => unit));
+    is(`${name}: what is not shown`, await page.run(NOT_SHOWN), notShown.map(({ unit }) => unit));
 }
 
 export async function refused(page, file) {
     const name = basename(file), url = made(file), { number, place, sentence } = json('check', '--json', file), at = place.toLocaleString('en');
     await page.open(url);
     isQuiet(page, name, url);
-    is(`${name}: refused`, await page.run(`document.querySelector('#facts dd').textContent`), `Refused, number ${number} at octet ${at}${sentence} (edition of 1988)`);
+    const wanted = `Refused, number ${number} at octet ${at}${sentence} (edition of 1988)`;
+    is(`${name}: refused`, await page.run(`document.querySelector('#facts dd').textContent`), wanted);
     is(`${name}: the place is marked`, await page.run(`[...document.querySelectorAll('.r .h .x')].map(cell => cell.octet)`), [place]);
     is(`${name}: no text, no date`, await page.run(`[document.querySelectorAll('.line').length, document.querySelectorAll('#facts div').length]`), [0, 1]);
 }
@@ -79,7 +84,8 @@ export async function outline(page, file) {
 // On paper stand all octets.
 export async function printed(page, file) {
     await page.run(`dispatchEvent(new Event('beforeprint'))`);
-    const digits = await page.run(`document.querySelector('#printed').textContent.split('\\n').slice(2).map(row => row.slice(9, 56).replaceAll(' ', '')).join('')`);
+    const rows = (await page.run(`document.querySelector('#printed').textContent`)).split('\n').slice(2);
+    const digits = rows.map(row => row.slice(9, 56).replaceAll(' ', '')).join('');
     is(`${basename(file)}: printed`, digits, readFileSync(file).toString('hex').toUpperCase());
     await page.run(`dispatchEvent(new Event('afterprint'))`);
 }

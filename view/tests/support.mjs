@@ -66,6 +66,8 @@ export function asText(blocks) {
     }));
 }
 
+// The verdict, and whether there is no alarm.
+export const VERDICT = `[document.querySelector('#facts dd b').textContent, document.querySelector('#alarm').hidden]`;
 // The octets that are lit, of all that are drawn.
 export const LIT = `[...document.querySelectorAll('.r .h .s')].map(cell => cell.octet)`;
 export const SELECTED = `[...document.querySelectorAll('.line')].findIndex(line => line.ariaSelected === 'true')`;

@@ -55,7 +55,8 @@ async function parts(page, file) {
     await page.run('getSelection().removeAllRanges()');
     for (const i of [4, 43]) {
         await page.run(`[...document.querySelectorAll('.r .h i')].find(cell => cell.octet === ${places[i]}).click()`);
-        is(`octet ${places[i]} points at its character`, await page.run(`[...CSS.highlights.get('octet')].map(range => [range.toString(), range.startOffset])`), [[FOX[i], i]]);
+        const pointed = `[...CSS.highlights.get('octet')].map(range => [range.toString(), range.startOffset])`;
+        is(`octet ${places[i]} points at its character`, await page.run(pointed), [[FOX[i], i]]);
     }
 }
 
@@ -77,16 +78,19 @@ async function viewer(page) {
     await page.tell('DOM.setFileInputFiles', { nodeId: input.nodeId, files: [claim] });
     await page.wait(`document.querySelectorAll('.line').length`);
     is('a viewer: a file is chosen', asText(await page.run(TEXT)).toString(), ask('text', claim).stdout.toString());
-    for (const type of ['dragEnter', 'dragOver', 'drop']) await page.tell('Input.dispatchDragEvent', { type, x: 300, y: 400, data: { items: [], files: [cut], dragOperationsMask: 1 } });
+    const data = { items: [], files: [cut], dragOperationsMask: 1 };
+    for (const type of ['dragEnter', 'dragOver', 'drop']) await page.tell('Input.dispatchDragEvent', { type, x: 300, y: 400, data });
     await page.wait(`document.querySelector('h1').textContent === 'cut-short.odif'`);
     is('a viewer: a file is dropped', await page.run(`document.querySelector('#facts dd b').textContent`), `Refused, number ${json('check', '--json', cut).number}`);
 }
 
 async function editions(page, tiled) {
     await page.open(made(tiled));
-    is('1993: refused by 1988', await page.run(`document.querySelector('#facts dd b').textContent`), `Refused, number ${json('check', '--json', tiled).number}`);
+    const { number } = json('check', '--json', tiled);
+    is('1993: refused by 1988', await page.run(`document.querySelector('#facts dd b').textContent`), `Refused, number ${number}`);
     await page.run(`[...document.querySelectorAll('#facts button')].at(-1).click()`);
-    is('1993: accepted when that is chosen', await page.run(`[document.querySelector('#edition').value, document.querySelector('#text pre').textContent]`), ['1993', 'Hi']);
+    const shown = `[document.querySelector('#edition').value, document.querySelector('#text pre').textContent]`;
+    is('1993: accepted when that is chosen', await page.run(shown), ['1993', 'Hi']);
 }
 
 async function sizes(page) {

@@ -21,8 +21,8 @@ Examples:
 
 Exit status: 0 all was accepted; 1 something was refused; 2 something could not be
 read or written, or the command was misused; 3 the independent reader differs, with
-`odif check --second`; 130 it was interrupted; 141 no one reads its output any more, as in
-`odif tree letter.odif | head`.";
+`odif check --second`, or the file, read once more, with `odif trace --check`; 130 it was
+interrupted; 141 no one reads its output any more, as in `odif tree letter.odif | head`.";
 
 /// The signal of a pipe that no one reads.
 const SIGPIPE: u8 = 13;

@@ -78,7 +78,7 @@ mod tests {
         let sources = Sources(vec![vec![10..13, 20..24], Vec::new(), vec![30..31]]);
         assert_eq!(sources.of_part(0, &(0..7)), [10..13, 20..24]);
         assert_eq!(sources.of_part(0, &(2..4)), [12..13, 20..21]);
-        assert_eq!(sources.of_part(0, &(3..7)), [20..24], "an empty part has no place");
+        assert_eq!(shown(&sources.of_part(0, &(3..7))), "20..24", "an empty part has no place");
         assert!(sources.of_part(1, &(0..0)).is_empty());
         assert_eq!(shown(&sources.of_part(0, &(2..4))), "12..13,20..21");
     }
