@@ -62,6 +62,19 @@ fn pieces_and_several_units() {
     assert_eq!(run.text(), wanted);
 }
 
+/// A line for each of very many pieces: none is looked for among all of them.
+#[test]
+fn very_many_pieces() {
+    let (count, piece) = (100_000, item(0x04, b"\n"));
+    let block = item(0xA2, &item(0x31, &[item(0x41, b"1"), item(0xA1, &item(0x12, b"0"))].concat()));
+    let unit = item(0xA3, &[item(0x31, &item(0x40, b"1 0")), item(0x24, &piece.repeat(count))].concat());
+    let run = odif_with(&["text", "--offsets", "-"], &[item(0xA0, b""), block, unit].concat());
+    assert_eq!((run.status, run.text().lines().count()), (0, count));
+    let first: usize = run.text().split("..").next().unwrap().parse().unwrap();
+    let last = first + 3 * (count - 1);
+    assert!(run.text().ends_with(&format!("\n{last}..{}\t\n", last + 1)));
+}
+
 #[test]
 fn as_json() {
     let run = odif(&["text", "--offsets", "--json", IN_PIECES]);
