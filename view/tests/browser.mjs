@@ -8,6 +8,13 @@ const KEYS = { Tab: 9, Enter: 13, End: 35, Home: 36, PageDown: 34, ArrowLeft: 37
 const WORDS = ['--headless=new', '--no-sandbox', '--disable-gpu', '--disable-dev-shm-usage', '--no-first-run', '--hide-scrollbars', '--remote-debugging-pipe'];
 const TIME_OUT = 120000; // where nothing is answered for so long, the browser is lost
 
+// Waits until something is so.
+export async function until(what, isSo) {
+    for (const end = Date.now() + TIME_OUT; !await isSo(); await new Promise(done => setTimeout(done, 10))) {
+        if (Date.now() > end) throw new Error(`waited in vain for ${what}`);
+    }
+}
+
 // The two pipes: messages are JSON and end with a zero octet.
 function connected(child, heard) {
     const waiting = new Map(), parts = [];
@@ -23,6 +30,7 @@ function connected(child, heard) {
         for (let at; (at = data.indexOf(0)) >= 0; data = data.subarray(at + 1)) take(JSON.parse(Buffer.concat([...parts.splice(0), data.subarray(0, at)])));
         if (data.length) parts.push(data);
     });
+    child.once('exit', () => { for (const { failed } of waiting.values()) failed(new Error('the browser has ended')); });
     return (method, params = {}, sessionId = undefined) => new Promise((done, failed) => {
         const clock = setTimeout(() => failed(new Error(`${method} is not answered`)), TIME_OUT);
         waiting.set(++last, { done, failed, clock });
@@ -47,10 +55,7 @@ export async function browser(program = process.env.CHROMIUM ?? 'chromium') {
         if (thrown) throw new Error(thrown.exception?.description ?? thrown.text);
         return result.value;
     };
-    const wait = async expression => {
-        for (const end = Date.now() + TIME_OUT; Date.now() < end; await new Promise(done => setTimeout(done, 10))) if (await run(expression)) return;
-        throw new Error(`waited in vain for ${expression}`);
-    };
+    const wait = expression => until(expression, () => run(expression));
     const mouse = (type, [x, y], more) => tell('Input.dispatchMouseEvent', { type, x, y, ...more });
     const pressed = { button: 'left', buttons: 1, clickCount: 1 };
     return {

@@ -1,6 +1,7 @@
 // What people do on the page: keys, mouse, an address, saving, choosing and dropping a file, a narrow or dark page.
 import { mkdirSync, readFileSync, readdirSync } from 'node:fs';
 import { join } from 'node:path';
+import { until } from './browser.mjs';
 import { FOX } from './letters.mjs';
 import { FRAMES, LIT, SELECTED, TEXT, asText, ask, expected, is, json, made, room, samples } from './support.mjs';
 
@@ -66,7 +67,7 @@ async function saved(page, file) {
     await page.downloads(folder);
     await page.open(made(file));
     await page.run(`[...document.querySelectorAll('#size button')][0].click()`);
-    while (!readdirSync(folder).includes('hostile.odif')) await new Promise(done => setTimeout(done, 20));
+    await until('the file that is saved', () => readdirSync(folder).includes('hostile.odif'));
     is('saved', readFileSync(join(folder, 'hostile.odif')).equals(readFileSync(file)), true);
 }
 
