@@ -131,8 +131,8 @@ extern "C" {
 #define ODIF_MOST_ELEMENTS 4096    /* so many rows are always enough */
 #define ODIF_ROW_WIDTH     13      /* the numbers of a row */
 #define ODIF_NO_PARENT     65535   /* the parent's row where there is none */
-#define ODIF_STACK         262144  /* octets of stack: no question but the lists and the whole readings takes more */
-#define ODIF_STACK_LISTS   311296  /* for the two lists */
+#define ODIF_STACK         262144  /* octets of stack: no question but these below takes more */
+#define ODIF_STACK_LISTS   311296  /* for the two lists, and the sources */
 #define ODIF_STACK_TEXTS   344064  /* and for the two whole readings */
 #define ODIF_STACK_MAKE    131072  /* and for odif_make */
 #define ODIF_MOST_ENTRIES  2047    /* the most entries of a letter that is made */

@@ -120,7 +120,8 @@ module _ (edition : Edition) (s : List ℕ) (asked : ℕ) where
             short = omega arith;
           }
 
-      finds-pieces : (run : Run) {inside : Items} → element .kind ≡ unitKind → HeldInPieces s run inside (element .content) → FindsContent edition s asked (Pieces run)
+      finds-pieces : (run : Run) {inside : Items} → element .kind ≡ unitKind → HeldInPieces s run inside (element .content)
+          → FindsContent edition s asked (Pieces run)
       unfolding fetched located joinedIn
       finds-pieces run kind h =
           let within = l .within-limit in
@@ -138,7 +139,8 @@ module _ (edition : Edition) (s : List ℕ) (asked : ℕ) where
         → kindAt rows asked ≡ element .kind → {found : ContentFound} → ContentAt edition s rows asked found → FindsContent edition s asked found
     finds-by element there row kind (otherKind other) = finds-other element there (λ k. other (kind ∙ k))
     finds-by element there row kind (heldWhole {first} {past} is holds) =
-        finds-part element there row first past (sym kind ∙ is) (held-element holds (l .held .elements) (row .row) element (l .held .judged) (row .stands) there)
+        finds-part element there row first past (sym kind ∙ is)
+        (held-element holds (l .held .elements) (row .row) element (l .held .judged) (row .stands) there)
     finds-by element there row kind (heldInPieces {run} is holds) =
         finds-pieces element there run (sym kind ∙ is) (held-element holds (l .held .elements) (row .row) element (l .held .judged) (row .stands) there)
 

@@ -1,18 +1,16 @@
 -- What is known once a stream is walked and judged: what the stream is, and where its rows are.
-use mathlib.Core.Path.{_≡_, refl, ap, sym, _∙_}
+use mathlib.Core.Path.{_≡_, refl, sym, _∙_}
 use mathlib.Core.List.{List}
-use Prim.Native.Nat.{ℕ, suc, _≤_}
+use Prim.Native.Nat.{ℕ, _≤_}
 use native.Mathlib.Omega.{arith}
 use lib.ListN.{length}
 use Rattle.octets.specs.declared.Outcome.the-variants.{Ended}
-use Rattle.octets.specs.Walk.{Items, noItems, item, streamLimit, walkOf}
+use Rattle.octets.specs.Walk.{streamLimit, walkOf}
 use Rattle.tree.specs.Tree.{treeOf}
 use Rattle.tree.specs.Accepts.{Accepts}
-use Rattle.runs.specs.Runs.{tops}
 use Rattle.runs.proofs.Laws.{stream-within}
 use Rattle.elements.specs.declared.Edition.{Edition}
 use Rattle.elements.specs.Judge.{mostElements}
-use Rattle.elements.specs.ElementRows.{rowsOf}
 use Rattle.letters.specs.Letter.{itemsOfStream, letter, refusal, letterIn}
 use Rattle.letters.specs.Lent.{rowsNeeded}
 use Rattle.letters.specs.Scratch.{LetterRows, Stopped}

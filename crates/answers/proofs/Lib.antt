@@ -1,7 +1,8 @@
 -- Small: the numbers and places of refusals. Judging: what a verdict tells of a stream.
 -- Dating: the date of a letter. FirstDating: the date by the first element alone.
 -- Checks, Fetching, Copying, Listing: what the check, the fetch, the copy and the list say, case by case. Tabling: the lent table while it is
--- filled, and what it tells of parents. Relating: the children of a row. TextSteps: the whole reading. Sources: its sources. Working: what the work of any leaves.
+-- filled, and what it tells of parents. Relating: the children of a row. TextSteps: the whole reading. Sources: its
+-- sources. Working: what the work of any leaves.
 pub mod Small
 pub mod Judging
 pub mod Checks

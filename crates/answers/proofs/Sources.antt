@@ -13,7 +13,6 @@ use Rattle.elements.specs.Judge.{mostElements}
 use Rattle.letters.specs.Letter.{refusal, letterIn}
 use Rattle.letters.proofs.Table.{letter-apart}
 use Rattle.reading.specs.declared.Side.{Side}
-use Rattle.reading.specs.Match.{matches}
 use Rattle.reading.specs.Records.{ListsMatches}
 use Rattle.reading.proofs.Scratch.{lists-records}
 use Rattle.reading.proofs.Single.{no-more-than-elements}

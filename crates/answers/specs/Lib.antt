@@ -1,7 +1,8 @@
 -- Table: the lent table. Filling: what the code that fills it has done. Answers: what each question answers. Related: the children of a row.
 -- Short: the mailroom's normal form question.
 -- Dates: the date of the document. FirstDates: the same by the first element alone. Dating: what their work learns. Asking: what the work
--- behind the others learns. Text: the whole reading; TextSteps: what its work learns. Sources: where each octet of it stands. Questions: what the work of any of these leaves.
+-- behind the others learns. Text: the whole reading; TextSteps: what its work learns. Sources: where each octet of it stands.
+-- Questions: what the work of any of these leaves.
 pub mod Table
 pub mod Filling
 pub mod Answers

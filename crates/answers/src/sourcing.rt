@@ -34,17 +34,7 @@ pub fn sources_judged(
     requires { ⌜ 3 * rowsNeeded (now stream) ≤ length (now numbers) ⌝ }
     ensures { λ r. ⌜ SourcesOutcome edition side (now (stream .entry)) (now (list .entry)) r (now (list .exit)) ⌝ }
 {
-    let lines = reading::list_matches(
-        stream,
-        rows,
-        head,
-        next,
-        head2,
-        next2,
-        count,
-        side,
-        numbers,
-    );
+    let lines = reading::list_matches(stream, rows, head, next, head2, next2, count, side, numbers);
     let total = sources::count_sources(edition, stream, rows, count, numbers, lines);
     if list.len() / SOURCE_WIDTH < total {
         return Sourced {

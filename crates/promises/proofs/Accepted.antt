@@ -3,19 +3,18 @@
 use mathlib.Core.Path.{_≡_, refl, ap, sym, _∙_}
 use mathlib.Core.Bool.{false}
 use mathlib.Core.List.{List}
-use Prim.Native.Nat.{ℕ, suc, _≤_}
+use Prim.Native.Nat.{ℕ, _≤_}
 use native.Mathlib.Omega.{arith}
 use lib.ListN.{length}
 use borrow.Author.Tests.{ltb-false}
 use borrow.Table.Steps.{cases}
-use Rattle.octets.specs.Walk.{Items, noItems, item, deepest}
+use Rattle.octets.specs.Walk.{deepest}
 use Rattle.octets.proofs.RulesHold.{derives}
 use Rattle.tree.specs.Tree.{treeOf}
 use Rattle.runs.specs.Runs.{itemsOf, wholeStream, tops, Fine}
 use Rattle.runs.proofs.Laws.{stream-fine}
 use Rattle.elements.specs.declared.Edition.{Edition}
 use Rattle.elements.specs.Judge.{Element, mostElements}
-use Rattle.elements.specs.ElementRows.{rowsOf}
 use Rattle.letters.specs.Letter.{Letter, letter, refusal, itemsOfStream, letterIn}
 use Rattle.letters.proofs.Apart.{accepted-apart}
 use Rattle.answers.specs.declared.Checked.{Checked}

@@ -3,9 +3,9 @@
 use mathlib.Core.Path.{_≡_, refl, ap, sym, subst}
 use mathlib.Core.Logic.{inl, inr, _↔_}
 use mathlib.Core.Bool.{false}
-use mathlib.Core.List.{List, [], _∷_, List·Memᴰ, List·Memᴰ·head, List·Memᴰ·tail}
+use mathlib.Core.List.{List, _∷_, List·Memᴰ, List·Memᴰ·head, List·Memᴰ·tail}
 use mathlib.Core.Option.{some}
-use Prim.Native.Nat.{ℕ, zero, suc, _/_, _<_, _≤_}
+use Prim.Native.Nat.{ℕ, suc, _/_, _<_, _≤_}
 use native.Mathlib.Omega.{arith}
 use lib.Dec.{ltb}
 use lib.ListN.{length, getElem?}
@@ -21,7 +21,6 @@ use Rattle.letters.proofs.Apart.{accepted-apart}
 use Rattle.reading.specs.declared.Match.{Match}
 use Rattle.reading.specs.declared.Side.{Side}
 use Rattle.reading.specs.Match.{matches, IsMatch, Before, units, portionsOn}
-use Rattle.reading.specs.Lists.{Sorted}
 use Rattle.reading.proofs.Lists.{in-member, sorted-at}
 use Rattle.reading.proofs.Matches.{matches-are, matches-all, matches-sorted}
 use Rattle.reading.proofs.Single.{no-more-than-portions, no-more-than-units}

@@ -26,13 +26,11 @@ use Rattle.text_lines.specs.Text.{textsOf}
 use Rattle.sources.specs.Places.{octetsAt}
 use Rattle.sources.specs.Sources.{Source, lineSources, sourcesFrom, placesFor, sourceNumbers, sourcesIn}
 use Rattle.sources.specs.Units.{placesIn}
-use Rattle.sources.proofs.Kept.{shownAt, same-shown}
 use Rattle.sources.proofs.Sides.{source-length}
-use Rattle.sources.proofs.Promise.{sources-are, whole-items, from-this-stream}
+use Rattle.sources.proofs.Promise.{sources-are, from-this-stream}
 use Rattle.answers.specs.declared.Sourced.{Sourced}
-use Rattle.answers.specs.declared.TextRead.{TextRead}
 use Rattle.answers.specs.Answers.{matchesIn}
-use Rattle.answers.specs.Sources.{sourcesLent, unsourced, sourcedBy, sourced, sourcedList, SourcesOutcome}
+use Rattle.answers.specs.Sources.{sourcesLent, sourcedBy, sourced, sourcedList, SourcesOutcome}
 use Rattle.answers.specs.Text.{textIn, textsIn}
 use Rattle.answers.proofs.Small.{refusal-small}
 use Rattle.answers.proofs.Sources.{sources-refused}
@@ -40,7 +38,8 @@ use Rattle.answers.proofs.TextSteps.{text-content}
 use Rattle.promises.specs.Demands.{Answered}
 use Rattle.promises.proofs.Demand1.{told-small, told-own, told-zero}
 use Rattle.promises.proofs.Demand2.{normal-accepted, normal-tree}
-use Rattle.promises_text.specs.Sources.{Piece, piecesAt, Unsourced, Traced}
+use Rattle.promises_text.specs.Sources.{Piece, shownPieces, SourcesUntouched, Traced}
+use Rattle.promises_text.proofs.Kept.{shownAt, whole-items, same-shown}
 use Rattle.promises_text.proofs.NoStaleText.{how-long, no-stale-text}
 
 -- ---- what may be answered, and what a refusal leaves
@@ -87,12 +86,13 @@ module _ (edition : Edition) (side : Side) (s list : List ℕ) where
         omega arith
 
   module _ (told : Sourced) (listAfter : List ℕ) (outcome : SourcesOutcome edition side s list told listAfter) where
-    refused : (told .number ≡ 0 → ⊥) → Unsourced list told listAfter
+    refused : (told .number ≡ 0 → ⊥) → SourcesUntouched list told listAfter
     unfolding sourced sourcedList
     refused some-number =
         let n : told .number ≡ sourced edition side s list .number = ap (λ (r : Sourced). r .number) (outcome .answered) in
         let t : eqb (sourced edition side s list .number) 0 ≡ false = ne-eqb _ 0 (λ z. some-number (n ∙ z)) in
-        let (no-lines, no-sources) = subst Counts (sym (outcome .answered)) (counts-if (letterIn edition s) (sourcesIn edition side s) (sourcesLent list)) some-number in
+        let counts = counts-if (letterIn edition s) (sourcesIn edition side s) (sourcesLent list) in
+        let (no-lines, no-sources) = subst Counts (sym (outcome .answered)) counts some-number in
         record { no-lines = no-lines; no-sources = no-sources; list-kept = outcome .filled ∙ rw t }
 
     list-is : told .number ≡ 0 → let numbers = sourceNumbers (sourcesIn edition side s) in listAfter ≡ numbers ++ drop (length numbers) list
@@ -108,18 +108,18 @@ unfoldable linePieces : (shown : ℕ → List (List ℕ)) → (line : ℕ) → L
 linePieces shown line [] = []
 linePieces shown line (m ∷ ms) = map (λ (octets : List ℕ). record { line = line; octets = octets }) (shown (m .unit)) ++ linePieces shown (suc line) ms
 
-pieces-append : (s : List ℕ) (xs ys : List Source) → piecesAt s (xs ++ ys) ≡ piecesAt s xs ++ piecesAt s ys
+pieces-append : (s : List ℕ) (xs ys : List Source) → shownPieces s (xs ++ ys) ≡ shownPieces s xs ++ shownPieces s ys
 pieces-append s [] ys = refl
 pieces-append s (x ∷ xs) ys = ap (λ (z : List Piece). record { line = x .line; octets = bytesIn s (x .place) } ∷ z) (pieces-append s xs ys)
 
 line-pieces : (s : List ℕ) (line : ℕ) (ps : List Span)
-    → piecesAt s (lineSources line ps) ≡ map (λ (octets : List ℕ). record { line = line; octets = octets }) (shownAt s ps)
+    → shownPieces s (lineSources line ps) ≡ map (λ (octets : List ℕ). record { line = line; octets = octets }) (shownAt s ps)
 unfolding lineSources
 line-pieces s line [] = refl
 line-pieces s line (p ∷ ps) = ap (λ (z : List Piece). record { line = line; octets = bytesIn s p } ∷ z) (line-pieces s line ps)
 
 pieces-from : (s : List ℕ) (places : ℕ → List Span) (line : ℕ) (ms : List Match)
-    → piecesAt s (sourcesFrom places line ms) ≡ linePieces (λ u. shownAt s (places u)) line ms
+    → shownPieces s (sourcesFrom places line ms) ≡ linePieces (λ u. shownAt s (places u)) line ms
 unfolding sourcesFrom linePieces
 pieces-from s places line [] = refl
 pieces-from s places line (m ∷ ms) =
@@ -134,16 +134,16 @@ same-pieces f g same line (m ∷ ms) =
     (same-pieces f g same (suc line) ms)
 
 normal-pieces : (edition : Edition) (side : Side) (s : List ℕ) (headers : ℕ) (elements : List Element) → letterIn edition s ≡ letter headers elements
-    → length (normalForm s) ≤ streamLimit → piecesAt (normalForm s) (sourcesIn edition side (normalForm s)) ≡ piecesAt s (sourcesIn edition side s)
+    → length (normalForm s) ≤ streamLimit → shownPieces (normalForm s) (sourcesIn edition side (normalForm s)) ≡ shownPieces s (sourcesIn edition side s)
 normal-pieces edition side s headers elements e within =
     let form = normalForm s in
     let f = normal-accepted edition s headers elements e within in
     let ms = matches side elements in
-    let same = same-shown edition s form (whole-items edition side s headers elements e) (whole-items edition side form headers elements f)
+    let same = same-shown edition s form (whole-items edition s headers elements e) (whole-items edition form headers elements f)
     (normal-tree edition s headers elements e) in
-    ap (piecesAt form) (sources-are edition side form headers elements f) ∙ pieces-from form (placesIn edition form) 0 ms
+    ap (shownPieces form) (sources-are edition side form headers elements f) ∙ pieces-from form (placesIn edition form) 0 ms
     ∙ same-pieces (λ u. shownAt form (placesIn edition form u)) (λ u. shownAt s (placesIn edition s u)) same 0 ms
-    ∙ sym (ap (piecesAt s) (sources-are edition side s headers elements e) ∙ pieces-from s (placesIn edition s) 0 ms)
+    ∙ sym (ap (shownPieces s) (sources-are edition side s headers elements e) ∙ pieces-from s (placesIn edition s) 0 ms)
 
 -- ---- the promise
 

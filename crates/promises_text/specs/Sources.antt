@@ -51,7 +51,7 @@ pub record Trace (edition : Edition) (side : Side) (s list : List ℕ) (shown : 
       (j k : ℕ) → j < shown .length → k < shown .length → origin j ≡ origin k → j ≡ k
 
 -- a refusal leaves the list as it was, and has no counts
-pub record Unsourced (list : List ℕ) (told : Sourced) (listAfter : List ℕ) : Type 0 where
+pub record SourcesUntouched (list : List ℕ) (told : Sourced) (listAfter : List ℕ) : Type 0 where
   pub no-lines : told .lines ≡ 0
   pub no-sources : told .sources ≡ 0
   pub list-kept : listAfter ≡ list
@@ -61,8 +61,8 @@ pub record Piece : Type 0 where
   pub line : ℕ
   pub octets : List ℕ
 
-abbrev pub piecesAt : (s : List ℕ) → List Source → List Piece
-piecesAt s sources = map (λ (x : Source). record { line = x .line; octets = bytesIn s (x .place) }) sources
+abbrev pub shownPieces : (s : List ℕ) → List Source → List Piece
+shownPieces s sources = map (λ (x : Source). record { line = x .line; octets = bytesIn s (x .place) }) sources
 
 -- what any program does that meets the contract of the question
 pub record Traced (edition : Edition) (side : Side) : Type 0 where
@@ -73,7 +73,7 @@ pub record Traced (edition : Edition) (side : Side) : Type 0 where
   -- what it may give, and where
   pub told : (s list : List ℕ) → Answered s (31 ∷ []) (sourced edition side s list .number) (sourced edition side s list .place)
   pub refused : (s list : List ℕ) (told : Sourced) (listAfter : List ℕ) → SourcesOutcome edition side s list told listAfter → (told .number ≡ 0 → ⊥)
-      → Unsourced list told listAfter
+      → SourcesUntouched list told listAfter
   -- what rules 1 to 15 refuse is refused by that number at that place
   pub refused-alike : (s list : List ℕ) (number place headers : ℕ) → letterIn edition s ≡ refusal number place headers
       → sourced edition side s list ≡ unsourced number place
@@ -82,4 +82,4 @@ pub record Traced (edition : Edition) (side : Side) : Type 0 where
       → headers ≤ sourcesLent list → sourced edition side s list .number ≡ 31 → ⊥
   -- the normal form shows the same pieces in the same lines
   pub normal : (s : List ℕ) (headers : ℕ) (elements : List Element) → letterIn edition s ≡ letter headers elements → length (normalForm s) ≤ streamLimit
-      → piecesAt (normalForm s) (sourcesIn edition side (normalForm s)) ≡ piecesAt s (sourcesIn edition side s)
+      → shownPieces (normalForm s) (sourcesIn edition side (normalForm s)) ≡ shownPieces s (sourcesIn edition side s)

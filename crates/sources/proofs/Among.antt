@@ -5,7 +5,7 @@ use mathlib.Core.Bool.{false, cond}
 use mathlib.Core.List.{List, [], _∷_, _++_, List·Memᴰ, List·Memᴰ·not-nil, List·Memᴰ·cases-cons, Memᴰ·append-left, Memᴰ·append-right}
 use mathlib.Core.Logic.{_⊎_, inl, inr}
 use mathlib.Core.Option.{Option, none, some}
-use Prim.Native.Nat.{ℕ, zero, suc, _+_, _<_, _≤_}
+use Prim.Native.Nat.{ℕ, zero, suc, _<_, _≤_}
 use native.Mathlib.Omega.{arith}
 use borrow.Author.Tests.{eqb-true}
 use borrow.Table.Steps.{cases}
@@ -29,10 +29,6 @@ data Among : List Span → List Span → Type 0 where
   nothing : {qs : List Span} → Among [] qs
   kept : {p : Span} {ps qs : List Span} → Among ps qs → Among (p ∷ ps) (p ∷ qs)
   passed : {p : Span} {ps qs : List Span} → Among ps qs → Among ps (p ∷ qs)
-
-among-self : (ps : List Span) → Among ps ps
-among-self [] = nothing
-among-self (p ∷ ps) = kept (among-self ps)
 
 among-later : (qs : List Span) {ps rs : List Span} → Among ps rs → Among ps (qs ++ rs)
 among-later [] a = a
@@ -64,12 +60,12 @@ with-among : (octet : ℕ) (i : Items) → Among (placesWith octet i) (placesOf 
 unfolding placesWith boundsOf itemsIn placesOf
 with-among octet noItems = cases (constructed octet) (λ t. rw t nothing) (λ t. rw t nothing)
 with-among octet (item at type first past inside after) =
+    let own = cond (constructed type) (placesOf inside) (pieceAt first past) in
     cases (eqb type octet)
     (λ t.
     let same : type ≡ octet = eqb-true type octet t in
     rw t
-    (subst (λ (o : ℕ). Among (cond (constructed o) (placesOf inside) (pieceAt first past)) (cond (constructed type) (placesOf inside) (pieceAt first past) ++ placesOf after)) same
-    (among-front (cond (constructed type) (placesOf inside) (pieceAt first past)) (placesOf after))))
+    (subst (λ (o : ℕ). Among (cond (constructed o) (placesOf inside) (pieceAt first past)) (own ++ placesOf after)) same (among-front own (placesOf after))))
     (λ t. rw t (among-later (cond (constructed type) (placesOf inside) (pieceAt first past)) (with-among octet after)))
 
 at-among : (octet : Option ℕ) (i : Items) → Among (placesAt octet i) (placesOf i)
@@ -87,7 +83,10 @@ hollow-among : (contents : Contents) (s : List ℕ) (octet first past : ℕ) (in
 unfolding contentPlaces placesOf
 hollow-among contents s octet first past inside w =
     let own = at-among (contentOctet contents (plain s inside)) inside in
-    cases (constructed octet) (λ t. rw t own) (λ t. rw t (among-none (contentPlaces contents s inside) (pieceAt first past) (subst (λ (i : Items). Among (contentPlaces contents s inside) (placesOf i)) (w t) own)))
+    let places = contentPlaces contents s inside in
+    cases (constructed octet)
+    (λ t. rw t own)
+    (λ t. rw t (among-none places (pieceAt first past) (subst (λ (i : Items). Among places (placesOf i)) (w t) own)))
   where
     among-none : (ps qs : List Span) → Among ps [] → Among ps qs
     among-none ps qs nothing = nothing
@@ -96,10 +95,12 @@ each-among : (edition : Edition) (s : List ℕ) (i : Items) → Hollow i → Amo
 unfolding placesOfEach placesOf flat
 each-among edition s noItems w = nothing
 each-among edition s (item at code first past inside after) w =
-    among-append (hollow-among (shapeOf edition (typeField code) .contents) s code first past inside (w .0)) (flat (placesOfEach edition s after)) (placesOf after)
+    among-append (hollow-among (shapeOf edition (typeField code) .contents) s code first past inside (w .0))
+    (flat (placesOfEach edition s after)) (placesOf after)
     (each-among edition s after (w .1))
 
-pub each-ascends : (edition : Edition) (s : List ℕ) (i : Items) → Hollow i → (from to : ℕ) → Ascend from to (placesOf i) → Ascend from to (flat (placesOfEach edition s i))
+pub each-ascends : (edition : Edition) (s : List ℕ) (i : Items) → Hollow i → (from to : ℕ) → Ascend from to (placesOf i)
+    → Ascend from to (flat (placesOfEach edition s i))
 each-ascends edition s i w from to a = among-ascends (each-among edition s i w) from to a
 
 -- and there are no more of them than items
@@ -129,7 +130,8 @@ pub record Lies (from to : ℕ) (p : Span) : Type 0 where
   pub some-octet : p .first < p .past
   pub high : p .past ≤ to
 
-lies-either : (from to : ℕ) (p q : Span) (ps : List Span) → Ascend from to (q ∷ ps) → (List·Memᴰ p ps → Lies (q .past) to p) → (p ≡ q) ⊎ List·Memᴰ p ps → Lies from to p
+lies-either : (from to : ℕ) (p q : Span) (ps : List Span) → Ascend from to (q ∷ ps) → (List·Memᴰ p ps → Lies (q .past) to p)
+    → (p ≡ q) ⊎ List·Memᴰ p ps → Lies from to p
 lies-either from to p q ps a below (inl e) =
     rw e (record { low = a .0; some-octet = a .1; high = bounds-order (q .past) to ps (a .2) })
 lies-either from to p q ps a below (inr m) =

@@ -100,7 +100,9 @@ module _ (s : List ℕ) where
       (λ t.
       let past : size ≤ j = ltb-false j size t in
       cases (ltb k size)
-      (λ u. let f : originOf ps (j - size) ≡ p .first + k = rw (t, u) at e in absurd (not-both p ps w apart k (j - size) (ltb-true k size u) (omega arith) (sym f)))
+      (λ u.
+      let f : originOf ps (j - size) ≡ p .first + k = rw (t, u) at e in
+      absurd (not-both p ps w apart k (j - size) (ltb-true k size u) (omega arith) (sym f)))
       (λ u.
       let f : originOf ps (j - size) ≡ originOf ps (k - size) = rw (t, u) at e in
       let past-too : size ≤ k = ltb-false k size u in

@@ -3,7 +3,7 @@
 use mathlib.Core.Path.{_≡_, refl, ap, sym, _∙_, subst}
 use mathlib.Core.Bool.{Bool, true, false}
 use mathlib.Core.List.{List, [], _∷_, _++_, append-assoc, append-nil}
-use Prim.Native.Nat.{ℕ, _+_, _-_, _<_, _≤_}
+use Prim.Native.Nat.{ℕ, _+_, _<_, _≤_}
 use native.Mathlib.Omega.{arith}
 use borrow.Author.Tests.{ltb-true, ltb-false, lt-ltb, le-ltb}
 use borrow.Table.Steps.{cases}
@@ -31,7 +31,8 @@ pub octets-append : (s : List ℕ) (ps qs : List Span) → octetsAt s (ps ++ qs)
 unfolding octetsAt
 octets-append s [] qs = refl
 octets-append s (p ∷ ps) qs =
-    ap (λ (z : List ℕ). slice (p .first) (p .past) s ++ z) (octets-append s ps qs) ∙ sym (append-assoc (slice (p .first) (p .past) s) (octetsAt s ps) (octetsAt s qs))
+    ap (λ (z : List ℕ). slice (p .first) (p .past) s ++ z) (octets-append s ps qs)
+    ∙ sym (append-assoc (slice (p .first) (p .past) s) (octetsAt s ps) (octetsAt s qs))
 
 -- what is not there has no octets
 pub slice-none : (first past : ℕ) (s : List ℕ) → past ≤ first → slice first past s ≡ []
@@ -63,7 +64,8 @@ pub to-later : (from to to' : ℕ) (ps : List Span) → to ≤ to' → Ascend fr
 to-later from to to' [] l a = omega arith
 to-later from to to' (p ∷ ps) l a = (a .0, a .1, to-later (p .past) to to' ps l (a .2))
 
-pub ascend-append : (from middle middle' to : ℕ) (ps qs : List Span) → Ascend from middle ps → middle ≤ middle' → Ascend middle' to qs → Ascend from to (ps ++ qs)
+pub ascend-append : (from middle middle' to : ℕ) (ps qs : List Span) → Ascend from middle ps → middle ≤ middle' → Ascend middle' to qs
+    → Ascend from to (ps ++ qs)
 ascend-append from middle middle' to [] qs a l b = from-earlier from middle' to qs (omega arith) b
 ascend-append from middle middle' to (p ∷ ps) qs a l b = (a .0, a .1, ascend-append (p .past) middle middle' to ps qs (a .2) l b)
 

@@ -73,7 +73,8 @@ module _ (places : ℕ → List Span) (numbers : List ℕ) (lines : ℕ) where
     step = ap (sourcesFrom places k) (records-step numbers k lines l) ∙ rw (add-one k)
 
     pub left-length : length (sourcesLeft k) ≡ length own + length (sourcesLeft (k + 1))
-    left-length = ap length step ∙ length-append (lineSources k own) (sourcesLeft (k + 1)) ∙ ap (λ (n : ℕ). n + length (sourcesLeft (k + 1))) (line-length k own)
+    left-length =
+        ap length step ∙ length-append (lineSources k own) (sourcesLeft (k + 1)) ∙ ap (λ (n : ℕ). n + length (sourcesLeft (k + 1))) (line-length k own)
 
     pub left-numbers : numbersLeft k ≡ placeNumbers k own ++ numbersLeft (k + 1)
     left-numbers = ap sourceNumbers step ∙ source-append (lineSources k own) (sourcesLeft (k + 1))

@@ -1,10 +1,10 @@
 -- What stands at the places of an element of a letter is its content, joined; and they ascend in the content fields of its row. By its holder: a primitive
 -- one is found in the tree and among the items alike, and so is a constructed one.
 use mathlib.Core.Path.{_≡_, refl, ap, sym, _∙_, subst}
-use mathlib.Core.Bool.{Bool, true, false, cond, false≢true}
+use mathlib.Core.Bool.{Bool, true, false, cond}
 use mathlib.Core.List.{List, [], _∷_, _++_, append-assoc, append-nil}
 use mathlib.Core.Option.{Option, none, some}
-use Prim.Native.Nat.{ℕ, zero, suc, _+_, _≤_}
+use Prim.Native.Nat.{ℕ, zero, suc, _≤_}
 use native.Mathlib.Omega.{arith}
 use borrow.Author.Tests.{eqb-true}
 use borrow.Table.Steps.{cases}
@@ -14,7 +14,7 @@ use Rattle.headers.specs.Head.{constructed, typeField}
 use Rattle.octets.specs.Walk.{Items, noItems, item, End, ends, pastOf, startOf}
 use Rattle.octets.specs.Rules.{Runs, at-limit, unclosed, closes, refuses, primitive, passes, breaks}
 use Rattle.octets.proofs.Turns.{header-ok}
-use Rattle.tree.specs.Tree.{Tree, plain, treeOf}
+use Rattle.tree.specs.Tree.{plain, treeOf}
 use Rattle.runs.proofs.Again.{definite}
 use Rattle.contents.specs.declared.Span.{Span}
 use Rattle.contents.specs.Search.{firstValue, firstRun, boundsOf, itemsIn}
@@ -22,7 +22,7 @@ use Rattle.contents.proofs.Firsts.{is-field}
 use Rattle.elements.specs.declared.Edition.{Edition}
 use Rattle.elements.specs.declared.Row.{Row}
 use Rattle.elements.specs.Shape.{ContentItem, whole, pieced, Contents, profile, described, unit, style, protected, shapeOf}
-use Rattle.elements.specs.Judge.{bytesOf, joinedContent, noneOf, contentIn, holdersOf, contentOf, Element, elementOf, refusalOf, Judged, accepted, refused, judgeOne, judgeFrom, judge}
+use Rattle.elements.specs.Judge.{bytesOf, joinedContent, noneOf, contentIn, holdersOf, contentOf, Element, elementOf, accepted, judgeFrom, judge}
 use Rattle.elements.specs.ElementRows.{holderIn, contentOctet, boundsAt, rowOf, rowsOf}
 use Rattle.judging.proofs.Steps.{judged-one, judge-some}
 use Rattle.letters.specs.Letter.{itemsOfStream, rowsIn}
@@ -104,7 +104,8 @@ saidBy edition s noItems = []
 saidBy edition s (item at code first past inside after) = elementOf (shapeOf edition (typeField code)) (plain s inside) ∷ saidBy edition s after
 
 module _ (edition : Edition) (s : List ℕ) where
-  judged-said : (i : Items) (done elements : List Element) → Hollow i → judgeFrom edition done (plain s i) ≡ accepted elements → elements ≡ done ++ saidBy edition s i
+  judged-said : (i : Items) (done elements : List Element) → Hollow i → judgeFrom edition done (plain s i) ≡ accepted elements
+      → elements ≡ done ++ saidBy edition s i
   unfolding judgeFrom saidBy
   judged-said noItems done elements w e = let f : done ≡ elements = cc in sym f ∙ sym (append-nil done)
   judged-said (item at code first past inside after) done elements w e =
@@ -113,7 +114,8 @@ module _ (edition : Edition) (s : List ℕ) where
       (sym (judged-one edition s done at code first past inside after (w .0)) ∙ e) in
       judged-said after (done ++ own ∷ []) elements (w .1) p ∙ append-assoc done (own ∷ []) (saidBy edition s after)
 
-  each-read : (i : Items) (j : ℕ) (e : Element) → getElem? (saidBy edition s i) j ≡ some e → octetsAt s (getD (placesOfEach edition s i) j []) ≡ joinedContent (e .content)
+  each-read : (i : Items) (j : ℕ) (e : Element) → getElem? (saidBy edition s i) j ≡ some e
+      → octetsAt s (getD (placesOfEach edition s i) j []) ≡ joinedContent (e .content)
   unfolding saidBy placesOfEach elementOf
   each-read noItems j e there = let z : _≡_ {A = ℕ} 0 1 = cc in absurd (omega arith)
   each-read (item at code first past inside after) zero e there =
@@ -140,7 +142,8 @@ module _ (edition : Edition) (s : List ℕ) where
   said-rows noItems = refl
   said-rows (item at code first past inside after) = ap suc (said-rows after)
 
-  pub elements-rows : Hollow (itemsOfStream s) → (elements : List Element) → judge edition (treeOf s) ≡ accepted elements → length elements ≡ length (rowsIn edition s)
+  pub elements-rows : Hollow (itemsOfStream s) → (elements : List Element) → judge edition (treeOf s) ≡ accepted elements
+      → length elements ≡ length (rowsIn edition s)
   elements-rows w elements judged =
       ap length (judged-said (itemsOfStream s) [] elements w (judge-from (itemsOfStream s) elements judged)) ∙ said-rows (itemsOfStream s)
 

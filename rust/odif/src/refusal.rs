@@ -227,7 +227,7 @@ mod tests {
     /// The library of today gives no such number, so this is asked of what reads its answers.
     #[test]
     fn a_number_of_a_newer_library_is_a_refusal_too() {
-        for number in [31, 255, u32::MAX] {
+        for number in [99, 255, u32::MAX] {
             let refusal = Refusal::unless_accepted(number, 5).unwrap_err();
             assert_eq!((refusal.number(), refusal.place), (number, 5));
             assert_eq!(refusal.to_string(), format!("number {number} at 5: a rule that is newer than this program"));

@@ -126,7 +126,7 @@ fn the_text_of_a_side() {
     assert_eq!(text.elements(), letter.elements());
     let sources = letter.sources(Side::Layout).unwrap();
     let places: Vec<_> = sources.iter().map(|source| (source.line, source.place.clone())).collect();
-    assert_eq!(places, [(0, 27..30), (0, 32..35), (1, 11..16)]);
+    assert_eq!(places, [(0, 31..34), (0, 36..39), (1, 13..18)]);
     assert_eq!(places.iter().flat_map(|(_, place)| &stream[place.clone()]).copied().collect::<Vec<_>>(), text.octets());
     assert_eq!(odif::sources(&stream, Side::Layout).as_ref(), Ok(&sources));
     assert_eq!(letter.sources(Side::Logical), Ok(vec![]));

@@ -70,7 +70,7 @@ order 0 0 0 0 26 21 26 21 12 2 12 2 26 2 26 2
 
 #[test]
 fn the_sentences_and_the_version_are_those_of_this_crate() {
-    let numbers = std::iter::once(0).chain(Rule::ALL.map(Rule::number)).chain([31]);
+    let numbers = std::iter::once(0).chain(Rule::ALL.map(Rule::number)).chain([99]);
     let output = run("sentences", "-std=c99", &numbers.map(|number| number.to_string()).collect::<Vec<_>>());
     let text = String::from_utf8(output.stdout).unwrap();
     let mut lines = text.lines();
@@ -112,5 +112,5 @@ fn no_more_stack_than_the_header_says() {
     let output = run("stack", "-std=gnu99", &[]);
     let told = String::from_utf8_lossy(&output.stdout);
     assert!(output.status.success(), "{told}");
-    assert_eq!(told.lines().count(), 28, "{told}");
+    assert_eq!(told.lines().count(), 32, "{told}");
 }

@@ -13,6 +13,7 @@ static uint32_t table[ODIF_ROW_WIDTH * ODIF_MOST_ELEMENTS];
 static odif_match list[ODIF_MOST_ELEMENTS];
 static uint32_t children[ODIF_MOST_ELEMENTS];
 static odif_line lines[ODIF_MOST_ELEMENTS];
+static odif_source sources[ODIF_STREAM_LIMIT / 2];
 static size_t length;
 static uint8_t names[4 * ODIF_MOST_ENTRIES];
 static odif_entry entries[ODIF_MOST_ENTRIES];
@@ -52,6 +53,10 @@ static void ask_children_1993(void) {
 static void ask_date(void) { odif_date(stream, length); }
 static void ask_date_1993(void) { odif_date_1993(stream, length); }
 static void ask_first_date(void) { odif_first_date(stream, length); }
+static void ask_layout_sources(void) { odif_layout_sources(stream, length, sources, ODIF_STREAM_LIMIT / 2); }
+static void ask_logical_sources(void) { odif_logical_sources(stream, length, sources, ODIF_STREAM_LIMIT / 2); }
+static void ask_layout_sources_1993(void) { odif_layout_sources_1993(stream, length, sources, ODIF_STREAM_LIMIT / 2); }
+static void ask_logical_sources_1993(void) { odif_logical_sources_1993(stream, length, sources, ODIF_STREAM_LIMIT / 2); }
 static void ask_layout_text(void) {
     odif_layout_text(stream, length, table, sizeof table / sizeof *table, lines, ODIF_MOST_ELEMENTS, out, sizeof out);
 }
@@ -101,6 +106,10 @@ static const struct {
     {"logical text", ask_logical_text, ODIF_STACK_SMALL_TEXTS, ODIF_STACK_TEXTS},
     {"layout text, 1993", ask_layout_text_1993, ODIF_STACK_SMALL_TEXTS, ODIF_STACK_TEXTS},
     {"logical text, 1993", ask_logical_text_1993, ODIF_STACK_SMALL_TEXTS, ODIF_STACK_TEXTS},
+    {"layout sources", ask_layout_sources, ODIF_STACK_SMALL_LISTS, ODIF_STACK_LISTS},
+    {"logical sources", ask_logical_sources, ODIF_STACK_SMALL_LISTS, ODIF_STACK_LISTS},
+    {"layout sources, 1993", ask_layout_sources_1993, ODIF_STACK_SMALL_LISTS, ODIF_STACK_LISTS},
+    {"logical sources, 1993", ask_logical_sources_1993, ODIF_STACK_SMALL_LISTS, ODIF_STACK_LISTS},
     {"order of class A", ask_order_a, ODIF_STACK_SMALL, ODIF_STACK},
     {"order of class B", ask_order_b, ODIF_STACK_SMALL, ODIF_STACK},
     {"order of class A, 1993", ask_order_a_1993, ODIF_STACK_SMALL, ODIF_STACK},

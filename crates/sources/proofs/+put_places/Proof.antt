@@ -163,7 +163,9 @@ module _ (t : ℕ) where
   loop-less-3 c = meeting (c .before .before) .less
 
   loop-again-3 : lts.Need-loop-again-3 (calls t) (pre-at t) put-places.Post Inv-loop μ-loop
-  loop-again-3 c = none-more (c .before .before .before .before .before .before .loop .inv) (empty-gives (meeting (c .before .before)) (ne-eqb _ _ (c .before .if1 .left)) (c .if2 .left))
+  loop-again-3 c =
+      none-more (c .before .before .before .before .before .before .loop .inv)
+      (empty-gives (meeting (c .before .before)) (ne-eqb _ _ (c .before .if1 .left)) (c .if2 .left))
 
 pub +put-places-spec : {M : Type 1} → statement M
 +put-places-spec =

@@ -1,7 +1,7 @@
 -- `answers::sourcing::sources_judged` meets its contract: the matches that are listed are those of the side, and so are their sources.
 use native.Mathlib.Omega.{arith}
 use borrow.Author.Needs.{needs}
-use Rattle.runs.proofs.Laws.{stream-fine, stream-within}
+use Rattle.runs.proofs.Laws.{stream-fine}
 use Rattle.answers.proofs.Judging.{accepted-judged}
 use Rattle.answers.proofs.Sources.{few-lines, few-sources, all-listed, too-short, put-all}
 use Rattle.answers.proofs.sourcing.sources_judged.Statement.{statement}

@@ -18,7 +18,9 @@ abbrev μ-loop : tie.MeasureT-loop
 μ-loop edition s rows count numbers lines k₀ total₀ k total = lines - k
 
 -- what a turn counts, and that all is not much
-turn : (c : tie.After-count-unit Inv-loop μ-loop) → let a = c .before .before .before .before .before .before .before .before .args in let l = c .before .before .before .before .loop in
+turn : (c : tie.After-count-unit Inv-loop μ-loop) →
+    let a = c .before .before .before .before .before .before .before .before .args in
+    let l = c .before .before .before .before .loop in
     let left = sourcesLeft (placesIn (a .edition) (a .s .now)) (a .numbers .now) (a .lines) in
     length (left (l .k)) ≡ c .count-unit .result + length (left (l .k + 1))
 turn c =
@@ -28,7 +30,9 @@ turn c =
     let unit = ap (λ (u : ℕ). length (places u)) (c .before .wide .ensures) in
     omega (arith, left-length places (a .numbers .now) (a .lines) (l .k) (c .before .before .before .loop-test .taken), c .count-unit .ensures)
 
-all-short : (c : tie.After-count-unit Inv-loop μ-loop) → let a = c .before .before .before .before .before .before .before .before .args in let l = c .before .before .before .before .loop in
+all-short : (c : tie.After-count-unit Inv-loop μ-loop) →
+    let a = c .before .before .before .before .before .before .before .before .args in
+    let l = c .before .before .before .before .loop in
     l .total + length (sourcesLeft (placesIn (a .edition) (a .s .now)) (a .numbers .now) (a .lines) (l .k)) ≤ 1048576
 all-short c =
     let start = c .before .before .before .before .before .before .before .before in

@@ -24,7 +24,9 @@ abbrev μ-loop : tie.MeasureT-loop
 μ-loop edition s rows count numbers lines list₀ k₀ done₀ list k done = lines - k
 
 -- there is room for the records of the next line
-unit-fits : (c : tie.After-wide Inv-loop μ-loop) → let a = c .before .before .before .before .before .before .before .before .args in let l = c .before .before .before .loop in
+unit-fits : (c : tie.After-wide Inv-loop μ-loop) →
+    let a = c .before .before .before .before .before .before .before .before .args in
+    let l = c .before .before .before .loop in
     l .done + 3 * length (placesIn (a .edition) (a .s .now) (c .wide .result)) ≤ length (l .list)
 unit-fits c =
     let start = c .before .before .before .before .before .before .before .before in
@@ -96,7 +98,8 @@ loop-again c =
     let listed = left-numbers places (a .numbers .now) (a .lines) (l .k) (c .before .before .before .before .before .before .loop-test .taken) in
     let next = subst (λ (u : ℕ). left (l .k) ≡ placeNumbers (l .k) (places u) ++ left (l .k + 1)) (sym (unit .ensures)) listed in
     let own = placeNumbers (l .k) (places (unit .result)) in
-    let size : put .result ≡ length own = _∙_ {b = 3 * length (places (unit .result))} (put .ensures .0) (sym (numbers-length (l .k) (places (unit .result)))) in
+    let size : put .result ≡ length own = _∙_ {b = 3 * length (places (unit .result))} (put .ensures .0)
+    (sym (numbers-length (l .k) (places (unit .result)))) in
     let fits : l .done + put .result ≤ length (l .list) = omega (arith, unit-fits (c .before .before .before .before), put .ensures .0) in
     (omega arith, more-filled (l .inv .1) own (left (l .k + 1)) next (put .result) size fits _ (put .ensures .1))
 

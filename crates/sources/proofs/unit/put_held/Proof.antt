@@ -28,13 +28,15 @@ returns : tie.Need-returns
 returns c =
     let a = c .before .before .before .before .before .before .before .before .before .args in
     let put = c .before .before .put-piece in
-    puts-same (a .line) (put .result) _ _ _ _ (ap (heldPlaces (a .s .now)) (c .before .before .before .before .before .held .given .1)) (put .ensures .0, put .ensures .1)
+    let is = c .before .before .before .before .before .held .given .1 in
+    puts-same (a .line) (put .result) _ _ _ _ (ap (heldPlaces (a .s .now)) is) (put .ensures .0, put .ensures .1)
 
 returns-2 : tie.Need-returns-2
 returns-2 c =
     let a = c .before .before .before .before .before .before .before .before .before .args in
     let put = c .before .before .put-places in
-    puts-same (a .line) (put .result) _ _ _ _ (ap (heldPlaces (a .s .now)) (c .before .before .before .before .before .held2 .given .1)) (put .ensures .0, put .ensures .1)
+    let is = c .before .before .before .before .before .held2 .given .1 in
+    puts-same (a .line) (put .result) _ _ _ _ (ap (heldPlaces (a .s .now)) is) (put .ensures .0, put .ensures .1)
 
 pub put-held-spec : {M : Type 1} → statement M
 put-held-spec =

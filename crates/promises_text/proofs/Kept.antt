@@ -1,9 +1,9 @@
 -- What the pieces of a letter show is told by its tree of items: of two streams with one tree, each element shows the same pieces, wherever they stand.
-use mathlib.Core.Path.{_≡_, refl, ap, sym, _∙_}
-use mathlib.Core.Bool.{Bool, true, false, cond}
+use mathlib.Core.Path.{_≡_, refl, ap, sym, _∙_, subst}
+use mathlib.Core.Bool.{false, cond}
 use mathlib.Core.List.{List, [], _∷_, _++_, map}
 use mathlib.Core.Option.{Option, none, some}
-use Prim.Native.Nat.{ℕ, _-_, _<_, _≤_}
+use Prim.Native.Nat.{ℕ, _<_, _≤_}
 use native.Mathlib.Omega.{arith}
 use borrow.Author.Tests.{ltb-true, ltb-false}
 use borrow.Table.Steps.{cases}
@@ -11,21 +11,27 @@ use lib.Dec.{ltb}
 use lib.ListN.{length, getD, List·getD-map}
 use lib.Seq.{slice, length-slice}
 use Rattle.headers.specs.Head.{constructed, typeField}
-use Rattle.octets.specs.Walk.{Items, noItems, item}
+use Rattle.octets.specs.Walk.{Items, noItems, item, End, ends, stops, count, deepest}
+use Rattle.octets.proofs.Walks.{EndOk, run-ok}
+use Rattle.octets.proofs.RulesHold.{derives}
 use Rattle.tree.specs.Tree.{Tree, empty, leaf, branch, plain, treeOf}
+use Rattle.tree.specs.Accepts.{Whole}
+use Rattle.runs.specs.Runs.{walkIn, wholeStream, Fine}
+use Rattle.runs.proofs.Laws.{stream-fine}
 use Rattle.contents.specs.declared.Span.{Span}
 use Rattle.contents.specs.Search.{firstValue, firstRun, boundsOf, itemsIn}
 use Rattle.elements.specs.declared.Edition.{Edition}
 use Rattle.elements.specs.Shape.{Contents, shapeOf}
-use Rattle.elements.specs.Judge.{bytesOf}
+use Rattle.elements.specs.Judge.{bytesOf, Element}
 use Rattle.elements.specs.ElementRows.{bytesIn, contentOctet}
-use Rattle.letters.specs.Letter.{itemsOfStream, Within, not-there, present}
-use Rattle.letters.proofs.Nested.{Nested, bounds-within, items-within}
-use Rattle.letters.proofs.Standing.{Hollow}
-use Rattle.sources.specs.Places.{pieceAt, placesOf, octetsAt}
+use Rattle.letters.specs.Letter.{letter, letterIn, itemsOfStream, Within, not-there, present}
+use Rattle.letters.proofs.Letters.{letter-found}
+use Rattle.letters.proofs.Nested.{Nested, stays, bounds-within, items-within}
+use Rattle.letters.proofs.Standing.{Hollow, hollow}
+use Rattle.sources.specs.Places.{pieceAt, placesOf}
 use Rattle.sources.specs.Units.{placesWith, placesAt, contentPlaces, placesOfEach, placesIn}
 use Rattle.sources.proofs.Places.{slice-none, one-read}
 use Rattle.sources.proofs.Units.{value-read, run-there}
 
 -- a piece, if it has octets
 abbrev someOctets : List ℕ → List (List ℕ)
@@ -118,7 +124,8 @@ module _ (edition : Edition) (s : List ℕ) (from to : ℕ) (in-stream : to ≤ 
       cases (constructed code)
       (λ t. rw (t, own, more))
       (λ t.
-      let bare : shownAt s (contentPlaces contents s inside) ≡ contentValues contents empty = own ∙ ap (λ (i : Items). contentValues contents (plain s i)) (h .0 t) in
+      let bare : shownAt s (contentPlaces contents s inside) ≡ contentValues contents empty =
+      own ∙ ap (λ (i : Items). contentValues contents (plain s i)) (h .0 t) in
       rw (t, bare, more))
 
 -- what is known of the items of a stream that ended
@@ -134,6 +141,20 @@ stream-values edition s w j =
     let pss = placesOfEach edition s (itemsOfStream s) in
     sym (List·getD-map (shownAt s) pss j [])
     ∙ ap (λ (vs : List (List (List ℕ))). getD vs j []) (each-values edition s 0 (w .end) (w .inside) (itemsOfStream s) (w .hollow) (w .nested))
+
+-- of a letter
+whole-by : {s : List ℕ} → Fine s (wholeStream s) → (e : End) → walkIn s (wholeStream s) .how ≡ e → Whole e → WholeItems s
+whole-by {s} fine (ends next) e w =
+    let rules = derives deepest s 0 (length s) false (fine .order) in
+    let ok = subst (EndOk 0 (length s) (count (itemsOfStream s))) e (run-ok deepest s 0 (length s) false (fine .order)) in
+    record { hollow = hollow rules; end = next; inside = omega arith; nested = stays rules next e .nested }
+whole-by fine (stops number place) e w = absurd w
+
+pub whole-items : (edition : Edition) (s : List ℕ) (headers : ℕ) (elements : List Element) → letterIn edition s ≡ letter headers elements → WholeItems s
+whole-items edition s headers elements e =
+    let found = letter-found edition s headers elements e in
+    let fine = stream-fine s (found .at) headers (found .walked) in
+    whole-by fine (walkIn s (wholeStream s) .how) refl (fine .whole)
 
 -- two streams with one tree
 pub same-shown : (edition : Edition) (s r : List ℕ) → WholeItems s → WholeItems r → treeOf r ≡ treeOf s → (j : ℕ)
