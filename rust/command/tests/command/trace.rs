@@ -215,6 +215,20 @@ fn refused_huge_and_unreadable_files() {
     assert_unreadable_json("trace");
 }
 
+/// The wrong programs that docs/EVIDENCE.md names are there, and wrong as it says.
+#[test]
+fn the_wrong_programs_for_the_regulator_are_there() {
+    let page = fs::read_to_string(repository().join("docs/EVIDENCE.md")).unwrap();
+    let rows: Vec<&str> = page.lines().filter(|line| line.starts_with("| `")).collect();
+    assert!(rows.len() >= 5, "{rows:?}");
+    for row in rows {
+        let (program, wrong) = row.trim_matches(['|', ' ']).split_once(" | ").unwrap();
+        let (name, label) = program.trim_matches('`').split_once('/').unwrap();
+        let edit = fs::read_to_string(repository().join(format!("crates/{name}/wrong/{label}.edit"))).unwrap();
+        assert_eq!(edit.lines().next().unwrap(), format!("# {wrong}"), "{program}");
+    }
+}
+
 /// What docs/EVIDENCE.md prints behind `$ odif ..` is what the command writes, but for the library's hash.
 #[test]
 fn the_page_for_the_regulator_is_true() {
