@@ -23,6 +23,8 @@ series  := $(shell echo $(version) | cut -d. -f1,2)
 proved  := target/staticlib/libodif.a
 # the PM1 desk
 desk    := target/staticlib/libpm1.a
+# the library as WebAssembly, which the page of `odif view` holds
+reader  := target/portable/wasm32/odif.wasm
 out     := target/$(if $(TARGET),portable/$(TARGET),install)
 to      := $(DESTDIR)$(PREFIX)
 # where bash, zsh and fish look for them
@@ -75,8 +77,11 @@ $(out)/libodif.so $(out)/libpm1.so: $(out)/lib%.so: $(out)/lib%.a
 $(out)/odif.pc $(out)/pm1.pc: $(out)/%.pc: packaging/%.pc.in FORCE | $(out)
 	sed -e 's|@PREFIX@|$(PREFIX)|' -e 's|@VERSION@|$(version)|' $< > $@
 
+$(reader): $(proved) $(desk) $(wildcard portable/*.py portable/build portable/*.c portable/odif.mjs include/* js/*)
+	portable/build wasm32 $(@D)
+
 # cargo knows what has changed; the command writes its own manual page and completions
-$(out)/odif: $(proved) $(desk) FORCE | $(out)
+$(out)/odif: $(proved) $(desk) $(reader) FORCE | $(out)
 	cd rust && ./packages --look && cargo build --release --locked --workspace --bin odif
 	cp rust/target/release/odif $@
 	$@ man > $@.1

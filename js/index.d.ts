@@ -66,6 +66,15 @@ export interface Dated {
     toString(): string;
 }
 
+/** What the PM1 desk says of a page. */
+export const Verdict: Readonly<{ NONE: 0; ESSENTIAL: 1; NON_ESSENTIAL: 2; OUTSIDE: 3; NOT_FIXED: 4 }>;
+
+/** A page or a class of pages, by its number among the elements, and the verdict on it. */
+export interface Page {
+    readonly element: number;
+    readonly verdict: number;
+}
+
 /** How many items passed the octet rules, how many elements there are, and the refusal, if there is one. */
 export interface Checked {
     readonly headers: number;
@@ -135,6 +144,8 @@ export class Letter {
     date(): Dated;
     /** Whether the elements stand in the order of a class: null, or the refusal by 26 with the place where that shows. */
     order(interchangeClass: 'A' | 'B'): Refusal | null;
+    /** The layout pages and page classes in stream order, each with the verdict of the PM1 desk. */
+    pages(): Page[];
     /** The normal form: the same items in the same order, each length definite and in the fewest octets. */
     normal(): Uint8Array;
 }

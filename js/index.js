@@ -8,7 +8,7 @@
 // What is refused throws `Refusal`, with its number, place and sentence. Every answer is the library's; this package lends the memory. Letters are
 // read by the edition of 1988, or by 1993 where that is named.
 import { Library, MOST_ELEMENTS, ROW_WIDTH, STREAM_LIMIT } from './odif.mjs';
-import { LINE_WIDTH, NO_PARENT, Questions, Refusal, SERIES, SOURCE_WIDTH, numbers, octets } from './questions.js';
+import { LINE_WIDTH, NO_PARENT, PAGE_WIDTH, Questions, Refusal, SERIES, SOURCE_WIDTH, numbers, octets } from './questions.js';
 
 export { MOST_ELEMENTS, NO_PARENT, ROW_WIDTH, Refusal, STREAM_LIMIT };
 
@@ -17,6 +17,9 @@ export const Kind = Object.freeze({
     DOCUMENT_PROFILE: 0, LAYOUT_CLASS: 1, LAYOUT_OBJECT: 2, TEXT_UNIT: 3, LOGICAL_CLASS: 5, LOGICAL_OBJECT: 6, PRESENTATION_STYLE: 7, LAYOUT_STYLE: 8,
     SEALED_PROFILE: 9, ENCIPHERED_PROFILE: 10, PRE_ENCIPHERED_PART: 11, POST_ENCIPHERED_PART: 12,
 });
+
+// What the PM1 desk says of a page.
+export const Verdict = Object.freeze({ NONE: 0, ESSENTIAL: 1, NON_ESSENTIAL: 2, OUTSIDE: 3, NOT_FIXED: 4 });
 
 // Loads the library: odif.wasm that stands beside this file, or what a URL names, or its octets.
 export async function load(source = new URL('./odif.wasm', import.meta.url)) {
@@ -185,10 +188,10 @@ export class Letter {
     sources(side) {
         if (side !== 'layout' && side !== 'logical') throw new RangeError(`the side is 'layout' or 'logical', and not ${side}`);
         // As many as there are headers are always enough.
-        return this.#ask(`odif_${side}_sources_numbers`, [numbers(SOURCE_WIDTH * this.headers)], (answer, list) => Array.from({ length: answer.sources }, (_, i) => {
-            const [line, first, past] = list.numbers().subarray(SOURCE_WIDTH * i, SOURCE_WIDTH * (i + 1));
-            return Object.freeze({ line, place: range(first, past) });
-        }));
+        return this.#ask(`odif_${side}_sources_numbers`, [numbers(SOURCE_WIDTH * this.headers)], (answer, list) => {
+            const told = list.numbers();
+            return Array.from({ length: answer.sources }, (_, i) => Object.freeze({ line: told[3 * i], place: range(told[3 * i + 1], told[3 * i + 2]) }));
+        });
     }
     // The content of a text unit, by its number among the elements, its pieces or tiles joined. Another number is refused by 20.
     content(unit) {
@@ -213,6 +216,14 @@ export class Letter {
     order(interchangeClass) {
         if (interchangeClass !== 'A' && interchangeClass !== 'B') throw new RangeError(`the class is 'A' or 'B', and not ${interchangeClass}`);
         return this.#questions.answer(`odif_order_${interchangeClass.toLowerCase()}`, this.edition, [this.stream], answer => answer.refusal);
+    }
+    // The layout pages and page classes in stream order, each with the verdict of the PM1 desk.
+    pages() {
+        const count = this.elements.length, lent = [numbers(ROW_WIDTH * count), numbers(PAGE_WIDTH * count)];
+        return this.#ask('pm1_pages_numbers', lent, (answer, _, list) => Array.from({ length: answer.pages }, (_, i) => {
+            const [element, verdict] = list.numbers().subarray(PAGE_WIDTH * i, PAGE_WIDTH * (i + 1));
+            return Object.freeze({ element, verdict });
+        }));
     }
     // The normal form: the same items in the same order, each length definite and in the fewest octets.
     normal() {

@@ -1,9 +1,10 @@
-// The questions of include/odif.h that this package asks, and how each is put: memory is lent for one question, and given back with its answer.
+// The questions of include/odif.h and include/pm1.h that this package asks, and how each is put: memory is lent for one question, and given back with
+// its answer.
 
-export const NO_PARENT = 65535, LINE_WIDTH = 5, SOURCE_WIDTH = 3;
+export const NO_PARENT = 65535, LINE_WIDTH = 5, SOURCE_WIDTH = 3, PAGE_WIDTH = 2;
 export const SERIES = '0.2'; // the first two numbers of the module's version that this is written for
 
-// The structs of the header: numbers of 32 bits.
+// The structs of odif.h, and of pm1.h by their whole names: numbers of 32 bits.
 export const STRUCTS = {
     checked: 'number place headers elements',
     written: 'number place length',
@@ -17,6 +18,8 @@ export const STRUCTS = {
     shown: 'number place length numbers',
     sourced: 'number place lines sources',
     source: 'line first past',
+    pm1_listed: 'number place elements pages',
+    pm1_page: 'element verdict',
     entry: 'identifier_first identifier_past portion_first portion_past text_first text_past',
 };
 
@@ -34,6 +37,7 @@ export const OF_BOTH_EDITIONS = {
     odif_logical_text_numbers: 'text_read',
     odif_layout_sources_numbers: 'sourced',
     odif_logical_sources_numbers: 'sourced',
+    pm1_pages_numbers: 'pm1_listed',
 };
 export const OF_NONE = { odif_make_numbers: 'written', odif_utf8: 'shown' };
 

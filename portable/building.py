@@ -64,14 +64,21 @@ def beside(kit, target, name, room, *words):
     return room / f'{name}.o'
 
 
-def to_wasm(kit, target, objects, room, out):
-    """odif.wasm: every function of odif.h and a room to lend from. The stack is at the low end of the memory: one that is too short traps. Beside it its
-    loader, and the package of js/ over that."""
-    shown = [f'--export={name}' for name in (*names_of('odif'), 'room', 'room_size')]
-    kit.run('wasm-ld', '--no-entry', '--gc-sections', '--strip-all', '-z', f'stack-size={STACK}', '--stack-first', *shown,
-            beside(kit, target, 'room', room), *objects, '-o', out / 'odif.wasm')
-    for file in HERE / 'odif.mjs', *(one for one in (TOP / 'js').iterdir() if one.is_file()):
+def put(file, out):
+    """Copies a file, unless it stands there as it is: what is made of it is then not made again."""
+    there = out / file.name
+    if not there.exists() or there.read_bytes() != file.read_bytes():
         shutil.copy(file, out)
+
+
+def to_wasm(kit, target, libraries, objects, room, out):
+    """odif.wasm: every function of the headers and a room to lend from. The stack is at the low end of the memory: one that is too short traps. Beside it its
+    loader, and the package of js/ over that."""
+    shown = [f'--export={name}' for library in libraries for name in names_of(library)] + ['--export=room', '--export=room_size']
+    kit.run('wasm-ld', '--no-entry', '--gc-sections', '--strip-all', '-z', f'stack-size={STACK}', '--stack-first', *shown,
+            beside(kit, target, 'room', room), *objects, '-o', room / 'odif.wasm')
+    for file in room / 'odif.wasm', HERE / 'odif.mjs', *(one for one in (TOP / 'js').iterdir() if one.is_file()):
+        put(file, out)
 
 
 def to_dll(kit, target, library, objects, room, out):
@@ -100,13 +107,14 @@ def build(target, out, optimise='-O3', edit=lambda text: text, libraries=tuple(B
     """The libraries for a machine, in a folder."""
     out.mkdir(parents=True, exist_ok=True)
     kit = Kit()
-    for library in libraries:
-        with tempfile.TemporaryDirectory() as folder:
-            room = pathlib.Path(folder)
+    with tempfile.TemporaryDirectory() as folder:
+        room, all_objects = pathlib.Path(folder), []
+        for library in libraries:
             objects = objects_of(kit, target, library, optimise, room, edit)
+            all_objects += objects
             archive(kit, target, library, objects, out)
-            if target.name == 'wasm32' and library == 'odif':
-                to_wasm(kit, target, objects, room, out)
             if target.name == 'x86_64-windows':
                 to_dll(kit, target, library, objects, room, out)
-        shutil.copy(TOP / f'include/{library}.h', out)
+            shutil.copy(TOP / f'include/{library}.h', out)
+        if target.name == 'wasm32':
+            to_wasm(kit, target, libraries, all_objects, room, out)

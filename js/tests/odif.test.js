@@ -85,6 +85,13 @@ test('where the text stands', () => {
     assert.throws(() => letter('claim').sources(), /'layout' or 'logical'/);
 });
 
+test('memory is enough for the sources of the largest letter', () => {
+    const count = 349490, long = number => `83${number.toString(16).padStart(6, '0')}`, pieces = `24${long(3 * count)}${'040178'.repeat(count)}`;
+    const unit = `31094007312030203220 30${pieces}`.replace(' ', ''), read = odif.letter(hex(`A000 A211020104310C41053120302032A103120130 A3${long(unit.length / 2)}${unit}`));
+    assert.ok(read.stream.length > STREAM_LIMIT - 100);
+    assert.equal(read.sources('layout').length, count);
+});
+
 test('sides', () => {
     const read = letter('annex-d-2');
     assert.deepEqual(read.lines('layout'), []);
@@ -99,6 +106,13 @@ test('dates', () => {
     assert.equal(latin(read.stream.slice(date.place.first, date.place.past)), '1991-04-08');
     assert.deepEqual(odif.firstDate(read.stream), date);
     assert.equal(refusal(() => letter('claim').date()).number, 23);
+});
+
+test('pages', () => {
+    const read = letter('annex-d-1'), pages = read.pages();
+    assert.deepEqual(pages.map(page => latin(read.identifier(page.element))), ['1 0', '1 1', '1 2']);
+    assert.ok(pages.every(page => page.verdict === module.Verdict.NON_ESSENTIAL));
+    assert.deepEqual(odif.letter(hex('A000')).pages(), []);
 });
 
 test('a letter is made', () => {
@@ -249,13 +263,18 @@ test('vectors: orders', () => {
 test('numbers, structs and questions are those of include/', () => {
     const facts = text(`include/facts-${own.SERIES}.txt`).split('\n');
     for (const name of ['STREAM_LIMIT', 'MOST_ELEMENTS', 'ROW_WIDTH', 'NO_PARENT']) assert.ok(facts.includes(`ODIF_${name} ${module[name]}`), name);
+    const whole = struct => struct.startsWith('pm1_') ? struct : `odif_${struct}`;
     for (const [struct, fields] of Object.entries(own.STRUCTS)) {
-        const wanted = fields.split(' ').map((field, i) => `odif_${struct}.${field} at ${4 * i}, 4 octets`);
-        assert.deepEqual(facts.filter(fact => fact.startsWith(`odif_${struct}.`)), wanted);
+        const wanted = fields.split(' ').map((field, i) => `${whole(struct)}.${field} at ${4 * i}, 4 octets`);
+        assert.deepEqual(facts.filter(fact => fact.startsWith(`${whole(struct)}.`)), wanted);
     }
     assert.equal(own.LINE_WIDTH, own.STRUCTS.line.split(' ').length);
+    assert.equal(own.SOURCE_WIDTH, own.STRUCTS.source.split(' ').length);
+    assert.equal(own.PAGE_WIDTH, own.STRUCTS.pm1_page.split(' ').length);
+    const verdicts = [...text('include/pm1.h').matchAll(/^ +PM1_([A-Z_]+) += (\d),?/gm)].map(([, name, number]) => [name, Number(number)]);
+    assert.deepEqual({ ...module.Verdict }, Object.fromEntries(verdicts));
     const both = Object.entries(own.OF_BOTH_EDITIONS).flatMap(([name, struct]) => [[name, struct], [`${name}_1993`, struct]]);
-    for (const [name, struct] of [...both, ...Object.entries(own.OF_NONE)]) assert.ok(facts.some(fact => fact.startsWith(`odif_${struct} ${name}(`)), name);
+    for (const [name, struct] of [...both, ...Object.entries(own.OF_NONE)]) assert.ok(facts.some(fact => fact.startsWith(`${whole(struct)} ${name}(`)), name);
 });
 
 test('the kinds are those of the Python package', () => {
@@ -275,7 +294,7 @@ test('the types name what is there', () => {
     assert.deepEqual(values.sort(), Object.keys(module).sort());
     const read = letter('claim'), refused = refusal(() => letter('cut-short'));
     const all = {
-        Odif: odif, Letter: read, Refusal: refused, Element: read.elements[0], Line: read.lines()[0], Dated: letter('dated').date(), Checked: odif.check(read.stream),
+        Odif: odif, Letter: read, Refusal: refused, Element: read.elements[0], Line: read.lines()[0], Dated: letter('dated').date(), Page: letter('annex-d-1').pages()[0], Source: letter('claim').sources('layout')[0], Checked: odif.check(read.stream),
     };
     for (const [name, one] of Object.entries(all)) {
         const body = types.match(new RegExp(`^export (?:class|interface) ${name}\\b[^{]*\\{(.*?)^\\}`, 'ms'))[1];

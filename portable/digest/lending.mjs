@@ -42,7 +42,7 @@ library.takeBack();
 const stream = lend(library, letter(1)), output = library.lend(64);
 hold('parts that are lent are apart', output.at >= stream.at + stream.count && output.at % 8 === 0);
 hold('what is lent twice is refused', refused(RangeError, () => library.ask('odif_normal', 3, stream, stream)));
-hold('more than the room has is refused', refused(RangeError, () => library.lend(1 << 23)));
+hold('more than the room has is refused', refused(RangeError, () => library.lend((1 << 23) + 1)));
 hold('a count that is no number of octets is refused', refused(RangeError, () => library.lend(-1)) && refused(RangeError, () => library.lend(0.3)));
 hold('a part of another library is refused', await Library.load(octets).then(other => refused(RangeError, () => other.ask('odif_normal', 3, stream, output))));
 hold('another number of parameters is refused', refused(TypeError, () => library.ask('odif_normal', 3, stream)));

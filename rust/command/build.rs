@@ -24,6 +24,9 @@ fn main() {
     let compiled =
         if machine == "x86_64" { String::new() } else { format!(", compiled for {machine} from its module") };
     println!("cargo::rustc-env=ODIF_COMPILED={compiled}");
+    let (reader, hash) = reader(&folder);
+    println!("cargo::rustc-env=ODIF_READER={}", reader.display());
+    println!("cargo::rustc-env=ODIF_READER_HASH={}", hash.as_deref().unwrap_or("not known"));
     // The manual page's: of the commit, so that it is the same wherever it is built.
     println!("cargo::rustc-env=ODIF_DATE={}", date.unwrap_or_default());
 }
@@ -36,6 +39,31 @@ fn hash(library: &Path) -> Option<String> {
     output("grep", &["-a", "-o", &format!("{name} sha256 [0-9a-f]\\{{64\\}}"), &file])
         .and_then(|said| said.split(' ').next_back().map(String::from))
         .or_else(|| output("sha256sum", &[&file])?.split(' ').next().map(String::from))
+}
+
+/// The library as WebAssembly, for the page of `odif view`, and its hash: where ODIF_LIB_DIR has it, else where `make` has it. Where it is not to be had
+/// the file is empty, and the subcommand says so.
+fn reader(folder: &Path) -> (PathBuf, Option<String>) {
+    let at =
+        if env::var_os("ODIF_LIB_DIR").is_some() { folder.to_path_buf() } else { folder.join("../portable/wasm32") };
+    let file = std::path::absolute(at.join("odif.wasm")).expect("a path");
+    let hash = hash_of(&file);
+    if hash.is_some() {
+        return (file, hash);
+    }
+    println!(
+        "cargo::warning={} is not there, so `odif view` will not work; `portable/build wasm32` makes it",
+        file.display()
+    );
+    let none = PathBuf::from(env::var_os("OUT_DIR").expect("cargo sets it")).join("none.wasm");
+    std::fs::write(&none, b"").expect("cargo's folder for this script can be written");
+    (none, None)
+}
+
+/// The SHA-256 of a file, which cargo shall look at each time.
+fn hash_of(file: &Path) -> Option<String> {
+    println!("cargo::rerun-if-changed={}", file.display());
+    output("sha256sum", &[&file.display().to_string()])?.split(' ').next().map(String::from)
 }
 
 /// The first line that a command writes, if it can be run and ends well.

@@ -8,7 +8,7 @@ use clap::{CommandFactory, Parser, Subcommand};
 
 use crate::status::{Failure, Outcome, Status, tell};
 use crate::{catalog, check, date, export, grep, identity, list, make, man, normal};
-use crate::{order, outline, pages, profile, same, survey, text, tree};
+use crate::{order, outline, pages, profile, same, survey, text, trace, tree, view};
 
 const EXAMPLES: &str = "\
 Examples:
@@ -21,8 +21,8 @@ Examples:
 
 Exit status: 0 all was accepted; 1 something was refused; 2 something could not be
 read or written, or the command was misused; 3 the independent reader differs, with
-`odif check --second`; 130 it was interrupted; 141 no one reads its output any more, as in
-`odif tree letter.odif | head`.";
+`odif check --second`, or the file, read once more, with `odif trace --check`; 130 it was
+interrupted; 141 no one reads its output any more, as in `odif tree letter.odif | head`.";
 
 /// The signal of a pipe that no one reads.
 const SIGPIPE: u8 = 13;
@@ -41,6 +41,8 @@ enum Command {
     Date(date::Words),
     Profile(profile::Words),
     Text(text::Words),
+    Trace(trace::Words),
+    View(view::Words),
     Tree(tree::Words),
     List(list::Words),
     Outline(outline::Words),
@@ -94,6 +96,8 @@ fn dispatch(command: Command) -> Outcome {
         Command::Date(words) => date::run(&words),
         Command::Profile(words) => profile::run(&words),
         Command::Text(words) => text::run(&words),
+        Command::Trace(words) => trace::run(&words),
+        Command::View(words) => view::run(&words),
         Command::Tree(words) => tree::run(&words),
         Command::List(words) => list::run(&words),
         Command::Outline(words) => outline::run(&words),

@@ -12,6 +12,8 @@ const VERSION: &str = concat!(
     "\ndesk      libpm1.a, sha256 ",
     env!("ODIF_DESK"),
     env!("ODIF_COMPILED"),
+    "\nreader    odif.wasm, sha256 ",
+    env!("ODIF_READER_HASH"),
     "\ncommit    ",
     env!("ODIF_COMMIT"),
     "\ntoolchain ",

@@ -2,6 +2,7 @@
 
 mod args;
 mod asked;
+mod base64;
 mod beside;
 mod blocks;
 mod catalog;
@@ -25,6 +26,7 @@ mod man;
 mod modules;
 mod names;
 mod normal;
+mod offsets;
 mod on_pages;
 mod order;
 mod outline;
@@ -35,12 +37,15 @@ mod progress;
 mod protected;
 mod same;
 mod show;
+mod sources;
 mod status;
 mod survey;
 mod text;
+mod trace;
 mod tree;
 mod undated;
 mod units;
+mod view;
 
 use std::process::ExitCode;
 

@@ -20,9 +20,10 @@ pub const JSON: &str = "\
 With --json each file is one object on a line. Octets of a letter have one form in all of them: a field NAME and a field
 NAME_hex. NAME_hex always has all octets, in hexadecimal. NAME has them as a string if each is 00 to 7E, with the escapes of
 JSON and no others, and is null or missing if not. What is no string of octets but made for people, as `detail`, may have \\xHH, \\n and
-the like in it. What `grep` and `profile` tell of a letter's text is in UTF-8, by its set of characters. A file's name is
-`file`; where that is no UTF-8, `file_octets` has it in hexadecimal, and `file` is for people. Places and numbers of
-elements are counted from 0.";
+the like in it. What `grep`, `profile`, `trace` and, with --utf8, `text` tell of a letter's text is in UTF-8, by its set of
+characters. A file's name is `file`; where that is no UTF-8, `file_octets` has it in hexadecimal, and `file` is for people.
+Places and numbers of elements are counted from 0, pages and the lines of `trace` from 1. A place is `first` and `past`: from
+the one octet up to that before the other.";
 
 /// Writes the completions for a shell
 #[derive(Args)]
@@ -34,7 +35,7 @@ pub struct Words {
 /// Writes the completions of the command.
 pub fn completions(words: &Words, mut command: Command) -> Outcome {
     let mut text = Vec::new();
-    for name in ["text", "grep", "export", "catalog"] {
+    for name in ["text", "trace", "grep", "export", "catalog"] {
         command = command.mut_subcommand(name, plain_utf8);
     }
     clap_complete::generate(words.shell, &mut command, "odif", &mut text);

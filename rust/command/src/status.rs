@@ -12,7 +12,7 @@ pub enum Status {
     Refused,
     /// Something could not be read or written, or the command was misused.
     Failed,
-    /// The independent reader answers something else than the library.
+    /// The independent reader answers something else than the library, or a file that is read once more has other octets.
     Differing,
 }
 

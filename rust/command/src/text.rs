@@ -11,6 +11,7 @@ use crate::asked::{Files, Sides};
 use crate::charset::{self, Charset, Declared};
 use crate::files::at_least_one;
 use crate::input::{self, Source};
+use crate::offsets::Offsets;
 use crate::on_pages::OnPages;
 use crate::status::{Outcome, Status, tell};
 use crate::units::Units;
@@ -23,6 +24,8 @@ Examples:
   odif text --utf8=t61 letter.odif
   odif text --page 2 samples/letters/annex-d-1.odif
   odif text --form-feeds samples/letters/annex-d-1.odif | pr | head
+  odif text --offsets samples/letters/dated.odif
+  odif text --offsets --json letter.odif | jq -c '.lines[] | [.sources, .text]'
   odif text --strict inbox/*.odif > inbox.txt
 
 Exit status: 0 written; 1 a letter was refused, lacks a page that was asked, or with --strict has text
@@ -57,6 +60,14 @@ pub struct Words {
     /// A form feed where the text of another page begins
     #[arg(long, conflicts_with = "raw")]
     form_feeds: bool,
+    /// Before each line where its octets stand in the file, as 142..167 (from octet 142 up to the one before 167), and a
+    /// tabulator; of a line in pieces or of several units each place, as 38..39,41..42. A line end of the file is one of
+    /// the octets; one that a block ends without is not
+    #[arg(long, conflicts_with_all = ["raw", "form_feeds"])]
+    offsets: bool,
+    /// One JSON object a file, with each line, its page, block and unit, its octets and where they stand
+    #[arg(long, requires = "offsets")]
+    json: bool,
 }
 
 const FORM_FEED: &[u8] = b"\x0C";
@@ -83,6 +94,8 @@ pub struct Text {
     pub places: Vec<Range<usize>>,
     /// The text as the library gave it.
     pub whole: odif::Text,
+    /// Are the octets UTF-8, and not those of the file?
+    pub is_utf8: bool,
     /// Why a set of characters was taken that the letter does not declare.
     assumed: Option<Assumed>,
 }
@@ -106,14 +119,33 @@ impl How {
     }
 
     fn text_by(&self, utf8: Option<Charset>, edition: Edition, stream: &[u8]) -> Result<Text, Refusal> {
-        let (side, whole) = self.sides.text(edition, stream)?;
+        let (side, whole) = self.side_and_text(edition, stream)?;
         let (octets, places) = in_blocks(&whole);
         let (octets, places, assumed) = match utf8 {
             None => (octets, places, None),
             Some(set) => in_utf8(stream, octets, places, set),
         };
         let units = Units::of(side, &whole).count();
-        Ok(Text { octets, side, units, shown: whole.lines().len(), places, whole, assumed })
+        Ok(Text { octets, side, units, shown: whole.lines().len(), places, whole, is_utf8: utf8.is_some(), assumed })
+    }
+
+    /// The side that is asked for, and its text as the library gives it.
+    pub fn side_and_text(&self, edition: Edition, stream: &[u8]) -> Result<(Side, odif::Text), Refusal> {
+        self.sides.text(edition, stream)
+    }
+
+    /// Octets of a letter's text as UTF-8, and where some places of them, which are in order, are in it. A set that is taken for want of a
+    /// declared one is told.
+    pub fn characters(
+        &self,
+        source: &Source<'_>,
+        octets: Vec<u8>,
+        places: Vec<Range<usize>>,
+    ) -> (Vec<u8>, Vec<Range<usize>>) {
+        let set = self.utf8.unwrap_or(Charset::Auto);
+        let (text, places, assumed) = in_utf8(&source.stream, octets.clone(), places, set);
+        note_assumed(source, &octets, &text, assumed);
+        (text, places)
     }
 
     /// The way in words, to tell one way from another: every field that changes a text.
@@ -187,11 +219,9 @@ fn note_designated(source: &Source<'_>, text: &Text) {
 }
 
 /// Tells on standard error which set of characters was taken, if none was named and another would give other text.
-fn note_assumed(source: &Source<'_>, text: &Text) {
-    let (octets, _) = in_blocks(&text.whole);
-    let depends =
-        || charset::others(charset::ASSUMED).any(|set| charset::to_utf8(&octets, set).as_bytes() != text.octets);
-    let why = match text.assumed.filter(|_| depends()) {
+fn note_assumed(source: &Source<'_>, octets: &[u8], text: &[u8], assumed: Option<Assumed>) {
+    let depends = || charset::others(charset::ASSUMED).any(|set| charset::to_utf8(octets, set).as_bytes() != text);
+    let why = match assumed.filter(|_| depends()) {
         None => return,
         Some(Assumed::NoneDeclared) => "the letter declares no character set",
         Some(Assumed::SeveralDeclared) => "the letter declares several character sets",
@@ -201,22 +231,28 @@ fn note_assumed(source: &Source<'_>, text: &Text) {
 
 pub fn run(words: &Words) -> Outcome {
     let escape = words.escape || !words.raw && words.how.utf8.is_none() && io::stdout().is_terminal();
-    input::each(&words.files, false, |source| {
+    input::each(&words.files, words.json, |source| {
         let text = match words.how.text(source.edition, &source.stream) {
             Ok(text) => text,
-            Err(refusal) => {
-                tell(&explain::refusal(source, &refusal));
+            refused @ Err(refusal) => {
+                match words.json {
+                    true => io::stdout().write_all(explain::answer(source, &refused, Offsets::default()).as_bytes())?,
+                    false => tell(&explain::refusal(source, &refusal)),
+                }
                 return Ok(Status::Refused);
             }
         };
         let pages = OnPages::of(text.whole.elements());
         let mut out = BufWriter::new(io::stdout().lock());
-        if !words.raw {
+        if !words.raw && !words.json {
             input::heading(&mut out, source)?;
         }
-        write(&mut out, words, &text, &pages, escape)?;
+        match words.offsets {
+            true => write_offsets(&mut out, words, source, &text, &pages, escape)?,
+            false => write(&mut out, words, &text, &pages, escape)?,
+        }
         out.flush()?;
-        note_assumed(source, &text);
+        note_assumed(source, &in_blocks(&text.whole).0, &text.octets, text.assumed);
         if words.how.utf8.is_some() {
             note_designated(source, &text);
         }
@@ -245,6 +281,22 @@ fn write(out: &mut impl Write, words: &Words, text: &Text, pages: &OnPages, esca
     Ok(())
 }
 
+/// Writes the lines that are asked of a text with where they stand, for people or as JSON.
+fn write_offsets(
+    out: &mut impl Write,
+    words: &Words,
+    source: &Source<'_>,
+    text: &Text,
+    pages: &OnPages,
+    escape: bool,
+) -> io::Result<()> {
+    let offsets = Offsets::of(source, text, pages).on_pages(&words.page);
+    match words.json {
+        true => out.write_all(explain::answer(source, &Ok::<_, Refusal>(()), offsets).as_bytes()),
+        false => offsets.write(out, escape),
+    }
+}
+
 /// Has the text all of these pages? What it lacks is told.
 fn has_pages(source: &Source<'_>, asked: &[usize], side: Side, pages: &OnPages) -> bool {
     let count = if side == Side::Layout { pages.count() } else { 0 };
@@ -265,7 +317,7 @@ impl Text {
 }
 
 /// A text with each block ending a line, and where each line's octets are in it.
-fn in_blocks(whole: &odif::Text) -> (Vec<u8>, Vec<Range<usize>>) {
+pub fn in_blocks(whole: &odif::Text) -> (Vec<u8>, Vec<Range<usize>>) {
     let mut text = Vec::with_capacity(whole.octets().len() + whole.lines().len());
     let mut places = Vec::with_capacity(whole.lines().len());
     for block in whole.lines().chunk_by(|one, other| one.element == other.element) {

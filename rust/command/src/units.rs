@@ -30,6 +30,15 @@ pub struct Unit {
     past: usize,
 }
 
+impl Unit {
+    /// Which it is and where it stands, for people.
+    pub fn in_words(&self) -> String {
+        let Unit { unit, place, first, past } = self;
+        let content = if past == first { "no content".into() } else { format!("its content at {first}..{past}") };
+        format!("text unit {unit} at octet {place}, {content}")
+    }
+}
+
 impl Units {
     /// Those of a side's text.
     pub fn of(side: Side, text: &Text) -> Units {

@@ -25,6 +25,8 @@ fn the_overview_names_every_subcommand() {
             "catalog",
             "grep",
             "profile",
+            "trace",
+            "view",
             "Examples:",
             "Exit status:",
         ] {
@@ -37,7 +39,7 @@ fn the_overview_names_every_subcommand() {
 fn every_subcommand_has_help_with_examples() {
     for name in [
         "check", "text", "tree", "normal", "make", "list", "order", "pages", "profile", "survey", "grep", "same",
-        "export", "catalog",
+        "export", "catalog", "trace", "view",
     ] {
         for words in [[name, "--help"], ["help", name]] {
             let run = odif(&words);
@@ -52,7 +54,7 @@ fn every_subcommand_has_help_with_examples() {
 fn the_version() {
     let run = odif(&["--version"]);
     let lines: Vec<&str> = run.text().lines().collect();
-    assert_eq!((lines.len(), lines[0]), (5, concat!("odif ", env!("CARGO_PKG_VERSION"))));
+    assert_eq!((lines.len(), lines[0]), (6, concat!("odif ", env!("CARGO_PKG_VERSION"))));
     let folder = std::env::var_os("ODIF_LIB_DIR").map_or_else(|| repository().join("target/staticlib"), PathBuf::from);
     for (line, named, archive) in [(1, "library   ", "libodif.a"), (2, "desk      ", "libpm1.a")] {
         let hash = Command::new("sha256sum").arg(folder.join(archive)).output().unwrap().stdout;
@@ -63,7 +65,8 @@ fn the_version() {
         };
         assert_eq!(lines[line], format!("{named}{archive}, sha256 {}{compiled}", hash.split(' ').next().unwrap()));
     }
-    assert!(lines[3].starts_with("commit    ") && lines[4].starts_with("toolchain "), "{}", run.text());
+    assert!(lines[3].starts_with("reader    odif.wasm, sha256 "), "{}", run.text());
+    assert!(lines[4].starts_with("commit    ") && lines[5].starts_with("toolchain "), "{}", run.text());
     assert_eq!(odif(&["-V"]).text().lines().count(), 1);
 }
 
@@ -87,6 +90,9 @@ fn completions_and_a_manual_page() {
         ".SH odif profile\n",
         ".SH odif grep\n",
         ".SH odif catalog\n",
+        ".SH odif trace\n",
+        ".SH odif view\n",
+        ".B \\-\\-offsets\n",
         ".B \\-\\-utf8[=SET]\n",
         "One of: auto (What the letter",
         ".SH JSON\n",
@@ -110,7 +116,12 @@ fn misuse_is_told() {
         (&["check"], "<FILE>..."),
         (&["check", "--jason", CLAIM], "Did you mean '--json'?"),
         (&["text"], "<FILE>..."),
-        (&["text", "--json", CLAIM], "'--json' which wasn't expected"),
+        (&["text", "--json", CLAIM], "--offsets"),
+        (&["text", "--offsets", "--raw", CLAIM], "cannot be used with"),
+        (&["trace"], "<FILE>..."),
+        (&["trace", "--line", "0", CLAIM], "a number from 1"),
+        (&["trace", "--at", "x", CLAIM], "invalid digit"),
+        (&["trace", "--at", "1", "--line", "1", CLAIM], "cannot be used with"),
         (&["text", "--raw", "--escape", CLAIM], "cannot be used with"),
         (&["normal", CLAIM, "-o"], "requires a value"),
         (&["normal", CLAIM, CUT_SHORT], "several letters need `--into FOLDER`"),

@@ -29,5 +29,8 @@ mod same;
 mod support;
 mod survey;
 mod text;
+mod text_offsets;
+mod trace;
 mod tree;
 mod verify;
+mod view;
