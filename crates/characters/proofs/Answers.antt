@@ -15,7 +15,8 @@ use Rattle.characters.specs.Signs.{utf8Of, numbersIn, textOf, numbersOf}
 use Rattle.characters.specs.Answers.{most, roomOf, size, measured, shown, shownAs, shownOutput, ShownOutcome}
 
 -- what was measured, told
-pub measured-fits : (xs : List Sign) (room here numbers : ℕ) → here ≡ length (utf8Of xs) → numbers ≡ numbersIn xs → here ≤ room → size true here numbers ≡ measured xs room
+pub measured-fits : (xs : List Sign) (room here numbers : ℕ) → here ≡ length (utf8Of xs) → numbers ≡ numbersIn xs → here ≤ room →
+    size true here numbers ≡ measured xs room
 measured-fits xs room here numbers ea eb h =
     let fits : length (utf8Of xs) ≤ room = omega arith in
     rw (le-leb (length (utf8Of xs)) room fits) (ap (λ n. size true n numbers) ea ∙ ap (λ n. size true (length (utf8Of xs)) n) eb)
@@ -55,7 +56,8 @@ front xs l h =
     sets-eq xs l 0 room ∙ rw zero-add
 
 module _ (set : ℕ) (xs out : List ℕ) where
-  pub fitting : (long numbers : ℕ) (after : List ℕ) → length (textOf set xs) ≤ roomOf (length out) → long ≡ length (textOf set xs) → numbers ≡ numbersOf set xs →
+  pub fitting : (long numbers : ℕ) (after : List ℕ) → length (textOf set xs) ≤ roomOf (length out) →
+      long ≡ length (textOf set xs) → numbers ≡ numbersOf set xs →
       after ≡ sets out 0 (textOf set xs) → ShownOutcome set xs out (shown 0 long numbers) after
   unfolding shownAs shownOutput
   fitting long numbers after h el en eo = record {

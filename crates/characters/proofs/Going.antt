@@ -111,7 +111,8 @@ pub size-left :
     length (utf8Of (signs s (drop at xs))) ≡ r .length + length (utf8Of (signs s (drop (at + r .wide) xs)))
 size-left s xs at r g =
     ap length (g .text)
-    ∙ (length-append (stepText s xs at) (utf8Of (signs s (drop (at + r .wide) xs))) ∙ ap (λ n. n + length (utf8Of (signs s (drop (at + r .wide) xs)))) (g .long))
+    ∙ (length-append (stepText s xs at) (utf8Of (signs s (drop (at + r .wide) xs)))
+    ∙ ap (λ n. n + length (utf8Of (signs s (drop (at + r .wide) xs)))) (g .long))
 
 -- what the code tells of a step, where a run ends at `end`
 nothing : (l : List ℕ) → length l ≤ 0 → l ≡ []

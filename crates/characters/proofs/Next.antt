@@ -16,17 +16,21 @@ use Rattle.characters.specs.Pairs.{pairOf}
 use Rattle.characters.specs.Signs.{octetsOf, isNumber, isLineEnd, firstSign, sign, alone, signAt, signs, utf8Of, numbersIn}
 
 -- a sign has one octet or two
-wide-of : (x y : Bool) (u v w : Points) → (cond x (sign u 2) (cond y (sign v 1) (sign w 2)) .wide ≡ 1) ⊎ (cond x (sign u 2) (cond y (sign v 1) (sign w 2)) .wide ≡ 2)
+abbrev OneOrTwo : Sign → Type 0
+OneOrTwo x = (x .wide ≡ 1) ⊎ (x .wide ≡ 2)
+
+wide-of : (x y : Bool) (u v w : Points) → OneOrTwo (cond x (sign u 2) (cond y (sign v 1) (sign w 2)))
 wide-of true y u v w = inr refl
 wide-of false true u v w = inl refl
 wide-of false false u v w = inr refl
 
-pub sign-wide : (s a b : ℕ) → (firstSign s a b .wide ≡ 1) ⊎ (firstSign s a b .wide ≡ 2)
+pub sign-wide : (s a b : ℕ) → OneOrTwo (firstSign s a b)
 unfolding firstSign
 sign-wide s a b = wide-of (isLineEnd a b) (eqb (pairOf s a b) 0) _ _ _
 
 -- the signs of two octets and more
-signs-more : (s a b : ℕ) (rest : List ℕ) → (firstSign s a b .wide ≡ 1) ⊎ (firstSign s a b .wide ≡ 2) → signs s (a ∷ b ∷ rest) ≡ firstSign s a b ∷ signs s (drop (firstSign s a b .wide) (a ∷ b ∷ rest))
+signs-more : (s a b : ℕ) (rest : List ℕ) → OneOrTwo (firstSign s a b) →
+    signs s (a ∷ b ∷ rest) ≡ firstSign s a b ∷ signs s (drop (firstSign s a b .wide) (a ∷ b ∷ rest))
 unfolding signs
 signs-more s a b rest (inl e) = rw e
 signs-more s a b rest (inr e) = rw e
@@ -49,7 +53,8 @@ module _ (s : ℕ) (xs : List ℕ) (at : ℕ) (h : at < length xs) where
           let more : at + 1 < length xs = ltb-true (at + 1) (length xs) e in
           rw e (two (sign-wide s (getD xs at 0) (getD xs (at + 1) 0)) more)
         where
-          two : (w : (firstSign s (getD xs at 0) (getD xs (at + 1) 0) .wide ≡ 1) ⊎ (firstSign s (getD xs at 0) (getD xs (at + 1) 0) .wide ≡ 2)) → at + 1 < length xs → (1 ≤ firstSign s (getD xs at 0) (getD xs (at + 1) 0) .wide) × (at + firstSign s (getD xs at 0) (getD xs (at + 1) 0) .wide ≤ length xs)
+          two : OneOrTwo (firstSign s (getD xs at 0) (getD xs (at + 1) 0)) → at + 1 < length xs →
+              (1 ≤ firstSign s (getD xs at 0) (getD xs (at + 1) 0) .wide) × (at + firstSign s (getD xs at 0) (getD xs (at + 1) 0) .wide ≤ length xs)
           two (inl f) m = (omega arith, omega arith)
           two (inr f) m = (omega arith, omega arith)
       go false e = rw e (omega arith, omega arith)

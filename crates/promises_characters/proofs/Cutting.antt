@@ -19,7 +19,8 @@ use Rattle.characters.proofs.Table.{at}
 use Rattle.characters.proofs.Rules.{accent-of}
 
 -- one octet of two that are no sign together is alone
-alone-of : (x y : Bool) (u w : Points) (p : Points) → cond x (sign u 2) (cond y (sign p 1) (sign w 2)) .wide ≡ 1 → cond x (sign u 2) (cond y (sign p 1) (sign w 2)) ≡ sign p 1
+alone-of : (x y : Bool) (u w : Points) (p : Points) →
+    cond x (sign u 2) (cond y (sign p 1) (sign w 2)) .wide ≡ 1 → cond x (sign u 2) (cond y (sign p 1) (sign w 2)) ≡ sign p 1
 alone-of true y u w p e = absurd (omega arith)
 alone-of false true u w p e = refl
 alone-of false false u w p e = absurd (omega arith)

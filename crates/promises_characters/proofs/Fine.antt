@@ -21,7 +21,8 @@ use Rattle.promises_characters.specs.Promises.{Octets, isScalar, Scalars
 use Rattle.promises_characters.proofs.Small.{single-small, pair-small, combining-small}
 
 -- no more signs than octets
-fewer : (s a b : ℕ) (rest : List ℕ) → (firstSign s a b .wide ≡ 1) ⊎ (firstSign s a b .wide ≡ 2) → length (signs s rest) ≤ length rest → length (signs s (b ∷ rest)) ≤ length (b ∷ rest) → length (signs s (a ∷ b ∷ rest)) ≤ length (a ∷ b ∷ rest)
+fewer : (s a b : ℕ) (rest : List ℕ) → (firstSign s a b .wide ≡ 1) ⊎ (firstSign s a b .wide ≡ 2) → length (signs s rest) ≤ length rest →
+    length (signs s (b ∷ rest)) ≤ length (b ∷ rest) → length (signs s (a ∷ b ∷ rest)) ≤ length (a ∷ b ∷ rest)
 unfolding signs
 fewer s a b rest (inl e) h k = rw e (omega (arith, k))
 fewer s a b rest (inr e) h k = rw e (omega (arith, h))
@@ -43,8 +44,10 @@ fine-one : (p : ℕ) → p < 0xD800 → Fine (One p)
 fine-one p h = ((scalar p h, tt), omega (arith, ap length (is-point (One p) p refl), at-most-three p (omega arith)))
 
 fine-two : (p q : ℕ) → p < 0xD800 → q < 0xD800 → Fine (Two p q)
-fine-two p q hp hq =
-    ((scalar p hp, (scalar q hq, tt)), omega (arith, ap length (is-two (Two p q) p q refl) ∙ length-append (utf8 p) (utf8 q), at-most-three p (omega arith), at-most-three q (omega arith)))
+fine-two p q hp hq = (
+  (scalar p hp, (scalar q hq, tt)),
+  omega (arith, ap length (is-two (Two p q) p q refl) ∙ length-append (utf8 p) (utf8 q), at-most-three p (omega arith), at-most-three q (omega arith)),
+)
 
 fine-number : (o : ℕ) → o < 256 → Fine (Number o)
 fine-number o h =
@@ -71,7 +74,8 @@ first-fine s a b ha hb =
     pick-sign (isLineEnd a b) (eqb (pairOf s a b) 0) (Two a b) (alone s a) (accented (pairOf s a b) a b)
     (fine-two a b (omega arith) (omega arith))
     (single-fine s a ha)
-    (pick-fine (eqb (pairOf s a b) 1) (Two b (combining a)) (One (pairOf s a b)) (fine-two b (combining a) (omega arith) (combining-small a ha)) (fine-one (pairOf s a b) (pair-small s a b)))
+    (pick-fine (eqb (pairOf s a b) 1) (Two b (combining a)) (One (pairOf s a b))
+    (fine-two b (combining a) (omega arith) (combining-small a ha)) (fine-one (pairOf s a b) (pair-small s a b)))
 
 abbrev FineAll : List Sign → Type 0
 FineAll [] = Unit {0}
@@ -85,8 +89,10 @@ all-fine : (s : ℕ) → (xs : List ℕ) → Octets xs → FineAll (signs s xs)
 unfolding signs
 all-fine s [] os = tt
 all-fine s (a ∷ []) os = (single-fine s a (os .0), tt)
-all-fine s (a ∷ b ∷ rest) os =
-    (first-fine s a b (os .0) (os .1 .0), pick-all (eqb (firstSign s a b .wide) 2) (signs s rest) (signs s (b ∷ rest)) (all-fine s rest (os .1 .1)) (all-fine s (b ∷ rest) (os .1)))
+all-fine s (a ∷ b ∷ rest) os = (
+  first-fine s a b (os .0) (os .1 .0),
+  pick-all (eqb (firstSign s a b .wide) 2) (signs s rest) (signs s (b ∷ rest)) (all-fine s rest (os .1 .1)) (all-fine s (b ∷ rest) (os .1)),
+)
 
 size-fine : (ps : List Sign) → FineAll ps → length (utf8Of ps) ≤ 8 * length ps
 unfolding utf8Of

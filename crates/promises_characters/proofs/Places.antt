@@ -56,7 +56,8 @@ first-of s (a ∷ rest) x after e = past
         let from : 0 + signAt s (a ∷ rest) 0 .wide ≡ x .wide = zero-add _ ∙ ap (λ (y : Sign). y .wide) (two .0) in
         ap (λ n. signs s (drop n (a ∷ rest))) (sym from) ∙ two .1
 
-there : (s : ℕ) (xs : List ℕ) (before : List Sign) (x : Sign) (after : List Sign) → signs s xs ≡ before ++ (x ∷ after) → signs s (drop (widths before) xs) ≡ x ∷ after
+there : (s : ℕ) (xs : List ℕ) (before : List Sign) (x : Sign) (after : List Sign) → signs s xs ≡ before ++ (x ∷ after) →
+    signs s (drop (widths before) xs) ≡ x ∷ after
 unfolding widths
 there s xs [] x after e = e
 there s xs (b ∷ before) x after e =
@@ -68,7 +69,9 @@ unfolding widths utf8Of
 placed s xs before x after e = record {
   there = there s xs before x after e;
   inside = omega (arith, every-octet s xs, ap widths e, widths-append before (x ∷ after));
-  shown = ap (λ r. drop (length (utf8Of before)) (utf8Of r)) e ∙ (ap (drop (length (utf8Of before))) (utf8-append before (x ∷ after)) ∙ drop-append-seam (utf8Of before) (utf8Of (x ∷ after)));
+  shown = ap (λ r. drop (length (utf8Of before)) (utf8Of r)) e
+      ∙ (ap (drop (length (utf8Of before))) (utf8-append before (x ∷ after))
+      ∙ drop-append-seam (utf8Of before) (utf8Of (x ∷ after)));
 }
 
 -- the sign that has an octet

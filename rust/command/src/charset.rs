@@ -1,4 +1,5 @@
-//! Which set of characters a text is in: T.61, ISO 6937 or ISO 8859-1. What its octets are as UTF-8 is the library's to say.
+//! Which set of characters a text is in: T.61, ISO 6937 or ISO 8859-1. What its octets are as UTF-8 is the library's to
+//! say.
 
 use clap::ValueEnum;
 use odif::CharacterSet;
@@ -91,9 +92,9 @@ pub fn to_utf8(octets: &[u8], set: Charset) -> String {
     to_utf8_at(octets, set, &[]).0
 }
 
-/// Turns octets into text, and says where in it these places of the octets are, which are in order. A place between an accent and its
-/// letter, or within an escape sequence that designates another set, is behind both. Such a sequence is no text: the library would show it by its
-/// numbers, so the octets are split there.
+/// Turns octets into text, and says where in it these places of the octets are, which are in order. A place between an
+/// accent and its letter, or within an escape sequence that designates another set, is behind both. Such a sequence is
+/// no text: the library would show it by its numbers, so the octets are split there.
 pub fn to_utf8_at(octets: &[u8], set: Charset, places: &[usize]) -> (String, Vec<usize>) {
     let (mut text, mut found) = (String::new(), Vec::with_capacity(places.len()));
     let (mut set, mut from) = (set, 0);

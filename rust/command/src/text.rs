@@ -205,7 +205,8 @@ pub fn declared(stream: &[u8]) -> Declared {
     charset::declared(values.map(|item| &stream[item.value()]))
 }
 
-/// Tells on standard error that escape sequences in a text that was turned into UTF-8 designate other sets: they are heeded, and not shown.
+/// Tells on standard error that escape sequences in a text that was turned into UTF-8 designate other sets: they are
+/// heeded, and not shown.
 fn note_designated(source: &Source<'_>, text: &Text) {
     let (octets, _) = in_blocks(&text.whole);
     let escapes = charset::designations(&octets);

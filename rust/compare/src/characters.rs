@@ -9,7 +9,8 @@ use crate::tally::{Tally, hex};
 /// The sets, and numbers that are taken as ISO 6937.
 const SETS: [u32; 5] = [0, 1, 2, 3, u32::MAX];
 /// Octets that stand beside others in pairs, and between them.
-const HOSTILE: &[u8] = b"\xC0\xC1\xC2\xC8\xC8\xC8\xC9\xCB\xCC\xCF\xD0 \x20AuUezZq@[`{;\r\r\n\n\t\x0C\x1B\x00\x7F\x80\x9F\xA0\xA4\xA6$#\xE0\xE2\xE5\xFB\xFF";
+const HOSTILE: &[u8] = b"\xC0\xC1\xC2\xC8\xC8\xC8\xC9\xCB\xCC\xCF\xD0 \x20AuUezZq@[`{;\r\r\n\n\t\x0C\
+    \x1B\x00\x7F\x80\x9F\xA0\xA4\xA6$#\xE0\xE2\xE5\xFB\xFF";
 
 /// Every octet alone, every two octets, and no octets.
 pub fn hold_fixed(tally: &mut Tally) {

@@ -2,8 +2,8 @@
 
 use crate::raw;
 
-/// A set of characters that a text may be in. Which one it is in, a letter declares by escape sequences in its presentation attributes; where it
-/// declares none, nothing here guesses.
+/// A set of characters that a text may be in. Which one it is in, a letter declares by escape sequences in its
+/// presentation attributes; where it declares none, nothing here guesses.
 #[derive(Clone, Copy, Debug, PartialEq, Eq, Hash)]
 #[non_exhaustive]
 pub enum CharacterSet {
@@ -42,13 +42,14 @@ const AT_ONCE: usize = 1 << 28;
 /// The most octets that one takes.
 const MOST: usize = 8;
 
-/// Shows the octets of a text as UTF-8: each as its character, as a part of a character of two octets, or by its number.
+/// Shows the octets of a text as UTF-8: each as its character, as a part of a character of two octets, or by its
+/// number.
 pub fn utf8(set: CharacterSet, octets: &[u8]) -> Utf8 {
     utf8_at(set, octets, &[])
 }
 
-/// As [`utf8`], and says where in it these places of the octets are, which are in order. A place between two octets that are one character, as an
-/// accent and its letter, is behind both; one past the octets is at the end.
+/// As [`utf8`], and says where in it these places of the octets are, which are in order. A place between two octets
+/// that are one character, as an accent and its letter, is behind both; one past the octets is at the end.
 pub fn utf8_at(set: CharacterSet, octets: &[u8], places: &[usize]) -> Utf8 {
     let mut shown = Utf8::default();
     let mut from = 0;
@@ -94,7 +95,8 @@ fn cut_at(set: CharacterSet, octets: &[u8], place: usize) -> usize {
     }
 }
 
-/// Two octets are one character where fewer of them are shown by their number together than alone (`together` and `apart` of what is promised).
+/// Two octets are one character where fewer of them are shown by their number together than alone (`together` and
+/// `apart` of what is promised).
 fn is_one(set: CharacterSet, pair: &[u8]) -> bool {
     let numbers = |octets: &[u8]| raw::utf8(set.number(), octets, &mut [0; 2 * MOST]).numbers;
     numbers(pair) < numbers(&pair[..1]) + numbers(&pair[1..])

@@ -25,8 +25,8 @@
 //! [`Letter::order`] says whether the elements stand in the order of interchange format class A or B. With the feature `pm1`
 //! the module of that name says whether the pages are within the dimensions of PM1.
 //!
-//! [`utf8`] shows the octets of a text as UTF-8, each as its character or by its number; [`utf8_at`] says besides where places of the one are in the
-//! other.
+//! [`utf8`] shows the octets of a text as UTF-8, each as its character or by its number; [`utf8_at`] says besides where
+//! places of the one are in the other.
 //!
 //! [`Builder`] makes a letter, of texts with an identifier and a portion each.
 //!

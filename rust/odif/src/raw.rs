@@ -385,7 +385,8 @@ unsafe extern "C" {
     fn odif_utf8(set: u32, octets: *const u8, octets_len: usize, out: *mut u8, out_len: usize) -> Shown;
 }
 
-/// Shows the octets of a text as UTF-8: of ISO 6937 (0, and any number from 3 on), T.61 (1) or ISO 8859-1 (2). It has no edition.
+/// Shows the octets of a text as UTF-8: of ISO 6937 (0, and any number from 3 on), T.61 (1) or ISO 8859-1 (2). It has
+/// no edition.
 pub fn utf8(set: u32, octets: &[u8], out: &mut [u8]) -> Shown {
     // SAFETY: as of the questions.
     unsafe { odif_utf8(set, octets.as_ptr(), octets.len(), out.as_mut_ptr(), out.len()) }

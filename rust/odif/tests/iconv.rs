@@ -1,4 +1,5 @@
-//! The tables are glibc's, at every octet and every pair, but for what docs/CHARACTERS.md lists as different on purpose.
+//! The tables are glibc's, at every octet and every pair, but for what docs/CHARACTERS.md lists as different on
+//! purpose.
 #![cfg(target_env = "gnu")]
 #![allow(unsafe_code)]
 
@@ -106,7 +107,8 @@ fn every_octet() {
     }
 }
 
-/// Every two octets whose first is no character alone: glibc's pairs are ours, and ours besides are an accent with a letter or a space.
+/// Every two octets whose first is no character alone: glibc's pairs are ours, and ours besides are an accent with a
+/// letter or a space.
 #[test]
 fn every_pair() {
     for (set, name) in [(0, c"ISO_6937"), (1, c"T.61-8BIT")] {

@@ -1,6 +1,7 @@
 //! Text in ISO 6937, T.61 or ISO 8859-1 as UTF-8.
 //!
-//! The tables are glibc's and Unicode's, as facts (`characters.txt`), with what differs from them on purpose said here, line by line.
+//! The tables are glibc's and Unicode's, as facts (`characters.txt`), with what differs from them on purpose said here,
+//! line by line.
 
 use std::collections::HashMap;
 use std::sync::LazyLock;

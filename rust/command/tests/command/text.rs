@@ -121,6 +121,19 @@ fn utf8_by_a_flag_or_by_what_is_declared() {
     assert_eq!(odif(&["text", "--utf8=iso6937", &declared]).text(), "Mþller\n");
 }
 
+/// An escape sequence in a text that designates another set is heeded, left out, and told.
+#[test]
+fn a_set_that_is_designated_in_the_text_is_told() {
+    let scratch = Scratch::new("text-designated");
+    let file = scratch.write("designated", &letter(b"M\xC8uller \x1B-AM\xFCller\x1B[1m"));
+    let run = odif(&["text", "--utf8=iso6937", &file]);
+    let note = format!(
+        "odif: {file}: 1 escape sequence in the text designated a character set, and the text is split there\n"
+    );
+    assert_eq!((run.status, run.text(), run.stderr.as_str()), (0, "Müller Müller⟦1B⟧[1m\n", &*note));
+    assert_eq!(odif(&["text", "--raw", &file]).stderr, "", "the octets are handed on");
+}
+
 /// A set that no one named is told where it matters.
 #[test]
 fn an_assumed_set_is_told() {

@@ -32,7 +32,20 @@ put-point-requires-3 c κs =
     let two = c .before .before .before .before .put-point2 in
     let low = c .hex2 .ensures in
     let long2 = ap (λ v. length (utf8 v)) low in
-    omega (arith, number-long o (omega arith), bracket-long .0, bracket-long .1, one .ensures .0, one .kept .0, long, digit-long (o / 16) (omega arith), two .ensures .0, two .kept .0, long2, digit-long (o % 16) (omega arith))
+    omega (
+      arith,
+      number-long o (omega arith),
+      bracket-long .0,
+      bracket-long .1,
+      one .ensures .0,
+      one .kept .0,
+      long,
+      digit-long (o / 16) (omega arith),
+      two .ensures .0,
+      two .kept .0,
+      long2,
+      digit-long (o % 16) (omega arith),
+    )
 
 put-point-requires-4 : tie.Need-put-point-requires-4
 put-point-requires-4 c κs =
@@ -44,7 +57,22 @@ put-point-requires-4 c κs =
     let low = c .before .before .before .before .hex2 .ensures in
     let long2 = ap (λ v. length (utf8 v)) low in
     let three = c .before .before .before .put-point3 in
-    omega (arith, number-long o (omega arith), bracket-long .0, bracket-long .1, one .ensures .0, one .kept .0, long, digit-long (o / 16) (omega arith), two .ensures .0, two .kept .0, long2, digit-long (o % 16) (omega arith), three .ensures .0, three .kept .0)
+    omega (
+      arith,
+      number-long o (omega arith),
+      bracket-long .0,
+      bracket-long .1,
+      one .ensures .0,
+      one .kept .0,
+      long,
+      digit-long (o / 16) (omega arith),
+      two .ensures .0,
+      two .kept .0,
+      long2,
+      digit-long (o % 16) (omega arith),
+      three .ensures .0,
+      three .kept .0,
+    )
 
 returns : tie.Need-returns
 returns c =
@@ -58,9 +86,25 @@ returns c =
     let three = c .before .before .before .before .before .before .put-point3 in
     let four = c .before .before .put-point4 .ensures in
     let a = c .before .before .before .before .before .before .before .before .before .before .before .before .before .before .before .before .before .before .before .args in (
-      four .0 ∙ omega (arith, number-long o (omega arith), bracket-long .0, bracket-long .1, one .ensures .0, one .kept .0, long, digit-long (o / 16) (omega arith), two .ensures .0, two .kept .0, long2, digit-long (o % 16) (omega arith), three .ensures .0, three .kept .0),
+      four .0 ∙ omega (
+        arith,
+        number-long o (omega arith),
+        bracket-long .0,
+        bracket-long .1,
+        one .ensures .0,
+        one .kept .0,
+        long,
+        digit-long (o / 16) (omega arith),
+        two .ensures .0,
+        two .kept .0,
+        long2,
+        digit-long (o % 16) (omega arith),
+        three .ensures .0,
+        three .kept .0,
+      ),
       rw (four .1, three .ensures .1, two .ensures .1, one .ensures .1, high, low, number-octets o)
-          (join-four (now (a .out)) (a .at) _ _ _ (utf8 0x27E6) (utf8 (hexDigit (o / 16))) (utf8 (hexDigit (o % 16))) (utf8 0x27E7) (one .ensures .0) (two .ensures .0 ∙ ap (λ v. one .result + length (utf8 v)) high) (three .ensures .0 ∙ ap (λ v. two .result + length (utf8 v)) low)),
+          (join-four (now (a .out)) (a .at) _ _ _ (utf8 0x27E6) (utf8 (hexDigit (o / 16))) (utf8 (hexDigit (o % 16))) (utf8 0x27E7)
+          (one .ensures .0) (two .ensures .0 ∙ ap (λ v. one .result + length (utf8 v)) high) (three .ensures .0 ∙ ap (λ v. two .result + length (utf8 v)) low)),
     )
 
 pub put-number-spec : {M : Type 1} → statement M

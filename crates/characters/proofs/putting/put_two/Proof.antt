@@ -22,8 +22,10 @@ returns : tie.Need-returns
 returns c =
     let a = c .before .before .before .before .before .before .before .before .before .args in
     let one = c .before .before .before .before .before .before .put-point .ensures in
-    let two = c .before .before .put-point2 .ensures in
-    (two .0 ∙ omega (arith, one .0, length-append (utf8 (a .p)) (utf8 (a .q))), rw (two .1, one .1) (join (now (a .out)) (a .at) _ (utf8 (a .p)) (utf8 (a .q)) (one .0)))
+    let two = c .before .before .put-point2 .ensures in (
+      two .0 ∙ omega (arith, one .0, length-append (utf8 (a .p)) (utf8 (a .q))),
+      rw (two .1, one .1) (join (now (a .out)) (a .at) _ (utf8 (a .p)) (utf8 (a .q)) (one .0)),
+    )
 
 pub put-two-spec : {M : Type 1} → statement M
 put-two-spec = tie.close (tie.spec put-point-requires put-point-requires-2 (λ c. search needs) returns)

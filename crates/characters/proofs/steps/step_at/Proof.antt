@@ -18,7 +18,9 @@ returns-2 c =
     let sign = c .before .before .sign-at in
     let told : step (sign .result .wide) (c .before .width .result) (c .number .result) ≡ ofSign (sign .result) =
     rw (c .before .width .ensures, c .number .ensures .0) in
-    told ∙ (ap ofSign (sign .ensures) ∙ sign-step (a .set) (now (a .octets)) (a .at) _ (c .before .before .before .before .plain-end .ensures) (c .before .before .before .if1 .left))
+    told
+    ∙ (ap ofSign (sign .ensures)
+    ∙ sign-step (a .set) (now (a .octets)) (a .at) _ (c .before .before .before .before .plain-end .ensures) (c .before .before .before .if1 .left))
 
 pub step-at-spec : {M : Type 1} → statement M
 step-at-spec =

@@ -22,7 +22,8 @@ returns-3 : tie.Need-returns-3
 returns-3 c =
     let a = c .before .before .before .before .before .before .args in
     let k = c .before .wide in
-    pair-space (now (a .pairs)) (c .before .before .before .before .before .before .pre) (a .a) (a .b) (k .result * 64) (omega arith) (omega arith) (c .before .before .if3 .taken)
+    let table = c .before .before .before .before .before .before .pre in
+    pair-space (now (a .pairs)) table (a .a) (a .b) (k .result * 64) (omega arith) (omega arith) (c .before .before .if3 .taken)
     (omega (arith, k .ensures))
 
 returns-4 : tie.Need-returns-4
@@ -40,7 +41,8 @@ returns-6 c =
     let a = c .before .before .before .before .before .before .before .before .before .args in
     let i = c .before .before .wide2 in
     let j = c .before .wide3 in
-    pair-letter (now (a .pairs)) (c .before .before .before .before .before .before .before .before .before .pre) (a .a) (a .b) (i .result * 64 + j .result) (omega arith) (omega arith) (omega arith) (omega arith)
+    let table = c .before .before .before .before .before .before .before .before .before .pre in
+    pair-letter (now (a .pairs)) table (a .a) (a .b) (i .result * 64 + j .result) (omega arith) (omega arith) (omega arith) (omega arith)
     (omega (arith, i .ensures, j .ensures))
 
 pub composed-of-spec : {M : Type 1} → statement M
