@@ -43,7 +43,7 @@ rule-requires c κs =
     (k .bounded, k .filed)
 
 cast-t16 : tie.Need-cast-t16 Inv-loop μ-loop
-cast-t16 c = omega (arith, few-done (c .before .before .before .before .before .before .before .before .loop .inv .1))
+cast-t16 c = omega (arith, few-done (c .before .before .before .before .before .before .before .loop .inv .1))
 
 same-length : tie.Need-same-length Inv-loop μ-loop
 same-length c = c .before .before .before .before .before .before .before .loop .inv .2
