@@ -26,7 +26,8 @@
    stream and 246 kB for any other, the lists and the whole readings somewhat more. Mind it where threads are started
    with small stacks, and on a box where nothing stops a stack that runs over: 128 KiB are enough for small streams
    alone. Whether a stream is small can be asked with less than 2 KiB: one of which odif_blocks_close counts up to 512
-   headers has no more elements than that, and is small.
+   headers has no more elements than that, and is small. odif_normal_short_lent takes less than 2 KiB of any stream: its
+   scratch is lent by the caller.
 
    A question reads by the edition of 1988, and its twin with _1993 at its end by that of 1993. The octet rules are the
    same. In 1993 a text unit may have no content, or content in tiles, and there are four elements more, the protected
@@ -38,7 +39,8 @@
    Any other number is a refusal; places count octets of the stream from 0.
 
    no.  when                                                                          place
-    1   the stream is over 1,048,576 octets; of odif_normal_short, over 65,535        0
+    1   the stream is over 1,048,576 octets; of odif_normal_short and                 0
+        odif_normal_short_lent, over 65,535
     2   00 where no indefinite item is innermost, or 00 followed within the limit     the 00
         by another octet than 00
     3   an item at level 17                                                           the item
@@ -72,12 +74,13 @@
    27   a part of an entry is outside the buffer, or ends before it begins            the entry's number
    28   a block is past the total that was told                                       0
    29   a letter in blocks is closed before all its octets have come                  0
+   32   the lent scratch is too small for the elements of the stream                  0
 
    1 comes first, then the first fault of 2 to 8 in stream order, then the elements in order, 9 to 15 in order within
-   each, then 16, 17, 18, 19 or 20 where the question can give it; 21, 22 and 25 come after 20, 23, 24 and 26 after 15; of
-   a whole reading 22 comes after 19. A refusal leaves the lent table, list, lines and output as they were, except that
-   19 and 25 leave the finished table. Counts are 0 with a refusal, except that these two keep the element count and the
-   check's header count comes with every answer.
+   each, then 16, 17, 18, 19 or 20 where the question can give it; 21, 22 and 25 come after 20, 23, 24 and 26 after
+   15; of a whole reading 22 comes after 19; 32 comes after 8 and before 9. A refusal leaves the lent table, list,
+   lines and output as they were, except that 19 and 25 leave the finished table. Counts are 0 with a refusal, except
+   that these two keep the element count and the check's header count comes with every answer.
 
    odif_make judges entries and no stream. Entries in order, from 0, and within one in this order, it gives 27; 14 for a
    bad identifier or portion, or both with a space between them over 64 octets; 15 for an identifier that an entry
@@ -136,11 +139,22 @@ extern "C" {
 #define ODIF_STACK_MAKE    131072  /* and for odif_make */
 #define ODIF_MOST_ENTRIES  2047    /* the most entries of a letter that is made */
 #define ODIF_SHORT_LIMIT   65535   /* the most octets of a stream that odif_normal_short takes */
+#define ODIF_STACK_LENT    2048    /* octets of stack: odif_normal_short_lent takes no more of any stream */
 
 /* How much to lend. A side has no more matches than the letter has text units, nor than portions are listed on that
    side: a list of as many records, or as many lines, as there are text units never meets 19. An output as long as the
    stream never meets 18 of odif_normal_short, nor 22 of a whole reading: a text unit stands once on a side, so all its
    texts are no longer than the stream. */
+
+/* The scratch of odif_normal_short_lent: so many numbers of 32 bits for the rows and of 16 bits for the index are enough
+   for a stream with so many elements; those for ODIF_MOST_ELEMENTS are enough for any, and with fewer 32 is given. An index is
+   made for the least of 64, 128, 256, .. 4,096 elements that is no less. A stream has at most as many elements as
+   odif_blocks_close counts headers, and at most half as many as it has octets. */
+#define ODIF_LENT_ROWS(elements)  (12 * (size_t)(elements))
+#define ODIF_LENT_INDEX(elements) (6 * ODIF_LENT_SIZE(elements) + 2)
+#define ODIF_LENT_SIZE(elements) \
+    ((elements) <= 64 ? (size_t)64 : (elements) <= 128 ? (size_t)128 : (elements) <= 256 ? (size_t)256 \
+     : (elements) <= 512 ? (size_t)512 : (elements) <= 1024 ? (size_t)1024 : (elements) <= 2048 ? (size_t)2048 : (size_t)4096)
 
 /* A small stream has no more elements and no more items than this; then less stack is enough. */
 #define ODIF_SMALL_ELEMENTS    512
@@ -183,7 +197,8 @@ typedef struct {
 } odif_checked;
 
 typedef struct {
-    uint32_t number;   /* 0, or the refusal: 1 to 15, 17, 18; of odif_make 9, 14, 15, 17, 18, 27 */
+    uint32_t number;   /* 0, or the refusal: 1 to 15, 17, 18; of odif_make 9, 14, 15, 17, 18, 27;
+                          of odif_normal_short_lent 1 to 15, 18, 32 */
     uint32_t place;    /* the refusal's place */
     uint32_t length;   /* the octets written */
 } odif_written;
@@ -319,6 +334,16 @@ odif_text_read odif_logical_text_numbers(const uint8_t *ODIF_APART stream, size_
 odif_written odif_normal_short(const uint8_t *ODIF_APART stream, size_t stream_len,
                                uint8_t *ODIF_APART out, size_t out_len);
 
+/* The same in scratch that the caller lends, for a box where a stack is small or nothing stops one that runs over: it takes
+   no more stack than ODIF_STACK_LENT. It answers as odif_normal_short, but with 32 where the lent numbers are too few for
+   the stream's elements, at most 4,096 of which are counted: fewer than ODIF_LENT_ROWS of them for the rows, or than
+   ODIF_LENT_INDEX for the index. 32 comes after 8 and before 9. The scratch may hold anything before, and what it holds
+   after is left open, whatever the answer. */
+odif_written odif_normal_short_lent(const uint8_t *ODIF_APART stream, size_t stream_len,
+                                    uint8_t *ODIF_APART out, size_t out_len,
+                                    uint32_t *ODIF_APART rows, size_t rows_len,
+                                    uint16_t *ODIF_APART index, size_t index_len);
+
 /* Finds the content of the text unit in row `element`, which may be any number. Content in pieces is refused by 21. */
 odif_found odif_content(const uint8_t *stream, size_t stream_len, uint32_t element);
 
@@ -362,6 +387,10 @@ odif_listed odif_logical_1993(const uint8_t *ODIF_APART stream, size_t stream_le
                               odif_match *ODIF_APART list, size_t list_len);
 odif_written odif_normal_short_1993(const uint8_t *ODIF_APART stream, size_t stream_len,
                                     uint8_t *ODIF_APART out, size_t out_len);
+odif_written odif_normal_short_lent_1993(const uint8_t *ODIF_APART stream, size_t stream_len,
+                                         uint8_t *ODIF_APART out, size_t out_len,
+                                         uint32_t *ODIF_APART rows, size_t rows_len,
+                                         uint16_t *ODIF_APART index, size_t index_len);
 odif_found odif_content_1993(const uint8_t *stream, size_t stream_len, uint32_t element);
 odif_copied odif_joined_1993(const uint8_t *ODIF_APART stream, size_t stream_len, uint32_t element,
                              uint8_t *ODIF_APART out, size_t out_len);

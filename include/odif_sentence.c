@@ -39,6 +39,7 @@ static const char *const sentences[] = {
     [28] = "a block is past the total that was told",
     [29] = "the letter was closed before all its octets had come",
     [30] = "the list is shorter than the pages",
+    [32] = "the lent scratch is too small for the elements of the stream",
 };
 
 const char *odif_sentence(uint32_t number) {

@@ -11,8 +11,8 @@ from targets import TARGETS
 BOXES = 'rv64i', 'rv32i', 'thumbv6m'  # machines that multiply by a call
 
 # The questions of the box.
-MAILROOM = {'normal_short': ['odif_normal_short'], 'the block engine': ['odif_blocks_start', 'odif_blocks_take', 'odif_blocks_close']}
-ASKED = 'normal_short', 'blocks_start', 'blocks_take', 'blocks_close'
+MAILROOM = {'normal_short': ['odif_normal_short'], 'normal_short_lent': ['odif_normal_short_lent'], 'the block engine': ['odif_blocks_start', 'odif_blocks_take', 'odif_blocks_close']}
+ASKED = 'normal_short', 'normal_short_lent', 'blocks_start', 'blocks_take', 'blocks_close'
 PRODUCTS = re.compile(r'__mul|__aeabi_l?mul')
 QUOTIENTS = re.compile(r'__u?(div|mod)|__aeabi_u')
 
@@ -69,7 +69,7 @@ def limits():
     """How much stack the header says a question takes at most, of small streams and of any."""
     said = {name: int(size) for name, size in re.findall(r'^#define ODIF_(STACK\w*) +(\d+)', (TOP / 'include/odif.h').read_text('utf-8'), re.M)}
     most = {False: dict(list='STACK_LISTS', text='STACK_TEXTS'), True: dict(list='STACK_SMALL_LISTS', text='STACK_SMALL_TEXTS')}
-    for question, limit in ('pages', said['STACK'] + 32768), ('make', said['STACK_MAKE']), *((f'blocks_{part}', 2048) for part in ('start', 'take', 'close')):
+    for question, limit in ('pages', said['STACK'] + 32768), ('make', said['STACK_MAKE']), ('normal_short_lent', said['STACK_LENT']), *((f'blocks_{part}', 2048) for part in ('start', 'take', 'close')):
         said[question] = limit
     return lambda question, small: said.get(question) or said[most[small].get(question, 'STACK_SMALL' if small else 'STACK')]
 

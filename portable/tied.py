@@ -97,6 +97,7 @@ def refuses(room):
 JUDGED = [*range(16)]
 NUMBERS = {
     'check': [*JUDGED, 16], 'list': [*JUDGED, 16, 19], 'text': [*JUDGED, 16, 19, 22], 'normal': [*JUDGED, 17, 18], 'normal_short': [*JUDGED, 18],
+    'normal_short_lent': [*JUDGED, 18, 32],
     'content': [*JUDGED, 20, 21], 'joined': [*JUDGED, 20, 22], 'children': [*JUDGED, 16, 20, 25], 'order': [*JUDGED, 26], 'date': [*JUDGED, 23, 24],
     'first_date': [*range(9), 10, 11, 23, 24], 'make': [0, 9, 14, 15, 17, 18, 27], 'pages': [*JUDGED, 16, 30], 'blocks_start': [0, 1], 'blocks_take': [0, 28],
     'blocks_close': [*range(9), 29],

@@ -12,6 +12,8 @@ static odif_match list[ROWS];
 static odif_line lines[ROWS];
 static pm1_page pages[ROWS];
 static uint8_t out[OUT];
+static uint32_t rows_lent[ODIF_LENT_ROWS(ODIF_MOST_ELEMENTS) + GUARD];
+static uint16_t index_lent[ODIF_LENT_INDEX(ODIF_MOST_ELEMENTS) + GUARD];
 
 uint32_t met[QUESTIONS][NUMBERS];
 uint32_t asked[QUESTIONS];
@@ -114,6 +116,27 @@ static odif_written normal(Stream s, int brief, size_t room) {
     ANSWER(a);
     octets(out, room + 8);
     return a;
+}
+/* In lent scratch, which holds anything before and after; what lies behind it stays. */
+static odif_written lent(Stream s, size_t room, size_t rows, size_t index) {
+    odif_written a;
+    fill_octets(room + 8);
+    fill_words(rows_lent, rows + GUARD);
+    for (size_t i = 0; i < index + GUARD; i++) index_lent[i] = (uint16_t)(0xA500 + i);
+    ASK(ASK_LENT, a, IN(s.edition, odif_normal_short_lent)(s.at, s.length, out, room, rows_lent, rows, index_lent, index));
+    ANSWER(a);
+    octets(out, room + 8);
+    words(rows_lent + rows, GUARD);
+    for (size_t i = index; i < index + GUARD; i++) word(index_lent[i]);
+    return a;
+}
+/* As long as for so many elements, and one number short of either kind; an output that is exact, and one short. */
+static void in_lent(Stream s, size_t elements) {
+    size_t rows = (elements << 3) + (elements << 2), index = ODIF_LENT_INDEX(elements), room = least(s.length, ODIF_SHORT_LIMIT);
+    odif_written w = lent(s, room, rows, index);
+    if (w.length > 0) lent(s, w.length, rows, index), lent(s, w.length - 1, rows, index);
+    if (rows > 0) lent(s, room, rows - 1, index);
+    lent(s, room, rows, index - 1);
 }
 static uint32_t joined(Stream s, uint32_t row, size_t room) {
     odif_copied a;
@@ -290,6 +313,7 @@ static void by_edition(Stream s) {
         odif_written w = normal(s, brief, least(s.length + 16, ODIF_STREAM_LIMIT));
         if (w.length > 0) normal(s, brief, w.length), normal(s, brief, w.length - 1);
     }
+    in_lent(s, accepted ? c.elements : least(s.length / 2, ODIF_MOST_ELEMENTS));
     for (uint32_t row = 0; row < 4; row++) content(s, row == 3 ? c.elements - 1 : row);
     for (uint32_t row = 0; row < 3; row++) family(s, row, exact, rows);
     if (accepted) pages_of(s, exact - 1, rows);

@@ -3,10 +3,10 @@
 #include <stdint.h>
 
 enum {
-    ASK_CHECK, ASK_LIST, ASK_TEXT, ASK_NORMAL, ASK_SHORT, ASK_CONTENT, ASK_JOINED, ASK_CHILDREN, ASK_ORDER, ASK_DATE,
+    ASK_CHECK, ASK_LIST, ASK_TEXT, ASK_NORMAL, ASK_SHORT, ASK_LENT, ASK_CONTENT, ASK_JOINED, ASK_CHILDREN, ASK_ORDER, ASK_DATE,
     ASK_FIRST, ASK_MAKE, ASK_PAGES, ASK_START, ASK_TAKE, ASK_CLOSE, QUESTIONS
 };
-#define QUESTION_NAMES { "check", "list", "text", "normal", "normal_short", "content", "joined", "children", "order", \
+#define QUESTION_NAMES { "check", "list", "text", "normal", "normal_short", "normal_short_lent", "content", "joined", "children", "order", \
     "date", "first_date", "make", "pages", "blocks_start", "blocks_take", "blocks_close" }
 enum { NUMBERS = 64 }; /* refusal numbers, and one for any other */
 

@@ -27,30 +27,35 @@ use Rattle.answers.specs.Related.{related, relatedTable, childrenOnto}
 use Rattle.answers.specs.Text.{textRead, shownTable, textOutput}
 use Rattle.answers.specs.TextSteps.{LinesNumbered}
 
--- each answer in the one form in which the work tells it: what a question does not ask for is 0
-abbrev pub reasonTold : Reason → Told
-reasonTold r = record { number = r .number; place = r .place; headers = 0; elements = 0; listed = 0; length = 0; first = 0; past = 0 }
+-- an answer in the one form in which the work tells it: what a question does not ask for is 0
+abbrev pub toldWith : (number place elements listed length : ℕ) → Told
+toldWith number place elements listed length =
+    record { number = number; place = place; headers = 0; elements = elements; listed = listed; length = length; first = 0; past = 0 }
 
+abbrev pub reasonTold : Reason → Told
+reasonTold r = toldWith (r .number) (r .place) 0 0 0
+
+abbrev pub copiedTold : Copied → Told
+copiedTold r = toldWith (r .number) (r .place) 0 0 (r .length)
+
+abbrev pub listedTold : Listed → Told
+listedTold r = toldWith (r .number) (r .place) (r .elements) (r .matches) 0
+
+abbrev pub relatedTold : Related → Told
+relatedTold r = toldWith (r .number) (r .place) (r .elements) (r .children) 0
+
+abbrev pub orderedTold : Ordered → Told
+orderedTold r = toldWith (r .number) (r .place) 0 0 0
+
+abbrev pub textTold : TextRead → Told
+textTold r = toldWith (r .number) (r .place) (r .elements) (r .lines) (r .length)
+
+-- the check tells the headers besides, and a fetch the bounds
 abbrev pub checkTold : Checked → Told
 checkTold r = record { number = r .number; place = r .place; headers = r .headers; elements = r .elements; listed = 0; length = 0; first = 0; past = 0 }
 
 abbrev pub locatedTold : Found → Told
 locatedTold r = record { number = r .number; place = r .place; headers = 0; elements = 0; listed = 0; length = 0; first = r .first; past = r .past }
-
-abbrev pub copiedTold : Copied → Told
-copiedTold r = record { number = r .number; place = r .place; headers = 0; elements = 0; listed = 0; length = r .length; first = 0; past = 0 }
-
-abbrev pub listedTold : Listed → Told
-listedTold r = record { number = r .number; place = r .place; headers = 0; elements = r .elements; listed = r .matches; length = 0; first = 0; past = 0 }
-
-abbrev pub relatedTold : Related → Told
-relatedTold r = record { number = r .number; place = r .place; headers = 0; elements = r .elements; listed = r .children; length = 0; first = 0; past = 0 }
-
-abbrev pub orderedTold : Ordered → Told
-orderedTold r = record { number = r .number; place = r .place; headers = 0; elements = 0; listed = 0; length = 0; first = 0; past = 0 }
-
-abbrev pub textTold : TextRead → Told
-textTold r = record { number = r .number; place = r .place; headers = 0; elements = r .elements; listed = r .lines; length = r .length; first = 0; past = 0 }
 
 -- and the answer again, of what was told
 abbrev pub checkOf : Told → Checked

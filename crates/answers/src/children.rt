@@ -15,7 +15,7 @@ ghost use Rattle.tree.specs.Tree.{treeOf};
 ghost use Rattle.tree.specs.Accepts.{Accepts};
 ghost use Rattle.elements.specs.Judge.{mostElements};
 ghost use Rattle.rows.specs.Columns.{identifierColumn};
-ghost use Rattle.rows.specs.Lookup.{Filed};
+ghost use Rattle.rows.specs.Index.{Filed};
 ghost use Rattle.letters.specs.Scratch.{LetterRows};
 ghost use Rattle.answers.specs.Table.{tableWidth};
 ghost use Rattle.answers.specs.Filling.{rowsWith, Relates};
@@ -84,15 +84,14 @@ pub fn children_judged(
     row: usize,
     room: usize,
     rows: &[u32],
-    head: &[u16],
-    next: &[u16],
+    index: &[u16],
     count: usize,
     table: &mut [u32],
     list: &mut [u32],
 ) -> Related
     requires { ⌜ Accepts (now stream) (treeOf (now stream)) ⌝ }
     requires { ⌜ LetterRows edition (now stream) (now rows) count ⌝ }
-    requires { ⌜ Filed (now stream) (now rows) identifierColumn (now head) (now next) count ⌝ }
+    requires { ⌜ Filed (now stream) (now rows) identifierColumn (now index) count ⌝ }
     requires { ⌜ room ≤ length (now list) ⌝ }
     ensures { λ r. ⌜ Relates edition (now (stream .entry)) (now (table .entry)) row room (now (list .entry)) r (now (table .exit)) (now (list .exit)) ⌝ }
 {
@@ -102,7 +101,7 @@ pub fn children_judged(
     if count <= row {
         return refuse(NO_ROW, 0);
     }
-    table::fill(stream, rows, head, next, count, table);
+    table::fill(stream, rows, index, count, table);
     let found = count_children(table, count, row);
     if room < found {
         return refuse(CHILDREN_TOO_SHORT, count);

@@ -20,7 +20,8 @@ ghost use Rattle.letters.specs.Scratch.{LetterRows};
 ghost use Rattle.answers.specs.Answers.{JoinedOutcome};
 ghost use Rattle.answers.specs.Asking.{ContentAt, Fetches, FindsContent, Copies};
 
-const TEXT_UNIT: u32 = 3;
+// As a row has it.
+const TEXT_UNIT: u32 = rows::TEXT_UNIT as u32;
 
 // The content of the element whose row is given, if it is a text unit.
 fn content_at(edition: Edition, stream: &[u8], rows: &[u32], element: usize) -> ContentFound

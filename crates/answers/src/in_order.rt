@@ -13,7 +13,7 @@ ghost use Rattle.octets.specs.Walk.{streamLimit, walkOf};
 ghost use Rattle.rows.specs.Rows.{scratchWidth};
 ghost use Rattle.order.specs.Fault.{FaultIn};
 ghost use Rattle.letters.specs.Scratch.{LetterRows};
-ghost use Rattle.rows.specs.Lookup.{Filed};
+ghost use Rattle.rows.specs.Index.{Filed};
 ghost use Rattle.rows.specs.Columns.{identifierColumn};
 ghost use Rattle.order.specs.Computed.{orderIn};
 ghost use Rattle.answers.specs.Orders.{faultPlace};
@@ -21,14 +21,14 @@ ghost use Rattle.answers.specs.Orders.{faultPlace};
 const OUT_OF_ORDER: u32 = 26;
 
 // Where the elements leave the order of a class.
-fn fault_in(s: &[u8], class: Class, rows: &[u32], head: &[u16], next: &[u16], n: usize) -> Fault
+fn fault_in(s: &[u8], class: Class, rows: &[u32], index: &[u16], n: usize) -> Fault
     requires { ⌜ ((edition : Edition) × LetterRows edition (now s) (now rows) n) ⌝ }
-    requires { ⌜ Filed (now s) (now rows) identifierColumn (now head) (now next) n ⌝ }
+    requires { ⌜ Filed (now s) (now rows) identifierColumn (now index) n ⌝ }
     ensures { λ r. ⌜ FaultIn class (now (s .entry)) (now (rows .entry)) n r ⌝ }
 {
     match class {
-        Class::A => order_a::fault_a(s, rows, head, next, n),
-        Class::B => order_b::fault_b(s, rows, head, next, n),
+        Class::A => order_a::fault_a(s, rows, index, n),
+        Class::B => order_b::fault_b(s, rows, index, n),
     }
 }
 
@@ -55,16 +55,15 @@ pub fn order_judged(
     stream: &[u8],
     class: Class,
     rows: &[u32],
-    head: &[u16],
-    next: &[u16],
+    index: &[u16],
     count: usize,
 ) -> Ordered
     requires { ⌜ ((headers : ℕ) × (walkOf (now stream) ≡ Outcome.Ended (length (now stream)) headers)) ⌝ }
     requires { ⌜ LetterRows edition (now stream) (now rows) count ⌝ }
-    requires { ⌜ Filed (now stream) (now rows) identifierColumn (now head) (now next) count ⌝ }
+    requires { ⌜ Filed (now stream) (now rows) identifierColumn (now index) count ⌝ }
     ensures { λ r. ⌜ r ≡ orderIn edition class (now (stream .entry)) ⌝ }
 {
-    match fault_in(stream, class, rows, head, next, count) {
+    match fault_in(stream, class, rows, index, count) {
         Fault::Nowhere => Ordered {
             number: 0,
             place: 0,

@@ -3,19 +3,17 @@
 use elements::Edition;
 use octets::Outcome;
 use order::Class;
-use order::Ordered;
 use reading::Side;
 use runs::Run;
 ghost use mathlib.Core.Path.{_≡_};
 ghost use lib.ListN.{length};
 ghost use Rattle.octets.specs.Walk.{walkOf};
-ghost use Rattle.rows.specs.Columns.{identifierColumn, logicalColumn};
-ghost use Rattle.rows.specs.Lookup.{Filed};
+ghost use Rattle.rows.specs.Columns.{identifierColumn};
+ghost use Rattle.rows.specs.Index.{Filed, BothFiled};
 ghost use Rattle.letters.specs.Scratch.{LetterRows};
 ghost use Rattle.answers.specs.Answers.{refusedCheck, CheckOutcome};
-ghost use Rattle.answers.specs.Questions.{reasonTold, checkTold, locatedTold, copiedTold, listedTold, relatedTold, orderedTold};
-ghost use Rattle.answers.specs.Questions.{listedOf, refusedTold, Leaves, Roomy};
-ghost use Rattle.answers.specs.Questions.{textTold, textReadOf};
+ghost use Rattle.answers.specs.Questions.{toldWith, checkTold, locatedTold, refusedTold};
+ghost use Rattle.answers.specs.Questions.{listedOf, textReadOf, Leaves, Roomy};
 
 mod children; // children.rt: the children of a row
 mod content; // content.rt: the content of one element, as a part or copied
@@ -195,20 +193,19 @@ fn check_judged(
     stream: &[u8],
     headers: u32,
     rows: &[u32],
-    head: &[u16],
-    next: &[u16],
+    index: &[u16],
     count: usize,
     table: &mut [u32],
 ) -> Checked
     requires { ⌜ walkOf (now stream) ≡ Outcome.Ended (length (now stream)) headers ⌝ }
     requires { ⌜ LetterRows edition (now stream) (now rows) count ⌝ }
-    requires { ⌜ Filed (now stream) (now rows) identifierColumn (now head) (now next) count ⌝ }
+    requires { ⌜ Filed (now stream) (now rows) identifierColumn (now index) count ⌝ }
     ensures { λ r. ⌜ CheckOutcome edition (now (stream .entry)) (now (table .entry)) r (now (table .exit)) ⌝ }
 {
     if table.len() / TABLE_WIDTH < count {
         return refused_check(TOO_FEW_ROWS, 0, headers);
     }
-    table::fill(stream, rows, head, next, count, table);
+    table::fill(stream, rows, index, count, table);
     Checked {
         number: 0,
         place: 0,
@@ -217,22 +214,23 @@ fn check_judged(
     }
 }
 
-// Each answer as the work tells it.
-fn tell_reason(r: Reason) -> Told
-    ensures { λ told. ⌜ told ≡ reasonTold r ⌝ }
+// An answer as the work tells it, of the questions that tell neither headers nor bounds.
+fn tell(number: u32, place: u32, elements: u32, listed: u32, length: u32) -> Told
+    ensures { λ told. ⌜ told ≡ toldWith number place elements listed length ⌝ }
 {
     Told {
-        number: r.number,
-        place: r.place,
+        number,
+        place,
         headers: 0,
-        elements: 0,
-        listed: 0,
-        length: 0,
+        elements,
+        listed,
+        length,
         first: 0,
         past: 0,
     }
 }
 
+// That of the check, which tells the headers.
 fn tell_checked(r: Checked) -> Told
     ensures { λ told. ⌜ told ≡ checkTold r ⌝ }
 {
@@ -248,6 +246,7 @@ fn tell_checked(r: Checked) -> Told
     }
 }
 
+// That of a fetch, which tells the bounds.
 fn tell_located(r: Found) -> Told
     ensures { λ told. ⌜ told ≡ locatedTold r ⌝ }
 {
@@ -260,75 +259,6 @@ fn tell_located(r: Found) -> Told
         length: 0,
         first: r.first,
         past: r.past,
-    }
-}
-
-fn tell_copied(r: Copied) -> Told
-    ensures { λ told. ⌜ told ≡ copiedTold r ⌝ }
-{
-    Told {
-        number: r.number,
-        place: r.place,
-        headers: 0,
-        elements: 0,
-        listed: 0,
-        length: r.length,
-        first: 0,
-        past: 0,
-    }
-}
-
-fn tell_listed(r: Listed) -> Told
-    ensures { λ told. ⌜ told ≡ listedTold r ⌝ }
-{
-    Told {
-        number: r.number,
-        place: r.place,
-        headers: 0,
-        elements: r.elements,
-        listed: r.matches,
-        length: 0,
-        first: 0,
-        past: 0,
-    }
-}
-
-fn tell_related(r: Related) -> Told
-    ensures { λ told. ⌜ told ≡ relatedTold r ⌝ }
-{
-    Told {
-        number: r.number,
-        place: r.place,
-        headers: 0,
-        elements: r.elements,
-        listed: r.children,
-        length: 0,
-        first: 0,
-        past: 0,
-    }
-}
-
-fn tell_ordered(r: Ordered) -> Told
-    ensures { λ told. ⌜ told ≡ orderedTold r ⌝ }
-{
-    tell_reason(Reason {
-        number: r.number,
-        place: r.place,
-    })
-}
-
-fn tell_text(r: TextRead) -> Told
-    ensures { λ told. ⌜ told ≡ textTold r ⌝ }
-{
-    Told {
-        number: r.number,
-        place: r.place,
-        headers: 0,
-        elements: r.elements,
-        listed: r.lines,
-        length: r.length,
-        first: 0,
-        past: 0,
     }
 }
 
@@ -363,118 +293,66 @@ pub fn tell_refused(question: Question, number: u32, place: u32, headers: u32) -
 {
     match question {
         Question::Check => tell_checked(refused_check(number, place, headers)),
-        Question::Rules => tell_reason(Reason { number, place }),
-        Question::Content { element: _ } => tell_reason(Reason { number, place }),
-        Question::Joined { element: _ } => tell_reason(Reason { number, place }),
-        Question::List { side: _, room: _ } => tell_reason(Reason { number, place }),
-        Question::Children { row: _, room: _ } => tell_reason(Reason { number, place }),
-        Question::Order { class: _ } => tell_reason(Reason { number, place }),
-        Question::Text { side: _, room: _ } => tell_reason(Reason { number, place }),
+        Question::Rules => tell(number, place, 0, 0, 0),
+        Question::Content { element: _ } => tell(number, place, 0, 0, 0),
+        Question::Joined { element: _ } => tell(number, place, 0, 0, 0),
+        Question::List { side: _, room: _ } => tell(number, place, 0, 0, 0),
+        Question::Children { row: _, room: _ } => tell(number, place, 0, 0, 0),
+        Question::Order { class: _ } => tell(number, place, 0, 0, 0),
+        Question::Text { side: _, room: _ } => tell(number, place, 0, 0, 0),
     }
 }
 
-// The work of a question, of a letter. The rows and their indexes are what the judge left in its scratch.
+// The work of a question, of a letter. The rows and their index are what the judge left in its scratch.
 pub fn work(
     edition: Edition,
-    stream: &[u8],
+    s: &[u8],
     headers: u32,
     question: Question,
     rows: &[u32],
-    head: &[u16],
-    next: &[u16],
-    head2: &[u16],
-    next2: &[u16],
+    index: &[u16],
     count: usize,
     table: &mut [u32],
     flat: &mut [u32],
     out: &mut [u8],
 ) -> Told
-    requires { ⌜ walkOf (now stream) ≡ Outcome.Ended (length (now stream)) headers ⌝ }
-    requires { ⌜ LetterRows edition (now stream) (now rows) count ⌝ }
-    requires { ⌜ Filed (now stream) (now rows) identifierColumn (now head) (now next) count × Filed (now stream) (now rows) logicalColumn (now head2) (now next2) count ⌝ }
-    requires { ⌜ Roomy question (now stream) (length (now flat)) ⌝ }
-    ensures { λ r. ⌜ Leaves edition question (now (stream .entry)) (now (table .entry)) (now (flat .entry)) (now (out .entry)) r (now (table .exit))
+    requires { ⌜ walkOf (now s) ≡ Outcome.Ended (length (now s)) headers ⌝ }
+    requires { ⌜ LetterRows edition (now s) (now rows) count ⌝ }
+    requires { ⌜ BothFiled (now s) (now rows) (now index) count ⌝ }
+    requires { ⌜ Roomy question (now s) (length (now flat)) ⌝ }
+    ensures { λ r. ⌜ Leaves edition question (now (s .entry)) (now (table .entry)) (now (flat .entry)) (now (out .entry)) r (now (table .exit))
         (now (flat .exit)) (now (out .exit)) ⌝ }
 {
+    let names = rows::identifiers(index);
     match question {
-        Question::Rules => tell_reason(Reason {
-            number: 0,
-            place: 0,
-        }),
-        Question::Check => tell_checked(check_judged(
-            edition,
-            stream,
-            headers,
-            rows,
-            head,
-            next,
-            count,
-            table,
-        )),
-        Question::Content { element } => tell_located(locate_judged(
-            edition,
-            stream,
-            element,
-            rows,
-            count,
-        )),
-        Question::Joined { element } => tell_copied(join_judged(
-            edition,
-            stream,
-            element,
-            rows,
-            count,
-            out,
-        )),
-        Question::List { side, room } => tell_listed(list_judged(
-            edition,
-            stream,
-            side,
-            room,
-            rows,
-            head,
-            next,
-            head2,
-            next2,
-            count,
-            table,
-            flat,
-        )),
-        Question::Children { row, room } => tell_related(children_judged(
-            edition,
-            stream,
-            row,
-            room,
-            rows,
-            head,
-            next,
-            count,
-            table,
-            flat,
-        )),
-        Question::Order { class } => tell_ordered(in_order::order_judged(
-            edition,
-            stream,
-            class,
-            rows,
-            head,
-            next,
-            count,
-        )),
-        Question::Text { side, room } => tell_text(text_judged(
-            edition,
-            stream,
-            side,
-            room,
-            rows,
-            head,
-            next,
-            head2,
-            next2,
-            count,
-            table,
-            flat,
-            out,
-        )),
+        Question::Rules => tell(0, 0, 0, 0, 0),
+        Question::Check => {
+            let r = check_judged(edition, s, headers, rows, names, count, table);
+            tell_checked(r)
+        }
+        Question::Content { element } => {
+            let r = locate_judged(edition, s, element, rows, count);
+            tell_located(r)
+        }
+        Question::Joined { element } => {
+            let r = join_judged(edition, s, element, rows, count, out);
+            tell(r.number, r.place, 0, 0, r.length)
+        }
+        Question::List { side, room } => {
+            let r = list_judged(edition, s, side, room, rows, index, count, table, flat);
+            tell(r.number, r.place, r.elements, r.matches, 0)
+        }
+        Question::Children { row, room } => {
+            let r = children_judged(edition, s, row, room, rows, names, count, table, flat);
+            tell(r.number, r.place, r.elements, r.children, 0)
+        }
+        Question::Order { class } => {
+            let r = in_order::order_judged(edition, s, class, rows, names, count);
+            tell(r.number, r.place, 0, 0, 0)
+        }
+        Question::Text { side, room } => {
+            let r = text_judged(edition, s, side, room, rows, index, count, table, flat, out);
+            tell(r.number, r.place, r.elements, r.lines, r.length)
+        }
     }
 }

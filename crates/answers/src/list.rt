@@ -11,8 +11,7 @@ ghost use lib.ListN.{length};
 ghost use Rattle.tree.specs.Tree.{treeOf};
 ghost use Rattle.tree.specs.Accepts.{Accepts};
 ghost use Rattle.letters.specs.Lent.{rowsNeeded};
-ghost use Rattle.rows.specs.Columns.{identifierColumn, logicalColumn};
-ghost use Rattle.rows.specs.Lookup.{Filed};
+ghost use Rattle.rows.specs.Index.{BothFiled};
 ghost use Rattle.letters.specs.Scratch.{LetterRows};
 ghost use Rattle.answers.specs.Asking.{ListsFlat};
 ghost use Rattle.answers.specs.TextSteps.{FindsMatches};
@@ -24,17 +23,14 @@ pub fn find_matches(
     side: Side,
     room: usize,
     rows: &[u32],
-    head: &[u16],
-    next: &[u16],
-    head2: &[u16],
-    next2: &[u16],
+    index: &[u16],
     elements: usize,
     lent: usize,
     flat: &mut [u32],
 ) -> Listed
     requires { ⌜ Accepts (now stream) (treeOf (now stream)) ⌝ }
     requires { ⌜ LetterRows edition (now stream) (now rows) elements ⌝ }
-    requires { ⌜ Filed (now stream) (now rows) identifierColumn (now head) (now next) elements × Filed (now stream) (now rows) logicalColumn (now head2) (now next2) elements ⌝ }
+    requires { ⌜ BothFiled (now stream) (now rows) (now index) elements ⌝ }
     requires { ⌜ 3 * rowsNeeded (now stream) ≤ length (now flat) ⌝ }
     ensures { λ r. ⌜ FindsMatches edition side (now (stream .entry)) lent room r (now (flat .exit)) ⌝ }
 {
@@ -46,17 +42,7 @@ pub fn find_matches(
             matches: 0,
         };
     }
-    let matches = reading::list_matches(
-        stream,
-        rows,
-        head,
-        next,
-        head2,
-        next2,
-        elements,
-        side,
-        flat,
-    );
+    let matches = reading::list_matches(stream, rows, index, elements, side, flat);
     if room < matches {
         return Listed {
             number: LIST_TOO_SHORT,
@@ -80,44 +66,20 @@ pub fn list_judged(
     side: Side,
     room: usize,
     rows: &[u32],
-    head: &[u16],
-    next: &[u16],
-    head2: &[u16],
-    next2: &[u16],
+    index: &[u16],
     count: usize,
     table: &mut [u32],
     flat: &mut [u32],
 ) -> Listed
     requires { ⌜ Accepts (now stream) (treeOf (now stream)) ⌝ }
     requires { ⌜ LetterRows edition (now stream) (now rows) count ⌝ }
-    requires { ⌜ Filed (now stream) (now rows) identifierColumn (now head) (now next) count × Filed (now stream) (now rows) logicalColumn (now head2) (now next2) count ⌝ }
+    requires { ⌜ BothFiled (now stream) (now rows) (now index) count ⌝ }
     requires { ⌜ 3 * rowsNeeded (now stream) ≤ length (now flat) ⌝ }
     ensures { λ r. ⌜ ListsFlat edition side (now (stream .entry)) (now (table .entry)) room r (now (table .exit)) (now (flat .exit)) ⌝ }
 {
     let lent = table.len() / TABLE_WIDTH;
-    let listed = find_matches(
-        edition,
-        stream,
-        side,
-        room,
-        rows,
-        head,
-        next,
-        head2,
-        next2,
-        count,
-        lent,
-        flat,
-    );
-    table::finish(
-        edition,
-        stream,
-        rows,
-        head,
-        next,
-        count,
-        listed.number,
-        table,
-    );
+    let listed = find_matches(edition, stream, side, room, rows, index, count, lent, flat);
+    let names = rows::identifiers(index);
+    table::finish(edition, stream, rows, names, count, listed.number, table);
     listed
 }

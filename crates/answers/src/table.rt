@@ -12,7 +12,7 @@ ghost use Rattle.tree.specs.Tree.{treeOf};
 ghost use Rattle.tree.specs.Accepts.{Accepts};
 ghost use Rattle.elements.specs.Judge.{mostElements};
 ghost use Rattle.rows.specs.Columns.{identifierColumn};
-ghost use Rattle.rows.specs.Lookup.{Filed};
+ghost use Rattle.rows.specs.Index.{Filed};
 ghost use Rattle.letters.specs.Scratch.{LetterRows};
 ghost use Rattle.answers.specs.Table.{tableWidth, rowsLent};
 ghost use Rattle.answers.specs.Filling.{PutsRow, Fills};
@@ -24,21 +24,13 @@ pub const TABLE_WIDTH: usize = 13;
 pub const PARENT: usize = 12;
 
 // Puts row j of the table: the scratch's numbers, and its parent's row, which is looked up once.
-fn put_row(
-    s: &[u8],
-    rows: &[u32],
-    head: &[u16],
-    next: &[u16],
-    count: usize,
-    j: usize,
-    table: &mut [u32],
-)
+fn put_row(s: &[u8], rows: &[u32], index: &[u16], count: usize, j: usize, table: &mut [u32])
     requires { ⌜ ((edition : Edition) × LetterRows edition (now s) (now rows) count) ⌝ }
-    requires { ⌜ Filed (now s) (now rows) identifierColumn (now head) (now next) count ⌝ }
+    requires { ⌜ Filed (now s) (now rows) identifierColumn (now index) count ⌝ }
     requires { ⌜ (j < count) × (count ≤ mostElements) × (count * tableWidth ≤ length (now table)) ⌝ }
     ensures { λ _. ⌜ PutsRow (now (s .entry)) (now (rows .entry)) count j (now (table .entry)) (now (table .exit)) ⌝ }
 {
-    let parent = parents::parent_of(s, rows, head, next, count, j);
+    let parent = parents::parent_of(s, rows, index, count, j);
     let from = j * SCRATCH_WIDTH;
     let at = j * TABLE_WIDTH;
     letters::copy_numbers(&rows[from..from + SCRATCH_WIDTH], SCRATCH_WIDTH, table, at);
@@ -46,15 +38,15 @@ fn put_row(
 }
 
 // Fills the first rows of the table from those of the scratch. It has room for them.
-pub fn fill(s: &[u8], rows: &[u32], head: &[u16], next: &[u16], count: usize, table: &mut [u32])
+pub fn fill(s: &[u8], rows: &[u32], index: &[u16], count: usize, table: &mut [u32])
     requires { ⌜ ((edition : Edition) × LetterRows edition (now s) (now rows) count) ⌝ }
-    requires { ⌜ Filed (now s) (now rows) identifierColumn (now head) (now next) count ⌝ }
+    requires { ⌜ Filed (now s) (now rows) identifierColumn (now index) count ⌝ }
     requires { ⌜ (count ≤ mostElements) × (count * tableWidth ≤ length (now table)) ⌝ }
     ensures { λ _. ⌜ Fills (now (s .entry)) (now (rows .entry)) count (now (table .entry)) (now (table .exit)) ⌝ }
 {
     let mut j: usize = 0;
     while j < count {
-        put_row(s, rows, head, next, count, j, table);
+        put_row(s, rows, index, count, j, table);
         j += 1;
     }
 }
@@ -71,20 +63,19 @@ pub fn finish(
     edition: Edition,
     stream: &[u8],
     rows: &[u32],
-    head: &[u16],
-    next: &[u16],
+    index: &[u16],
     count: usize,
     number: u32,
     table: &mut [u32],
 )
     requires { ⌜ Accepts (now stream) (treeOf (now stream)) ⌝ }
     requires { ⌜ LetterRows edition (now stream) (now rows) count ⌝ }
-    requires { ⌜ Filed (now stream) (now rows) identifierColumn (now head) (now next) count ⌝ }
+    requires { ⌜ Filed (now stream) (now rows) identifierColumn (now index) count ⌝ }
     requires { ⌜ (isIn number finishing ≡ true → count ≤ rowsLent (now table)) ⌝ }
     ensures { λ _. ⌜ now (table .exit) ≡ tableBy edition (now (stream .entry)) (now (table .entry)) number ⌝ }
 {
     if !is_finishing(number) {
         return;
     }
-    fill(stream, rows, head, next, count, table);
+    fill(stream, rows, index, count, table);
 }

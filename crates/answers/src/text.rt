@@ -17,8 +17,7 @@ ghost use Rattle.octets.specs.Walk.{streamLimit};
 ghost use Rattle.tree.specs.Tree.{treeOf};
 ghost use Rattle.tree.specs.Accepts.{Accepts};
 ghost use Rattle.letters.specs.Lent.{rowsNeeded};
-ghost use Rattle.rows.specs.Columns.{identifierColumn, logicalColumn};
-ghost use Rattle.rows.specs.Lookup.{Filed};
+ghost use Rattle.rows.specs.Index.{BothFiled};
 ghost use Rattle.letters.specs.Scratch.{LetterRows};
 ghost use Rattle.text_lines.specs.Text.{textsOf};
 ghost use Rattle.text_lines.specs.Flat.{recordsFrom, PutsTexts};
@@ -158,10 +157,7 @@ pub fn text_judged(
     side: Side,
     room: usize,
     rows: &[u32],
-    head: &[u16],
-    next: &[u16],
-    head2: &[u16],
-    next2: &[u16],
+    index: &[u16],
     count: usize,
     table: &mut [u32],
     numbers: &mut [u32],
@@ -169,7 +165,7 @@ pub fn text_judged(
 ) -> TextRead
     requires { ⌜ Accepts (now stream) (treeOf (now stream)) ⌝ }
     requires { ⌜ LetterRows edition (now stream) (now rows) count ⌝ }
-    requires { ⌜ Filed (now stream) (now rows) identifierColumn (now head) (now next) count × Filed (now stream) (now rows) logicalColumn (now head2) (now next2) count ⌝ }
+    requires { ⌜ BothFiled (now stream) (now rows) (now index) count ⌝ }
     requires { ⌜ 4 * rowsNeeded (now stream) ≤ length (now numbers) ⌝ }
     ensures { λ r. ⌜ TextsFlat edition side (now (stream .entry)) (now (table .entry)) room (now (out .entry)) r (now (table .exit)) (now (numbers .exit))
         (now (out .exit)) ⌝ }
@@ -181,10 +177,7 @@ pub fn text_judged(
         side,
         room,
         rows,
-        head,
-        next,
-        head2,
-        next2,
+        index,
         count,
         lent,
         numbers,
@@ -192,16 +185,8 @@ pub fn text_judged(
     let found = wide(listed.matches);
     let needed = measure(edition, stream, rows, count, numbers, found);
     let shown = answer(listed, needed, out.len());
-    table::finish(
-        edition,
-        stream,
-        rows,
-        head,
-        next,
-        count,
-        shown.number,
-        table,
-    );
+    let names = rows::identifiers(index);
+    table::finish(edition, stream, rows, names, count, shown.number, table);
     let lines = wide(shown.lines);
     put_texts(edition, stream, rows, count, numbers, lines, out);
     shown

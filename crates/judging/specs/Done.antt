@@ -1,4 +1,4 @@
--- What the scratch holds while a stream is judged: the rows of the elements that are done. That their names can be looked up is said of the slices that
+-- What the scratch holds while a stream is judged: the rows of the elements that are done. That their names can be looked up is said of the index that
 -- the look-up is lent (`Filed`). Nobody but the code that lends the scratch sees it.
 use mathlib.Core.Path.{_≡_}
 use mathlib.Core.List.{List, [], _∷_, _++_}

@@ -16,8 +16,8 @@ ghost use Rattle.runs.specs.Runs.{itemsOf, Fine};
 ghost use Rattle.names.specs.Hash.{hash};
 ghost use Rattle.portions.specs.Portions.{mostPortions};
 ghost use Rattle.portions.specs.Bounds.{bounded, Inside};
-ghost use Rattle.rows.specs.Columns.{identifierColumn, logicalColumn, Bounded};
-ghost use Rattle.rows.specs.Lookup.{Filed};
+ghost use Rattle.rows.specs.Columns.{Bounded};
+ghost use Rattle.rows.specs.Index.{Filed, BothFiled};
 ghost use Rattle.elements.specs.Judge.{Element};
 ghost use Rattle.elements.specs.ElementRows.{bytesIn};
 ghost use Rattle.elements.specs.Says.{Placed, RowPlaced};
@@ -86,8 +86,7 @@ fn hashes_of(s: &[u8], row: Row) -> Hashes
 fn is_taken(
     s: &[u8],
     rows: &[u32],
-    head: &[u16],
-    next: &[u16],
+    index: &[u16],
     n: usize,
     column: usize,
     space: u8,
@@ -95,7 +94,7 @@ fn is_taken(
     name: Span,
 ) -> bool
     requires { ⌜ Bounded (now s) (now rows) column n ⌝ }
-    requires { ⌜ Filed (now s) (now rows) column (now head) (now next) n ⌝ }
+    requires { ⌜ Filed (now s) (now rows) column (now index) n ⌝ }
     requires { ⌜ Placed (now s) name × (hashed ≡ hash (bytesIn (now s) name)) ⌝ }
     ensures { λ r. ⌜ Taken (now (s .entry)) (now (rows .entry)) column n space (bytesIn (now (s .entry)) name) r ⌝ }
 {
@@ -111,7 +110,7 @@ fn is_taken(
         from: 0,
         to: 0,
     };
-    match rows::find(s, rows, head, next, n, column, space, hashed, asked) {
+    match rows::find(s, rows, index, n, column, space, hashed, asked) {
         RowFound::At(_) => true,
         RowFound::Nothing => false,
     }
@@ -122,17 +121,14 @@ fn is_taken(
 fn has_double(
     s: &[u8],
     rows: &[u32],
-    head: &[u16],
-    next: &[u16],
-    head2: &[u16],
-    next2: &[u16],
+    index: &[u16],
     bounds: &[u32],
     n: usize,
     seen: Seen,
     hashes: Hashes,
 ) -> bool
     requires { ⌜ ((table : List Row) × (done : List Element) × DoneRows (now s) (now rows) n table done) ⌝ }
-    requires { ⌜ Filed (now s) (now rows) identifierColumn (now head) (now next) n × Filed (now s) (now rows) logicalColumn (now head2) (now next2) n ⌝ }
+    requires { ⌜ BothFiled (now s) (now rows) (now index) n ⌝ }
     requires { ⌜ RowPlaced (now s) (seen .row) × (hashes ≡ hashesOf (now s) (seen .row)) ⌝ }
     requires { ⌜ (2 * seen .count ≤ length (now bounds)) × Inside (now s) (take (2 * seen .count) (now bounds)) ⌝ }
     ensures { λ r. ⌜ TellsTwice (now (s .entry)) (now (rows .entry)) n
@@ -143,8 +139,7 @@ fn has_double(
     if is_taken(
         s,
         rows,
-        head,
-        next,
+        rows::identifiers(index),
         n,
         rows::IDENTIFIER,
         space,
@@ -156,8 +151,7 @@ fn has_double(
     if is_taken(
         s,
         rows,
-        head2,
-        next2,
+        rows::logicals(index),
         n,
         rows::LOGICAL,
         space,
@@ -214,16 +208,13 @@ fn judge_any(
     edition: Edition,
     s: &[u8],
     rows: &[u32],
-    head: &[u16],
-    next: &[u16],
-    head2: &[u16],
-    next2: &[u16],
+    index: &[u16],
     bounds: &mut [u32],
     n: usize,
     item: PlacedItem,
 ) -> Judgement
     requires { ⌜ ((table : List Row) × (done : List Element) × DoneRows (now s) (now rows) n table done) ⌝ }
-    requires { ⌜ Filed (now s) (now rows) identifierColumn (now head) (now next) n × Filed (now s) (now rows) logicalColumn (now head2) (now next2) n ⌝ }
+    requires { ⌜ BothFiled (now s) (now rows) (now index) n ⌝ }
     requires { ⌜ Fine (now s) (item .inner) × (length (now s) ≤ streamLimit) × (item .first ≤ item .past) × (item .past ≤ length (now s))
         × (2 * mostPortions ≤ length (now bounds)) ⌝ }
     ensures { λ r. ⌜ JudgesAfter edition (now (s .entry)) (now (rows .entry)) n item r ⌝ }
@@ -241,7 +232,7 @@ fn judge_any(
     }
     let row = seen.row;
     let hashes = hashes_of(s, row);
-    if has_double(s, rows, head, next, head2, next2, bounds, n, seen, hashes) {
+    if has_double(s, rows, index, bounds, n, seen, hashes) {
         return Judgement::Fails { number: 15 };
     }
     Judgement::Passes { row, hashes }
@@ -252,16 +243,13 @@ pub fn judge_element(
     edition: Edition,
     s: &[u8],
     rows: &[u32],
-    head: &[u16],
-    next: &[u16],
-    head2: &[u16],
-    next2: &[u16],
+    index: &[u16],
     bounds: &mut [u32],
     n: usize,
     item: PlacedItem,
 ) -> Judgement
     requires { ⌜ ((table : List Row) × (done : List Element) × DoneRows (now s) (now rows) n table done) ⌝ }
-    requires { ⌜ Filed (now s) (now rows) identifierColumn (now head) (now next) n × Filed (now s) (now rows) logicalColumn (now head2) (now next2) n ⌝ }
+    requires { ⌜ BothFiled (now s) (now rows) (now index) n ⌝ }
     requires { ⌜ Fine (now s) (item .inner) × (length (now s) ≤ streamLimit) × (item .first ≤ item .past) × (item .past ≤ length (now s))
         × (2 * mostPortions ≤ length (now bounds)) ⌝ }
     ensures { λ r. ⌜ JudgesAfter edition (now (s .entry)) (now (rows .entry)) n item r ⌝ }
@@ -271,5 +259,5 @@ pub fn judge_element(
             return judge_bare(n, item);
         }
     }
-    judge_any(edition, s, rows, head, next, head2, next2, bounds, n, item)
+    judge_any(edition, s, rows, index, bounds, n, item)
 }

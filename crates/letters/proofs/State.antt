@@ -13,9 +13,8 @@ use Rattle.tree.specs.Tree.{plain, treeOf}
 use Rattle.runs.specs.declared.Run.{Run}
 use Rattle.runs.specs.Runs.{itemsOf, treeIn, wholeStream, tops, Fine, Meeting}
 use Rattle.runs.proofs.Laws.{start-at, no-tops}
-use Rattle.names.specs.Hash.{hashes}
 use Rattle.rows.specs.Columns.{identifierColumn, logicalColumn}
-use Rattle.rows.specs.Lookup.{Filed}
+use Rattle.rows.specs.Index.{identifierIndex, logicalIndex, BothFiled}
 use Rattle.rows.proofs.RowsKept.{bounded-none}
 use Rattle.rows.proofs.FiledKept.{filed-none}
 use Rattle.elements.specs.declared.Row.{Row}
@@ -33,25 +32,24 @@ use Rattle.judging.specs.Judges.{elementBy, Passing, Judges}
 use Rattle.letters.proofs.Meetings.{nothing-inside}
 use Rattle.judging.proofs.Steps.{unrefused-few, judged-refused, judged-passed, judge-some}
 
-pub record Judging (edition : Edition) (s scratch head next head2 next2 : List ℕ) (n : ℕ) (cur : Run) : Type 0 where
+pub record Judging (edition : Edition) (s scratch index : List ℕ) (n : ℕ) (cur : Run) : Type 0 where
   pub fine : Fine s cur
   pub unmarked : cur .marked ≡ false
   pub to-end : cur .limit ≡ length s
   pub table : List Row
   pub done : List Element
   pub holds : DoneRows s scratch n table done
-  pub by-identifier : Filed s scratch identifierColumn head next n
-  pub by-logical : Filed s scratch logicalColumn head2 next2 n
+  pub filed : BothFiled s scratch index n
   pub judged : judgeFrom edition [] (treeOf s) ≡ judgeFrom edition done (treeIn s cur)
   pub tabled : rowsIn edition s ≡ table ++ rowsOf edition s (itemsOf s cur)
   pub counted : tops (itemsOfStream s) ≡ n + tops (itemsOf s cur)
   pub placed : (k : ℕ) → placeOf (n + k) (itemsOfStream s) ≡ placeOf k (itemsOf s cur)
 
 -- nothing is done
-pub judging-none : (edition : Edition) (s scratch head next head2 next2 bounds : List ℕ) → Lent s scratch head next head2 next2 bounds → Fine s (wholeStream s)
-    → Judging edition s scratch head next head2 next2 0 (wholeStream s)
+pub judging-none : (edition : Edition) (s scratch index bounds : List ℕ) → Lent s scratch index bounds → Fine s (wholeStream s)
+    → Judging edition s scratch index 0 (wholeStream s)
 unfolding numbers
-judging-none edition s scratch head next head2 next2 bounds lent fine = record {
+judging-none edition s scratch index bounds lent fine = record {
   fine = fine;
   unmarked = refl;
   to-end = refl;
@@ -64,17 +62,17 @@ judging-none edition s scratch head next head2 next2 bounds lent fine = record {
     identifiers = bounded-none s scratch identifierColumn (omega arith);
     logicals = bounded-none s scratch logicalColumn (omega arith);
   };
-  by-identifier = filed-none s scratch identifierColumn head next (lent .some-heads) (lent .few-heads) (lent .empty-heads)
-      (omega (arith, lent .links)) (lent .unmarked);
-  by-logical = filed-none s scratch logicalColumn head2 next2 (lent .some-heads2) (lent .few-heads2) (lent .empty-heads2)
-      (omega (arith, lent .links2)) (lent .unmarked2);
+  filed = record {
+    identifiers = filed-none s scratch identifierColumn (identifierIndex index) (lent .identifiers) (omega (arith, lent .links .identifiers));
+    logicals = filed-none s scratch logicalColumn (logicalIndex index) (lent .logicals) (omega (arith, lent .links .logicals));
+  };
   judged = refl;
   tabled = refl;
   counted = omega arith;
   placed = λ k. let e : 0 + k ≡ k = omega arith in ap (λ (i : ℕ). placeOf i (itemsOfStream s)) e;
 }
 
-module _ {edition : Edition} {s scratch head next head2 next2 : List ℕ} {n : ℕ} {cur : Run} (j : Judging edition s scratch head next head2 next2 n cur) where
+module _ {edition : Edition} {s scratch index : List ℕ} {n : ℕ} {cur : Run} (j : Judging edition s scratch index n cur) where
   -- no element is left
   module _ (end : itemsOf s cur ≡ noItems) where
     whole-count : tops (itemsOfStream s) ≡ n
@@ -97,8 +95,8 @@ module _ {edition : Edition} {s scratch head next head2 next2 : List ℕ} {n : �
           holds = rw all-rows (j .holds);
         }
 
-    pub end-gives : GivesVerdict edition s scratch head next head2 next2 (endVerdict n)
-    end-gives = cases (eqb n 0) (λ t. rw t (end-empty (eqb-true n 0 t))) (λ t. rw t (end-filled (eqb-false n 0 t), j .by-identifier, j .by-logical))
+    pub end-gives : GivesVerdict edition s scratch index (endVerdict n)
+    end-gives = cases (eqb n 0) (λ t. rw t (end-empty (eqb-true n 0 t))) (λ t. rw t (end-filled (eqb-false n 0 t), j .filed))
 
   -- an element is met
   module _ {code first past : ℕ} {inner rest : Run} (m : Meeting s cur code first past inner rest) where
@@ -144,10 +142,9 @@ module _ {edition : Edition} {s scratch head next head2 next2 : List ℕ} {n : �
       unfolding rowsOf
       rows-here = ap (rowsOf edition s) (m .tree) ∙ rw (ends-there, ← w .row-is)
 
-      pub judging-more : {scratch' head' next' head2' next2' : List ℕ}
+      pub judging-more : {scratch' index' : List ℕ}
           → DoneRows s scratch' (n + 1) (j .table ++ row ∷ []) (j .done ++ elementBy edition code (treeIn s inner) ∷ [])
-          → Filed s scratch' identifierColumn head' next' (n + 1) × Filed s scratch' logicalColumn head2' next2' (n + 1)
-          → Judging edition s scratch' head' next' head2' next2' (n + 1) rest
+          → BothFiled s scratch' index' (n + 1) → Judging edition s scratch' index' (n + 1) rest
       unfolding placeOf
       judging-more holds filed = record {
         fine = m .rest-fine;
@@ -156,8 +153,7 @@ module _ {edition : Edition} {s scratch head next head2 next2 : List ℕ} {n : �
         table = j .table ++ row ∷ [];
         done = j .done ++ elementBy edition code (treeIn s inner) ∷ [];
         holds = holds;
-        by-identifier = filed .0;
-        by-logical = filed .1;
+        filed = filed;
         judged = j .judged ∙ met-tree
             ∙ judged-passed edition s (j .done) (cur .at) code first past (itemsOf s inner) (itemsOf s rest) (nothing-inside (j .fine) m) (w .unrefused);
         tabled = j .tabled ∙ ap (λ (l : List Row). j .table ++ l) rows-here ∙ sym (append-assoc (j .table) (row ∷ []) (rowsOf edition s (itemsOf s rest)));

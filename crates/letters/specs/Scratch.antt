@@ -1,5 +1,5 @@
 -- What the judge of a stream gives, and what the scratch then holds: `LetterRows` is what all that is asked of the rows of a letter is asked by. Who looks
--- names up asks besides that the rows are filed in the slices it is lent (`Filed`).
+-- names up asks besides that the rows are filed in the index it is lent (`Filed`, and of both names `BothFiled`).
 use mathlib.Core.Path.{_≡_}
 use mathlib.Core.List.{List}
 use Prim.Native.Nat.{ℕ}
@@ -7,8 +7,7 @@ use Rattle.elements.specs.declared.Edition.{Edition}
 use Rattle.elements.specs.Judge.{Element, accepted, refused, judge}
 use Rattle.elements.specs.ElementRows.{placeOf}
 use Rattle.tree.specs.Tree.{treeOf}
-use Rattle.rows.specs.Columns.{identifierColumn, logicalColumn}
-use Rattle.rows.specs.Lookup.{Filed}
+use Rattle.rows.specs.Index.{BothFiled}
 use Rattle.judging.specs.Done.{DoneRows}
 use Rattle.letters.specs.declared.Verdict.{Verdict}
 use Rattle.letters.specs.declared.Verdict.the-variants.{Accepted, Refused}
@@ -26,8 +25,7 @@ pub record Stopped (edition : Edition) (s : List ℕ) (number place : ℕ) : Typ
   pub judged : judge edition (treeOf s) ≡ refused number element
   pub placed : place ≡ placeOf element (itemsOfStream s)
 
--- what the judge of a stream gives: the rows of a letter, by either of their names, or a refusal
-abbrev pub GivesVerdict : Edition → (s scratch head next head2 next2 : List ℕ) → Verdict → Type 0
-GivesVerdict edition s scratch head next head2 next2 (Accepted count) =
-    LetterRows edition s scratch count × Filed s scratch identifierColumn head next count × Filed s scratch logicalColumn head2 next2 count
-GivesVerdict edition s scratch head next head2 next2 (Refused number place) = Stopped edition s number place
+-- what the judge of a stream gives: the rows of a letter, which either of their names finds, or a refusal
+abbrev pub GivesVerdict : Edition → (s scratch index : List ℕ) → Verdict → Type 0
+GivesVerdict edition s scratch index (Accepted count) = LetterRows edition s scratch count × BothFiled s scratch index count
+GivesVerdict edition s scratch index (Refused number place) = Stopped edition s number place

@@ -77,16 +77,12 @@ pub fn judge_stream(
     edition: Edition,
     s: &[u8],
     rows: &mut [u32],
-    head: &mut [u16],
-    next: &mut [u16],
-    head2: &mut [u16],
-    next2: &mut [u16],
+    index: &mut [u16],
     bounds: &mut [u32],
 ) -> Verdict
     requires { ⌜ Fine (now s) (wholeStream (now s)) × (length (now s) ≤ streamLimit) ⌝ }
-    requires { ⌜ Lent (now s) (now rows) (now head) (now next) (now head2) (now next2) (now bounds) ⌝ }
-    ensures { λ r. ⌜ GivesVerdict edition (now (s .entry)) (now (rows .exit)) (now (head .exit)) (now (next .exit)) (now (head2 .exit))
-        (now (next2 .exit)) r ⌝ }
+    requires { ⌜ Lent (now s) (now rows) (now index) (now bounds) ⌝ }
+    ensures { λ r. ⌜ GivesVerdict edition (now (s .entry)) (now (rows .exit)) (now (index .exit)) r ⌝ }
 {
     let mut cur = runs::whole_stream(s);
     let mut n: usize = 0;
@@ -106,24 +102,13 @@ pub fn judge_stream(
                     past: rest.at,
                     inner,
                 };
-                match judging::judge_element(
-                    edition,
-                    s,
-                    rows,
-                    head,
-                    next,
-                    head2,
-                    next2,
-                    bounds,
-                    n,
-                    item,
-                ) {
+                match judging::judge_element(edition, s, rows, index, bounds, n, item) {
                     Judgement::Fails { number } => return Verdict::Refused {
                         number,
                         place: cur.at,
                     },
                     Judgement::Passes { row, hashes } => {
-                        writing::add_row(s, rows, head, next, head2, next2, n, row, hashes);
+                        writing::add_row(s, rows, index, n, row, hashes);
                         n += 1;
                         cur = rest;
                     }

@@ -8,8 +8,7 @@ ghost use lib.ListN.{length};
 ghost use lib.Seq.{sets, paste};
 ghost use Rattle.octets.specs.Walk.{streamLimit};
 ghost use Rattle.rows.specs.Rows.{scratchWidth};
-ghost use Rattle.rows.specs.Columns.{identifierColumn, logicalColumn};
-ghost use Rattle.rows.specs.Lookup.{Filed};
+ghost use Rattle.rows.specs.Index.{BothFiled, HasLinks};
 ghost use Rattle.elements.specs.Judge.{Element, mostElements};
 ghost use Rattle.elements.specs.ElementRows.{cells};
 ghost use Rattle.elements.specs.Says.{RowPlaced};
@@ -64,26 +63,30 @@ fn put_row(rows: &mut [u32], at: usize, row: Row)
 }
 
 // Writes row n, and adds it to both indexes.
-pub fn add_row(
-    s: &[u8],
-    rows: &mut [u32],
-    head: &mut [u16],
-    next: &mut [u16],
-    head2: &mut [u16],
-    next2: &mut [u16],
-    n: usize,
-    row: Row,
-    hashes: Hashes,
-)
+pub fn add_row(s: &[u8], rows: &mut [u32], index: &mut [u16], n: usize, row: Row, hashes: Hashes)
     requires { ⌜ ((table : List Row) × (done : List Element) × DoneRows (now s) (now rows) n table done) ⌝ }
-    requires { ⌜ Filed (now s) (now rows) identifierColumn (now head) (now next) n × Filed (now s) (now rows) logicalColumn (now head2) (now next2) n ⌝ }
+    requires { ⌜ BothFiled (now s) (now rows) (now index) n ⌝ }
     requires { ⌜ RowPlaced (now s) row × (hashes ≡ hashesOf (now s) row) × (length (now s) ≤ streamLimit) ⌝ }
-    requires { ⌜ (n * scratchWidth + scratchWidth ≤ length (now rows)) × (n + 1 < length (now next)) × (n + 1 < length (now next2)) × (n < mostElements) ⌝ }
+    requires { ⌜ (n * scratchWidth + scratchWidth ≤ length (now rows)) × HasLinks (now index) (n + 1) × (n < mostElements) ⌝ }
     ensures { λ _. ⌜ Grows (now (s .entry)) (now (rows .entry)) (now (rows .exit)) n row ⌝ }
-    ensures { λ _. ⌜ Filed (now (s .entry)) (now (rows .exit)) identifierColumn (now (head .exit)) (now (next .exit)) (n + 1)
-        × Filed (now (s .entry)) (now (rows .exit)) logicalColumn (now (head2 .exit)) (now (next2 .exit)) (n + 1) ⌝ }
+    ensures { λ _. ⌜ BothFiled (now (s .entry)) (now (rows .exit)) (now (index .exit)) (n + 1) ⌝ }
 {
     put_row(rows, n * rows::SCRATCH_WIDTH, row);
-    rows::insert(s, rows, head, next, n, rows::IDENTIFIER, hashes.identifier);
-    rows::insert(s, rows, head2, next2, n, rows::LOGICAL, hashes.logical);
+    let half = rows::half_of(index.len());
+    rows::insert(
+        s,
+        rows,
+        &mut index[..half],
+        n,
+        rows::IDENTIFIER,
+        hashes.identifier,
+    );
+    rows::insert(
+        s,
+        rows,
+        &mut index[half..],
+        n,
+        rows::LOGICAL,
+        hashes.logical,
+    );
 }

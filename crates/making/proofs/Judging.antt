@@ -5,11 +5,11 @@ use mathlib.Core.List.{List, [], _∷_, _++_, map}
 use Prim.Native.Nat.{ℕ, _+_, _-_, _*_, _/_, _<_, _≤_}
 use native.Mathlib.Numerals.{add-one}
 use native.Mathlib.Omega.{arith}
-use lib.ListN.{length, replicate, length-replicate, getD-replicate}
+use lib.ListN.{length, replicate, length-replicate}
 use Rattle.names.specs.Hash.{hashes}
 use Rattle.rows.specs.Rows.{scratchWidth}
-use Rattle.rows.specs.Chains.{Empty}
-use Rattle.rows.specs.Lookup.{markOf}
+use Rattle.rows.specs.Index.{linksBegin, linksOf}
+use Rattle.answers.proofs.Zeros.{zeros-unused}
 use Rattle.making.specs.Entries.{Said, saidBy, entryRefusal, fit, refusedEntry, judgeEntriesFrom, judgeEntries}
 use Rattle.making.specs.Answers.{reasonOf}
 use Rattle.making.specs.Flat.{entryWidth, entryAt, entriesIn}
@@ -18,53 +18,46 @@ use Rattle.making.proofs.Fitting.{fit-few, fitting-from, count-said}
 use Rattle.making.proofs.Flat.{count-in, fits-on, refused-at}
 use Rattle.making.proofs.Keeping.{keeps-none}
 
-zeros : (n : ℕ) → length (replicate {A = ℕ} n 0) ≡ n
-zeros n = length-replicate n 0
-
-no-heads : (n : ℕ) → Empty (replicate n 0)
-no-heads n b l = getD-replicate n b 0 0 (omega (arith, zeros n))
-
--- more links than entries, or than fit
-linked : (count links : ℕ) → (count < links) ⊎ (2047 < links) → (k : ℕ) → k < count → k < 2047 → k + 1 < links
-linked count links (inl e) k l m = omega arith
-linked count links (inr e) k l m = omega arith
-
-some-of : (count links : ℕ) → (count < links) ⊎ (2047 < links) → 0 < links
-some-of count links (inl e) = omega arith
-some-of count links (inr e) = omega arith
-
-no-mark : (n : ℕ) → 0 < n → markOf (replicate n 0) ≡ 0
-no-mark n some = getD-replicate n (length (replicate {A = ℕ} n 0) - 1) 0 0 (omega (arith, zeros n))
+-- an entry that is kept is one of so many
+below : (count most : ℕ) → (count ≤ most) ⊎ (2047 ≤ most) → (k : ℕ) → k < count → k < 2047 → k < most
+below count most (inl e) k l m = omega arith
+below count most (inr e) k l m = omega arith
 
 -- arrays of zeros are what is lent
-pub zeros-roomy : (numbers : List ℕ) (rows heads links : ℕ) → (length numbers / entryWidth < links) ⊎ (2047 < links)
-    → links * scratchWidth ≤ rows + scratchWidth
-    → 0 < heads → heads ≤ hashes → Roomy numbers (replicate rows 0) (replicate heads 0) (replicate links 0)
-zeros-roomy numbers rows heads links enough room some few = record {
-  some-heads = omega (arith, zeros heads);
-  few-heads = omega (arith, zeros heads);
-  empty-heads = no-heads heads;
-  some-links = omega (arith, zeros links, some-of (length numbers / entryWidth) links enough);
-  unmarked = no-mark links (some-of (length numbers / entryWidth) links enough);
-  rows-fit = λ k l m. let n = linked (length numbers / entryWidth) links enough k l m in omega (arith, zeros rows);
-  links-fit = λ k l m. omega (arith, zeros links, linked (length numbers / entryWidth) links enough k l m);
-}
+pub zeros-roomy : (numbers : List ℕ) (rows index most : ℕ) → (length numbers / entryWidth ≤ most) ⊎ (2047 ≤ most) → most * scratchWidth ≤ rows
+    → most < index - linksBegin index → 0 < linksBegin index → linksBegin index ≤ hashes → Roomy numbers (replicate rows 0) (replicate index 0)
+zeros-roomy numbers rows index most enough room links some few =
+    let z = zeros-unused index some few in record {
+      unused = z .unused;
+      some-links = omega (arith, z .links);
+      rows-fit = λ k l m. omega (arith, below (length numbers / entryWidth) most enough k l m, length-replicate {A = ℕ} rows 0);
+      links-fit = λ k l m. omega (arith, below (length numbers / entryWidth) most enough k l m, z .links);
+    }
 
-pub record Judging (buffer numbers rows head next : List ℕ) (k : ℕ) : Type 0 where
+-- where the links begin in the arrays of either size
+pub few-links : linksBegin 385 ≡ 256
+unfolding linksBegin
+few-links = refl
+
+pub many-links : linksBegin 6145 ≡ 4096
+unfolding linksBegin
+many-links = refl
+
+pub record Judging (buffer numbers rows index : List ℕ) (k : ℕ) : Type 0 where
   pub done : List Said
   pub so-far : judgeEntries buffer (entriesIn numbers k) ≡ fit done
-  pub keeps : Keeps buffer rows head next k done
+  pub keeps : Keeps buffer rows index k done
 
-pub judging-none : (buffer numbers rows head next : List ℕ) → Roomy numbers rows head next → Judging buffer numbers rows head next 0
+pub judging-none : (buffer numbers rows index : List ℕ) → Roomy numbers rows index → Judging buffer numbers rows index 0
 unfolding entriesIn judgeEntriesFrom
-judging-none buffer numbers rows head next roomy =
+judging-none buffer numbers rows index roomy =
     record {
       done = [];
       so-far = refl;
-      keeps = keeps-none buffer rows head next (roomy .some-heads) (roomy .few-heads) (roomy .empty-heads) (roomy .some-links) (roomy .unmarked);
+      keeps = keeps-none buffer rows index (roomy .unused) (roomy .some-links);
     }
 
-module _ {buffer numbers rows head next : List ℕ} {k : ℕ} (j : Judging buffer numbers rows head next k) where
+module _ {buffer numbers rows index : List ℕ} {k : ℕ} (j : Judging buffer numbers rows index k) where
   -- no more than fit
   pub few-done : k ≤ 2047
   few-done =
@@ -81,8 +74,8 @@ module _ {buffer numbers rows head next : List ℕ} {k : ℕ} (j : Judging buffe
       ∙ sym (ap reasonOf (refused-at buffer numbers k (j .done) (j .so-far) (λ z. n (e ∙ z)) m l))
 
   -- entry k passes
-  pub judging-more : {rows' head' next' : List ℕ} → 0 ≡ entryRefusal buffer (j .done) (entryAt numbers k)
-      → Keeps buffer rows' head' next' (k + 1) (j .done ++ (saidBy buffer (entryAt numbers k) ∷ [])) → Judging buffer numbers rows' head' next' (k + 1)
+  pub judging-more : {rows' index' : List ℕ} → 0 ≡ entryRefusal buffer (j .done) (entryAt numbers k)
+      → Keeps buffer rows' index' (k + 1) (j .done ++ (saidBy buffer (entryAt numbers k) ∷ [])) → Judging buffer numbers rows' index' (k + 1)
   judging-more e keeps = record {
     done = j .done ++ (saidBy buffer (entryAt numbers k) ∷ []);
     so-far = ap (λ (n : ℕ). judgeEntries buffer (entriesIn numbers n)) (add-one k) ∙ fits-on buffer numbers k (j .done) (j .so-far) (sym e);

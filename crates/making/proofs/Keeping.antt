@@ -8,11 +8,9 @@ use lib.ListN.{length, set, length-append, length-set}
 use lib.Seq.{slice, getD-set-same, getD-set-other}
 use borrow.Author.Tests.{eqb-true, eqb-false}
 use borrow.Table.Steps.{cases}
-use Rattle.names.specs.Hash.{hashes}
 use Rattle.rows.specs.Rows.{scratchWidth}
 use Rattle.rows.specs.Columns.{identifierColumn, kindAt, firstAt, pastAt, valueAt, Bounded}
-use Rattle.rows.specs.Chains.{Empty}
-use Rattle.rows.specs.Lookup.{markOf, Filed}
+use Rattle.rows.specs.Index.{headsOf, linksOf, Filed, Unused}
 use Rattle.rows.proofs.RowsKept.{Kept, kind-kept, value-kept, bounded-kept, bounded-more, bounded-none}
 use Rattle.rows.proofs.FiledKept.{filed-kept, filed-none}
 use Rattle.judging.proofs.Lists.{Last, before, last, below-length, at-last}
@@ -21,12 +19,11 @@ use Rattle.making.specs.Entries.{Said, saidBy}
 use Rattle.making.specs.Keeps.{blockKind, Keeps}
 
 -- nothing is done yet
-pub keeps-none : (buffer rows head next : List ℕ) → 0 < length head → length head ≤ hashes → Empty head → 0 < length next → markOf next ≡ 0
-    → Keeps buffer rows head next 0 []
-keeps-none buffer rows head next some few empty links unmarked = record {
+pub keeps-none : (buffer rows index : List ℕ) → Unused index → 0 < length (linksOf index) → Keeps buffer rows index 0 []
+keeps-none buffer rows index unused links = record {
   counted = refl;
   bounded = bounded-none buffer rows identifierColumn (omega arith);
-  filed = filed-none buffer rows identifierColumn head next some few empty links unmarked;
+  filed = filed-none buffer rows identifierColumn index unused links;
   kinds = λ j l. absurd (omega arith);
   values = λ j x e. let z : _≡_ {A = ℕ} 0 1 = cc in absurd (omega arith);
 }
@@ -74,10 +71,10 @@ module _ (rows : List ℕ) (n first past : ℕ) (long : n * scratchWidth + scrat
         bounded-more buffer rowPut identifierColumn n (bounded-kept buffer rows rowPut identifierColumn n (omega arith) put-kept (omega arith) b)
         (omega arith) (omega (arith, put-first, put-past)) (omega (arith, put-past))
 
-    pub put-filed : (head next : List ℕ) → Filed buffer rows identifierColumn head next n → Filed buffer rowPut identifierColumn head next n
-    put-filed head next = filed-kept buffer rows rowPut identifierColumn n (omega arith) put-kept head next
+    pub put-filed : (index : List ℕ) → Filed buffer rows identifierColumn index n → Filed buffer rowPut identifierColumn index n
+    put-filed index = filed-kept buffer rows rowPut identifierColumn n (omega arith) put-kept (headsOf index) (linksOf index)
 
-    module _ (head next : List ℕ) (done : List Said) (keeps : Keeps buffer rows head next n done) (entry : Entry)
+    module _ (index : List ℕ) (done : List Said) (keeps : Keeps buffer rows index n done) (entry : Entry)
         (same-first : entry .identifier .first ≡ first) (same-past : entry .identifier .past ≡ past) where
       abbrev said : Said
       said = saidBy buffer entry
@@ -92,9 +89,9 @@ module _ (rows : List ℕ) (n first past : ℕ) (long : n * scratchWidth + scrat
       value-of j x (last p q) =
           ap (valueAt buffer rowPut identifierColumn) (p ∙ keeps .counted) ∙ value-there ∙ ap (λ (y : Said). y .identifier) (sym q)
 
-      pub keeps-more : (head' next' : List ℕ) → Bounded buffer rowPut identifierColumn (n + 1)
-          → Filed buffer rowPut identifierColumn head' next' (n + 1) → Keeps buffer rowPut head' next' (n + 1) (done ++ (said ∷ []))
-      keeps-more head' next' bounded filed = record {
+      pub keeps-more : (index' : List ℕ) → Bounded buffer rowPut identifierColumn (n + 1)
+          → Filed buffer rowPut identifierColumn index' (n + 1) → Keeps buffer rowPut index' (n + 1) (done ++ (said ∷ []))
+      keeps-more index' bounded filed = record {
         counted = length-append done (said ∷ []) ∙ omega (arith, keeps .counted);
         bounded = bounded;
         filed = filed;

@@ -35,7 +35,7 @@ module _ (buffer : List ℕ) (done : List Said) (entry : Entry) (entries : List 
   judge-stops n = rw (ne-eqb (entryRefusal buffer done entry) 0 n)
 
 -- 15 by the index: a row with the identifier is found exactly when it was used before
-module _ {buffer rows head next : List ℕ} {n : ℕ} {done : List Said} (keeps : Keeps buffer rows head next n done) (said : Said) (spelt : Spelt said) where
+module _ {buffer rows index : List ℕ} {n : ℕ} {done : List Said} (keeps : Keeps buffer rows index n done) (said : Said) (spelt : Spelt said) where
   -- no identifier is empty
   some-octets : (xs : List ℕ) → isIdentifier xs ≡ true → 0 < length xs
   unfolding isIdentifier grouped

@@ -67,9 +67,8 @@ fn judge_few(buffer: &[u8], numbers: &[u32]) -> Reason
     ensures { λ r. ⌜ r ≡ reasonOf (judgeEntries (now (buffer .entry)) (entriesOf (now (numbers .entry)))) ⌝ }
 {
     let mut rows = [0u32; 1536];
-    let mut head = [0u16; 256];
-    let mut next = [0u16; 129];
-    rules::judge_entries(buffer, numbers, &mut rows, &mut head, &mut next)
+    let mut index = [0u16; 385];
+    rules::judge_entries(buffer, numbers, &mut rows, &mut index)
 }
 
 // The refusal of any entries, with scratch for as many as fit.
@@ -77,9 +76,8 @@ fn judge_many(buffer: &[u8], numbers: &[u32]) -> Reason
     ensures { λ r. ⌜ r ≡ reasonOf (judgeEntries (now (buffer .entry)) (entriesOf (now (numbers .entry)))) ⌝ }
 {
     let mut rows = [0u32; 24564];
-    let mut head = [0u16; 4096];
-    let mut next = [0u16; 2048];
-    rules::judge_entries(buffer, numbers, &mut rows, &mut head, &mut next)
+    let mut index = [0u16; 6145];
+    rules::judge_entries(buffer, numbers, &mut rows, &mut index)
 }
 
 // The refusal of entries: its number and place, 0 and 0 if there is none.

@@ -14,7 +14,7 @@ ghost use lib.Seq.{slice};
 ghost use Rattle.names.specs.Hash.{hash};
 ghost use Rattle.rows.specs.Rows.{scratchWidth};
 ghost use Rattle.rows.specs.Columns.{identifierColumn, Bounded};
-ghost use Rattle.rows.specs.Lookup.{Filed};
+ghost use Rattle.rows.specs.Index.{linksOf, Filed};
 ghost use Rattle.elements.specs.ElementRows.{bytesIn};
 ghost use Rattle.making.specs.Entries.{saidBy, inside, partsInside, allSpelt, judgeEntries};
 ghost use Rattle.making.specs.Answers.{reasonOf};
@@ -41,8 +41,8 @@ const MOST_ENTRIES: usize = 2047;
 
 const LONGEST_NAME: usize = 64;
 
-// The kind of a block, as a row has it.
-const BLOCK: u32 = 2;
+// The kind of a block, a layout object, as a row has it.
+const BLOCK: u32 = rows::LAYOUT_OBJECT as u32;
 
 // Whether a part lies in the buffer.
 fn lies(buffer: &[u8], part: Span) -> bool
@@ -86,15 +86,14 @@ fn is_well_spelt(buffer: &[u8], entry: Entry) -> bool
 fn is_used(
     buffer: &[u8],
     rows: &[u32],
-    head: &[u16],
-    next: &[u16],
+    index: &[u16],
     n: usize,
     identifier: Span,
     hashed: usize,
 ) -> bool
-    requires { ⌜ Bounded (now buffer) (now rows) identifierColumn n × Filed (now buffer) (now rows) identifierColumn (now head) (now next) n ⌝ }
+    requires { ⌜ Bounded (now buffer) (now rows) identifierColumn n × Filed (now buffer) (now rows) identifierColumn (now index) n ⌝ }
     requires { ⌜ PartLies (now buffer) identifier × (hashed ≡ hash (bytesIn (now buffer) identifier)) ⌝ }
-    ensures { λ r. ⌜ TellsUsed (now (buffer .entry)) (now (rows .entry)) (now (head .entry)) (now (next .entry)) n identifier r ⌝ }
+    ensures { λ r. ⌜ TellsUsed (now (buffer .entry)) (now (rows .entry)) (now (index .entry)) n identifier r ⌝ }
 {
     let asked = Asked {
         first: identifier.first,
@@ -106,8 +105,7 @@ fn is_used(
     match rows::find(
         buffer,
         rows,
-        head,
-        next,
+        index,
         n,
         rows::IDENTIFIER,
         rows::OBJECTS,
@@ -120,9 +118,9 @@ fn is_used(
 }
 
 // The refusal of entry n, after those that are done.
-fn rule(buffer: &[u8], rows: &[u32], head: &[u16], next: &[u16], n: usize, entry: Entry) -> Ruled
-    requires { ⌜ Bounded (now buffer) (now rows) identifierColumn n × Filed (now buffer) (now rows) identifierColumn (now head) (now next) n ⌝ }
-    ensures { λ r. ⌜ Rules (now (buffer .entry)) (now (rows .entry)) (now (head .entry)) (now (next .entry)) n entry r ⌝ }
+fn rule(buffer: &[u8], rows: &[u32], index: &[u16], n: usize, entry: Entry) -> Ruled
+    requires { ⌜ Bounded (now buffer) (now rows) identifierColumn n × Filed (now buffer) (now rows) identifierColumn (now index) n ⌝ }
+    ensures { λ r. ⌜ Rules (now (buffer .entry)) (now (rows .entry)) (now (index .entry)) n entry r ⌝ }
 {
     if !parts_lie(buffer, entry) {
         return Ruled {
@@ -138,7 +136,7 @@ fn rule(buffer: &[u8], rows: &[u32], head: &[u16], next: &[u16], n: usize, entry
     }
     let identifier = entry.identifier;
     let hashed = names::hash_over(buffer, identifier.first, identifier.past, 0);
-    if is_used(buffer, rows, head, next, n, identifier, hashed) {
+    if is_used(buffer, rows, index, n, identifier, hashed) {
         return Ruled {
             number: USED_BEFORE,
             hashed: 0,
@@ -157,41 +155,34 @@ fn rule(buffer: &[u8], rows: &[u32], head: &[u16], next: &[u16], n: usize, entry
 fn keep(
     buffer: &[u8],
     rows: &mut [u32],
-    head: &mut [u16],
-    next: &mut [u16],
+    index: &mut [u16],
     n: usize,
     first: u32,
     past: u32,
     hashed: usize,
 )
-    requires { ⌜ Bounded (now buffer) (now rows) identifierColumn n × Filed (now buffer) (now rows) identifierColumn (now head) (now next) n ⌝ }
-    requires { ⌜ (n * scratchWidth + scratchWidth ≤ length (now rows)) × (n + 1 < length (now next)) × (n < 2047) ⌝ }
+    requires { ⌜ Bounded (now buffer) (now rows) identifierColumn n × Filed (now buffer) (now rows) identifierColumn (now index) n ⌝ }
+    requires { ⌜ (n * scratchWidth + scratchWidth ≤ length (now rows)) × (n + 1 < length (linksOf (now index))) × (n < 2047) ⌝ }
     requires { ⌜ (first ≤ past) × (past ≤ length (now buffer)) × (hashed ≡ hash (slice first past (now buffer))) ⌝ }
-    ensures { λ _. ⌜ KeepsOn (now (buffer .entry)) (now (rows .entry)) (now (head .entry)) (now (next .entry)) n first past (now (rows .exit))
-        (now (head .exit)) (now (next .exit)) ⌝ }
+    ensures { λ _. ⌜ KeepsOn (now (buffer .entry)) (now (rows .entry)) (now (index .entry)) n first past (now (rows .exit))
+        (now (index .exit)) ⌝ }
 {
     let at = n * rows::SCRATCH_WIDTH;
     rows[at] = BLOCK;
     rows[at + rows::IDENTIFIER] = first;
     rows[at + rows::IDENTIFIER + 1] = past;
-    rows::insert(buffer, rows, head, next, n, rows::IDENTIFIER, hashed);
+    rows::insert(buffer, rows, index, n, rows::IDENTIFIER, hashed);
 }
 
 // Judges the entries in order: the number and place of the first refusal, 0 and 0 if there is none.
-pub fn judge_entries(
-    buffer: &[u8],
-    numbers: &[u32],
-    rows: &mut [u32],
-    head: &mut [u16],
-    next: &mut [u16],
-) -> Reason
-    requires { ⌜ Roomy (now numbers) (now rows) (now head) (now next) ⌝ }
+pub fn judge_entries(buffer: &[u8], numbers: &[u32], rows: &mut [u32], index: &mut [u16]) -> Reason
+    requires { ⌜ Roomy (now numbers) (now rows) (now index) ⌝ }
     ensures { λ r. ⌜ r ≡ reasonOf (judgeEntries (now (buffer .entry)) (entriesOf (now (numbers .entry)))) ⌝ }
 {
     let count = numbers.len() / ENTRY_WIDTH;
     let mut k: usize = 0;
     while k < count {
-        let ruled = rule(buffer, rows, head, next, k, entry_at(numbers, k));
+        let ruled = rule(buffer, rows, index, k, entry_at(numbers, k));
         if ruled.number != 0 {
             return Reason {
                 number: ruled.number,
@@ -202,8 +193,7 @@ pub fn judge_entries(
         keep(
             buffer,
             rows,
-            head,
-            next,
+            index,
             k,
             numbers[at],
             numbers[at + 1],

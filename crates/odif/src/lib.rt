@@ -37,6 +37,7 @@ pub use family::children;
 pub use in_order::order;
 pub use made::make;
 pub use mailroom::normal_short;
+pub use mailroom::normal_short_lent;
 pub use side_text::text;
 
 // Checks a stream and fills the element table, thirteen numbers a row. The viewer asks this first.

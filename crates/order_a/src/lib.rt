@@ -16,7 +16,7 @@ ghost use Rattle.rows.specs.Columns.{identifierColumn, kindAt};
 ghost use Rattle.order.specs.Fault.{FaultIn};
 ghost use Rattle.letters.specs.Scratch.{LetterRows};
 ghost use Rattle.elements.specs.declared.Edition.{Edition};
-ghost use Rattle.rows.specs.Lookup.{Filed};
+ghost use Rattle.rows.specs.Index.{Filed};
 ghost use Rattle.order_a.specs.Step.{Small};
 ghost use Rattle.reading.specs.declared.Side.{Side};
 ghost use Rattle.order_a.specs.Turns.{OwnAt};
@@ -154,9 +154,9 @@ fn first_walk(n: usize) -> Walk
 }
 
 // The pass over the rows after the profile.
-fn pass(s: &[u8], rows: &[u32], head: &[u16], next: &[u16], n: usize) -> Fault
+fn pass(s: &[u8], rows: &[u32], index: &[u16], n: usize) -> Fault
     requires { ⌜ ((edition : Edition) × LetterRows edition (now s) (now rows) n) ⌝ }
-    requires { ⌜ Filed (now s) (now rows) identifierColumn (now head) (now next) n ⌝ }
+    requires { ⌜ Filed (now s) (now rows) identifierColumn (now index) n ⌝ }
     requires { ⌜ (0 < n) × (kindAt (now rows) 0 ≡ 0) ⌝ }
     ensures { λ r. ⌜ FaultIn Class.A (now (s .entry)) (now (rows .entry)) n r ⌝ }
 {
@@ -165,8 +165,8 @@ fn pass(s: &[u8], rows: &[u32], head: &[u16], next: &[u16], n: usize) -> Fault
     while k < n {
         let at = k;
         k += 1;
-        let layout = turns::look(s, rows, head, next, n, Side::Layout, at);
-        let logical = turns::look(s, rows, head, next, n, Side::Logical, at);
+        let layout = turns::look(s, rows, index, n, Side::Layout, at);
+        let logical = turns::look(s, rows, index, n, Side::Logical, at);
         match take_row(s, rows, n, at, w, layout, logical) {
             Step::Stops => return Fault::At(at),
             Step::Goes(after) => {
@@ -182,9 +182,9 @@ fn pass(s: &[u8], rows: &[u32], head: &[u16], next: &[u16], n: usize) -> Fault
 
 // The fault of the order of class A, of the letter whose rows these are: 26 at an element, from 0, at how many they are if only the end
 // is missing, or none.
-pub fn fault_a(s: &[u8], rows: &[u32], head: &[u16], next: &[u16], n: usize) -> Fault
+pub fn fault_a(s: &[u8], rows: &[u32], index: &[u16], n: usize) -> Fault
     requires { ⌜ ((edition : Edition) × LetterRows edition (now s) (now rows) n) ⌝ }
-    requires { ⌜ Filed (now s) (now rows) identifierColumn (now head) (now next) n ⌝ }
+    requires { ⌜ Filed (now s) (now rows) identifierColumn (now index) n ⌝ }
     ensures { λ r. ⌜ FaultIn Class.A (now (s .entry)) (now (rows .entry)) n r ⌝ }
 {
     if n == 0 {
@@ -193,5 +193,5 @@ pub fn fault_a(s: &[u8], rows: &[u32], head: &[u16], next: &[u16], n: usize) -> 
     if rows::kind_at(rows, 0) != PROFILE {
         return Fault::At(0);
     }
-    pass(s, rows, head, next, n)
+    pass(s, rows, index, n)
 }

@@ -10,7 +10,7 @@ ghost use lib.ListN.{length};
 ghost use Rattle.rows.specs.Rows.{scratchWidth};
 ghost use Rattle.letters.specs.Scratch.{LetterRows};
 ghost use Rattle.elements.specs.declared.Edition.{Edition};
-ghost use Rattle.rows.specs.Lookup.{Filed};
+ghost use Rattle.rows.specs.Index.{Filed};
 ghost use Rattle.rows.specs.Columns.{identifierColumn};
 ghost use Rattle.order_a.specs.Turns.{RowBelow, ownOf, OwnAt, kindFor, ownFor, rowFor, turnFor, counts, countsIn, Reaches};
 
@@ -55,21 +55,13 @@ fn own_of(rows: &[u32], n: usize, u: usize, owner: Owner) -> Own
 }
 
 // Whose portion row u represents on a side.
-pub fn look(
-    s: &[u8],
-    rows: &[u32],
-    head: &[u16],
-    next: &[u16],
-    n: usize,
-    side: Side,
-    u: usize,
-) -> Own
+pub fn look(s: &[u8], rows: &[u32], index: &[u16], n: usize, side: Side, u: usize) -> Own
     requires { ⌜ ((edition : Edition) × LetterRows edition (now s) (now rows) n) ⌝ }
-    requires { ⌜ Filed (now s) (now rows) identifierColumn (now head) (now next) n ⌝ }
+    requires { ⌜ Filed (now s) (now rows) identifierColumn (now index) n ⌝ }
     requires { ⌜ u < n ⌝ }
     ensures { λ r. ⌜ OwnAt side (now (s .entry)) (now (rows .entry)) n u r ⌝ }
 {
-    let owner = owners::owner_of(s, rows, head, next, n, side, u);
+    let owner = owners::owner_of(s, rows, index, n, side, u);
     own_of(rows, n, u, owner)
 }
 

@@ -20,7 +20,7 @@ ghost use Rattle.order.specs.PassB.{stepB};
 ghost use Rattle.order.specs.Fault.{FaultIn};
 ghost use Rattle.letters.specs.Scratch.{LetterRows};
 ghost use Rattle.elements.specs.declared.Edition.{Edition};
-ghost use Rattle.rows.specs.Lookup.{Filed};
+ghost use Rattle.rows.specs.Index.{Filed};
 ghost use Rattle.order_b.specs.Steps.{stateOf, StepIs, firstStep, unitStep, mayFollow, headStep, PassIs};
 
 // The rank past the last: that of kinds with no place.
@@ -95,9 +95,9 @@ fn may_follow(state: State, kind: usize) -> bool
 }
 
 // The first element: it must be the profile.
-fn first_step(s: &[u8], rows: &[u32], head: &[u16], next: &[u16], n: usize) -> Step
+fn first_step(s: &[u8], rows: &[u32], index: &[u16], n: usize) -> Step
     requires { ⌜ ((edition : Edition) × LetterRows edition (now s) (now rows) n) ⌝ }
-    requires { ⌜ Filed (now s) (now rows) identifierColumn (now head) (now next) n ⌝ }
+    requires { ⌜ Filed (now s) (now rows) identifierColumn (now index) n ⌝ }
     requires { ⌜ 0 < n ⌝ }
     ensures { λ r. ⌜ StepIs (now (s .entry)) (now (rows .entry)) n 0 firstStep r ⌝ }
 {
@@ -117,21 +117,13 @@ fn first_step(s: &[u8], rows: &[u32], head: &[u16], next: &[u16], n: usize) -> S
 }
 
 // A text unit: it must represent a portion of the last element that is none.
-fn unit_step(
-    s: &[u8],
-    rows: &[u32],
-    head: &[u16],
-    next: &[u16],
-    n: usize,
-    state: State,
-    u: usize,
-) -> Step
+fn unit_step(s: &[u8], rows: &[u32], index: &[u16], n: usize, state: State, u: usize) -> Step
     requires { ⌜ ((edition : Edition) × LetterRows edition (now s) (now rows) n) ⌝ }
-    requires { ⌜ Filed (now s) (now rows) identifierColumn (now head) (now next) n ⌝ }
+    requires { ⌜ Filed (now s) (now rows) identifierColumn (now index) n ⌝ }
     requires { ⌜ u < n ⌝ }
     ensures { λ r. ⌜ StepIs (now (s .entry)) (now (rows .entry)) n u (unitStep (stateOf state)) r ⌝ }
 {
-    match owners::owner_of(s, rows, head, next, n, Side::Layout, u) {
+    match owners::owner_of(s, rows, index, n, Side::Layout, u) {
         Owner::Nobody => Step::Stops,
         Owner::Of { row, portion: _ } => {
             if row != state.head {
@@ -147,17 +139,9 @@ fn unit_step(
 }
 
 // Any other element: the head of those that follow.
-fn head_step(
-    s: &[u8],
-    rows: &[u32],
-    head: &[u16],
-    next: &[u16],
-    n: usize,
-    state: State,
-    j: usize,
-) -> Step
+fn head_step(s: &[u8], rows: &[u32], index: &[u16], n: usize, state: State, j: usize) -> Step
     requires { ⌜ ((edition : Edition) × LetterRows edition (now s) (now rows) n) ⌝ }
-    requires { ⌜ Filed (now s) (now rows) identifierColumn (now head) (now next) n ⌝ }
+    requires { ⌜ Filed (now s) (now rows) identifierColumn (now index) n ⌝ }
     requires { ⌜ j < n ⌝ }
     ensures { λ r. ⌜ StepIs (now (s .entry)) (now (rows .entry)) n j (headStep (stateOf state) j) r ⌝ }
 {
@@ -177,37 +161,29 @@ fn head_step(
 }
 
 // One step of the pass.
-fn step_b(
-    s: &[u8],
-    rows: &[u32],
-    head: &[u16],
-    next: &[u16],
-    n: usize,
-    state: State,
-    j: usize,
-) -> Step
+fn step_b(s: &[u8], rows: &[u32], index: &[u16], n: usize, state: State, j: usize) -> Step
     requires { ⌜ ((edition : Edition) × LetterRows edition (now s) (now rows) n) ⌝ }
-    requires { ⌜ Filed (now s) (now rows) identifierColumn (now head) (now next) n ⌝ }
+    requires { ⌜ Filed (now s) (now rows) identifierColumn (now index) n ⌝ }
     requires { ⌜ j < n ⌝ }
     ensures { λ r. ⌜ StepIs (now (s .entry)) (now (rows .entry)) n j (stepB (stateOf state) j) r ⌝ }
 {
     if rows::kind_at(rows, j) == TEXT_UNIT {
-        return unit_step(s, rows, head, next, n, state, j);
+        return unit_step(s, rows, index, n, state, j);
     }
-    head_step(s, rows, head, next, n, state, j)
+    head_step(s, rows, index, n, state, j)
 }
 
 // The elements after the first, from the state that it left.
-fn pass(s: &[u8], rows: &[u32], head: &[u16], next: &[u16], n: usize, start: State) -> Fault
+fn pass(s: &[u8], rows: &[u32], index: &[u16], n: usize, start: State) -> Fault
     requires { ⌜ ((edition : Edition) × LetterRows edition (now s) (now rows) n) ⌝ }
-    requires { ⌜ Filed (now s) (now rows) identifierColumn (now head) (now next) n ⌝ }
+    requires { ⌜ Filed (now s) (now rows) identifierColumn (now index) n ⌝ }
     requires { ⌜ 0 < n ⌝ }
     ensures { λ r. ⌜ PassIs (now (s .entry)) (now (rows .entry)) n (stateOf start) r ⌝ }
 {
     let mut state = start;
     let mut j: usize = 1;
     while j < n {
-        match step_b(s, rows, head, next, n, state, j) {
+        match step_b(s, rows, index, n, state, j) {
             Step::Stops => return Fault::At(j),
             Step::Goes(after) => {
                 state = after;
@@ -222,16 +198,16 @@ fn pass(s: &[u8], rows: &[u32], head: &[u16], next: &[u16], n: usize, start: Sta
 }
 
 // Where the elements of an accepted letter leave the order of class B.
-pub fn fault_b(s: &[u8], rows: &[u32], head: &[u16], next: &[u16], n: usize) -> Fault
+pub fn fault_b(s: &[u8], rows: &[u32], index: &[u16], n: usize) -> Fault
     requires { ⌜ ((edition : Edition) × LetterRows edition (now s) (now rows) n) ⌝ }
-    requires { ⌜ Filed (now s) (now rows) identifierColumn (now head) (now next) n ⌝ }
+    requires { ⌜ Filed (now s) (now rows) identifierColumn (now index) n ⌝ }
     ensures { λ r. ⌜ FaultIn B (now (s .entry)) (now (rows .entry)) n r ⌝ }
 {
     if n == 0 {
         return Fault::At(0);
     }
-    match first_step(s, rows, head, next, n) {
+    match first_step(s, rows, index, n) {
         Step::Stops => Fault::At(0),
-        Step::Goes(start) => pass(s, rows, head, next, n, start),
+        Step::Goes(start) => pass(s, rows, index, n, start),
     }
 }

@@ -12,7 +12,7 @@ ghost use Rattle.rows.specs.Rows.{scratchWidth};
 ghost use Rattle.rows.specs.Columns.{identifierColumn};
 ghost use Rattle.letters.specs.Scratch.{LetterRows};
 ghost use Rattle.elements.specs.declared.Edition.{Edition};
-ghost use Rattle.rows.specs.Lookup.{Filed};
+ghost use Rattle.rows.specs.Index.{Filed};
 ghost use Rattle.owners.specs.Owner.{OwnerAt, Meetable, ownerAmong, listedAt, ownerBy};
 
 // The element whose portion a text unit represents, and the place of that portion, both from 0.
@@ -90,17 +90,9 @@ fn owner_by(s: &[u8], rows: &[u32], side: Side, row: usize, first: usize, past: 
 
 // Whose portion row u represents on a side, and which. A row that is no text unit represents none. The unit's identifier of the side is cut at its last
 // space; what stands before it is looked up among classes and objects, what stands after it among the portions of the one that has that name.
-pub fn owner_of(
-    s: &[u8],
-    rows: &[u32],
-    head: &[u16],
-    next: &[u16],
-    n: usize,
-    side: Side,
-    u: usize,
-) -> Owner
+pub fn owner_of(s: &[u8], rows: &[u32], index: &[u16], n: usize, side: Side, u: usize) -> Owner
     requires { ⌜ ((edition : Edition) × LetterRows edition (now s) (now rows) n) ⌝ }
-    requires { ⌜ Filed (now s) (now rows) identifierColumn (now head) (now next) n ⌝ }
+    requires { ⌜ Filed (now s) (now rows) identifierColumn (now index) n ⌝ }
     requires { ⌜ u < n ⌝ }
     ensures { λ r. ⌜ OwnerAt side (now (s .entry)) (now (rows .entry)) n u r ⌝ }
 {
@@ -112,7 +104,7 @@ pub fn owner_of(
     if cut == name.past {
         return Owner::Nobody;
     }
-    match parents::carrier(s, rows, head, next, n, name.first, cut) {
+    match parents::carrier(s, rows, index, n, name.first, cut) {
         RowFound::Nothing => Owner::Nobody,
         RowFound::At(row) => owner_by(s, rows, side, row, cut + 1, name.past),
     }

@@ -15,7 +15,7 @@ ghost use lib.Seq.{slice};
 ghost use Rattle.headers.specs.Head.{isIn};
 ghost use Rattle.rows.specs.Columns.{identifierColumn, Bounded};
 ghost use Rattle.rows.specs.Chains.{FindsRow};
-ghost use Rattle.rows.specs.Lookup.{Filed};
+ghost use Rattle.rows.specs.Index.{Filed};
 ghost use Rattle.elements.specs.declared.Edition.{Edition};
 ghost use Rattle.elements.specs.Judge.{mostElements};
 ghost use Rattle.letters.specs.Scratch.{LetterRows};
@@ -65,14 +65,13 @@ pub fn last_space(s: &[u8], first: usize, past: usize) -> usize
 pub fn carrier(
     s: &[u8],
     rows: &[u32],
-    head: &[u16],
-    next: &[u16],
+    index: &[u16],
     n: usize,
     first: usize,
     past: usize,
 ) -> RowFound
     requires { ⌜ Bounded (now s) (now rows) identifierColumn n ⌝ }
-    requires { ⌜ Filed (now s) (now rows) identifierColumn (now head) (now next) n ⌝ }
+    requires { ⌜ Filed (now s) (now rows) identifierColumn (now index) n ⌝ }
     requires { ⌜ (first ≤ past) × (past ≤ length (now s)) ⌝ }
     ensures { λ r. ⌜ FindsRow (now (s .entry)) (now (rows .entry)) identifierColumn n objectSpace (slice first past (now (s .entry))) r ⌝ }
 {
@@ -84,7 +83,7 @@ pub fn carrier(
         to: past,
     };
     let hashed = names::hash_over(s, first, past, 0);
-    rows::find(s, rows, head, next, n, IDENTIFIER, OBJECTS, hashed, asked)
+    rows::find(s, rows, index, n, IDENTIFIER, OBJECTS, hashed, asked)
 }
 
 // The row that was found, if its element may be the parent of one of this kind.
@@ -104,9 +103,9 @@ fn own_side(rows: &[u32], kind: usize, found: RowFound) -> usize
 }
 
 // The parent's row of row j, or NO_PARENT. A text unit or style has none, whatever its identifier.
-pub fn parent_of(s: &[u8], rows: &[u32], head: &[u16], next: &[u16], n: usize, j: usize) -> usize
+pub fn parent_of(s: &[u8], rows: &[u32], index: &[u16], n: usize, j: usize) -> usize
     requires { ⌜ ((edition : Edition) × LetterRows edition (now s) (now rows) n) ⌝ }
-    requires { ⌜ Filed (now s) (now rows) identifierColumn (now head) (now next) n ⌝ }
+    requires { ⌜ Filed (now s) (now rows) identifierColumn (now index) n ⌝ }
     requires { ⌜ (j < n) × (n ≤ mostElements) ⌝ }
     ensures { λ r. ⌜ ParentAt (now (s .entry)) (now (rows .entry)) n j r ⌝ }
 {
@@ -121,5 +120,5 @@ pub fn parent_of(s: &[u8], rows: &[u32], head: &[u16], next: &[u16], n: usize, j
     if cut == past {
         return NO_PARENT;
     }
-    own_side(rows, kind, carrier(s, rows, head, next, n, first, cut))
+    own_side(rows, kind, carrier(s, rows, index, n, first, cut))
 }

@@ -21,9 +21,9 @@ const LIST_TOO_SHORT: u32 = 30;
 const PAGE: u32 = 2;
 
 // Which kinds may be one: a layout class and a layout object.
-const LAYOUT_CLASS: u32 = 1;
+const LAYOUT_CLASS: u32 = rows::LAYOUT_CLASS as u32;
 
-const LAYOUT_OBJECT: u32 = 2;
+const LAYOUT_OBJECT: u32 = rows::LAYOUT_OBJECT as u32;
 
 // The numbers of a record of the list: a row of the table, and the verdict on it.
 const PAGE_WIDTH: usize = 2;

@@ -20,9 +20,9 @@ ghost use Rattle.headers.specs.Head.{isIn};
 ghost use Rattle.names.specs.Names.{spaceByte};
 ghost use Rattle.names.specs.Hash.{hash, hashFrom, hashes};
 ghost use Rattle.rows.specs.Rows.{scratchWidth};
-ghost use Rattle.rows.specs.Columns.{identifierColumn, logicalColumn, Bounded};
+ghost use Rattle.rows.specs.Columns.{Bounded};
 ghost use Rattle.rows.specs.Chains.{FindsRow};
-ghost use Rattle.rows.specs.Lookup.{Filed};
+ghost use Rattle.rows.specs.Index.{Filed, BothFiled};
 ghost use Rattle.elements.specs.declared.Edition.{Edition};
 ghost use Rattle.elements.specs.ElementRows.{bytesIn};
 ghost use Rattle.elements.specs.Says.{Placed};
@@ -110,8 +110,7 @@ fn is_listed(rows: &[u32], side: Side, j: usize) -> bool
 fn unit_of(
     s: &[u8],
     rows: &[u32],
-    head: &[u16],
-    next: &[u16],
+    index: &[u16],
     n: usize,
     column: usize,
     hashed: usize,
@@ -119,7 +118,7 @@ fn unit_of(
     portion: Span,
 ) -> RowFound
     requires { ⌜ Bounded (now s) (now rows) column n ⌝ }
-    requires { ⌜ Filed (now s) (now rows) column (now head) (now next) n ⌝ }
+    requires { ⌜ Filed (now s) (now rows) column (now index) n ⌝ }
     requires { ⌜ (hashed ≡ hashFrom (hash (bytesIn (now s) name)) (spaceByte ∷ [])) × (hashed < hashes) ⌝ }
     requires { ⌜ Placed (now s) name × Placed (now s) portion ⌝ }
     ensures { λ r. ⌜ FindsRow (now (s .entry)) (now (rows .entry)) column n unitSpace
@@ -133,7 +132,7 @@ fn unit_of(
         to: portion.past,
     };
     let whole = names::hash_over(s, portion.first, portion.past, hashed);
-    rows::find(s, rows, head, next, n, column, UNITS, whole, asked)
+    rows::find(s, rows, index, n, column, UNITS, whole, asked)
 }
 
 // Puts one record in its place.
@@ -173,8 +172,7 @@ fn put_found(
 fn list_portions(
     s: &[u8],
     rows: &[u32],
-    head: &[u16],
-    next: &[u16],
+    index: &[u16],
     n: usize,
     side: Side,
     element: usize,
@@ -182,7 +180,7 @@ fn list_portions(
     count: usize,
 ) -> usize
     requires { ⌜ ((edition : Edition) × LetterRows edition (now s) (now rows) n) ⌝ }
-    requires { ⌜ Filed (now s) (now rows) (columnOf side) (now head) (now next) n ⌝ }
+    requires { ⌜ Filed (now s) (now rows) (columnOf side) (now index) n ⌝ }
     requires { ⌜ (element < n) × (isListed side (now rows) element ≡ true) ⌝ }
     requires { ⌜ Room side (now s) (now rows) n element (now flat) count ⌝ }
     ensures { λ r. ⌜ PutsElement side (now (s .entry)) (now (rows .entry)) n element (now (flat .entry)) count (now (flat .exit)) r ⌝ }
@@ -204,7 +202,7 @@ fn list_portions(
             } => {
                 let column = column_of(side);
                 let portion = Span { first, past };
-                let found = unit_of(s, rows, head, next, n, column, hashed, name, portion);
+                let found = unit_of(s, rows, index, n, column, hashed, name, portion);
                 total = put_found(flat, total, element, place, found);
                 place += 1;
                 left = rest;
@@ -217,8 +215,7 @@ fn list_portions(
 fn list_element(
     s: &[u8],
     rows: &[u32],
-    head: &[u16],
-    next: &[u16],
+    index: &[u16],
     n: usize,
     side: Side,
     element: usize,
@@ -226,7 +223,7 @@ fn list_element(
     count: usize,
 ) -> usize
     requires { ⌜ ((edition : Edition) × LetterRows edition (now s) (now rows) n) ⌝ }
-    requires { ⌜ Filed (now s) (now rows) (columnOf side) (now head) (now next) n ⌝ }
+    requires { ⌜ Filed (now s) (now rows) (columnOf side) (now index) n ⌝ }
     requires { ⌜ element < n ⌝ }
     requires { ⌜ Room side (now s) (now rows) n element (now flat) count ⌝ }
     ensures { λ r. ⌜ PutsElement side (now (s .entry)) (now (rows .entry)) n element (now (flat .entry)) count (now (flat .exit)) r ⌝ }
@@ -234,28 +231,20 @@ fn list_element(
     if !is_listed(rows, side, element) {
         return count;
     }
-    list_portions(s, rows, head, next, n, side, element, flat, count)
+    list_portions(s, rows, index, n, side, element, flat, count)
 }
 
 // Puts all matches of a side, by the index of its identifiers.
-fn list_side(
-    s: &[u8],
-    rows: &[u32],
-    head: &[u16],
-    next: &[u16],
-    n: usize,
-    side: Side,
-    flat: &mut [u32],
-) -> usize
+fn list_side(s: &[u8], rows: &[u32], index: &[u16], n: usize, side: Side, flat: &mut [u32]) -> usize
     requires { ⌜ ((edition : Edition) × LetterRows edition (now s) (now rows) n) ⌝ }
-    requires { ⌜ Filed (now s) (now rows) (columnOf side) (now head) (now next) n ⌝ }
+    requires { ⌜ Filed (now s) (now rows) (columnOf side) (now index) n ⌝ }
     requires { ⌜ 3 * n ≤ length (now flat) ⌝ }
     ensures { λ r. ⌜ PutsAll side (now (s .entry)) (now (rows .entry)) n (now (flat .entry)) (now (flat .exit)) r ⌝ }
 {
     let mut element: usize = 0;
     let mut count: usize = 0;
     while element < n {
-        count = list_element(s, rows, head, next, n, side, element, flat, count);
+        count = list_element(s, rows, index, n, side, element, flat, count);
         element += 1;
     }
     count
@@ -265,21 +254,18 @@ fn list_side(
 pub fn list_matches(
     s: &[u8],
     rows: &[u32],
-    head: &[u16],
-    next: &[u16],
-    head2: &[u16],
-    next2: &[u16],
+    index: &[u16],
     n: usize,
     side: Side,
     flat: &mut [u32],
 ) -> usize
     requires { ⌜ ((edition : Edition) × LetterRows edition (now s) (now rows) n) ⌝ }
-    requires { ⌜ Filed (now s) (now rows) identifierColumn (now head) (now next) n × Filed (now s) (now rows) logicalColumn (now head2) (now next2) n ⌝ }
+    requires { ⌜ BothFiled (now s) (now rows) (now index) n ⌝ }
     requires { ⌜ 3 * n ≤ length (now flat) ⌝ }
     ensures { λ r. ⌜ ListsLetter side (now (s .entry)) (now (rows .entry)) n (now (flat .entry)) (now (flat .exit)) r ⌝ }
 {
     match side {
-        Side::Layout => list_side(s, rows, head, next, n, Side::Layout, flat),
-        Side::Logical => list_side(s, rows, head2, next2, n, Side::Logical, flat),
+        Side::Layout => list_side(s, rows, rows::identifiers(index), n, Side::Layout, flat),
+        Side::Logical => list_side(s, rows, rows::logicals(index), n, Side::Logical, flat),
     }
 }

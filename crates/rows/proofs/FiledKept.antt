@@ -5,11 +5,11 @@ use Prim.Native.Nat.{ℕ, _+_, _*_, _<_, _≤_}
 use native.Mathlib.Omega.{arith}
 use lib.ListN.{length, getD}
 use lib.Seq.{sets}
-use Rattle.names.specs.Hash.{hashes}
 use Rattle.rows.specs.Rows.{scratchWidth}
-use Rattle.rows.specs.Chains.{Indexed, Empty}
+use Rattle.rows.specs.Chains.{Indexed}
 use Rattle.rows.proofs.RowsKept.{Kept, kind-kept, value-kept, indexed-kept, row-kept, indexed-none}
-use Rattle.rows.specs.Lookup.{keyAt, Goes, Ordered, markOf, chained, longestChain, AtMost, Filed}
+use Rattle.rows.specs.Lookup.{keyAt, Goes, Ordered, chained, longestChain, AtMost, FiledIn}
+use Rattle.rows.specs.Index.{headsOf, linksOf, Filed, Unused}
 use Rattle.rows.proofs.Links.{none-at-most}
 use Rattle.rows.proofs.Filing.{chained-all, ordered-none}
 
@@ -34,7 +34,7 @@ module _ (s rows rows' : List ℕ) (column n : ℕ) (in-row : column + 1 < scrat
     each = o .each;
   }
 
-  pub filed-kept : (head next : List ℕ) → Filed s rows column head next n → Filed s rows' column head next n
+  pub filed-kept : (head next : List ℕ) → FiledIn s rows column head next n → FiledIn s rows' column head next n
   filed-kept head next x = record {
     room = x .room;
     by-hash = indexed-kept s rows rows' column (chained next n) in-row
@@ -46,16 +46,16 @@ module _ (s rows rows' : List ℕ) (column n : ℕ) (in-row : column + 1 < scrat
 -- row n, written whole
 pub row-filed : (s rows : List ℕ) (n : ℕ) (cells : List ℕ) → length cells ≡ scratchWidth → n * scratchWidth + scratchWidth ≤ length rows → (column : ℕ)
     → column + 1 < scratchWidth
-    → (head next : List ℕ) → Filed s rows column head next n → Filed s (sets rows (n * scratchWidth) cells) column head next n
-row-filed s rows n cells whole long column in-row head next x =
-    filed-kept s rows (sets rows (n * scratchWidth) cells) column n in-row (row-kept s rows n cells whole long) head next x
+    → (index : List ℕ) → Filed s rows column index n → Filed s (sets rows (n * scratchWidth) cells) column index n
+row-filed s rows n cells whole long column in-row index x =
+    filed-kept s rows (sets rows (n * scratchWidth) cells) column n in-row (row-kept s rows n cells whole long) (headsOf index) (linksOf index) x
 
-pub filed-none : (s rows : List ℕ) (column : ℕ) (head next : List ℕ) → 0 < length head → length head ≤ hashes → Empty head → 0 < length next → markOf next ≡ 0
-    → Filed s rows column head next 0
-filed-none s rows column head next some few empty room unmarked =
-    let c : chained next 0 ≡ 0 = chained-all next 0 unmarked in record {
+pub filed-none : (s rows : List ℕ) (column : ℕ) (index : List ℕ) → Unused index → 0 < length (linksOf index) → Filed s rows column index 0
+filed-none s rows column index unused room =
+    let c : chained (linksOf index) 0 ≡ 0 = chained-all (linksOf index) 0 (unused .unmarked) in record {
       room = room;
-      by-hash = subst (Indexed s rows column head next) (sym c) (indexed-none s rows column head next some few empty);
-      in-order = subst (λ (k : ℕ). Ordered s rows column next k 0) (sym c) (ordered-none s rows column next 0 (omega arith));
-      short = λ b l. subst (AtMost next longestChain) (sym (empty b l)) (none-at-most next longestChain);
+      by-hash = subst (Indexed s rows column (headsOf index) (linksOf index)) (sym c)
+          (indexed-none s rows column (headsOf index) (linksOf index) (unused .some-heads) (unused .few-heads) (unused .empty-heads));
+      in-order = subst (λ (k : ℕ). Ordered s rows column (linksOf index) k 0) (sym c) (ordered-none s rows column (linksOf index) 0 (omega arith));
+      short = λ b l. subst (AtMost (linksOf index) longestChain) (sym (unused .empty-heads b l)) (none-at-most (linksOf index) longestChain);
     }

@@ -15,8 +15,8 @@ use Rattle.rows.specs.Chains.{Indexed, Links, FindsRow}
 use Rattle.rows.specs.declared.RowFound.the-variants.{Nothing}
 use Rattle.rows.proofs.ChainGrow.{skipped}
 use Rattle.rows.proofs.ChainSearch.{passed-first}
-use Rattle.rows.specs.Lookup.{Ordered, markOf, chained, longestChain, AtMost, Filed, Around}
-use Rattle.rows.proofs.Links.{none-at-most, one-more, short-kept}
+use Rattle.rows.specs.Lookup.{Ordered, markOf, chained, longestChain, AtMost, FiledIn, Around}
+use Rattle.rows.proofs.Links.{one-more, short-kept}
 
 pub chained-all : (next : List ℕ) (n : ℕ) → markOf next ≡ 0 → chained next n ≡ n
 chained-all next n e = rw (eq-eqb (markOf next) 0 e)
@@ -63,14 +63,14 @@ bounded-front front b = record {
   inside = λ j l. b .inside j (omega arith);
 }
 
-module _ {s rows : List ℕ} {column : ℕ} {head next : List ℕ} {n : ℕ} (x : Filed s rows column head next n) {from : ℕ} (is : from ≡ chained next n) where
+module _ {s rows : List ℕ} {column : ℕ} {head next : List ℕ} {n : ℕ} (x : FiledIn s rows column head next n) {from : ℕ} (is : from ≡ chained next n) where
   pub by-hash-from : Indexed s rows column head next from
   by-hash-from = subst (Indexed s rows column head next) (sym is) (x .by-hash)
 
   pub in-order-from : Ordered s rows column next from n
   in-order-from = subst (λ (c : ℕ). Ordered s rows column next c n) (sym is) (x .in-order)
 
-module _ {s rows : List ℕ} {column : ℕ} {head next : List ℕ} {n : ℕ} (x : Filed s rows column head next n) {mark : ℕ} (is : mark ≡ markOf next) where
+module _ {s rows : List ℕ} {column : ℕ} {head next : List ℕ} {n : ℕ} (x : FiledIn s rows column head next n) {mark : ℕ} (is : mark ≡ markOf next) where
   module _ (marked : (mark ≡ 0 → ⊥)) where
     some : chained next n ≡ mark - 1
     some = chained-some next n (λ e. marked (is ∙ e)) ∙ ap (λ (m : ℕ). m - 1) (sym is)
@@ -96,7 +96,7 @@ module _ {s rows : List ℕ} {column : ℕ} {head next : List ℕ} {n : ℕ} (x 
     mark-kept next' size kept = ap (λ (l : ℕ). getD next' (l - 1) 0) size ∙ kept (length next - 1) (omega arith) ∙ sym is
 
     pub filed-in-order : (mark ≡ 0 → ⊥) → {next' : List ℕ} → Ordered s rows column next' (mark - 1) (n + 1) → Around next next' (mark - 1) n
-        → Filed s rows column head next' (n + 1)
+        → FiledIn s rows column head next' (n + 1)
     filed-in-order marked {next'} o a =
         let kept : markOf next' ≡ mark = mark-kept next' (a .size) (a .beyond) in
         let c : chained next' (n + 1) ≡ mark - 1 = chained-some next' (n + 1) (λ e. marked (sym kept ∙ e)) ∙ ap (λ (m : ℕ). m - 1) kept in record {
@@ -132,7 +132,7 @@ module _ {s rows : List ℕ} {column : ℕ} {head next : List ℕ} {n : ℕ} (x 
 
       pub filed-by-hash : {head' next' : List ℕ} {b own : ℕ} → Indexed s rows column head' next'
           (n + 1) → length head' ≡ length head → length next' ≡ length next
-          → Links head next head' next' own n → b ≡ own → b < length head → AtMost next 7 (getD head b 0) → Filed s rows column head' next' (n + 1)
+          → Links head next head' next' own n → b ≡ own → b < length head → AtMost next 7 (getD head b 0) → FiledIn s rows column head' next' (n + 1)
       filed-by-hash {head'} {next'} {b} {own} y heads size links e low few =
           let few' : AtMost next 7 (getD head own 0) = subst (λ (a : ℕ). AtMost next 7 (getD head a 0)) e few in
           let same : markOf next' ≡ mark = mark-kept next' size (λ i l. links .other-links i (λ e. absurd (omega arith))) in
@@ -143,14 +143,8 @@ module _ {s rows : List ℕ} {column : ℕ} {head next : List ℕ} {n : ℕ} (x 
             short = λ a l. short-more links (omega arith) few' a (omega arith);
           }
 
-      -- the first row of a bucket
-      pub filed-alone : {head' next' : List ℕ} {b own : ℕ} → Indexed s rows column head' next' (n + 1) → length head' ≡ length head → length next' ≡ length next
-          → Links head next head' next' own n → b ≡ own → b < length head → getD head b 0 ≡ 0 → Filed s rows column head' next' (n + 1)
-      filed-alone y heads size links e low empty =
-          filed-by-hash y heads size links e low (subst (AtMost next 7) (sym empty) (none-at-most next 7))
-
       -- a row with no value there is in no chain
-      pub filed-absent : (Present rows column n → ⊥) → Filed s rows column head next (n + 1)
+      pub filed-absent : (Present rows column n → ⊥) → FiledIn s rows column head next (n + 1)
       filed-absent absent =
           let c : chained next (n + 1) ≡ n + 1 = chained-all next (n + 1) (sym is ∙ unmarked) in record {
             room = omega arith;
@@ -174,7 +168,7 @@ module _ {s rows : List ℕ} {column : ℕ} {head next : List ℕ} {n : ℕ} (x 
       first-other : (j : ℕ) → (j ≡ length next - 1 → ⊥) → getD first j 0 ≡ getD (set next n n) j 0
       first-other j ne = getD-set-other (set next n n) (length next - 1) j (n + 1) 0 ne
 
-      pub filed-first : Filed s rows column head first (n + 1)
+      pub filed-first : FiledIn s rows column head first (n + 1)
       filed-first =
           let c : chained first (n + 1) ≡ n = chained-some first (n + 1) (λ e. absurd (omega (arith, first-mark))) ∙ omega (arith, first-mark) in
           let kept : (j : ℕ) → j < n → getD first j 0 ≡ getD next j 0 =

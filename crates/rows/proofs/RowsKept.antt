@@ -121,9 +121,6 @@ module _ (s rows : List ℕ) (n : ℕ) (cells : List ℕ) (whole : length cells 
         (bounded-kept s rows written column n in-row row-kept (omega arith) b)
         (omega arith) (omega (arith, row-first, row-past)) (omega (arith, row-past))
 
-    pub row-indexed : (head next : List ℕ) → Indexed s rows column head next n → Indexed s written column head next n
-    row-indexed = indexed-kept s rows written column n in-row row-kept
-
 pub bounded-none : (s rows : List ℕ) (column : ℕ) → column + 1 < scratchWidth → Bounded s rows column 0
 bounded-none s rows column m = record {
   in-row = m;

@@ -69,7 +69,7 @@ AtMost next zero link = link ≡ 0
 AtMost next (suc most) link = 0 < link → AtMost next most (getD next (link - 1) 0)
 
 -- the first n rows can be looked up: some by their hash, those after them in order
-pub record Filed (s rows : List ℕ) (column : ℕ) (head next : List ℕ) (n : ℕ) : Type 0 where
+pub record FiledIn (s rows : List ℕ) (column : ℕ) (head next : List ℕ) (n : ℕ) : Type 0 where
   pub room : n < length next
   pub by-hash : Indexed s rows column head next (chained next n)
   pub in-order : Ordered s rows column next (chained next n) n

@@ -1,6 +1,7 @@
 // Look-up by hash: a chain of rows for each bucket of their hashes, each next one an earlier row.
 use super::RowFound;
 use super::SCRATCH_WIDTH;
+use super::links_begin;
 use super::space_of;
 use super::wide16;
 use super::wide32;
@@ -13,6 +14,7 @@ ghost use Rattle.names.specs.Hash.{hash, bucket};
 ghost use Rattle.rows.specs.Rows.{scratchWidth};
 ghost use Rattle.rows.specs.Columns.{firstAt, pastAt, valueAt, Bounded};
 ghost use Rattle.rows.specs.Chains.{Indexed, Links, named, FindsRow};
+ghost use Rattle.rows.specs.Index.{linksBegin, headsOf, linksOf};
 
 // Whether row j is of the name space and has the name asked for.
 fn has(s: &[u8], rows: &[u32], column: usize, j: usize, space: u8, asked: Asked) -> bool
@@ -63,30 +65,22 @@ pub fn find(
 }
 
 // Adds row n, if it has a value there. `hashed` is that value's hash, by which the caller has looked it up before.
-pub fn insert(
-    s: &[u8],
-    rows: &[u32],
-    head: &mut [u16],
-    next: &mut [u16],
-    n: usize,
-    column: usize,
-    hashed: usize,
-)
+pub fn insert(s: &[u8], rows: &[u32], index: &mut [u16], n: usize, column: usize, hashed: usize)
     requires { ⌜ Bounded (now s) (now rows) column (n + 1) ⌝ }
-    requires { ⌜ Indexed (now s) (now rows) column (now head) (now next) n ⌝ }
-    requires { ⌜ n < length (now next) ⌝ }
+    requires { ⌜ Indexed (now s) (now rows) column (headsOf (now index)) (linksOf (now index)) n ⌝ }
+    requires { ⌜ n < length (linksOf (now index)) ⌝ }
     requires { ⌜ n + 1 < 65536 ⌝ }
     requires { ⌜ hashed ≡ hash (valueAt (now s) (now rows) column n) ⌝ }
-    ensures { λ _. ⌜ Indexed (now (s .entry)) (now (rows .entry)) column (now (head .exit)) (now (next .exit)) (n + 1) ⌝ }
-    ensures { λ _. ⌜ length (now (head .exit)) ≡ length (now (head .entry)) ⌝ }
-    ensures { λ _. ⌜ length (now (next .exit)) ≡ length (now (next .entry)) ⌝ }
-    ensures { λ _. ⌜ Links (now (head .entry)) (now (next .entry)) (now (head .exit)) (now (next .exit))
-        (bucket (length (now (head .entry))) hashed) n ⌝ }
+    ensures { λ _. ⌜ Indexed (now (s .entry)) (now (rows .entry)) column (headsOf (now (index .exit))) (linksOf (now (index .exit))) (n + 1) ⌝ }
+    ensures { λ _. ⌜ length (now (index .exit)) ≡ length (now (index .entry)) ⌝ }
+    ensures { λ _. ⌜ Links (headsOf (now (index .entry))) (linksOf (now (index .entry))) (headsOf (now (index .exit))) (linksOf (now (index .exit)))
+        (bucket (linksBegin (length (now (index .entry)))) hashed) n ⌝ }
 {
     let at = n * SCRATCH_WIDTH + column;
     if rows[at] < rows[at + 1] {
-        let b = names::bucket_of(head.len(), hashed);
-        next[n] = head[b];
-        head[b] = (n + 1) as u16;
+        let links = links_begin(index.len());
+        let b = names::bucket_of(links, hashed);
+        index[links + n] = index[b];
+        index[b] = (n + 1) as u16;
     }
 }

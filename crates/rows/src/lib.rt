@@ -1,6 +1,8 @@
 // The rows of a letter: which numbers a row has and where, the kinds of elements and who shares a name space; and look-up of rows by their names.
 ghost use mathlib.Core.Path.{_≡_};
+ghost use Prim.Native.Nat.{_+_, _≤_};
 ghost use Rattle.rows.specs.Rows.{nameSpaceOf};
+ghost use Rattle.rows.specs.Index.{linksBegin, halfOf, identifierIndex, logicalIndex};
 
 mod chains; // chains.rt: look-up by hash, in chains of rows
 mod lookup; // lookup.rt: look-up whoever chose the names
@@ -64,6 +66,36 @@ fn wide32(x: u32) -> usize
     ensures { λ r. ⌜ r ≡ x ⌝ }
 {
     x as usize
+}
+
+// Where the links of an index begin, after its heads. The mailroom's box divides by a call, so there is no quotient.
+fn links_begin(size: usize) -> usize
+    requires { ⌜ 2 ≤ size ⌝ }
+    ensures { λ r. ⌜ (r ≡ linksBegin size) × (r + 2 ≤ size) ⌝ }
+{
+    (size - 1) & (size - 2)
+}
+
+// The index of the identifiers in what is lent for a letter, and after it that of the logical identifiers.
+pub fn identifiers(index: &[u16]) -> &[u16]
+    ensures { λ r. ⌜ now r ≡ identifierIndex (now (index .entry)) ⌝ }
+{
+    let half = half_of(index.len());
+    &index[..half]
+}
+
+pub fn logicals(index: &[u16]) -> &[u16]
+    ensures { λ r. ⌜ now r ≡ logicalIndex (now (index .entry)) ⌝ }
+{
+    let half = half_of(index.len());
+    &index[half..]
+}
+
+// Where the second begins.
+pub fn half_of(size: usize) -> usize
+    ensures { λ r. ⌜ r ≡ halfOf size ⌝ }
+{
+    size / 2
 }
 
 // The name space of a kind, 0 if it has none.

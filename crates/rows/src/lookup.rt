@@ -3,6 +3,7 @@
 use super::RowFound;
 use super::SCRATCH_WIDTH;
 use super::chains;
+use super::links_begin;
 use super::places;
 use super::wide16;
 use names::Asked;
@@ -14,7 +15,8 @@ ghost use Rattle.names.specs.Asked.{spelling, AskedWithin};
 ghost use Rattle.names.specs.Hash.{hash};
 ghost use Rattle.rows.specs.Columns.{valueAt, Bounded};
 ghost use Rattle.rows.specs.Chains.{FindsRow};
-ghost use Rattle.rows.specs.Lookup.{chained, AtMost, Filed, Linked};
+ghost use Rattle.rows.specs.Lookup.{chained, AtMost, Linked};
+ghost use Rattle.rows.specs.Index.{linksBegin, headsOf, linksOf, Filed};
 
 // Most rows of a chain. Names that nobody chose for it come nowhere near.
 const LONGEST_CHAIN: usize = 8;
@@ -48,12 +50,20 @@ fn is_short(head: &[u16], next: &[u16], n: usize, bucket: usize) -> bool
     true
 }
 
+// The same of an index.
+fn has_room(index: &[u16], n: usize, bucket: usize) -> bool
+    requires { ⌜ Linked (headsOf (now index)) (linksOf (now index)) n × (bucket < linksBegin (length (now index))) ⌝ }
+    ensures { λ r. ⌜ (r ≡ true → AtMost (linksOf (now (index .entry))) 7 (getD (headsOf (now (index .entry))) bucket 0)) ⌝ }
+{
+    let links = links_begin(index.len());
+    is_short(&index[..links], &index[links..], n, bucket)
+}
+
 // The last of the first n rows that is of the name space and has the name asked for, whose hash is `hashed`.
 fn find_any(
     s: &[u8],
     rows: &[u32],
-    head: &[u16],
-    next: &[u16],
+    index: &[u16],
     n: usize,
     column: usize,
     space: u8,
@@ -61,11 +71,14 @@ fn find_any(
     asked: Asked,
 ) -> RowFound
     requires { ⌜ Bounded (now s) (now rows) column n ⌝ }
-    requires { ⌜ Filed (now s) (now rows) column (now head) (now next) n ⌝ }
+    requires { ⌜ Filed (now s) (now rows) column (now index) n ⌝ }
     requires { ⌜ AskedWithin (now s) asked ⌝ }
     requires { ⌜ hashed ≡ hash (spelling (now s) asked) ⌝ }
     ensures { λ r. ⌜ FindsRow (now (s .entry)) (now (rows .entry)) column n space (spelling (now (s .entry)) asked) r ⌝ }
 {
+    let links = links_begin(index.len());
+    let head = &index[..links];
+    let next = &index[links..];
     let from = chained_of(next, n);
     match places::find_later(s, rows, next, from, n, column, space, asked) {
         RowFound::At(j) => RowFound::At(j),
@@ -77,8 +90,7 @@ fn find_any(
 pub fn find(
     s: &[u8],
     rows: &[u32],
-    head: &[u16],
-    next: &[u16],
+    index: &[u16],
     n: usize,
     column: usize,
     space: u8,
@@ -86,86 +98,69 @@ pub fn find(
     asked: Asked,
 ) -> RowFound
     requires { ⌜ Bounded (now s) (now rows) column n ⌝ }
-    requires { ⌜ Filed (now s) (now rows) column (now head) (now next) n ⌝ }
+    requires { ⌜ Filed (now s) (now rows) column (now index) n ⌝ }
     requires { ⌜ AskedWithin (now s) asked ⌝ }
     requires { ⌜ hashed ≡ hash (spelling (now s) asked) ⌝ }
     ensures { λ r. ⌜ FindsRow (now (s .entry)) (now (rows .entry)) column n space (spelling (now (s .entry)) asked) r ⌝ }
 {
-    if next[next.len() - 1] != 0 {
-        return find_any(s, rows, head, next, n, column, space, hashed, asked);
+    if index[index.len() - 1] != 0 {
+        return find_any(s, rows, index, n, column, space, hashed, asked);
     }
-    if head[names::bucket_of(head.len(), hashed)] == 0 {
+    if index[names::bucket_of(links_begin(index.len()), hashed)] == 0 {
         return RowFound::Nothing;
     }
-    find_any(s, rows, head, next, n, column, space, hashed, asked)
+    find_any(s, rows, index, n, column, space, hashed, asked)
 }
 
 // Adds row n, which has a value, or is to be put in order.
-fn insert_any(
-    s: &[u8],
-    rows: &[u32],
-    head: &mut [u16],
-    next: &mut [u16],
-    n: usize,
-    column: usize,
-    hashed: usize,
-)
+fn insert_any(s: &[u8], rows: &[u32], index: &mut [u16], n: usize, column: usize, hashed: usize)
     requires { ⌜ Bounded (now s) (now rows) column (n + 1) ⌝ }
-    requires { ⌜ Filed (now s) (now rows) column (now head) (now next) n ⌝ }
-    requires { ⌜ n + 1 < length (now next) ⌝ }
+    requires { ⌜ Filed (now s) (now rows) column (now index) n ⌝ }
+    requires { ⌜ n + 1 < length (linksOf (now index)) ⌝ }
     requires { ⌜ n + 1 < 65536 ⌝ }
     requires { ⌜ hashed ≡ hash (valueAt (now s) (now rows) column n) ⌝ }
-    ensures { λ _. ⌜ Filed (now (s .entry)) (now (rows .entry)) column (now (head .exit)) (now (next .exit)) (n + 1) ⌝ }
-    ensures { λ _. ⌜ length (now (head .exit)) ≡ length (now (head .entry)) ⌝ }
-    ensures { λ _. ⌜ length (now (next .exit)) ≡ length (now (next .entry)) ⌝ }
+    ensures { λ _. ⌜ Filed (now (s .entry)) (now (rows .entry)) column (now (index .exit)) (n + 1) ⌝ }
+    ensures { λ _. ⌜ length (now (index .exit)) ≡ length (now (index .entry)) ⌝ }
 {
-    let last = next.len() - 1;
-    let mark = wide16(next[last]);
+    let last = index.len() - 1;
+    let links = links_begin(index.len());
+    let mark = wide16(index[last]);
     if mark != 0 {
-        places::put_in_order(s, rows, next, mark - 1, n, column);
+        places::put_in_order(s, rows, &mut index[links..], mark - 1, n, column);
         return;
     }
-    if is_short(head, next, n, names::bucket_of(head.len(), hashed)) {
-        chains::insert(s, rows, head, next, n, column, hashed);
+    if has_room(index, n, names::bucket_of(links, hashed)) {
+        chains::insert(s, rows, index, n, column, hashed);
         return;
     }
-    next[n] = n as u16;
-    next[last] = (n + 1) as u16;
+    index[links + n] = n as u16;
+    index[last] = (n + 1) as u16;
 }
 
 // Adds row n. `hashed` is the hash of its value, by which the caller has looked it up before. Mostly a row has no value, or
 // is the first of its bucket: that much is small enough to stand in the caller. What the rest is lent is lent anew, or the caller would
 // keep it in memory for all rows.
-pub fn insert(
-    s: &[u8],
-    rows: &[u32],
-    head: &mut [u16],
-    next: &mut [u16],
-    n: usize,
-    column: usize,
-    hashed: usize,
-)
+pub fn insert(s: &[u8], rows: &[u32], index: &mut [u16], n: usize, column: usize, hashed: usize)
     requires { ⌜ Bounded (now s) (now rows) column (n + 1) ⌝ }
-    requires { ⌜ Filed (now s) (now rows) column (now head) (now next) n ⌝ }
-    requires { ⌜ n + 1 < length (now next) ⌝ }
+    requires { ⌜ Filed (now s) (now rows) column (now index) n ⌝ }
+    requires { ⌜ n + 1 < length (linksOf (now index)) ⌝ }
     requires { ⌜ n + 1 < 65536 ⌝ }
     requires { ⌜ hashed ≡ hash (valueAt (now s) (now rows) column n) ⌝ }
-    ensures { λ _. ⌜ Filed (now (s .entry)) (now (rows .entry)) column (now (head .exit)) (now (next .exit)) (n + 1) ⌝ }
-    ensures { λ _. ⌜ length (now (head .exit)) ≡ length (now (head .entry)) ⌝ }
-    ensures { λ _. ⌜ length (now (next .exit)) ≡ length (now (next .entry)) ⌝ }
+    ensures { λ _. ⌜ Filed (now (s .entry)) (now (rows .entry)) column (now (index .exit)) (n + 1) ⌝ }
+    ensures { λ _. ⌜ length (now (index .exit)) ≡ length (now (index .entry)) ⌝ }
 {
-    let last = next.len() - 1;
-    if next[last] != 0 {
-        insert_any(&*s, &*rows, head, next, n, column, hashed);
+    let last = index.len() - 1;
+    if index[last] != 0 {
+        insert_any(&*s, &*rows, index, n, column, hashed);
         return;
     }
     let at = n * SCRATCH_WIDTH + column;
     if rows[at + 1] <= rows[at] {
         return;
     }
-    if head[names::bucket_of(head.len(), hashed)] == 0 {
-        chains::insert(s, rows, head, next, n, column, hashed);
+    if index[names::bucket_of(links_begin(index.len()), hashed)] == 0 {
+        chains::insert(s, rows, index, n, column, hashed);
         return;
     }
-    insert_any(&*s, &*rows, head, next, n, column, hashed);
+    insert_any(&*s, &*rows, index, n, column, hashed);
 }

@@ -1,13 +1,12 @@
 -- Arrays of zeros are the scratch that the judge asks for.
-use mathlib.Core.Path.{_≡_, ap, _∙_}
+use mathlib.Core.Path.{_≡_, refl, ap, _∙_}
 use mathlib.Core.List.{List}
 use Prim.Native.Nat.{ℕ, _+_, _-_, _*_, _/_, _<_, _≤_}
 use native.Mathlib.Omega.{arith}
-use lib.ListN.{length, replicate, length-replicate, getD-replicate}
+use lib.ListN.{length, replicate, length-replicate}
 use Rattle.names.specs.Hash.{hashes}
 use Rattle.rows.specs.Rows.{scratchWidth}
-use Rattle.rows.specs.Chains.{Empty}
-use Rattle.rows.specs.Lookup.{markOf}
+use Rattle.rows.specs.Index.{linksBegin}
 use Rattle.octets.specs.declared.Outcome.{Outcome}
 use Rattle.octets.specs.declared.Outcome.the-variants.{Ended}
 use Rattle.octets.specs.Walk.{streamLimit, walkOf}
@@ -16,41 +15,35 @@ use Rattle.runs.proofs.Laws.{stream-fine, stream-within, stream-count, count-to
 use Rattle.letters.specs.Letter.{itemsOfStream}
 use Rattle.letters.specs.Lent.{rowsNeeded, Lent}
 use Rattle.answers.specs.Asking.{Sized}
+use Rattle.answers.proofs.Zeros.{zeros-both}
 
 zeros : (n : ℕ) → length (replicate {A = ℕ} n 0) ≡ n
 zeros n = length-replicate n 0
 
-no-heads : (n : ℕ) → Empty (replicate n 0)
-no-heads n b l = getD-replicate n b 0 0 (omega (arith, zeros n))
+-- rows, both indexes and bounds of a letter with no more rows than are lent
+pub lent : (s : List ℕ) (rows index half : ℕ) → index ≡ half + half → rowsNeeded s < half - linksBegin half
+    → rowsNeeded s * scratchWidth ≤ rows → 0 < linksBegin half → linksBegin half ≤ hashes → Lent s (replicate rows 0) (replicate index 0) (replicate 128 0)
+lent s rows index half twice needed room some few =
+    let both = zeros-both index half twice some few in record {
+      identifiers = both .identifiers;
+      logicals = both .logicals;
+      rows = omega (arith, zeros rows);
+      links = both .links (rowsNeeded s) needed;
+      portions = omega (arith, zeros 128);
+    }
 
-no-mark : (n : ℕ) → 0 < n → markOf (replicate n 0) ≡ 0
-no-mark n some = getD-replicate n (length (replicate {A = ℕ} n 0) - 1) 0 0 (omega (arith, zeros n))
+-- where the links begin in the arrays of either size
+pub few-links : linksBegin 1537 ≡ 1024
+unfolding linksBegin
+few-links = refl
 
--- rows, heads, links and bounds of a letter with no more rows than are lent
-lent : (s : List ℕ) (rows heads links : ℕ) → rowsNeeded s < links → links * scratchWidth ≤ rows + scratchWidth → 0 < heads → heads ≤ hashes
-    → Lent s (replicate rows 0) (replicate heads 0) (replicate links 0) (replicate heads 0) (replicate links 0) (replicate 128 0)
-lent s rows heads links needed room some few = record {
-  some-heads = omega (arith, zeros heads);
-  few-heads = omega (arith, zeros heads);
-  empty-heads = no-heads heads;
-  some-heads2 = omega (arith, zeros heads);
-  few-heads2 = omega (arith, zeros heads);
-  empty-heads2 = no-heads heads;
-  rows = omega (arith, zeros rows);
-  links = omega (arith, zeros links);
-  unmarked = no-mark links (omega arith);
-  links2 = omega (arith, zeros links);
-  unmarked2 = no-mark links (omega arith);
-  portions = omega (arith, zeros 128);
-}
+pub many-links : linksBegin 12289 ≡ 8192
+unfolding linksBegin
+many-links = refl
 
--- all that the judge asks, of a stream that the walk passed
-pub walked-lent : (s : List ℕ) (at headers : ℕ) → walkOf s ≡ Ended at headers → (rows heads links : ℕ)
-    → rowsNeeded s < links → links * scratchWidth ≤ rows + scratchWidth → 0 < heads → heads ≤ hashes
-    → (Fine s (wholeStream s) × (length s ≤ streamLimit))
-    × Lent s (replicate rows 0) (replicate heads 0) (replicate links 0) (replicate heads 0) (replicate links 0) (replicate 128 0)
-walked-lent s at headers w rows heads links needed room some few =
-    ((stream-fine s at headers w, stream-within s at headers w), lent s rows heads links needed room some few)
+-- what the judge asks of a stream: that the walk passed it
+pub walked-fine : (s : List ℕ) (at headers : ℕ) → walkOf s ≡ Ended at headers → Fine s (wholeStream s) × (length s ≤ streamLimit)
+walked-fine s at headers w = (stream-fine s at headers w, stream-within s at headers w)
 
 -- an array of four numbers an element is enough for the lines of a whole reading
 pub sized-array : (n most : ℕ) → 4 * most ≤ n → {s : List ℕ} {walked : Outcome} → Sized s walked most → Sized s walked (length (replicate {A = ℕ} n 0) / 4)

@@ -247,6 +247,21 @@ pub fn short_normal_form_in(edition: Edition, stream: &[u8]) -> Result<Vec<u8>, 
     Ok(out)
 }
 
+/// Writes the normal form of a stream of at most [`SHORT_LIMIT`](crate::SHORT_LIMIT) octets in memory that the caller lends:
+/// it allocates nothing and takes less than 2 KiB of stack. An output as long as the stream is always enough;
+/// [`lent_rows`](raw::lent_rows) and [`lent_index`](raw::lent_index) say how much scratch is, and less is refused by rule 32.
+pub fn short_normal_form_lent<'a>(
+    edition: Edition,
+    stream: &[u8],
+    out: &'a mut [u8],
+    rows: &mut [u32],
+    index: &mut [u16],
+) -> Result<&'a [u8], Refusal> {
+    let answer = raw::normal_short_lent_in(edition, stream, out, rows, index);
+    Refusal::unless_accepted(answer.number, answer.place)?;
+    Ok(&out[..answer.length as usize])
+}
+
 /// No accepted stream of this length has more elements: one has at least two octets.
 pub(crate) fn most_elements(stream: &[u8]) -> usize {
     (stream.len() / 2).min(MOST_ELEMENTS)

@@ -51,7 +51,7 @@ pub use blocks::{Blocks, ClosedEarly, PastTotal, Walked};
 pub use date::{Date, FirstDate, first_date, first_date_in};
 pub use edition::Edition;
 pub use letter::{Checked, Element, Kind, Letter, Match, Side, check, check_in, content, content_in};
-pub use letter::{normal_form, normal_form_in, short_normal_form, short_normal_form_in};
+pub use letter::{normal_form, normal_form_in, short_normal_form, short_normal_form_in, short_normal_form_lent};
 pub use making::Builder;
 pub use order::{Class, order, order_in};
 pub use refusal::{Refusal, Rule};

@@ -219,6 +219,10 @@ twins! {
     pub normal normal_in = odif_normal odif_normal_1993(out: u8) -> Written;
     /// Writes the normal form of a stream of at most 65,535 octets, which is never longer than the stream.
     pub normal_short normal_short_in = odif_normal_short odif_normal_short_1993(out: u8) -> Written;
+    /// [`normal_short`] in scratch that the caller lends, with little stack: 32 where it is less than [`lent_rows`] and
+    /// [`lent_index`] ask for. What it holds afterwards is left open.
+    pub normal_short_lent normal_short_lent_in =
+        odif_normal_short_lent odif_normal_short_lent_1993(out: u8, rows: u32, index: u16) -> Written;
     /// Fills the table and the reading list of the layout side.
     pub layout layout_in = odif_layout odif_layout_1993(table: u32, list: Match) -> Listed;
     /// Fills the table and the reading list of the logical side.
@@ -291,6 +295,20 @@ pub fn make(buffer: &[u8], entries: &[u32], out: &mut [u8]) -> Written {
     unsafe {
         odif_make_numbers(buffer.as_ptr(), buffer.len(), entries.as_ptr(), entries.len(), out.as_mut_ptr(), out.len())
     }
+}
+
+/// So many numbers of 32 bits are enough as rows of [`normal_short_lent`] for a stream with so many elements.
+pub const fn lent_rows(elements: usize) -> usize {
+    12 * elements
+}
+
+/// So many numbers of 16 bits are enough as its index: it is made for 64, 128, 256, .. or 4,096 elements.
+pub const fn lent_index(elements: usize) -> usize {
+    let mut size = 64;
+    while size < elements && size < 4_096 {
+        size *= 2;
+    }
+    6 * size + 2
 }
 
 /// The numbers of a [`Line`].

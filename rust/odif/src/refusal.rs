@@ -99,6 +99,8 @@ pub enum Rule {
     PartOutside,
     /// 30; only `raw::pm1::pages` gives it
     PagesTooShort,
+    /// 32; only the short normal form in lent scratch gives it
+    ScratchTooSmall,
     /// Another number: the library is newer than this crate.
     #[non_exhaustive]
     Unknown(u32),
@@ -106,7 +108,7 @@ pub enum Rule {
 
 impl Rule {
     /// Every rule that this crate knows, in the order of the numbers.
-    pub const ALL: [Rule; 28] = [
+    pub const ALL: [Rule; 29] = [
         Rule::StreamTooLong,
         Rule::MisplacedZero,
         Rule::TooDeep,
@@ -135,11 +137,12 @@ impl Rule {
         Rule::OutOfOrder,
         Rule::PartOutside,
         Rule::PagesTooShort,
+        Rule::ScratchTooSmall,
     ];
 
     /// Their numbers.
     const NUMBERS: [u32; Rule::ALL.len()] =
-        [1, 2, 3, 4, 5, 6, 7, 8, 9, 10, 11, 12, 13, 14, 15, 16, 17, 18, 19, 20, 21, 22, 23, 24, 25, 26, 27, 30];
+        [1, 2, 3, 4, 5, 6, 7, 8, 9, 10, 11, 12, 13, 14, 15, 16, 17, 18, 19, 20, 21, 22, 23, 24, 25, 26, 27, 30, 32];
 
     /// The number of the rule.
     pub fn number(self) -> u32 {
@@ -195,6 +198,7 @@ impl Rule {
             Rule::OutOfOrder => "the elements are not in the order that was asked",
             Rule::PartOutside => "a part of an entry is outside the buffer, or ends before it begins",
             Rule::PagesTooShort => "the list is shorter than the pages",
+            Rule::ScratchTooSmall => "the lent scratch is too small for the elements of the stream",
             Rule::Unknown(_) => "a rule that is newer than this program",
         }
     }
@@ -212,7 +216,7 @@ mod tests {
 
     #[test]
     fn numbers_and_rules_agree() {
-        for (number, rule) in (1..28).chain([30]).zip(Rule::ALL) {
+        for (number, rule) in (1..28).chain([30, 32]).zip(Rule::ALL) {
             assert_eq!((rule.number(), Rule::from_number(number)), (number, Some(rule)));
             assert_eq!(Refusal::unless_accepted(number, 7), Err(Refusal { rule, place: 7 }));
         }

@@ -191,6 +191,23 @@ fn short_normal_forms() {
     assert!(refusal.to_string().contains("over 65,535 where its short normal form is asked"), "{refusal}");
 }
 
+/// The scratch is lent: enough for one element, one number short of either kind, and enough for any letter.
+#[test]
+fn short_normal_forms_in_lent_scratch() {
+    let (mut out, mut rows, mut index) = ([0xEE; 4], vec![7; raw::lent_rows(4_096)], vec![9; raw::lent_index(4_096)]);
+    let stream = b"\xA0\x80\x00\x00";
+    let (one_row, small) = (raw::lent_rows(1), raw::lent_index(1));
+    assert_eq!((one_row, small, rows.len(), index.len()), (12, 386, 49_152, 24_578));
+    let mut asked = |rows: &mut [u32], index: &mut [u16]| {
+        let answer = odif::short_normal_form_lent(odif::Edition::Of1988, stream, &mut out, rows, index);
+        answer.map(<[u8]>::to_vec).map_err(|refusal| (refusal.rule, refusal.place))
+    };
+    assert_eq!(asked(&mut rows, &mut index), Ok(vec![0xA0, 0x00]));
+    assert_eq!(asked(&mut rows[..one_row], &mut index[..small]), Ok(vec![0xA0, 0x00]));
+    assert_eq!(asked(&mut rows[..one_row - 1], &mut index), Err((Rule::ScratchTooSmall, 0)));
+    assert_eq!(asked(&mut rows, &mut index[..small - 1]), Err((Rule::ScratchTooSmall, 0)));
+}
+
 /// Each indefinite item of over 65,535 octets grows by one; the binding lends enough for all of them.
 #[test]
 fn a_normal_form_that_is_longer_than_its_stream() {

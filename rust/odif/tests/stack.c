@@ -13,6 +13,8 @@ static uint32_t table[ODIF_ROW_WIDTH * ODIF_MOST_ELEMENTS];
 static odif_match list[ODIF_MOST_ELEMENTS];
 static uint32_t children[ODIF_MOST_ELEMENTS];
 static odif_line lines[ODIF_MOST_ELEMENTS];
+static uint32_t rows[ODIF_LENT_ROWS(ODIF_MOST_ELEMENTS)];
+static uint16_t names_index[ODIF_LENT_INDEX(ODIF_MOST_ELEMENTS)];
 static size_t length;
 static uint8_t names[4 * ODIF_MOST_ENTRIES];
 static odif_entry entries[ODIF_MOST_ENTRIES];
@@ -34,6 +36,14 @@ static void ask_joined(void) { odif_joined(stream, length, 1, out, sizeof out); 
 static void ask_make(void) { odif_make(names, sizeof names, entries, entry_count, out, sizeof out); }
 static void ask_check_1993(void) { odif_check_1993(stream, length, table, sizeof table / sizeof *table); }
 static void ask_normal_1993(void) { odif_normal_1993(stream, length, out, sizeof out); }
+static void ask_lent(void) {
+    odif_normal_short_lent(stream, length, out, sizeof out, rows, sizeof rows / sizeof *rows, names_index,
+                           sizeof names_index / sizeof *names_index);
+}
+static void ask_lent_1993(void) {
+    odif_normal_short_lent_1993(stream, length, out, sizeof out, rows, sizeof rows / sizeof *rows, names_index,
+                                sizeof names_index / sizeof *names_index);
+}
 static void ask_normal_short_1993(void) { odif_normal_short_1993(stream, length, out, sizeof out); }
 static void ask_layout_1993(void) {
     odif_layout_1993(stream, length, table, sizeof table / sizeof *table, list, ODIF_MOST_ELEMENTS);
@@ -82,6 +92,8 @@ static const struct {
     {"layout list", ask_layout, ODIF_STACK_SMALL_LISTS, ODIF_STACK_LISTS},
     {"logical list", ask_logical, ODIF_STACK_SMALL_LISTS, ODIF_STACK_LISTS},
     {"short normal form", ask_normal_short, ODIF_STACK_SMALL, ODIF_STACK},
+    {"short normal form, lent", ask_lent, ODIF_STACK_LENT, ODIF_STACK_LENT},
+    {"short normal form, lent, 1993", ask_lent_1993, ODIF_STACK_LENT, ODIF_STACK_LENT},
     {"content", ask_content, ODIF_STACK_SMALL, ODIF_STACK},
     {"joined content", ask_joined, ODIF_STACK_SMALL, ODIF_STACK},
     {"making a letter", ask_make, ODIF_STACK_MAKE, ODIF_STACK_MAKE},

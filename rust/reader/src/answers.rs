@@ -1,7 +1,6 @@
 //! The questions and their answers, in the numbers that document 01 gives back.
 
 use crate::ROW_WIDTH;
-use crate::SHORT_LIMIT;
 use crate::STREAM_LIMIT;
 use crate::date::{self, Dated};
 use crate::edition::Edition;
@@ -14,6 +13,7 @@ use crate::order::{self, Order, Ordered};
 use crate::pages::{self, Page, Paged};
 use crate::parents;
 use crate::refusal::Refusal;
+use crate::{MOST_ELEMENTS, SHORT_LIMIT};
 
 pub mod text;
 
@@ -197,6 +197,21 @@ impl<'a> Reading<'a> {
         self.normal(out)
     }
 
+    /// The same with so many numbers lent for rows and so many for an index: 32, after 8 and before 9, if they are too few.
+    pub fn normal_short_lent(&self, out: &mut [u8], rows: usize, index: usize) -> Written {
+        let is_walked = self.stream.len() <= SHORT_LIMIT && self.refusal().is_none_or(|refusal| refusal.number() > 8);
+        let (needed_rows, needed_index) = lent_for(self.counted_elements());
+        if is_walked && (rows < needed_rows || index < needed_index) {
+            return Written { number: 32, ..Written::default() };
+        }
+        self.normal_short(out)
+    }
+
+    /// The items at level 1, no more than a letter may have.
+    pub fn counted_elements(&self) -> usize {
+        self.tree.elements().count().min(MOST_ELEMENTS)
+    }
+
     /// Where the content of a text unit lies, if it is one part of the stream. A unit without content has an empty one.
     pub fn content(&self, element: u32) -> Found {
         match self.unit(element) {
@@ -334,6 +349,12 @@ fn fill(table: &mut [u32], stream: &[u8], letter: &Letter<'_>) {
     }
 }
 
+/// The numbers for rows and those for an index that are enough for so many elements: twelve a row; and, for the least of
+/// 64, 128, 256, .. that is no less, six times as many and two.
+pub fn lent_for(elements: usize) -> (usize, usize) {
+    (12 * elements, 6 * elements.max(64).next_power_of_two() + 2)
+}
+
 #[cfg(test)]
 mod tests {
     use super::*;
@@ -407,6 +428,21 @@ mod tests {
         };
         assert_eq!(joined(&unit(&nested(14))), b"x");
         assert_eq!(Reading::of(&unit(&nested(15))).refusal().map(|refusal| refusal.why), Some(Why::TooDeep));
+    }
+
+    #[test]
+    fn scratch_that_is_too_small() {
+        let letter = Reading::of(&[0xA0, 0x80, 0x00, 0x00]);
+        assert_eq!(letter.normal_short_lent(&mut [0; 4], 12, 386), Written { length: 2, ..Written::default() });
+        let unknown = Reading::of(&[0xA0, 0x00, 0xA4, 0x00]);
+        assert_eq!(unknown.normal_short_lent(&mut [], 24, 386).number, 10);
+        for (rows, index) in [(23, 386), (24, 385), (0, 0)] {
+            assert_eq!(unknown.normal_short_lent(&mut [], rows, index).number, 32);
+        }
+        assert_eq!(Reading::of(&[0xA0, 0x01]).normal_short_lent(&mut [], 0, 0).number, 7);
+        assert_eq!(lent_for(64), (768, 386));
+        assert_eq!(lent_for(65), (780, 770));
+        assert_eq!(lent_for(4_096), (49_152, 24_578));
     }
 
     #[test]

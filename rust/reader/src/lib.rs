@@ -33,7 +33,7 @@ mod parents;
 mod refusal;
 
 pub use answers::text::{Line, Shown};
-pub use answers::{Checked, Copied, Found, Listed, Match, Reading, Related, Side, Written};
+pub use answers::{Checked, Copied, Found, Listed, Match, Reading, Related, Side, Written, lent_for};
 pub use date::{Dated, first_date};
 pub use edition::Edition;
 pub use items::{Item, Tree};

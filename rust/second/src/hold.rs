@@ -36,6 +36,7 @@ pub(crate) fn hold_by(one: &mut One<'_>, rng: &mut Rng) {
     one.ask_list(Side::Logical, rng);
     one.ask_normal(rng);
     one.ask_normal_short(rng);
+    one.ask_normal_short_lent(rng);
     one.ask_content(rng);
     one.ask_joined(rng);
     one.ask_children(rng);
@@ -171,6 +172,39 @@ impl One<'_> {
             self.expect(ours == theirs, &question, || format!("{}, not {}", hex(ours.cells()), hex(theirs.cells())));
             let possible = answer.number != 17 && (answer.number != 18 || length < self.stream.len());
             self.expect(possible, &question, || format!("{answer:?}"));
+        }
+    }
+
+    /// The same in lent scratch, whatever it holds: exact, longer, rows one short and an index one short; an output exact and one
+    /// short. Nothing is written outside the scratch.
+    fn ask_normal_short_lent(&mut self, rng: &mut Rng) {
+        let exact = match self.reading.normal_size() {
+            size if self.stream.len() > SHORT_LIMIT => size.min(40),
+            size => size,
+        };
+        let (rows, index) = reader::lent_for(self.reading.counted_elements());
+        let more = (rows + rng.below(30), index + rng.below(30), exact + rng.below(9));
+        let lent =
+            [(rows, index, exact), more, (rows, index, exact.max(1) - 1), (rows, index - 1, exact), (0, 0, exact)];
+        let short_rows = rows.checked_sub(1).map(|rows| (rows, index, exact));
+        for (rows, index, length) in lent.into_iter().chain(short_rows) {
+            let before = Lent::new(length, lent::octets);
+            let (mut ours, mut theirs) = (before.clone(), before.clone());
+            let (row_cells, index_cells) =
+                (Lent::new(rows, lent::numbers), Lent::new(index, |place| lent::numbers(place) as u16));
+            let (mut lent_rows, mut lent_index) = (row_cells.clone(), index_cells.clone());
+            let answer =
+                raw::normal_short_lent_in(self.edition, self.stream, ours.lend(), lent_rows.lend(), lent_index.lend());
+            let wanted = self.reading.normal_short_lent(theirs.lend(), rows, index);
+            self.meet(Question::NormalShortLent, answer.number);
+            let question =
+                format!("short normal form with an output of {length} octets, {rows} and {index} numbers of scratch");
+            let same = [answer.number, answer.place, answer.length] == [wanted.number, wanted.place, wanted.length];
+            self.expect(same, &question, || format!("{answer:?}, not {wanted:?}"));
+            self.expect(ours == theirs, &question, || format!("{}, not {}", hex(ours.cells()), hex(theirs.cells())));
+            let kept =
+                lent_rows.is_untouched_past(rows, &row_cells) && lent_index.is_untouched_past(index, &index_cells);
+            self.expect(kept, &question, || "written outside the scratch".into());
         }
     }
 

@@ -5,9 +5,9 @@ use std::fmt;
 use odif::Edition;
 
 /// The greatest refusal number.
-pub const LAST_NUMBER: usize = 30;
-/// Those that questions about a stream never give: 27 is of making a letter, 28 and 29 are of blocks.
-const OF_OTHERS: [usize; 3] = [27, 28, 29];
+pub const LAST_NUMBER: usize = 32;
+/// Those that questions about a stream never give: 27 is of making a letter, 28 and 29 are of blocks, and no question gives 31.
+const OF_OTHERS: [usize; 4] = [27, 28, 29, 31];
 /// How many failures each thread prints in full.
 const SHOWN: u64 = 10;
 
@@ -24,6 +24,8 @@ pub enum Question {
     Normal,
     /// `odif_normal_short`
     NormalShort,
+    /// `odif_normal_short_lent`
+    NormalShortLent,
     /// `odif_content`
     Content,
     /// `odif_joined`
@@ -47,7 +49,7 @@ pub enum Question {
 }
 
 impl Question {
-    const ALL: [Question; 15] = {
+    const ALL: [Question; 16] = {
         use Question::*;
         [
             Check,
@@ -55,6 +57,7 @@ impl Question {
             Logical,
             Normal,
             NormalShort,
+            NormalShortLent,
             Content,
             Joined,
             Children,
@@ -75,6 +78,7 @@ impl Question {
             Question::Layout | Question::Logical => matches!(number, 1..=16 | 19),
             Question::Normal => matches!(number, 1..=15 | 17 | 18),
             Question::NormalShort => matches!(number, 1..=15 | 18),
+            Question::NormalShortLent => matches!(number, 1..=15 | 18 | 32),
             Question::Content => matches!(number, 1..=15 | 20 | 21),
             Question::Joined => matches!(number, 1..=15 | 20 | 22),
             Question::Children => matches!(number, 1..=16 | 20 | 25),
@@ -88,7 +92,14 @@ impl Question {
 }
 
 /// How often each number was given.
-type Counts = [u64; LAST_NUMBER + 1];
+#[derive(Clone, Copy, Debug)]
+struct Counts([u64; LAST_NUMBER + 1]);
+
+impl Default for Counts {
+    fn default() -> Counts {
+        Counts([0; LAST_NUMBER + 1])
+    }
+}
 
 /// Where a stream comes from, and how to see it again.
 #[derive(Clone, Debug)]
@@ -175,14 +186,14 @@ impl Tally {
 
     /// Counts a number that the library gave for a question of an edition.
     pub fn meet(&mut self, edition: Edition, question: Question, number: u32) {
-        if let Some(count) = self.met[edition as usize][question as usize].get_mut(number as usize) {
+        if let Some(count) = self.met[edition as usize][question as usize].0.get_mut(number as usize) {
             *count += 1;
         }
     }
 
     /// How often the library gave a number, over all questions of both editions.
     pub fn met(&self, number: usize) -> u64 {
-        self.met.as_flattened().iter().map(|counts| counts[number]).sum()
+        self.met.as_flattened().iter().map(|counts| counts.0[number]).sum()
     }
 
     /// Adds the counts of another thread.
@@ -193,10 +204,9 @@ impl Tally {
         self.accepted += other.accepted;
         self.parsed += other.parsed;
         self.left_out += other.left_out;
-        let theirs = other.met.as_flattened().as_flattened();
-        for (sum, count) in self.met.as_flattened_mut().as_flattened_mut().iter_mut().zip(theirs) {
-            *sum += count;
-        }
+        let theirs = other.met.as_flattened().iter().flat_map(|counts| counts.0);
+        let ours = self.met.as_flattened_mut().iter_mut().flat_map(|counts| &mut counts.0);
+        ours.zip(theirs).for_each(|(sum, count)| *sum += count);
     }
 
     /// Every refusal that a question can give must have been met, by each edition, and no other.
@@ -204,7 +214,7 @@ impl Tally {
         for (edition, question) in Edition::ALL.into_iter().flat_map(|edition| Question::ALL.map(|one| (edition, one)))
         {
             let counts = self.met[edition as usize][question as usize];
-            for (number, count) in counts.into_iter().enumerate().skip(1) {
+            for (number, count) in counts.0.into_iter().enumerate().skip(1) {
                 let possible = question.can_give(number);
                 let tell = || format!("{question:?} by {edition}: refusal {number} was met {count} times");
                 self.expect((count > 0) == possible, tell);

@@ -11,7 +11,7 @@ use Rattle.answers.proofs.check_judged.Tie as tie
 
 returns : tie.Need-returns
 returns c =
-    let a = c .before .before .before .before .before .before .before in
+    let a = c .before .before .before .before .before .before in
     let l = accepted-judged (a .pre .0) (a .pre .1 .0) in
     let r = checks-16 (a .args .edition) (now (a .args .stream)) (now (a .args .table)) (a .args .headers) (l .held .elements) (l .judged)
     (omega (arith, l .held .holds .counted)) in
@@ -19,19 +19,19 @@ returns c =
 
 fill-requires : tie.Need-fill-requires
 fill-requires c κs =
-    let a = c .before .before .before .before .before .before .before in
+    let a = c .before .before .before .before .before .before in
     let l = accepted-judged (a .pre .0) (a .pre .1 .0) in
     ((a .args .edition, a .pre .1 .0), (a .pre .1 .1, (l .few, omega arith)))
 
-cast-t15 : tie.Need-cast-t15
-cast-t15 c =
-    let a = c .before .before .before .before .before .before .before .before .before .before in
+cast-t14 : tie.Need-cast-t14
+cast-t14 c =
+    let a = c .before .before .before .before .before .before .before .before .before in
     let l = accepted-judged (a .pre .0) (a .pre .1 .0) in
     omega (arith, l .few)
 
 returns-2 : tie.Need-returns-2
 returns-2 c =
-    let a = c .before .before .before .before .before .before .before .before .before .before in
+    let a = c .before .before .before .before .before .before .before .before .before in
     let l = accepted-judged (a .pre .0) (a .pre .1 .0) in
     let table = now (a .args .table) in
     let r = checks-letter (a .args .edition) (now (a .args .stream)) table (a .args .headers) _ (l .held .elements) (l .judged)
@@ -43,4 +43,4 @@ returns-2 c =
 
 pub check-judged-spec : {M : Type 1} → statement M
 check-judged-spec =
-    tie.close (tie.spec (λ c κs. search needs) returns fill-requires cast-t15 (λ c. search needs) returns-2)
+    tie.close (tie.spec (λ c κs. search needs) returns fill-requires cast-t14 (λ c. search needs) returns-2)

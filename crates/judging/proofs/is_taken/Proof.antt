@@ -7,12 +7,12 @@ use Rattle.judging.proofs.is_taken.Tie as tie
 
 returns : tie.Need-returns
 returns c =
-    let start = c .before .before .before .before .before in
+    let start = c .before .before .before .before in
     empty-untaken (start .args .name) (start .pre .0) (c .if1 .taken)
 
 find-requires : tie.Need-find-requires
 find-requires c κs =
-    let start = c .before .before .before .before .before in
+    let start = c .before .before .before .before in
     let placed = start .pre .1 .1 .0 in (
       start .pre .0,
       (

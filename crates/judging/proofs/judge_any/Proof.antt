@@ -27,42 +27,42 @@ Done c table done =
 
 -- rules 9 to 11
 early-is : (c : tie.After-early) (table : List Row) (done : List Element)
-    → Done (c .before .before .before .before .before .before .before .before .before) table done →
-    let a = c .before .before .before .before .before .before .before .before .before .args in
+    → Done (c .before .before .before .before .before .before) table done →
+    let a = c .before .before .before .before .before .before .args in
     c .early .result ≡ earlyRefusal (length done) (a .item .code) (shapeBy (a .edition) (a .item .code) .octet)
 early-is c table done holds =
-    let a = c .before .before .before .before .before .before .before .before .before .args in
+    let a = c .before .before .before .before .before .before .args in
     c .early .ensures ∙ ap (λ (x : Slots). earlyRefusal (a .n) (a .item .code) (x .octet)) (c .before .shape-of .ensures)
     ∙ ap (earlyRefusal (a .n) (a .item .code)) (octet-same (shapeBy (a .edition) (a .item .code)))
     ∙ ap (λ (n : ℕ). earlyRefusal n (a .item .code) (shapeBy (a .edition) (a .item .code) .octet)) (sym (holds .counted))
 
 early-passed : (c : tie.Else1) (table : List Row) (done : List Element)
-    → Done (c .before .before .before .before .before .before .before .before .before .before) table done →
-    let a = c .before .before .before .before .before .before .before .before .before .before .args in
+    → Done (c .before .before .before .before .before .before .before) table done →
+    let a = c .before .before .before .before .before .before .before .args in
     earlyRefusal (length done) (a .item .code) (shapeBy (a .edition) (a .item .code) .octet) ≡ 0
 early-passed c table done holds = sym (early-is (c .before) table done holds) ∙ c .if1 .left
 
 -- rules 12 to 14
 seen-is : (c : tie.After-see) →
-    let a = c .before .before .before .before .before .before .before .before .before .before .before .before .args in
+    let a = c .before .before .before .before .before .before .before .before .before .args in
     SeesShape (a .s .now) (shapeBy (a .edition) (a .item .code)) (a .item .inner) (a .item .first) (a .item .past) (c .see .last .1 .1 .1 .1 .1 .0)
     (c .see .result)
 seen-is c =
-    let a = c .before .before .before .before .before .before .before .before .before .before .before .before .args in
-    sees-shape (c .before .before .before .before .before .before .before .before .before .before .before .before .pre .1 .1 .0)
+    let a = c .before .before .before .before .before .before .before .before .before .args in
+    sees-shape (c .before .before .before .before .before .before .before .before .before .pre .1 .1 .0)
     (shapeBy (a .edition) (a .item .code)) (a .item .first) (a .item .past)
     (subst (λ (x : Slots). SeesSlots (a .s .now) x (a .item .inner) (a .item .first) (a .item .past) (c .see .last .1 .1 .1 .1 .1 .0)
     (c .see .result)) (c .before .before .before .before .shape-of .ensures) (c .see .ensures))
 
 later-passed : (c : tie.Else2) →
-    let a = c .before .before .before .before .before .before .before .before .before .before .before .before .before .before .before .before .args in
+    let a = c .before .before .before .before .before .before .before .before .before .before .before .before .before .args in
     shapeRefusal (shapeBy (a .edition) (a .item .code)) (treeIn (a .s .now) (a .item .inner)) ≡ 0
 later-passed c = sym (seen-is (c .before .before .before .before) .refusal) ∙ c .if2 .left
 
 -- rule 15
 double-is : (c : tie.After-has-double) (table : List Row) (done : List Element)
-    → Done (c .before .before .before .before .before .before .before .before .before .before .before .before .before .before .before .before .before .before .before .before) table done →
-    let a = c .before .before .before .before .before .before .before .before .before .before .before .before .before .before .before .before .before .before .before .before .args in
+    → Done (c .before .before .before .before .before .before .before .before .before .before .before .before .before .before .before .before .before) table done →
+    let a = c .before .before .before .before .before .before .before .before .before .before .before .before .before .before .before .before .before .args in
     c .has-double .result ≡ twice done (elementBy (a .edition) (a .item .code) (treeIn (a .s .now) (a .item .inner)))
 double-is c table done holds =
     let passes = seen-is (c .before .before .before .before .before .before .before .before) .passes (c .before .before .before .before .if2 .left) in
@@ -71,7 +71,7 @@ double-is c table done holds =
 returns : tie.Need-returns
 returns c =
     λ table done holds.
-    let a = c .before .before .before .before .before .before .before .before .before .before .args in (
+    let a = c .before .before .before .before .before .before .before .args in (
       refused-early (a .edition) done (a .item .code) (treeIn (a .s .now) (a .item .inner)) (c .before .early .result)
           (early-is (c .before) table done holds) (c .if1 .taken),
       c .if1 .taken,
@@ -79,7 +79,7 @@ returns c =
 
 see-requires : tie.Need-see-requires
 see-requires c κs =
-    let start = c .before .before .before .before .before .before .before .before .before .before .before in
+    let start = c .before .before .before .before .before .before .before .before in
     let fits = start .pre .1 .1 in (
       fits .0,
       subst WellMade (sym (c .before .before .before .shape-of .ensures)) (made (shapeBy (start .args .edition) (start .args .item .code))),
@@ -92,7 +92,7 @@ see-requires c κs =
 returns-2 : tie.Need-returns-2
 returns-2 c =
     λ table done holds.
-    let a = c .before .before .before .before .before .before .before .before .before .before .before .before .before .before .before .before .args in (
+    let a = c .before .before .before .before .before .before .before .before .before .before .before .before .before .args in (
       refused-later (a .edition) done (a .item .code) (treeIn (a .s .now) (a .item .inner))
           (early-passed (c .before .before .before .before .before .before) table done holds) (c .before .before .before .before .see .result .refusal)
           (seen-is (c .before .before .before .before) .refusal) (c .if2 .taken),
@@ -101,7 +101,7 @@ returns-2 c =
 
 has-double-requires : tie.Need-has-double-requires
 has-double-requires c κs =
-    let pre = c .before .before .before .before .before .before .before .before .before .before .before .before .before .before .before .before .before .before .before .pre in
+    let pre = c .before .before .before .before .before .before .before .before .before .before .before .before .before .before .before .before .pre in
     let seen = seen-is (c .before .before .before .before .before .before .before) in
     let passes = seen .passes (c .before .before .before .if2 .left) in (
       pre .0,
@@ -117,7 +117,7 @@ has-double-requires c κs =
 returns-3 : tie.Need-returns-3
 returns-3 c =
     λ table done holds.
-    let a = c .before .before .before .before .before .before .before .before .before .before .before .before .before .before .before .before .before .before .before .before .before .args in (
+    let a = c .before .before .before .before .before .before .before .before .before .before .before .before .before .before .before .before .before .before .args in (
       refused-last (a .edition) done (a .item .code) (treeIn (a .s .now) (a .item .inner))
           (early-passed (c .before .before .before .before .before .before .before .before .before .before .before) table done holds)
           (later-passed (c .before .before .before .before .before)) _
@@ -128,7 +128,7 @@ returns-3 c =
 returns-4 : tie.Need-returns-4
 returns-4 c =
     λ table done holds.
-    let a = c .before .before .before .before .before .before .before .before .before .before .before .before .before .before .before .before .before .before .before .before .before .args in
+    let a = c .before .before .before .before .before .before .before .before .before .before .before .before .before .before .before .before .before .before .args in
     let seen = seen-is (c .before .before .before .before .before .before .before .before .before) in
     let passes = seen .passes (c .before .before .before .before .before .if2 .left) in
     record {

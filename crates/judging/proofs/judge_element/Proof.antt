@@ -9,7 +9,7 @@ use Rattle.judging.proofs.judge_element.Statement.{statement}
 use Rattle.judging.proofs.judge_element.Tie as tie
 
 is-over-requires : tie.Need-is-over-requires
-is-over-requires c κs = c .before .before .before .before .before .before .before .pre .1 .1 .0
+is-over-requires c κs = c .before .before .before .before .pre .1 .1 .0
 
 judge-bare-requires : tie.Need-judge-bare-requires
 judge-bare-requires c κs = (c .before .may-be-bare .ensures (c .if2 .taken), omega arith)
@@ -17,7 +17,7 @@ judge-bare-requires c κs = (c .before .may-be-bare .ensures (c .if2 .taken), om
 returns : tie.Need-returns
 returns c =
     let at-test = c .before .before .before in
-    let start = at-test .before .before .before .before .before .before .before .before .before in
+    let start = at-test .before .before .before .before .before .before in
     let items = itemsOf (start .args .s .now) (start .args .item .inner) in
     let none-there = no-tops items (eqb-true (tops items) 0 (sym (at-test .before .is-over .ensures) ∙ at-test .if1 .taken)) in
     c .judge-bare .ensures _ _ _ none-there (start .pre .1 .1 .3)

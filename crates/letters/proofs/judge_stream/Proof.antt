@@ -10,24 +10,24 @@ use Rattle.judging.specs.declared.PlacedItem.{PlacedItem}
 use Rattle.judging.specs.declared.Judgement.{Judgement}
 use Rattle.judging.specs.Judges.{Judges, Passing}
 use Rattle.contents.proofs.Firsts.{met}
+use Rattle.rows.proofs.Halves.{links-enough, fewer-links}
 use Rattle.letters.proofs.State.{Judging, judging-none, end-gives, refused-at, few, needed, judging-more}
 use Rattle.letters.proofs.judge_stream.Statement.{statement}
 use Rattle.letters.proofs.judge_stream.Tie as tie
 
 abbrev Inv-loop : tie.InvT-loop
-Inv-loop edition s rows₀ head₀ next₀ head2₀ next2₀ bounds₀ cur₀ n₀ rows head next head2 next2 bounds cur n =
-    Judging edition s rows head next head2 next2 n cur × (length rows ≡ length rows₀) × (length head ≡ length head₀) × (length next ≡ length next₀)
-    × (length head2 ≡ length head2₀) × (length next2 ≡ length next2₀) × (length bounds ≡ length bounds₀)
+Inv-loop edition s rows₀ index₀ bounds₀ cur₀ n₀ rows index bounds cur n =
+    Judging edition s rows index n cur × (length rows ≡ length rows₀) × (length index ≡ length index₀) × (length bounds ≡ length bounds₀)
 
 abbrev μ-loop : tie.MeasureT-loop
-μ-loop edition s rows₀ head₀ next₀ head2₀ next2₀ bounds₀ cur₀ n₀ rows head next head2 next2 bounds cur n = cur .limit - cur .at
+μ-loop edition s rows₀ index₀ bounds₀ cur₀ n₀ rows index bounds cur n = cur .limit - cur .at
 
 -- an element is met
 meeting : (c : tie.After-known-told Inv-loop μ-loop) →
     let g = c .before .code .given .0 in
-    Meeting (c .before .before .before .before .before .before .before .before .before .before .before .before .before .args .s .now)
+    Meeting (c .before .before .before .before .before .before .before .before .before .before .args .s .now)
     (c .before .before .before .before .loop .cur) (g .0) (g .1 .0) (g .1 .1 .0) (g .1 .1 .1 .0) (g .1 .1 .1 .1 .0)
-meeting c = met (c .before .before .before .before .before .before .before .before .before .before .before .before .before .args .s .now)
+meeting c = met (c .before .before .before .before .before .before .before .before .before .before .args .s .now)
     (c .before .before .before .before .loop .cur) (c .before .before .before .meet .ensures) (c .before .code .given .1)
 
 abbrev item : tie.After-known-told Inv-loop μ-loop → PlacedItem
@@ -37,27 +37,23 @@ item c =
 
 -- and judged
 judged : (c : tie.After-judge-element Inv-loop μ-loop) (y : Judgement) → c .judge-element .result ≡ y
-    → Judges (c .before .before .before .before .before .before .before .before .before .before .before .before .before .before .before .before .before .before .before .before .args .edition) (c .before .before .before .before .before .before .before .before .before .before .before .before .before .before .before .before .before .before .before .before .args .s .now) (c .before .before .before .before .before .before .before .before .before .before .before .loop .inv .0 .done) (item (c .before .before .before .before .before .before .before)) y
+    → Judges (c .before .before .before .before .before .before .before .before .before .before .before .before .before .before .args .edition) (c .before .before .before .before .before .before .before .before .before .before .before .before .before .before .args .s .now) (c .before .before .before .before .before .before .before .before .loop .inv .0 .done) (item (c .before .before .before .before)) y
 judged c y e =
-    let state = c .before .before .before .before .before .before .before .before .before .before .before .loop .inv .0 in
-    subst (Judges (c .before .before .before .before .before .before .before .before .before .before .before .before .before .before .before .before .before .before .before .before .args .edition) (c .before .before .before .before .before .before .before .before .before .before .before .before .before .before .before .before .before .before .before .before .args .s .now) (state .done) (item (c .before .before .before .before .before .before .before))) e (c .judge-element .ensures (state .table) (state .done) (state .holds))
+    let state = c .before .before .before .before .before .before .before .before .loop .inv .0 in
+    subst (Judges (c .before .before .before .before .before .before .before .before .before .before .before .before .before .before .args .edition) (c .before .before .before .before .before .before .before .before .before .before .before .before .before .before .args .s .now) (state .done) (item (c .before .before .before .before))) e (c .judge-element .ensures (state .table) (state .done) (state .holds))
 
 -- and passed
 passing : (c : tie.After-known-told3 Inv-loop μ-loop) →
     let p = c .before .row .given .0 in
-    Passing (c .before .before .before .before .before .before .before .before .before .before .before .before .before .before .before .before .before .before .before .before .before .before .before .before .before .args .edition) (c .before .before .before .before .before .before .before .before .before .before .before .before .before .before .before .before .before .before .before .before .before .before .before .before .before .args .s .now) (c .before .before .before .before .before .before .before .before .before .before .before .before .before .before .before .before .loop .inv .0 .done) (item (c .before .before .before .before .before .before .before .before .before .before .before .before)) (p .0) (p .1 .0)
+    Passing (c .before .before .before .before .before .before .before .before .before .before .before .before .before .before .before .before .before .before .before .args .edition) (c .before .before .before .before .before .before .before .before .before .before .before .before .before .before .before .before .before .before .before .args .s .now) (c .before .before .before .before .before .before .before .before .before .before .before .before .before .loop .inv .0 .done) (item (c .before .before .before .before .before .before .before .before .before)) (p .0) (p .1 .0)
 passing c = judged (c .before .before .before .before .before) _ (c .before .row .given .1)
 
 loop-holds : tie.Need-loop-holds Inv-loop μ-loop
 loop-holds c =
-    let start = c .before .before .before .before .before .before .before .before in
+    let start = c .before .before .before .before .before in
     let a = start .args in (
-      subst (Judging (a .edition) (a .s .now) (a .rows .now) (a .head .now) (a .next .now) (a .head2 .now) (a .next2 .now) 0) (sym (c .whole-stream .ensures))
-          (judging-none (a .edition) (a .s .now) (a .rows .now) (a .head .now) (a .next .now) (a .head2 .now) (a .next2 .now) (a .bounds .now)
-          (start .pre .1) (start .pre .0 .0)),
-      refl,
-      refl,
-      refl,
+      subst (Judging (a .edition) (a .s .now) (a .rows .now) (a .index .now) 0) (sym (c .whole-stream .ensures))
+          (judging-none (a .edition) (a .s .now) (a .rows .now) (a .index .now) (a .bounds .now) (start .pre .1) (start .pre .0 .0)),
       refl,
       refl,
       refl,
@@ -71,52 +67,51 @@ enum-told c = search needs
 
 returns : tie.Need-returns Inv-loop μ-loop
 returns c =
-    let s = c .before .before .before .before .before .before .before .before .before .before .before .before .before .args .s .now in
+    let s = c .before .before .before .before .before .before .before .before .before .before .args .s .now in
     let l = c .before .before .before .before .loop in
     let end = met s (l .cur) (c .before .before .before .meet .ensures) (c .before .enum-told .given .1) in
     rw (c .at-end .ensures) (end-gives (l .inv .0) end)
 
 judge-element-requires : tie.Need-judge-element-requires Inv-loop μ-loop
 judge-element-requires c κs =
-    let start = c .before .before .before .before .before .before .before .before .before .before .before .before .before .before .before .before .before .before .before in
-    let l = c .before .before .before .before .before .before .before .before .before .before .loop in
-    let m = meeting (c .before .before .before .before .before .before) in (
+    let start = c .before .before .before .before .before .before .before .before .before .before .before .before .before in
+    let l = c .before .before .before .before .before .before .before .loop in
+    let m = meeting (c .before .before .before) in (
       (l .inv .0 .table, l .inv .0 .done, l .inv .0 .holds),
       (
-        (l .inv .0 .by-identifier, l .inv .0 .by-logical),
+        l .inv .0 .filed,
         (
           m .inner-fine,
           start .pre .0 .1,
           omega (arith, m .starts, m .value-order, m .value-before),
           omega (arith, m .rest-fine .order, m .rest-fine .inside),
-          omega (arith, start .pre .1 .portions, l .inv .6),
+          omega (arith, start .pre .1 .portions, l .inv .3),
         ),
       ),
     )
 
 returns-2 : tie.Need-returns-2 Inv-loop μ-loop
 returns-2 c =
-    let l = c .before .before .before .before .before .before .before .before .before .before .before .before .before .before .before .before .loop in
-    refused-at (l .inv .0) (meeting (c .before .before .before .before .before .before .before .before .before .before .before .before)) _
+    let l = c .before .before .before .before .before .before .before .before .before .before .before .before .before .loop in
+    refused-at (l .inv .0) (meeting (c .before .before .before .before .before .before .before .before .before)) _
     (judged (c .before .before .before .before .before) _ (c .before .number .given .1))
 
 add-row-requires : tie.Need-add-row-requires Inv-loop μ-loop
 add-row-requires c κs =
-    let start = c .before .before .before .before .before .before .before .before .before .before .before .before .before .before .before .before .before .before .before .before .before .before .before .before .before .before .before .before .before .before in
-    let l = c .before .before .before .before .before .before .before .before .before .before .before .before .before .before .before .before .before .before .before .before .before .loop in
-    let w = passing (c .before .before .before .before .before) in
-    let some = needed (l .inv .0) (meeting (c .before .before .before .before .before .before .before .before .before .before .before .before .before .before .before .before .before)) w in
+    let start = c .before .before .before .before .before .before .before .before .before .before .before .before .before .before .before .before .before .before .before .before .before in
+    let l = c .before .before .before .before .before .before .before .before .before .before .before .before .before .before .before .loop in
+    let w = passing (c .before .before) in
+    let some = needed (l .inv .0) (meeting (c .before .before .before .before .before .before .before .before .before .before .before)) w in
     let lent = start .pre .1 in (
       (l .inv .0 .table, l .inv .0 .done, l .inv .0 .holds),
       (
-        (l .inv .0 .by-identifier, l .inv .0 .by-logical),
+        l .inv .0 .filed,
         (
           (w .placed, w .hashed, start .pre .0 .1),
           (
             omega (arith, some, lent .rows, l .inv .1),
-            omega (arith, some, lent .links, l .inv .3),
-            omega (arith, some, lent .links2, l .inv .5),
-            few (l .inv .0) (meeting (c .before .before .before .before .before .before .before .before .before .before .before .before .before .before .before .before .before)) w,
+            links-enough (start .args .index .now) _ (l .inv .2) (fewer-links (omega (arith, some)) (lent .links)),
+            few (l .inv .0) (meeting (c .before .before .before .before .before .before .before .before .before .before .before)) w,
           ),
         ),
       ),
@@ -125,20 +120,17 @@ add-row-requires c κs =
 add-n : tie.Need-add-n Inv-loop μ-loop
 add-n c = omega (
   arith,
-  few (c .before .before .before .before .before .before .before .before .before .before .before .before .before .before .before .before .before .before .before .before .before .before .before .before .before .before .before .before .before .before .before .before .loop .inv .0) (meeting (c .before .before .before .before .before .before .before .before .before .before .before .before .before .before .before .before .before .before .before .before .before .before .before .before .before .before .before .before)) (passing (c .before .before .before .before .before .before .before .before .before .before .before .before .before .before .before .before)),
+  few (c .before .before .before .before .before .before .before .before .before .before .before .before .before .before .before .before .before .before .before .before .loop .inv .0) (meeting (c .before .before .before .before .before .before .before .before .before .before .before .before .before .before .before .before)) (passing (c .before .before .before .before .before .before .before)),
 )
 
 loop-less : tie.Need-loop-less Inv-loop μ-loop
-loop-less c = meeting (c .before .before .before .before .before .before .before .before .before .before .before .before .before .before .before .before .before .before .before .before .before .before .before .before .before .before .before .before) .less
+loop-less c = meeting (c .before .before .before .before .before .before .before .before .before .before .before .before .before .before .before .before) .less
 
 loop-again : tie.Need-loop-again Inv-loop μ-loop
 loop-again c =
-    let l = c .before .before .before .before .before .before .before .before .before .before .before .before .before .before .before .before .before .before .before .before .before .before .before .before .before .before .before .before .before .before .before .before .loop in
-    let w = passing (c .before .before .before .before .before .before .before .before .before .before .before .before .before .before .before .before) in (
-      judging-more (l .inv .0) (meeting (c .before .before .before .before .before .before .before .before .before .before .before .before .before .before .before .before .before .before .before .before .before .before .before .before .before .before .before .before)) w (c .before .before .before .before .before .before .before .before .before .before .add-row .ensures .0 (l .inv .0 .table) (l .inv .0 .done) _ (l .inv .0 .holds) (w .says)) (c .before .before .before .before .before .before .before .before .before .before .add-row .ensures .1),
-      search needs,
-      search needs,
-      search needs,
+    let l = c .before .before .before .before .before .before .before .before .before .before .before .before .before .before .before .before .before .before .before .before .loop in
+    let w = passing (c .before .before .before .before .before .before .before) in (
+      judging-more (l .inv .0) (meeting (c .before .before .before .before .before .before .before .before .before .before .before .before .before .before .before .before)) w (c .before .before .before .before .add-row .ensures .0 (l .inv .0 .table) (l .inv .0 .done) _ (l .inv .0 .holds) (w .says)) (c .before .before .before .before .add-row .ensures .1),
       search needs,
       search needs,
       search needs,
@@ -146,7 +138,6 @@ loop-again c =
 
 pub judge-stream-spec : {M : Type 1} → statement M
 judge-stream-spec =
-    tie.close (tie.spec Inv-loop μ-loop (λ c κs. search needs) loop-holds meet-requires enum-told (λ c κs. search needs) (λ c. search needs)
-    (λ c. search needs) (λ c. search needs) (λ c. search needs) (λ c. search needs) (λ c. search needs) returns (λ c. search needs)
-    judge-element-requires (λ c. search needs) (λ c. search needs) (λ c. search needs) (λ c. search needs) (λ c. search needs)
-    (λ c. search needs) (λ c. search needs) returns-2 (λ c. search needs) add-row-requires add-n loop-less loop-again)
+    tie.close (tie.spec Inv-loop μ-loop (λ c κs. search needs) loop-holds meet-requires enum-told (λ c κs. search needs)
+    (λ c. search needs) (λ c. search needs) (λ c. search needs) returns (λ c. search needs) judge-element-requires (λ c. search needs)
+    (λ c. search needs) (λ c. search needs) (λ c. search needs) returns-2 (λ c. search needs) add-row-requires add-n loop-less loop-again)

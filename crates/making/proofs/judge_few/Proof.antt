@@ -2,14 +2,16 @@
 use mathlib.Core.Logic.{inl}
 use native.Mathlib.Omega.{arith}
 use denote.Ref.{now}
-use Rattle.making.proofs.Judging.{zeros-roomy}
+use Rattle.making.proofs.Judging.{zeros-roomy, few-links}
 use borrow.Author.Needs.{needs}
 use Rattle.making.proofs.judge_few.Statement.{statement}
 use Rattle.making.proofs.judge_few.Tie as tie
 
 judge-entries-requires : tie.Need-judge-entries-requires
-judge-entries-requires c κs = zeros-roomy (now (c .before .before .before .before .before .args .numbers)) 1536 256 129
-    (inl (omega (arith, c .before .before .before .before .before .pre))) (omega arith) (omega arith) (omega arith)
+judge-entries-requires c κs =
+    let start = c .before .before .before .before .before in
+    zeros-roomy (now (start .args .numbers)) 1536 385 128 (inl (omega (arith, start .pre))) (omega arith) (omega (arith, few-links))
+    (omega (arith, few-links)) (omega (arith, few-links))
 
 pub judge-few-spec : {M : Type 1} → statement M
 judge-few-spec =

@@ -2,14 +2,16 @@
 use mathlib.Core.Logic.{inr}
 use native.Mathlib.Omega.{arith}
 use denote.Ref.{now}
-use Rattle.making.proofs.Judging.{zeros-roomy}
+use Rattle.making.proofs.Judging.{zeros-roomy, many-links}
 use borrow.Author.Needs.{needs}
 use Rattle.making.proofs.judge_many.Statement.{statement}
 use Rattle.making.proofs.judge_many.Tie as tie
 
 judge-entries-requires : tie.Need-judge-entries-requires
-judge-entries-requires c κs = zeros-roomy (now (c .before .before .before .before .before .args .numbers)) 24564 4096 2048 (inr (omega arith))
-    (omega arith) (omega arith) (omega arith)
+judge-entries-requires c κs =
+    let start = c .before .before .before .before .before in
+    zeros-roomy (now (start .args .numbers)) 24564 6145 2047 (inr (omega arith)) (omega arith) (omega (arith, many-links))
+    (omega (arith, many-links)) (omega (arith, many-links))
 
 pub judge-many-spec : {M : Type 1} → statement M
 judge-many-spec =

@@ -14,13 +14,13 @@ returns c = λ elements ready aside. no-profile elements aside (inl (ready .coun
 
 returns-2 : tie.Need-returns-2
 returns-2 c =
-    let start = c .before .before .before .before .before .before .before in
+    let start = c .before .before .before .before .before .before in
     let l : 0 < start .args .n = omega arith in
     λ elements ready aside. no-profile elements aside (inr (λ e. c .if2 .taken (c .before .kind-at .ensures ∙ kind-told ready 0 l ∙ e)))
 
 pass-requires : tie.Need-pass-requires
 pass-requires c κs =
-    let start = c .before .before .before .before .before .before .before in
+    let start = c .before .before .before .before .before .before in
     (start .pre .0, (start .pre .1, (omega arith, sym (c .before .kind-at .ensures) ∙ c .if2 .left)))
 
 pub fault-a-spec : {M : Type 1} → statement M

@@ -10,25 +10,25 @@ use Rattle.order_a.proofs.pass.Statement.{statement}
 use Rattle.order_a.proofs.pass.Tie as tie
 
 abbrev Inv-loop : tie.InvT-loop
-Inv-loop s rows head next n w₀ k₀ w k = Walking s rows n k w
+Inv-loop s rows index n w₀ k₀ w k = Walking s rows n k w
 
 abbrev μ-loop : tie.MeasureT-loop
-μ-loop s rows head next n w₀ k₀ w k = n - k
+μ-loop s rows index n w₀ k₀ w k = n - k
 
 loop-holds : tie.Need-loop-holds Inv-loop μ-loop
-loop-holds c = let start = c .before .before .before .before .before in rw (c .first-walk .ensures) (walking-first (start .pre .1 .1 .0) (start .pre .1 .1 .1))
+loop-holds c = let start = c .before .before .before .before in rw (c .first-walk .ensures) (walking-first (start .pre .1 .1 .0) (start .pre .1 .1 .1))
 
 add-k : tie.Need-add-k Inv-loop μ-loop
-add-k c = let start = c .before .before .before .before .before .before .before in omega (arith, few-rows (start .pre .0 .1))
+add-k c = let start = c .before .before .before .before .before .before in omega (arith, few-rows (start .pre .0 .1))
 
 look-requires : tie.Need-look-requires Inv-loop μ-loop
-look-requires c κs = let start = c .before .before .before .before .before .before .before in (start .pre .0, (start .pre .1 .0, omega arith))
+look-requires c κs = let start = c .before .before .before .before .before .before in (start .pre .0, (start .pre .1 .0, omega arith))
 
 look-requires-2 : tie.Need-look-requires-2 Inv-loop μ-loop
-look-requires-2 c κs = let start = c .before .before .before .before .before .before .before .before in (start .pre .0, (start .pre .1 .0, omega arith))
+look-requires-2 c κs = let start = c .before .before .before .before .before .before .before in (start .pre .0, (start .pre .1 .0, omega arith))
 
 take-row-requires : tie.Need-take-row-requires Inv-loop μ-loop
-take-row-requires c κs = let start = c .before .before .before .before .before .before .before .before .before in (
+take-row-requires c κs = let start = c .before .before .before .before .before .before .before .before in (
   (start .pre .0, omega arith),
   (c .before .before .before .loop .inv .bounds, (c .before .look .ensures, c .look2 .ensures)),
 )
@@ -38,7 +38,7 @@ enum-told c = search needs
 
 returns : tie.Need-returns Inv-loop μ-loop
 returns c =
-    let start = c .before .before .before .before .before .before .before .before .before .before .before .before in
+    let start = c .before .before .before .before .before .before .before .before .before .before .before in
     let at = c .before .before .before .before .before .before .loop in
     walking-stops (at .inv) (subst (StepAt (start .args .s .now) (start .args .rows .now) (start .args .n) (at .k) (at .w)) (c .enum-told .given .1)
     (c .before .before .take-row .ensures))
@@ -48,7 +48,7 @@ loop-less c = omega arith
 
 loop-again : tie.Need-loop-again Inv-loop μ-loop
 loop-again c =
-    let start = c .before .before .before .before .before .before .before .before .before .before .before .before .before in
+    let start = c .before .before .before .before .before .before .before .before .before .before .before .before in
     let at = c .before .before .before .before .before .before .before .loop in
     walking-more (at .inv) (omega arith) (subst (StepAt (start .args .s .now) (start .args .rows .now) (start .args .n) (at .k) (at .w))
     (c .before .after .given .1) (c .before .before .before .take-row .ensures))

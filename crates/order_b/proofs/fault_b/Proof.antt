@@ -16,13 +16,13 @@ returns : tie.Need-returns
 returns c elements ready aside = none-fault elements (ready .counted ∙ c .if1 .taken)
 
 first-step-requires : tie.Need-first-step-requires
-first-step-requires c κs = let start = c .before .before .before .before .before in (start .pre .0, (start .pre .1, positive _ (c .if1 .left)))
+first-step-requires c κs = let start = c .before .before .before .before in (start .pre .0, (start .pre .1, positive _ (c .if1 .left)))
 
 enum-told : tie.Need-enum-told
 enum-told c = search needs
 
 pass-requires : tie.Need-pass-requires
-pass-requires c κs = let start = c .before .before .before .before .before .before .before .before .before in (
+pass-requires c κs = let start = c .before .before .before .before .before .before .before .before in (
   start .pre .0,
   (start .pre .1, positive _ (c .before .before .before .before .if1 .left)),
 )

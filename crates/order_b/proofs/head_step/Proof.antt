@@ -11,24 +11,24 @@ use Rattle.order_b.proofs.head_step.Statement.{statement}
 use Rattle.order_b.proofs.head_step.Tie as tie
 
 kind-at-requires : tie.Need-kind-at-requires
-kind-at-requires c κs = let start = c .before .before .before .before in omega (arith, start .pre .1 .1, start .pre .0 .1 .holds .identifiers .in-table)
+kind-at-requires c κs = let start = c .before .before .before in omega (arith, start .pre .1 .1, start .pre .0 .1 .holds .identifiers .in-table)
 
 returns : tie.Need-returns
 returns c elements ready aside =
-    let start = c .before .before .before .before .before .before .before in
+    let start = c .before .before .before .before .before .before in
     let kind = c .before .before in
     head-not ready (start .args .j) (start .pre .1 .1) (stateOf (start .args .state)) (kind .kind-at .result) (kind .kind-at .ensures)
     (sym (c .before .may-follow .ensures) ∙ not-true _ (c .if1 .taken))
 
 portions-of-requires : tie.Need-portions-of-requires
 portions-of-requires c κs =
-    let start = c .before .before .before .before .before .before .before in (
+    let start = c .before .before .before .before .before .before in (
       omega (arith, start .pre .1 .1, start .pre .0 .1 .holds .identifiers .in-table),
       meetable (rows-tell (start .pre .0 .1)) (start .args .j) (start .pre .1 .1),
     )
 
 can-come-requires : tie.Need-can-come-requires
-can-come-requires c κs = let start = c .before .before .before .before .before .before .before .before in omega (
+can-come-requires c κs = let start = c .before .before .before .before .before .before .before in omega (
   arith,
   start .pre .1 .1,
   start .pre .0 .1 .holds .identifiers .in-table,
@@ -36,7 +36,7 @@ can-come-requires c κs = let start = c .before .before .before .before .before 
 
 returns-2 : tie.Need-returns-2
 returns-2 c elements ready aside =
-    let start = c .before .before .before .before .before .before .before .before .before .before in
+    let start = c .before .before .before .before .before .before .before .before .before in
     let kind = c .before .before .before .before .before in
     let lists = c .before .before .portions-of in
     let can = c .before .can-come in
@@ -47,7 +47,7 @@ returns-2 c elements ready aside =
 
 returns-3 : tie.Need-returns-3
 returns-3 c elements ready aside =
-    let start = c .before .before .before .before .before .before .before .before .before .before .before in
+    let start = c .before .before .before .before .before .before .before .before .before .before in
     let kind = c .before .before .before .before .before .before in
     let lists = c .before .before .before .portions-of in
     let can = c .before .before .can-come in

@@ -18,19 +18,19 @@ use Rattle.order_b.proofs.pass.Statement.{statement}
 use Rattle.order_b.proofs.pass.Tie as tie
 
 abbrev Inv-loop : tie.InvT-loop
-Inv-loop s rows head next n state₀ j₀ state j =
+Inv-loop s rows index n state₀ j₀ state j =
     (1 ≤ j) × (j ≤ n)
     × ((elements : List Element) → RowsTell s rows n elements → LimitsAside elements → passFrom elements (stateOf state₀) 1 ≡ passFrom elements
     (stateOf state) j)
 
 abbrev μ-loop : tie.MeasureT-loop
-μ-loop s rows head next n state₀ j₀ state j = n - j
+μ-loop s rows index n state₀ j₀ state j = n - j
 
 loop-holds : tie.Need-loop-holds Inv-loop μ-loop
-loop-holds c = let some-rows = c .before .before .before .before .pre .1 .1 in (omega arith, omega arith, λ elements ready aside. refl)
+loop-holds c = let some-rows = c .before .before .before .pre .1 .1 in (omega arith, omega arith, λ elements ready aside. refl)
 
 step-b-requires : tie.Need-step-b-requires Inv-loop μ-loop
-step-b-requires c κs = let start = c .before .before .before .before .before .before in (start .pre .0, (start .pre .1 .0, c .loop-test .taken))
+step-b-requires c κs = let start = c .before .before .before .before .before in (start .pre .0, (start .pre .1 .0, c .loop-test .taken))
 
 enum-told : tie.Need-enum-told Inv-loop μ-loop
 enum-told c = search needs
@@ -44,7 +44,7 @@ returns c elements ready aside =
     ∙ c .before .before .step-b .ensures elements ready aside))
 
 add-j : tie.Need-add-j Inv-loop μ-loop
-add-j c = let known = c .before .before .before .before .before .before .before .before .before .before .pre .0 in omega (
+add-j c = let known = c .before .before .before .before .before .before .before .before .before .pre .0 in omega (
   arith,
   c .before .before .before .before .loop-test .taken,
   few-rows (known .1),

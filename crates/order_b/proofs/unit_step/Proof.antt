@@ -13,20 +13,20 @@ enum-told c = search needs
 
 returns : tie.Need-returns
 returns c elements ready aside =
-    let start = c .before .before .before .before .before .before .before .before .before .before in
+    let start = c .before .before .before .before .before .before .before .before .before in
     let found = c .before .before .before .row .given in
     unit-other ready (start .args .u) (start .pre .1 .1) aside (stateOf (start .args .state)) (found .0 .0) (found .0 .1 .0)
     (subst (OwnerIs Layout elements (start .args .u)) (found .1) (c .before .before .before .before .before .owner-of .ensures elements ready)) (c .if1 .taken)
 
 returns-2 : tie.Need-returns-2
 returns-2 c elements ready aside =
-    let start = c .before .before .before .before .before .before .before in
+    let start = c .before .before .before .before .before .before in
     unit-nobody ready (start .args .u) (start .pre .1 .1) aside (stateOf (start .args .state))
     (subst (OwnerIs Layout elements (start .args .u)) (c .enum-told .given .1) (c .before .before .owner-of .ensures elements ready))
 
 returns-3 : tie.Need-returns-3
 returns-3 c elements ready aside =
-    let start = c .before .before .before .before .before .before .before .before .before .before .before in
+    let start = c .before .before .before .before .before .before .before .before .before .before in
     let found = c .before .before .before .before .row .given in
     unit-own ready (start .args .u) (start .pre .1 .1) aside (stateOf (start .args .state)) (found .0 .0) (found .0 .1 .0)
     (subst (OwnerIs Layout elements (start .args .u)) (found .1)

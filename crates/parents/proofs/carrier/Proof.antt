@@ -5,7 +5,7 @@ use Rattle.parents.proofs.carrier.Tie as tie
 
 find-requires : tie.Need-find-requires
 find-requires c κs =
-    let start = c .before .before .before .before .before in
+    let start = c .before .before .before .before in
     let placed = start .pre .1 .1 in (
       start .pre .0,
       (

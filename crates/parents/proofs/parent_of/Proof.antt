@@ -13,14 +13,14 @@ use Rattle.parents.proofs.parent_of.Tie as tie
 
 returns : tie.Need-returns
 returns c =
-    let start = c .before .before .before .before .before .before .before .before in
+    let start = c .before .before .before .before .before .before .before in
     let kind = c .before .before .wide .ensures in
     let t = ap (λ (k : ℕ). isIn k (parentKinds k)) (sym kind) ∙ sym (c .before .is-parent-kind .ensures) ∙ not-true _ (c .if1 .taken) in
     record { small = omega arith; is = λ elements ready. parent-other ready (start .args .j) (start .pre .1 .1 .0) t }
 
 last-space-requires : tie.Need-last-space-requires
 last-space-requires c κs =
-    let start = c .before .before .before .before .before .before .before .before .before .before .before .before in
+    let start = c .before .before .before .before .before .before .before .before .before .before .before in
     let bounded = start .pre .0 .1 .holds .identifiers in
     let j = start .args .j in
     let first = c .before .before .wide2 .ensures in
@@ -29,7 +29,7 @@ last-space-requires c κs =
 
 returns-2 : tie.Need-returns-2
 returns-2 c =
-    let start = c .before .before .before .before .before .before .before .before .before .before .before .before .before .before in
+    let start = c .before .before .before .before .before .before .before .before .before .before .before .before .before in
     let first = c .before .before .before .before .wide2 .ensures in
     let past = c .before .before .wide3 .ensures in
     record {
@@ -39,7 +39,7 @@ returns-2 c =
 
 carrier-requires : tie.Need-carrier-requires
 carrier-requires c κs =
-    let start = c .before .before .before .before .before .before .before .before .before .before .before .before .before .before in
+    let start = c .before .before .before .before .before .before .before .before .before .before .before .before .before in
     let j = start .args .j in
     let past = c .before .before .wide3 .ensures in
     let last = c .before .last-space .ensures in
@@ -48,7 +48,7 @@ carrier-requires c κs =
 
 own-side-requires : tie.Need-own-side-requires
 own-side-requires c κs =
-    let start = c .before .before .before .before .before .before .before .before .before .before .before .before .before .before .before in
+    let start = c .before .before .before .before .before .before .before .before .before .before .before .before .before .before in
     found-in (start .args .s .now) (start .args .rows .now) (start .args .n)
     (slice (c .before .before .before .before .before .wide2 .result) (c .before .before .last-space .result) (start .args .s .now))
     (c .carrier .result) (c .carrier .ensures) (start .pre .0 .1 .holds .identifiers .in-table)
@@ -58,7 +58,7 @@ returns-3 c =
     let wide = c .before .before .before .before .before .before .before .before .before .before .wide in
     let wide2 = c .before .before .before .before .before .before .wide2 in
     let last-space = c .before .before .before .last-space in
-    let start = c .before .before .before .before .before .before .before .before .before .before .before .before .before .before .before .before in
+    let start = c .before .before .before .before .before .before .before .before .before .before .before .before .before .before .before in
     let kind = wide .ensures in
     let first = wide2 .ensures in
     let past = c .before .before .before .before .wide3 .ensures in

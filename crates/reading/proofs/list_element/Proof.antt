@@ -13,12 +13,12 @@ use Rattle.reading.proofs.list_element.Tie as tie
 
 is-listed-requires : tie.Need-is-listed-requires
 is-listed-requires c κs =
-    let start = c .before .before .before .before .before in
+    let start = c .before .before .before .before in
     omega (arith, start .pre .1 .1 .0, start .pre .0 .1 .holds .identifiers .in-table)
 
 returns : tie.Need-returns
 returns c elements ready =
-    let start = c .before .before .before .before .before .before .before in
+    let start = c .before .before .before .before .before .before in
     let a = start .args in
     let none = unlisted (a .side) (a .s .now) (a .rows .now) (a .n) (a .element) (start .pre .1 .1 .0) elements ready
     (sym (c .before .is-listed .ensures) ∙ not-true _ (c .if1 .taken)) in
@@ -26,7 +26,7 @@ returns c elements ready =
 
 list-portions-requires : tie.Need-list-portions-requires
 list-portions-requires c κs =
-    let start = c .before .before .before .before .before .before .before .before in (
+    let start = c .before .before .before .before .before .before .before in (
       start .pre .0,
       (start .pre .1 .0, ((start .pre .1 .1 .0, sym (c .before .before .is-listed .ensures) ∙ not-false _ (c .before .if1 .left)), start .pre .1 .1 .1)),
     )

@@ -21,16 +21,16 @@ use Rattle.reading.proofs.list_portions.Statement.{statement}
 use Rattle.reading.proofs.list_portions.Tie as tie
 
 abbrev Inv-loop : tie.InvT-loop
-Inv-loop s rows head next n side element flat₀ count name hashed left₀ place₀ total₀ flat left place total =
+Inv-loop s rows index n side element flat₀ count name hashed left₀ place₀ total₀ flat left place total =
     Listing side s rows n element flat₀ count flat left place total
 
 abbrev μ-loop : tie.MeasureT-loop
-μ-loop s rows head next n side element flat₀ count name hashed left₀ place₀ total₀ flat left place total =
+μ-loop s rows index n side element flat₀ count name hashed left₀ place₀ total₀ flat left place total =
     left .limit - left .at
 
 -- what is known at the entry, from the loop's head
 abbrev entry : tie.At-loop Inv-loop μ-loop → tie.Start Inv-loop μ-loop
-entry c = c .before .before .before .before .before .before .before .before .before .before
+entry c = c .before .before .before .before .before .before .before .before .before
 
 -- the portion that is met
 meeting : (c : tie.After-known-told Inv-loop μ-loop) →
@@ -52,14 +52,14 @@ finds c =
     rw (c .before .column-of .ensures, name) at (c .unit-of .ensures)
 
 -- the identifier lies in the stream
-name-placed : (c : tie.After-bounds-at Inv-loop μ-loop) → Placed (c .before .before .before .before .before .before .args .s .now) (c .bounds-at .result)
+name-placed : (c : tie.After-bounds-at Inv-loop μ-loop) → Placed (c .before .before .before .before .before .args .s .now) (c .bounds-at .result)
 name-placed c =
-    let start = c .before .before .before .before .before .before in
+    let start = c .before .before .before .before .before in
     rw (c .bounds-at .ensures) (span-placed (start .pre .0 .1 .holds .identifiers) (start .pre .1 .1 .0 .0))
 
 bounds-at-requires : tie.Need-bounds-at-requires Inv-loop μ-loop
 bounds-at-requires c κs =
-    let start = c .before .before .before .before .before in
+    let start = c .before .before .before .before in
     (omega arith, omega (arith, start .pre .1 .1 .0 .0, start .pre .0 .1 .holds .identifiers .in-table))
 
 hash-over-requires : tie.Need-hash-over-requires Inv-loop μ-loop
@@ -70,12 +70,12 @@ hash-space-requires c κs = c .hash-over .ensures .1
 
 portions-at-requires : tie.Need-portions-at-requires Inv-loop μ-loop
 portions-at-requires c κs =
-    let start = c .before .before .before .before .before .before .before .before in
+    let start = c .before .before .before .before .before .before .before in
     omega (arith, start .pre .1 .1 .0 .0, start .pre .0 .1 .holds .identifiers .in-table)
 
 loop-holds : tie.Need-loop-holds Inv-loop μ-loop
 loop-holds c =
-    let start = c .before .before .before .before .before .before .before .before .before in
+    let start = c .before .before .before .before .before .before .before .before in
     rw (c .portions-at .ensures) (listing-all (rows-tell (start .pre .0 .1)) (start .pre .1 .1 .0 .0) (start .pre .1 .1 .0 .1)
     (start .args .flat .now) (start .args .count) (start .pre .1 .1 .1))
 

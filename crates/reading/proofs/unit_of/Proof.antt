@@ -8,7 +8,7 @@ use Rattle.reading.proofs.unit_of.Tie as tie
 
 find-requires : tie.Need-find-requires
 find-requires c κs =
-    let start = c .before .before .before .before .before in
+    let start = c .before .before .before .before in
     let a = start .args in
     let name = start .pre .1 .1 .1 .0 in
     let portion = start .pre .1 .1 .1 .1 in

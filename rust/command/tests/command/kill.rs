@@ -2,21 +2,18 @@
 //! in between: then one runs to its end, and is held against a fresh export, octet by octet.
 //!
 //! Whatever the moment of a kill, what it leaves is judged: each text must be that of a line in the manifest or the journal.
-//! `rust/test --kill MINUTES` runs it longer: it sets `ODIF_KILL_SECONDS`.
 
 use std::collections::{BTreeMap, BTreeSet};
 use std::ffi::OsStr;
-use std::fs::{self, File};
+use std::fs;
 use std::os::unix::ffi::{OsStrExt, OsStringExt};
-use std::os::unix::process::ExitStatusExt;
 use std::path::{Path, PathBuf};
-use std::process::Stdio;
-use std::thread;
-use std::time::{Duration, Instant, SystemTime};
+use std::time::Instant;
 
 use sha2::{Digest, Sha256};
 
-use super::support::{Run, Scratch, command, letter, letter_of_1993, odif, two_sided};
+use super::killing::{Killing, Trial};
+use super::support::{Run, letter, letter_of_1993, odif, two_sided};
 
 /// So long it runs in the gate.
 const SECONDS: u64 = 20;
@@ -25,82 +22,25 @@ const SECONDS: u64 = 20;
 const WORDS: [&[&str]; 6] =
     [&[], &["--logical"], &["--edition", "1993"], &["--utf8"], &["--hex"], &["--logical", "--utf8=latin1"]];
 
-const FILES: usize = 100;
-
 #[test]
 fn killed_exports_are_gone_on_with() {
-    let seconds = std::env::var("ODIF_KILL_SECONDS").ok().and_then(|seconds| seconds.parse().ok()).unwrap_or(SECONDS);
-    let end = Instant::now() + Duration::from_secs(seconds);
-    let mut trial = Trial::new();
-    println!("seed {}", trial.random.0);
-    while trial.compared == 0 || Instant::now() < end {
-        for _ in 0..=trial.random.below(9) {
-            if trial.random.below(3) == 0 {
-                trial.change_archive();
-            }
-            trial.kill_one();
-            trial.judge_what_is_left();
-        }
-        trial.run_to_the_end();
-    }
-    println!("{} killed, {} ended before that, {} compared", trial.killed, trial.escaped, trial.compared);
-    assert!(trial.killed > 0, "no run was killed");
+    Exports::new().kill_for(SECONDS);
 }
 
-/// Numbers that look random.
-struct Random(u64);
-
-impl Random {
-    fn below(&mut self, bound: usize) -> usize {
-        self.0 ^= self.0 << 13;
-        self.0 ^= self.0 >> 7;
-        self.0 ^= self.0 << 17;
-        (self.0 % bound as u64) as usize
-    }
-
-    fn of<T: Copy>(&mut self, some: &[T]) -> T {
-        some[self.below(some.len())]
-    }
+struct Exports {
+    killing: Killing,
 }
 
-struct Trial {
-    scratch: Scratch,
-    random: Random,
-    /// How long a run takes that is not killed.
-    span: Duration,
-    version: usize,
-    killed: usize,
-    escaped: usize,
-    compared: usize,
-}
+impl Trial for Exports {
+    const FILES: usize = 100;
+    const FOLDERS: &[&str] = &["a", "b", "b/c", "d.txt"];
 
-impl Trial {
-    fn new() -> Trial {
-        let scratch = Scratch::new("kill");
-        let since = SystemTime::now().duration_since(SystemTime::UNIX_EPOCH).unwrap();
-        let random = Random(since.as_nanos() as u64 | 1);
-        let (span, version) = (Duration::from_millis(100), 0);
-        let mut trial = Trial { scratch, random, span, version, killed: 0, escaped: 0, compared: 0 };
-        for number in 0..FILES {
-            trial.write_letter(number);
-        }
-        // Names that are cells a spreadsheet would run, that are no UTF-8, and a letter beside the folder of its text.
-        trial.scratch.write("in/=cmd|calc.odif", &letter(b"calc"));
-        trial.scratch.write("in/clash", &letter(b"beside the folder"));
-        trial.scratch.write("in/clash.txt/inner", &letter(b"in the folder"));
-        fs::write(trial.scratch.path("in").join(OsStr::from_bytes(b"caf\xE9")), letter(b"caf\xC2e")).unwrap();
-        trial
+    fn killing(&mut self) -> &mut Killing {
+        &mut self.killing
     }
 
-    fn file(&self, number: usize) -> PathBuf {
-        self.scratch.path("in").join(["a", "b", "b/c", "d.txt"][number % 4]).join(format!("{number}.odif"))
-    }
-
-    /// Writes a letter of a kind that its number has, with a text that no other has.
-    fn write_letter(&mut self, number: usize) {
-        self.version += 1;
-        let text = format!("letter {number:03}, version {:07}", self.version);
-        let octets = match number % 7 {
+    fn letter(number: usize, text: &str) -> Vec<u8> {
+        match number % 7 {
             0 => two_sided(text.as_bytes(), text.to_uppercase().as_bytes()),
             1 => letter_of_1993(text.as_bytes()),
             2 => letter(format!("{text}, M\u{C8}\u{81}").as_bytes()),
@@ -108,50 +48,53 @@ impl Trial {
             4 => letter(text.as_bytes())[..40].to_vec(),
             5 => two_sided(text.repeat(1_000).as_bytes(), b""),
             _ => letter(text.as_bytes()),
-        };
-        let file = self.file(number);
-        fs::create_dir_all(file.parent().unwrap()).unwrap();
-        fs::write(file, octets).unwrap();
-    }
-
-    /// A letter is changed, taken away or brought back. A changed one keeps its length and gets its old time.
-    fn change_archive(&mut self) {
-        let number = self.random.below(FILES);
-        let file = self.file(number);
-        let modified = fs::metadata(&file).and_then(|about| about.modified());
-        match (modified, self.random.below(3)) {
-            (Ok(_), 0) => fs::remove_file(file).unwrap(),
-            (Ok(time), _) => {
-                self.write_letter(number);
-                File::options().write(true).open(file).unwrap().set_modified(time).unwrap();
-            }
-            (Err(_), _) => self.write_letter(number),
         }
-    }
-
-    fn words(&self, out: &str, more: &[&str]) -> Vec<String> {
-        let words = ["export".into(), self.scratch.word("in"), self.scratch.word(out)];
-        words.into_iter().chain(more.iter().map(|word| word.to_string())).collect()
     }
 
     /// Starts an export with some words, and kills it.
     fn kill_one(&mut self) {
-        let (words, jobs) = (self.random.of(&WORDS), self.random.of(&["1", "2", "3"]));
-        let prune: &[&str] = if self.random.below(4) == 0 { &["--prune"] } else { &[] };
+        let (words, jobs) = (self.killing.of(&WORDS), self.killing.of(&["1", "2", "3"]));
+        let prune: &[&str] = if self.killing.below(4) == 0 { &["--prune"] } else { &[] };
         let words = self.words("out", &[words, &["--jobs", jobs], prune].concat());
         let words: Vec<&str> = words.iter().map(String::as_str).collect();
-        let moment = self.span.mul_f64(self.random.below(1_100) as f64 / 1_000.0);
-        let mut child = command(&words).stdout(Stdio::null()).stderr(Stdio::null()).spawn().unwrap();
-        thread::sleep(moment);
-        child.kill().unwrap();
-        let status = child.wait().unwrap();
-        assert!(status.signal() == Some(9) || status.code().is_some_and(|code| code <= 2), "{status:?}");
-        *(if status.signal().is_some() { &mut self.killed } else { &mut self.escaped }) += 1;
+        self.killing.kill(&words);
+        self.judge_what_is_left();
+    }
+
+    /// Some export runs to its end, with the letters that are gone or without, and is compared; then again with these words,
+    /// so that a letter that was changed in between, and a text that was damaged, are ones that were done before.
+    fn run_to_the_end(&mut self) {
+        let (words, prune) = (self.killing.of(&WORDS), self.killing.below(2) == 0);
+        if self.killing.below(2) == 0 {
+            self.damage_a_text();
+        }
+        self.run_and_compare(words, prune);
+        self.change_archive();
+        self.damage_a_text();
+        self.run_and_compare(words, prune);
+    }
+}
+
+impl Exports {
+    fn new() -> Exports {
+        let killing = Killing::new::<Exports>("kill");
+        let scratch = &killing.scratch;
+        // Names that are cells a spreadsheet would run, that are no UTF-8, and a letter beside the folder of its text.
+        scratch.write("in/=cmd|calc.odif", &letter(b"calc"));
+        scratch.write("in/clash", &letter(b"beside the folder"));
+        scratch.write("in/clash.txt/inner", &letter(b"in the folder"));
+        fs::write(scratch.path("in").join(OsStr::from_bytes(b"caf\xE9")), letter(b"caf\xC2e")).unwrap();
+        Exports { killing }
+    }
+
+    fn words(&self, out: &str, more: &[&str]) -> Vec<String> {
+        let words = ["export".into(), self.killing.scratch.word("in"), self.killing.scratch.word(out)];
+        words.into_iter().chain(more.iter().map(|word| word.to_string())).collect()
     }
 
     /// Each text is that of a line, in the manifest or in the journal.
     fn judge_what_is_left(&self) {
-        let out = self.scratch.path("out");
+        let out = self.killing.scratch.path("out");
         let rows = [rows(&out, "manifest.csv"), rows(&out, "manifest.part")].concat();
         let told: BTreeSet<_> = rows.iter().map(|row| (row.text(), row.get("text_sha256"))).collect();
         for (text, octets) in texts(&out) {
@@ -159,25 +102,11 @@ impl Trial {
         }
     }
 
-    /// Some export runs to its end, with the letters that are gone or without, and is compared; then again with these words,
-    /// so that a letter that was changed in between, and a text that was damaged, are ones that were done before.
-    fn run_to_the_end(&mut self) {
-        let (words, prune) = (self.random.of(&WORDS), self.random.below(2) == 0);
-        if self.random.below(2) == 0 {
-            self.damage_a_text();
-        }
-        self.span = self.run_and_compare(words, prune);
-        self.change_archive();
-        self.damage_a_text();
-        self.run_and_compare(words, prune);
-    }
-
-    /// Tells how long the run took.
-    fn run_and_compare(&mut self, words: &[&str], prune: bool) -> Duration {
+    fn run_and_compare(&mut self, words: &[&str], prune: bool) {
         let begun = Instant::now();
         let run = self.run("out", words, prune);
-        let span = begun.elapsed().max(Duration::from_millis(10));
-        let _ = fs::remove_dir_all(self.scratch.path("fresh"));
+        self.killing.took(begun);
+        let _ = fs::remove_dir_all(self.killing.scratch.path("fresh"));
         let fresh = self.run("fresh", words, false);
         if prune {
             self.compare_all(words);
@@ -187,8 +116,7 @@ impl Trial {
         assert_eq!(report(&run), report(&fresh), "{words:?} {}", run.stderr);
         let gone = !prune && run.text().contains("gone from the archive");
         assert!(run.status == if gone { fresh.status.max(1) } else { fresh.status }, "{}", run.stderr);
-        self.compared += 1;
-        span
+        self.killing.compared += 1;
     }
 
     fn run(&self, out: &str, words: &[&str], prune: bool) -> Run {
@@ -199,14 +127,14 @@ impl Trial {
 
     /// Alters a bit of a text, or takes it away.
     fn damage_a_text(&mut self) {
-        let out = self.scratch.path("out");
+        let out = self.killing.scratch.path("out");
         let texts: Vec<_> = texts(&out).into_iter().collect();
         if texts.is_empty() {
             return;
         }
-        let (name, mut octets) = texts[self.random.below(texts.len())].clone();
+        let (name, mut octets) = texts[self.killing.below(texts.len())].clone();
         match octets.first_mut() {
-            Some(first) if self.random.below(2) == 0 => {
+            Some(first) if self.killing.below(2) == 0 => {
                 *first ^= 1;
                 fs::write(out.join(name), octets).unwrap();
             }
@@ -216,7 +144,7 @@ impl Trial {
 
     /// Every file is as in the fresh export, and there is no other: the manifest, the lock and the texts.
     fn compare_all(&self, words: &[&str]) {
-        let [out, fresh] = ["out", "fresh"].map(|name| files(&self.scratch.path(name)));
+        let [out, fresh] = ["out", "fresh"].map(|name| files(&self.killing.scratch.path(name)));
         let names = |files: &BTreeMap<PathBuf, Vec<u8>>| files.keys().cloned().collect::<Vec<_>>();
         assert_eq!(names(&out), names(&fresh), "{words:?}");
         let differs = out.iter().find(|(name, octets)| fresh[*name] != **octets);
@@ -226,17 +154,20 @@ impl Trial {
 
     /// The lines of letters that are there are those of the fresh export; every text has one line, with its hash.
     fn compare_what_is_there(&self, words: &[&str]) {
-        let [out, fresh] = ["out", "fresh"].map(|name| rows(&self.scratch.path(name), "manifest.csv"));
+        let [out, fresh] = ["out", "fresh"].map(|name| rows(&self.killing.scratch.path(name), "manifest.csv"));
         let (gone, there): (Vec<_>, Vec<_>) = out.iter().partition(|row| row.get("outcome") == "gone");
         assert!(there.into_iter().eq(&fresh), "{words:?}");
-        assert!(gone.iter().all(|row| !self.scratch.path("in").join(row.name()).exists()), "{words:?}");
+        assert!(gone.iter().all(|row| !self.killing.scratch.path("in").join(row.name()).exists()), "{words:?}");
         let told = out.iter().filter(|row| !row.get("text_sha256").is_empty());
         let told: Vec<_> = told.map(|row| (row.text(), row.get("text_sha256"))).collect();
-        let texts = texts(&self.scratch.path("out"));
+        let texts = texts(&self.killing.scratch.path("out"));
         let texts: BTreeSet<_> = texts.into_iter().map(|(text, octets)| (text, sha256(&octets))).collect();
         assert_eq!(told.len(), texts.len(), "{words:?}");
         assert_eq!(told.into_iter().collect::<BTreeSet<_>>(), texts, "{words:?}");
-        assert!(!self.scratch.path("out/manifest.part").exists() && !self.scratch.path("out/.odif-export").exists());
+        assert!(
+            !self.killing.scratch.path("out/manifest.part").exists()
+                && !self.killing.scratch.path("out/.odif-export").exists()
+        );
     }
 }
 

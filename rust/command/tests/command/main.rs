@@ -14,6 +14,7 @@ mod grep;
 mod help;
 mod kill;
 mod kill_catalog;
+mod killing;
 mod leftovers;
 mod list;
 mod make;

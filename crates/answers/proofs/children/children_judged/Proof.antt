@@ -16,39 +16,39 @@ use Rattle.answers.proofs.children.children_judged.Tie as tie
 
 returns : tie.Need-returns
 returns c =
-    let a = c .before .before .before .before .before .before .before .before in
+    let a = c .before .before .before .before .before .before .before in
     let l = accepted-judged (a .pre .0 .ended) (a .pre .1 .0) in
     renamed (c .refuse .ensures) refl refl (relates-16 (a .args .edition) (now (a .args .stream)) (now (a .args .table)) (a .args .row)
     (a .args .room) (now (a .args .list)) _ _ (l .held .elements) (l .judged) (l .held .holds .counted) (omega arith))
 
 returns-2 : tie.Need-returns-2
 returns-2 c =
-    let a = c .before .before .before .before .before .before .before .before .before in
+    let a = c .before .before .before .before .before .before .before .before in
     let l = accepted-judged (a .pre .0 .ended) (a .pre .1 .0) in
     renamed (c .refuse2 .ensures) refl refl (relates-20 (a .args .edition) (now (a .args .stream)) (now (a .args .table)) (a .args .row)
     (a .args .room) (now (a .args .list)) _ _ (l .held .elements) (l .judged) (l .held .holds .counted) (omega arith) (c .before .if2 .taken))
 
 fill-requires : tie.Need-fill-requires
 fill-requires c κs =
-    let a = c .before .before .before .before .before .before .before .before .before in
+    let a = c .before .before .before .before .before .before .before .before in
     let l = accepted-judged (a .pre .0 .ended) (a .pre .1 .0) in
     ((a .args .edition, a .pre .1 .0), (a .pre .1 .1 .0, (l .few, omega arith)))
 
 count-children-requires : tie.Need-count-children-requires
 count-children-requires c κs =
-    let a = c .before .before .before .before .before .before .before .before .before .before .before .before .before in
+    let a = c .before .before .before .before .before .before .before .before .before .before .before .before in
     let l = accepted-judged (a .pre .0 .ended) (a .pre .1 .0) in
-    (l .few, omega (arith, c .before .before .before .fill .kept .1 .1 .1 .1 .1 .0))
+    (l .few, omega (arith, c .before .before .before .fill .kept .1 .1 .1 .1 .0))
 
 refuse-requires-3 : tie.Need-refuse-requires-3
 refuse-requires-3 c κs =
-    let a = c .before .before .before .before .before .before .before .before .before .before .before .before .before .before .before in
+    let a = c .before .before .before .before .before .before .before .before .before .before .before .before .before .before in
     let l = accepted-judged (a .pre .0 .ended) (a .pre .1 .0) in
     l .few
 
 returns-3 : tie.Need-returns-3
 returns-3 c =
-    let a = c .before .before .before .before .before .before .before .before .before .before .before .before .before .before .before .before in
+    let a = c .before .before .before .before .before .before .before .before .before .before .before .before .before .before .before in
     let l = accepted-judged (a .pre .0 .ended) (a .pre .1 .0) in
     let below : a .args .row < a .args .count = omega (arith, c .before .before .before .before .before .before .before .before .if2 .left) in
     let low : a .args .row < noParent = omega (arith, l .few) in
@@ -61,22 +61,22 @@ returns-3 c =
 
 put-children-requires : tie.Need-put-children-requires
 put-children-requires c κs =
-    let a = c .before .before .before .before .before .before .before .before .before .before .before .before .before .before .before .before .before in
+    let a = c .before .before .before .before .before .before .before .before .before .before .before .before .before .before .before .before in
     let l = accepted-judged (a .pre .0 .ended) (a .pre .1 .0) in
     let counted = c .before .before .before .count-children .ensures in (
-      (l .few, omega (arith, c .before .before .before .before .before .before .before .fill .kept .1 .1 .1 .1 .1 .0)),
+      (l .few, omega (arith, c .before .before .before .before .before .before .before .fill .kept .1 .1 .1 .1 .0)),
       omega (arith, counted, c .before .before .if3 .left, a .pre .1 .1 .1),
     )
 
-cast-t24 : tie.Need-cast-t24
-cast-t24 c =
-    let a = c .before .before .before .before .before .before .before .before .before .before .before .before .before .before .before .before .before .before .before .before in
+cast-t23 : tie.Need-cast-t23
+cast-t23 c =
+    let a = c .before .before .before .before .before .before .before .before .before .before .before .before .before .before .before .before .before .before .before in
     let l = accepted-judged (a .pre .0 .ended) (a .pre .1 .0) in
     omega (arith, l .few)
 
-cast-t25 : tie.Need-cast-t25
-cast-t25 c =
-    let a = c .before .before .before .before .before .before .before .before .before .before .before .before .before .before .before .before .before .before .before .before in
+cast-t24 : tie.Need-cast-t24
+cast-t24 c =
+    let a = c .before .before .before .before .before .before .before .before .before .before .before .before .before .before .before .before .before .before .before in
     let l = accepted-judged (a .pre .0 .ended) (a .pre .1 .0) in
     let low : a .args .row < noParent = omega (
       arith,
@@ -90,7 +90,7 @@ cast-t25 c =
 
 returns-4 : tie.Need-returns-4
 returns-4 c =
-    let a = c .before .before .before .before .before .before .before .before .before .before .before .before .before .before .before .before .before .before .before .before in
+    let a = c .before .before .before .before .before .before .before .before .before .before .before .before .before .before .before .before .before .before .before in
     let l = accepted-judged (a .pre .0 .ended) (a .pre .1 .0) in
     let below : a .args .row < a .args .count = omega (
       arith,
@@ -108,5 +108,5 @@ returns-4 c =
 pub children-judged-spec : {M : Type 1} → statement M
 children-judged-spec =
     tie.close (tie.spec (λ c κs. search needs) returns (λ c κs. search needs) returns-2 fill-requires count-children-requires
-    refuse-requires-3 (λ c. search needs) returns-3 put-children-requires cast-t24 cast-t25 (λ c. search needs) (λ c. search needs)
+    refuse-requires-3 (λ c. search needs) returns-3 put-children-requires cast-t23 cast-t24 (λ c. search needs) (λ c. search needs)
     returns-4)

@@ -11,14 +11,15 @@ enum-told c = search needs
 
 returns : tie.Need-returns
 returns c =
-    let a = c .before .before .before .before .before .before .before .args in
+    let a = c .before .before .before .before .before .before .args in
     subst (λ (class : Class). FaultIn class (a .s .now) (a .rows .now) (a .n) (c .fault-a .result)) (sym (c .before .enum-told .given .1)) (c .fault-a .ensures)
 
 returns-2 : tie.Need-returns-2
 returns-2 c =
-    let a = c .before .before .before .before .before .before .before .args in
+    let a = c .before .before .before .before .before .before .args in
     subst (λ (class : Class). FaultIn class (a .s .now) (a .rows .now) (a .n) (c .fault-b .result)) (sym (c .before .enum-told2 .given .1))
     (c .fault-b .ensures)
 
 pub fault-in-spec : {M : Type 1} → statement M
-fault-in-spec = tie.close (tie.spec enum-told (λ c κs. search needs) (λ c. search needs) (λ c κs. search needs) returns returns-2)
+fault-in-spec =
+    tie.close (tie.spec enum-told (λ c κs. search needs) (λ c. search needs) (λ c κs. search needs) returns returns-2)

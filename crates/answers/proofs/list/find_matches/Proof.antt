@@ -11,40 +11,40 @@ use Rattle.answers.proofs.list.find_matches.Tie as tie
 
 returns : tie.Need-returns
 returns c =
-    let a = c .before .before .before .before .before .before .before .before in
+    let a = c .before .before .before .before .before in
     let l = accepted-judged (a .pre .0 .ended) (a .pre .1 .0) in
     finds-16 (a .args .edition) (a .args .side) (now (a .args .stream)) (now (a .args .flat)) (a .args .lent) (a .args .room) _ (l .held .elements)
     (l .judged) (omega (arith, l .held .holds .counted))
 
 list-matches-requires : tie.Need-list-matches-requires
 list-matches-requires c κs =
-    let a = c .before .before .before .before .before .before .before .before .before in
+    let a = c .before .before .before .before .before .before in
     let l = accepted-judged (a .pre .0 .ended) (a .pre .1 .0) in
     ((a .args .edition, a .pre .1 .0), (a .pre .1 .1 .0, omega (arith, a .pre .1 .1 .1, l .held .holds .counted, l .needed)))
 
-cast-t17 : tie.Need-cast-t17
-cast-t17 c =
-    let a = c .before .before .before .before .before .before .before .before .before .before .before .before .before in
+cast-t14 : tie.Need-cast-t14
+cast-t14 c =
+    let a = c .before .before .before .before .before .before .before .before .before .before in
     let l = accepted-judged (a .pre .0 .ended) (a .pre .1 .0) in
     omega (arith, l .few)
 
 returns-2 : tie.Need-returns-2
 returns-2 c =
-    let a = c .before .before .before .before .before .before .before .before .before .before .before .before .before in
+    let a = c .before .before .before .before .before .before .before .before .before .before in
     let l = accepted-judged (a .pre .0 .ended) (a .pre .1 .0) in
     let lists = c .before .before .before .list-matches .ensures (a .args .edition) (l .held) in
     finds-19 (a .args .edition) (a .args .side) (now (a .args .stream)) _ (a .args .lent) (a .args .room) _ (l .held .elements) (l .judged) _
     (l .held .holds .counted) (omega arith) _ _ lists (omega arith)
 
-cast-t18 : tie.Need-cast-t18
-cast-t18 c =
-    let a = c .before .before .before .before .before .before .before .before .before .before .before .before .before in
+cast-t15 : tie.Need-cast-t15
+cast-t15 c =
+    let a = c .before .before .before .before .before .before .before .before .before .before in
     let l = accepted-judged (a .pre .0 .ended) (a .pre .1 .0) in
     omega (arith, l .few)
 
-cast-t19 : tie.Need-cast-t19
-cast-t19 c =
-    let a = c .before .before .before .before .before .before .before .before .before .before .before .before .before in
+cast-t16 : tie.Need-cast-t16
+cast-t16 c =
+    let a = c .before .before .before .before .before .before .before .before .before .before in
     let l = accepted-judged (a .pre .0 .ended) (a .pre .1 .0) in
     let lists = c .before .before .before .list-matches .ensures (a .args .edition) (l .held) in
     let few = no-more-than-elements (l .held .elements) (letter-apart (l .held)) (a .args .side) in
@@ -52,7 +52,7 @@ cast-t19 c =
 
 returns-3 : tie.Need-returns-3
 returns-3 c =
-    let a = c .before .before .before .before .before .before .before .before .before .before .before .before .before in
+    let a = c .before .before .before .before .before .before .before .before .before .before in
     let l = accepted-judged (a .pre .0 .ended) (a .pre .1 .0) in
     let lists = c .before .before .before .list-matches .ensures (a .args .edition) (l .held) in
     finds-letter (a .args .edition) (a .args .side) (now (a .args .stream)) _ (a .args .lent) (a .args .room) _ (l .held .elements) (l .judged) _
@@ -60,4 +60,5 @@ returns-3 c =
 
 pub find-matches-spec : {M : Type 1} → statement M
 find-matches-spec =
-    tie.close (tie.spec returns list-matches-requires cast-t17 (λ c. search needs) returns-2 cast-t18 cast-t19 (λ c. search needs) returns-3)
+    tie.close (tie.spec returns list-matches-requires cast-t14 (λ c. search needs) returns-2 cast-t15 cast-t16 (λ c. search needs)
+    returns-3)

@@ -18,7 +18,7 @@ use Rattle.answers.proofs.table.put_row.Tie as tie
 
 returns : tie.Need-returns
 returns c edition letter row there =
-    let start = c .before .before .before .before .before .before .before .before .before .before .before in
+    let start = c .before .before .before .before .before .before .before .before .before .before in
     let a = start .args in
     let j = a .j in
     let own = scratch-slice letter j row (start .pre .1 .1 .0) there in

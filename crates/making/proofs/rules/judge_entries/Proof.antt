@@ -17,19 +17,19 @@ use Rattle.making.proofs.rules.judge_entries.Statement.{statement}
 use Rattle.making.proofs.rules.judge_entries.Tie as tie
 
 abbrev Inv-loop : tie.InvT-loop
-Inv-loop buffer numbers rows₀ head₀ next₀ count k₀ rows head next k =
-    (k ≤ length numbers / entryWidth) × Judging buffer numbers rows head next k × (length rows ≡ length rows₀) × (length head ≡ length head₀)
+Inv-loop buffer numbers rows₀ index₀ count k₀ rows index k =
+    (k ≤ length numbers / entryWidth) × Judging buffer numbers rows index k × (length rows ≡ length rows₀) × (length head ≡ length head₀)
     × (length next ≡ length next₀)
 
 abbrev μ-loop : tie.MeasureT-loop
-μ-loop buffer numbers rows₀ head₀ next₀ count k₀ rows head next k =
+μ-loop buffer numbers rows₀ index₀ count k₀ rows index k =
     count - k
 
 loop-holds : tie.Need-loop-holds Inv-loop μ-loop
 loop-holds c =
     let a = c .before .before .before .before .before in (
       omega arith,
-      judging-none (now (a .args .buffer)) (now (a .args .numbers)) (now (a .args .rows)) (now (a .args .head)) (now (a .args .next)) (a .pre),
+      judging-none (now (a .args .buffer)) (now (a .args .numbers)) (now (a .args .rows)) (now (a .args .index)) (a .pre),
       refl,
       refl,
       refl,

@@ -27,7 +27,7 @@ insert-requires c κs =
     let bounded = put-bounded rows n first past long buffer (a .pre .1 .1 .0) (a .pre .1 .1 .1) (a .pre .0 .0) in (
       bounded,
       (
-        put-filed rows n first past long buffer (now (a .args .head)) (now (a .args .next)) (a .pre .0 .1),
+        put-filed rows n first past long buffer (now (a .args .index)) (a .pre .0 .1),
         (a .pre .1 .0 .1, (omega arith, a .pre .1 .1 .2 ∙ ap hash (sym (put-value rows n first past long buffer)))),
       ),
     )
@@ -43,7 +43,7 @@ returns c =
     let long = a .pre .1 .0 .0 in
     let bounded = put-bounded rows n first past long buffer (a .pre .1 .1 .0) (a .pre .1 .1 .1) (a .pre .0 .0) in
     λ done entry keeps e f.
-    keeps-more rows n first past long buffer (now (a .args .head)) (now (a .args .next)) done keeps entry e f _ _ bounded
+    keeps-more rows n first past long buffer (now (a .args .index)) done keeps entry e f _ _ bounded
     (c .before .before .before .before .insert .ensures .0)
 
 pub keep-spec : {M : Type 1} → statement M

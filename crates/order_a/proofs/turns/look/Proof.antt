@@ -11,7 +11,7 @@ use Rattle.order_a.proofs.turns.look.Tie as tie
 
 own-of-requires : tie.Need-own-of-requires
 own-of-requires c κs =
-    let start = c .before .before .before .before .before in
+    let start = c .before .before .before .before in
     let known = rows-tell (start .pre .0 .1) in (
       row-inside known (start .args .side) (start .args .u) (start .pre .1 .1) (c .owner-of .result) (c .owner-of .ensures _ known),
       start .pre .0 .1 .holds .identifiers .in-table,
@@ -19,7 +19,7 @@ own-of-requires c κs =
 
 returns : tie.Need-returns
 returns c =
-    let start = c .before .before .before .before .before .before in
+    let start = c .before .before .before .before .before in
     let a = start .args in
     record {
       is = λ elements ready. subst (OwnIs (a .side) elements (a .n) (a .u)) (sym (c .own-of .ensures))

@@ -1,0 +1,2 @@
+-- Promises: what is promised of the short normal form in lent scratch.
+pub mod Promises
