@@ -79,10 +79,10 @@
    32   the lent scratch is too small for the elements of the stream                  0
 
    1 comes first, then the first fault of 2 to 8 in stream order, then the elements in order, 9 to 15 in order within
-   each, then 16, 17, 18, 19 or 20 where the question can give it; 21, 22 and 25 come after 20, 23, 24 and 26 after 15; of
-   a whole reading 22 comes after 19; 32 comes after 8 and before 9. A refusal leaves the lent table, list, lines and output as they were, except that
-   19 and 25 leave the finished table. Counts are 0 with a refusal, except that these two keep the element count and the
-   check's header count comes with every answer.
+   each, then 16, 17, 18, 19 or 20 where the question can give it; 21, 22 and 25 come after 20, 23, 24 and 26 after
+   15; of a whole reading 22 comes after 19; 32 comes after 8 and before 9. A refusal leaves the lent table, list,
+   lines and output as they were, except that 19 and 25 leave the finished table. Counts are 0 with a refusal, except
+   that these two keep the element count and the check's header count comes with every answer.
 
    odif_make judges entries and no stream. Entries in order, from 0, and within one in this order, it gives 27; 14 for a
    bad identifier or portion, or both with a space between them over 64 octets; 15 for an identifier that an entry
