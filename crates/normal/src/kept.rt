@@ -19,25 +19,24 @@ pub fn slot_of(from: usize, room: usize) -> usize
 fn ending(marked: bool) -> usize
     ensures { λ r. ⌜ r ≡ cond marked 1 2 ⌝ }
 {
-    if marked {
-        1
-    } else {
-        2
-    }
+    if marked { 1 } else { 2 }
 }
 
 fn flag(set: bool) -> usize
     ensures { λ r. ⌜ r ≡ cond set 1 0 ⌝ }
 {
-    if set {
-        1
-    } else {
-        0
-    }
+    if set { 1 } else { 0 }
 }
 
 // Whether a slot is about this run.
-pub fn is_kept(kept: &[usize], slot: usize, from: usize, limit: usize, marked: bool, room: usize) -> bool
+pub fn is_kept(
+    kept: &[usize],
+    slot: usize,
+    from: usize,
+    limit: usize,
+    marked: bool,
+    room: usize,
+) -> bool
     requires { ⌜ slot * 8 + 8 ≤ length (now kept) ⌝ }
     ensures { λ r. ⌜ (r ≡ true → KeyAt (now (kept .entry)) slot from limit marked room) ⌝ }
 {

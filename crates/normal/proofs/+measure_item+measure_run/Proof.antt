@@ -96,7 +96,9 @@ module _ (t : ℕ) where
   is-kept-requires c κs = omega (arith, c .before .slot-of .ensures, c .before .before .before .before .before .pre .1 .1 .long)
 
   kept-at-requires : item-lts.Need-kept-at-requires (item-calls t) (item-at t) measure-item.Post
-  kept-at-requires c κs = omega (arith, c .before .before .before .before .slot-of .ensures, c .before .before .before .before .before .before .before .before .pre .1 .1 .long)
+  kept-at-requires c κs =
+      let p = c .before .before .before .before .before .before .before .before .pre .1 in
+      omega (arith, c .before .before .before .before .slot-of .ensures, p .1 .long)
 
   same-length : item-lts.Need-same-length (item-calls t) (item-at t) measure-item.Post
   same-length c = refl
@@ -118,35 +120,42 @@ module _ (t : ℕ) where
   measure-run-requires c κs =
       let a = c .before .before .before .before .before .before .before .before .args in
       let p = c .before .before .before .before .before .before .before .before .pre .1 in
-      (omega (arith, p .0 .deep), (value-run-ends (a .room) (now (a .s)) (a .h) (p .0) (eq-eqb _ _ (c .before .before .before .before .before .if1 .taken)), p .1))
+      let k = eq-eqb _ _ (c .before .before .before .before .before .if1 .taken) in
+      (omega (arith, p .0 .deep), (value-run-ends (a .room) (now (a .s)) (a .h) (p .0) k, p .1))
 
   sub-keep : item-lts.Need-sub-keep (item-calls t) (item-at t) measure-item.Post
   sub-keep c = omega arith
 
   keep-requires : item-lts.Need-keep-requires (item-calls t) (item-at t) measure-item.Post
-  keep-requires c κs = omega (arith, c .before .before .before .before .before .before .before .before .slot-of .ensures, c .before .before .before .measure-run .ensures .1 .long)
+  keep-requires c κs =
+      let r = c .before .before .before .measure-run .ensures in
+      omega (arith, c .before .before .before .before .before .before .before .before .slot-of .ensures, r .1 .long)
 
   sub-t26 : item-lts.Need-sub-t26 (item-calls t) (item-at t) measure-item.Post
   sub-t26 c = omega arith
 
   -- what is kept then is true
-  held : (c : item-lts.After-slice-known3 (item-calls t) (item-at t) measure-item.Post) → Holds (now (c .before .before .before .before .before .before .before .before .before .before .before .before .before .before .before .args .s)) (c .before .before .keep .last .0)
+  held : (c : item-lts.After-slice-known3 (item-calls t) (item-at t) measure-item.Post) →
+      let a = c .before .before .before .before .before .before .before .before .before .before .before .before .before .before .before .args in
+      Holds (now (a .s)) (c .before .before .keep .last .0)
   held c =
       let a = c .before .before .before .before .before .before .before .before .before .before .before .before .before .before .before .args in
       let r = c .before .before .before .before .before .before .measure-run .ensures in
       let slot = c .before .before .before .before .before .before .before .before .before .before .before .slot-of in
+      let m = c .before .before .before .before .before .before .measure-run in
       subst (λ (l : List ℕ). Holds (now (a .s)) l) (sym (c .before .before .keep .ensures))
-      (keeps (c .before .before .before .before .before .before .measure-run .last .1 .1 .1 .1 .1 .0) (slot .result) (a .h .start) (a .h .bound) (a .h .marked) (a .room - 1)
-      (c .before .before .before .before .before .before .measure-run .result) (omega (arith, slot .ensures, r .1 .long)) (now (a .s)) (r .1) (r .0))
+      (keeps (m .last .1 .1 .1 .1 .1 .0) (slot .result) (a .h .start) (a .h .bound) (a .h .marked) (a .room - 1) (m .result)
+      (omega (arith, slot .ensures, r .1 .long)) (now (a .s)) (r .1) (r .0))
 
   same-length-2 : item-lts.Need-same-length-2 (item-calls t) (item-at t) measure-item.Post
-  same-length-2 c = held c .long ∙ sym (c .before .before .before .before .before .before .before .before .before .before .before .before .before .before .before .pre .1 .1 .long)
+  same-length-2 c = let p = c .before .before .before .before .before .before .before .before .before .before .before .before .before .before .before .pre .1 in held c .long ∙ sym (p .1 .long)
 
   returns-2 : item-lts.Need-returns-2 (item-calls t) (item-at t) measure-item.Post
   returns-2 c =
       let a = c .before .before .before .before .before .before .before .before .before .before .before .before .before .before .before .args in
       let r = c .before .before .before .before .before .before .measure-run in
-      (run-measured (a .room) (now (a .s)) (a .h) (eq-eqb _ _ (c .before .before .before .before .before .before .before .before .before .before .before .before .if1 .taken)) (r .result) (r .ensures .0), held c)
+      let k = eq-eqb _ _ (c .before .before .before .before .before .before .before .before .before .before .before .before .if1 .taken) in
+      (run-measured (a .room) (now (a .s)) (a .h) k (r .result) (r .ensures .0), held c)
 
   returns-3 : item-lts.Need-returns-3 (item-calls t) (item-at t) measure-item.Post
   returns-3 c =
@@ -195,12 +204,18 @@ module _ (t : ℕ) where
       let h = c .before .before .before .h .given .0 .0 in
       let m = c .measure-item in
       let u = met-item (c .before .before) in
-      let k = turned (a .room) (now (a .s)) (l .at) (a .limit) (a .marked) h u (m .result) (m .ensures .0) in
-      (k .0, k .1, bounded (a .room) (now (a .s)) (a .from) (a .limit) (a .marked) (l .at) (l .size) (l .shortest) (l .inv .0) h u (m .result)
-      (m .ensures .0) (c .before .before .before .before .before .before .before .before .before .pre .1 .0))
+      let k = turned (a .room) (now (a .s)) (l .at) (a .limit) (a .marked) h u (m .result) (m .ensures .0) in (
+        k .0,
+        k .1,
+        bounded (a .room) (now (a .s)) (a .from) (a .limit) (a .marked) (l .at) (l .size) (l .shortest) (l .inv .0) h u (m .result)
+            (m .ensures .0) (c .before .before .before .before .before .before .before .before .before .pre .1 .0),
+      )
 
   header-size-requires : run-lts.Need-header-size-requires (run-calls t) (run-at t) measure-run.Post Inv μ
-  header-size-requires c κs = let n = next (c .before .before) in omega (arith, n .2, c .before .before .before .before .before .before .before .before .before .before .before .pre .1 .0 .small)
+  header-size-requires c κs =
+      let n = next (c .before .before) in
+      let p = c .before .before .before .before .before .before .before .before .before .before .before .pre .1 in
+      omega (arith, n .2, p .0 .small)
 
   stays-shortest-requires : run-lts.Need-stays-shortest-requires (run-calls t) (run-at t) measure-run.Post Inv μ
   stays-shortest-requires c κs = let o = met-item (c .before .before .before .before .before) .lies in omega arith
@@ -218,15 +233,18 @@ module _ (t : ℕ) where
   loop-again c =
       let a = c .before .before .before .before .before .before .before .before .before .before .before .before .before .before .args in
       let l = c .before .before .before .before .before .before .before .before .before .before .before .loop in
-      let octets : Octets (now (a .s)) = λ i. omega (arith, c .before .before .before .before .before .before .before .before .before .before .before .before .before .shared-slice-known .given i) in
+      let s = c .before .before .before .before .before .before .before .before .before .before .before .before .before .shared-slice-known in
+      let octets : Octets (now (a .s)) = λ i. omega (arith, s .given i) in
       let m = c .before .before .before .before .before .measure-item in
       let h = c .before .before .before .before .before .before .before .before .h .given .0 .0 in
       let head = c .before .before .header-size in
-      let stays = c .before .stays-shortest in
-      (item-counted (a .room) (now (a .s)) (a .from) (a .limit) (a .marked) (l .at) (l .size) (l .shortest) (l .inv .0) h
-      (met-item (c .before .before .before .before .before .before .before)) (m .result) (m .ensures .0) octets _ (stays .result)
-      (ap (λ (k : ℕ). l .size + k + m .result .size) (head .ensures))
-      (λ b. let (p, n, i, q) = stays .ensures b in (p, n, i, q ∙ ap (λ (k : ℕ). l .at + k) (head .ensures))), m .ensures .1)
+      let stays = c .before .stays-shortest in (
+        item-counted (a .room) (now (a .s)) (a .from) (a .limit) (a .marked) (l .at) (l .size) (l .shortest) (l .inv .0) h
+            (met-item (c .before .before .before .before .before .before .before)) (m .result) (m .ensures .0) octets _ (stays .result)
+            (ap (λ (k : ℕ). l .size + k + m .result .size) (head .ensures))
+            (λ b. let (p, n, i, q) = stays .ensures b in (p, n, i, q ∙ ap (λ (k : ℕ). l .at + k) (head .ensures))),
+        m .ensures .1,
+      )
 
   enum-known-past : run-lts.Need-enum-known-past (run-calls t) (run-at t) measure-run.Post Inv μ
   enum-known-past c = search needs
@@ -238,9 +256,11 @@ module _ (t : ℕ) where
   run-returns c =
       let a = c .before .before .before .before .before .before .before .args in
       let l = c .before .before .before .before .loop in
-      let v = c .before .past .given in
-      (all-counted (a .room) (now (a .s)) (a .from) (a .limit) (a .marked) (l .at) (l .size) (l .shortest) (l .inv .0) (v .0 .0)
-      (met (c .before .before .before) (Last (v .0 .0)) (v .1)), l .inv .1)
+      let v = c .before .past .given in (
+        all-counted (a .room) (now (a .s)) (a .from) (a .limit) (a .marked) (l .at) (l .size) (l .shortest) (l .inv .0) (v .0 .0)
+            (met (c .before .before .before) (Last (v .0 .0)) (v .1)),
+        l .inv .1,
+      )
 
 pub +measure-item+measure-run-spec : {M : Type 1} → statement M
 +measure-item+measure-run-spec =

@@ -105,10 +105,14 @@ module _ (t : ℕ) where
   same-length c = c .before .before .put-value .kept .1 .1 .1 .0
 
   returns : item-lts.Need-returns (item-calls t) (item-at t) put-item.Post
-  returns c = (rw (copied (c .before .before .before .before) .1) (c .before .before .put-value .ensures), c .before .before .before .before .before .before .before .before .pre .1 .0 .2)
+  returns c =
+      let p = c .before .before .before .before .before .before .before .before .pre .1 in
+      (rw (copied (c .before .before .before .before) .1) (c .before .before .put-value .ensures), p .0 .2)
 
   same-length-2 : item-lts.Need-same-length-2 (item-calls t) (item-at t) put-item.Post
-  same-length-2 c = c .before .before .before .before .put-run .ensures .1 .long ∙ sym (c .before .before .before .before .before .before .before .before .before .before .before .pre .1 .0 .2 .long)
+  same-length-2 c =
+      let p = c .before .before .before .before .before .before .before .before .before .before .before .pre .1 in
+      c .before .before .before .before .put-run .ensures .1 .long ∙ sym (p .0 .2 .long)
 
   same-length-3 : item-lts.Need-same-length-3 (item-calls t) (item-at t) put-item.Post
   same-length-3 c = c .before .before .before .before .put-run .kept .1 .1 .1 .1 .1 .1 .0
@@ -173,10 +177,13 @@ module _ (t : ℕ) where
       let a = c .before .before .before .before .before .before .before .before .before .before .before .before .before .args in
       let l = c .before .before .before .before .before .before .before .before .before .loop in
       let h = c .before .before .before .before .before .before .h .given .0 .0 in
-      let octets : Octets (now (a .s)) = λ i. omega (arith, c .before .before .before .before .before .before .before .before .before .before .before .before .shared-slice-known .given i) in
+      let s = c .before .before .before .before .before .before .before .before .before .before .before .before .shared-slice-known in
+      let octets : Octets (now (a .s)) = λ i. omega (arith, s .given i) in
       let u = met-item (c .before .before .before .before .before) in
       let n = next (c .before .before .before) in
-      (omega (arith, n .3, c .before .before .before .before .before .before .before .before .before .before .before .before .before .pre .1 .0 .0 .small), octets-field (now (a .s)) (l .at) (a .limit) (a .room) h octets (u .read), omega (arith, n .2))
+      let p = c .before .before .before .before .before .before .before .before .before .before .before .before .before .pre .1 in
+      let field = octets-field (now (a .s)) (l .at) (a .limit) (a .room) h octets (u .read) in
+      (omega (arith, n .3, p .0 .0 .small), field, omega (arith, n .2))
 
   put-item-requires : run-lts.Need-put-item-requires (run-calls t) (run-at t) put-run.Post Inv μ
   put-item-requires c κs =
@@ -195,7 +202,9 @@ module _ (t : ℕ) where
       )
 
   loop-less : run-lts.Need-loop-less (run-calls t) (run-at t) put-run.Post Inv μ
-  loop-less c = let n = next (c .before .before .before .before .before .before .before .before .before .before .before .before .before) in omega (arith, n .0, n .1)
+  loop-less c =
+      let n = next (c .before .before .before .before .before .before .before .before .before .before .before .before .before) in
+      omega (arith, n .0, n .1)
 
   loop-again : run-lts.Need-loop-again (run-calls t) (run-at t) put-run.Post Inv μ
   loop-again c =
@@ -205,9 +214,11 @@ module _ (t : ℕ) where
       let u = met-item (c .before .before .before .before .before .before .before .before .before .before .before .before .before .before .before) in
       let m = c .before .before .before .before .before .before .before .before .before .before .before .before .before .measure-item in
       let p = c .before .before .before .before .before .before .before .before .before .put-header in
-      let q = c .before .before .before .before .put-item in
-      (item-put (a .room) (now (a .s)) (a .from) (a .limit) (a .marked) (now (a .out)) (a .begin) (l .at) (l .pos) (l .out) (l .inv .0) h u (m .result)
-      (m .ensures .0) (p .result) (q .result) _ _ (p .ensures) (q .ensures .0), q .ensures .1)
+      let q = c .before .before .before .before .put-item in (
+        item-put (a .room) (now (a .s)) (a .from) (a .limit) (a .marked) (now (a .out)) (a .begin) (l .at) (l .pos) (l .out) (l .inv .0) h u (m .result)
+            (m .ensures .0) (p .result) (q .result) _ _ (p .ensures) (q .ensures .0),
+        q .ensures .1,
+      )
 
   enum-told : run-lts.Need-enum-told (run-calls t) (run-at t) put-run.Post Inv μ
   enum-told c = search needs
@@ -221,9 +232,11 @@ module _ (t : ℕ) where
   run-returns : run-lts.Need-returns (run-calls t) (run-at t) put-run.Post Inv μ
   run-returns c =
       let a = c .before .before .before .before .before .before .before .args in
-      let l = c .before .before .before .loop in
-      (all-put (a .room) (now (a .s)) (a .from) (a .limit) (a .marked) (now (a .out)) (a .begin) (l .at) (l .pos) (l .out) (l .inv .0) _
-      (met (c .before .before) (Last _) (c .enum-told .given .1)), l .inv .1)
+      let l = c .before .before .before .loop in (
+        all-put (a .room) (now (a .s)) (a .from) (a .limit) (a .marked) (now (a .out)) (a .begin) (l .at) (l .pos) (l .out) (l .inv .0) _
+            (met (c .before .before) (Last _) (c .enum-told .given .1)),
+        l .inv .1,
+      )
 
 pub +put-item+put-run-spec : {M : Type 1} → statement M
 +put-item+put-run-spec =
