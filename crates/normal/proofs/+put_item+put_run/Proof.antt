@@ -25,7 +25,7 @@ use Rattle.normal.proofs.+put_item+put_run.Lts-put_item as item-lts
 use Rattle.normal.proofs.put_run.Reads as put-run
 use Rattle.normal.proofs.put_run.Kinds as put-run-kinds
 use Rattle.normal.proofs.+put_item+put_run.Lts-put_run as run-lts
-use Rattle.normal.proofs.measure_item.Reads as measure-item-reads
+use Rattle.normal.proofs.measure_again.Reads as measure-again-reads
 use Rattle.normal.proofs.meet.Reads as meet-reads
 use Rattle.normal.proofs.put_header.Reads as put-header-reads
 use Rattle.normal.proofs.put_value.Reads as put-value-reads
@@ -57,8 +57,8 @@ abbrev run-calls : ℕ → run-lts.Claims
 run-calls t = (
   meet-reads.Asked,
   meet-reads.Learnt,
-  measure-item-reads.Asked,
-  measure-item-reads.Learnt,
+  measure-again-reads.Asked,
+  measure-again-reads.Learnt,
   put-header-reads.Asked,
   put-header-reads.Learnt,
   item-below t,
@@ -139,17 +139,17 @@ module _ (t : ℕ) where
   met-item c = let h = c .before .h .given in met (c .before .before .before) (Inner (h .0 .0)) (h .1)
 
   -- where the run goes on, and that there is room for the item
-  next : (c : run-lts.After-measure-item (run-calls t) (run-at t) put-run.Post Inv μ) →
+  next : (c : run-lts.After-measure-again (run-calls t) (run-at t) put-run.Post Inv μ) →
       let a = c .before .before .before .before .before .before .before .before .before .before .args in
       let l = c .before .before .before .before .before .before .loop in
       let h = c .before .before .before .h .given .0 .0 in
-      let m = c .measure-item .result in
+      let m = c .measure-again .result in
       (l .at + 2 ≤ m .next) × (m .next ≤ a .limit) × (l .pos + (headerSize (h .code) (m .size) + m .size) ≤ length (l .out))
       × (m .size ≤ 3 * length (now (a .s)))
   next c =
       let a = c .before .before .before .before .before .before .before .before .before .before .args in
       let l = c .before .before .before .before .before .before .loop in
-      let m = c .measure-item in
+      let m = c .measure-again in
       let h = c .before .before .before .h .given .0 .0 in
       let u = met-item (c .before .before) in
       let k = turned (a .room) (now (a .s)) (l .at) (a .limit) (a .marked) h u (m .result) (m .ensures .0) in
@@ -169,8 +169,8 @@ module _ (t : ℕ) where
   enum-known-h : run-lts.Need-enum-known-h (run-calls t) (run-at t) put-run.Post Inv μ
   enum-known-h c = search needs
 
-  measure-item-requires : run-lts.Need-measure-item-requires (run-calls t) (run-at t) put-run.Post Inv μ
-  measure-item-requires c κs = (met-item (c .before) .inside, c .before .before .before .before .before .loop .inv .1)
+  measure-again-requires : run-lts.Need-measure-again-requires (run-calls t) (run-at t) put-run.Post Inv μ
+  measure-again-requires c κs = (met-item (c .before) .inside, c .before .before .before .before .before .loop .inv .1)
 
   put-header-requires : run-lts.Need-put-header-requires (run-calls t) (run-at t) put-run.Post Inv μ
   put-header-requires c κs =
@@ -189,7 +189,7 @@ module _ (t : ℕ) where
   put-item-requires c κs =
       let u = met-item (c .before .before .before .before .before .before .before .before .before .before) in
       let n = next (c .before .before .before .before .before .before .before .before) in
-      let m = c .before .before .before .before .before .before .before .before .measure-item in
+      let m = c .before .before .before .before .before .before .before .before .measure-again in
       let h = c .before .before .before .before .before .before .before .before .before .before .before .h .given .0 .0 in
       let p = c .before .before .before .before .put-header in
       let r = c .before .before .before .before .before .before .before .before .before .before .before .before .before .before .before .before .before .before .pre in
@@ -212,7 +212,7 @@ module _ (t : ℕ) where
       let l = c .before .before .before .before .before .before .before .before .before .before .before .before .before .before .before .before .before .before .before .loop in
       let h = c .before .before .before .before .before .before .before .before .before .before .before .before .before .before .before .before .h .given .0 .0 in
       let u = met-item (c .before .before .before .before .before .before .before .before .before .before .before .before .before .before .before) in
-      let m = c .before .before .before .before .before .before .before .before .before .before .before .before .before .measure-item in
+      let m = c .before .before .before .before .before .before .before .before .before .before .before .before .before .measure-again in
       let p = c .before .before .before .before .before .before .before .before .before .put-header in
       let q = c .before .before .before .before .put-item in (
         item-put (a .room) (now (a .s)) (a .from) (a .limit) (a .marked) (now (a .out)) (a .begin) (l .at) (l .pos) (l .out) (l .inv .0) h u (m .result)
@@ -245,5 +245,5 @@ pub +put-item+put-run-spec : {M : Type 1} → statement M
     (add-put-value t) (put-value-requires t) (sub-put-run t) (put-run-requires t) (same-length t) (returns t) (same-length-2 t)
     (same-length-3 t) (returns-2 t))
     (λ t. run-lts.spec (run-calls t) (run-at t) put-run.Post Inv μ
-    (loop-holds t) (meet-requires t) (enum-known-h t) (measure-item-requires t) (put-header-requires t)
+    (loop-holds t) (meet-requires t) (enum-known-h t) (measure-again-requires t) (put-header-requires t)
     (put-item-requires t) (loop-less t) (loop-again t) (enum-told t) (run-same-length t) (run-same-length-2 t) (run-returns t))
