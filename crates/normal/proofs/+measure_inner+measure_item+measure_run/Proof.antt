@@ -108,7 +108,9 @@ module _ (t : ℕ) where
   is-kept-requires c κs = omega (arith, c .before .slot-of .ensures, c .before .before .before .before .pre .1 .1 .long)
 
   kept-at-requires : inner-lts.Need-kept-at-requires (inner-calls t) (inner-at t) measure-inner.Post
-  kept-at-requires c κs = omega (arith, c .before .before .before .before .slot-of .ensures, c .before .before .before .before .before .before .before .pre .1 .1 .long)
+  kept-at-requires c κs =
+      let p = c .before .before .before .before .before .before .before .pre .1 in
+      omega (arith, c .before .before .before .before .slot-of .ensures, p .1 .long)
 
   same-length : inner-lts.Need-same-length (inner-calls t) (inner-at t) measure-inner.Post
   same-length c = refl
@@ -125,7 +127,9 @@ module _ (t : ℕ) where
   measure-run-requires c κs = (omega arith, c .before .before .before .before .before .before .before .pre .1)
 
   same-length-2 : inner-lts.Need-same-length-2 (inner-calls t) (inner-at t) measure-inner.Post
-  same-length-2 c = let p = c .before .before .before .before .before .before .before .before .before .before .before .before .pre .1 in c .before .before .before .before .measure-run .ensures .1 .long ∙ sym (p .1 .long)
+  same-length-2 c =
+      let p = c .before .before .before .before .before .before .before .before .before .before .before .before .pre .1 in
+      c .before .before .before .before .measure-run .ensures .1 .long ∙ sym (p .1 .long)
 
   returns-2 : inner-lts.Need-returns-2 (inner-calls t) (inner-at t) measure-inner.Post
   returns-2 c = c .before .before .before .before .measure-run .ensures
@@ -149,7 +153,9 @@ module _ (t : ℕ) where
       (omega (arith, slot .ensures, r .1 .long)) (now (a .s)) (r .1) (r .0))
 
   same-length-3 : inner-lts.Need-same-length-3 (inner-calls t) (inner-at t) measure-inner.Post
-  same-length-3 c = let p = c .before .before .before .before .before .before .before .before .before .before .before .before .before .before .before .before .pre .1 in held c .long ∙ sym (p .1 .long)
+  same-length-3 c =
+      let p = c .before .before .before .before .before .before .before .before .before .before .before .before .before .before .before .before .pre .1 in
+      held c .long ∙ sym (p .1 .long)
 
   returns-3 : inner-lts.Need-returns-3 (inner-calls t) (inner-at t) measure-inner.Post
   returns-3 c = (c .before .before .before .before .before .before .before .before .measure-run .ensures .0, held c)
@@ -168,7 +174,9 @@ module _ (t : ℕ) where
   sub-t16 c = omega arith
 
   item-same-length : item-lts.Need-same-length (item-calls t) (item-at t) measure-item.Post
-  item-same-length c = let p = c .before .before .before .before .before .before .before .pre .1 in c .before .before .measure-inner .ensures .1 .long ∙ sym (p .1 .long)
+  item-same-length c =
+      let p = c .before .before .before .before .before .before .before .pre .1 in
+      c .before .before .measure-inner .ensures .1 .long ∙ sym (p .1 .long)
 
   item-returns : item-lts.Need-returns (item-calls t) (item-at t) measure-item.Post
   item-returns c =
