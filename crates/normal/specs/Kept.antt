@@ -8,12 +8,12 @@ use lib.ListN.{length, getD, set}
 use Rattle.normal.specs.declared.Measured.{Measured}
 use Rattle.normal.specs.Passes.{RunMeasures}
 
--- how many slots there are, eight for each level, and the numbers of them all
+-- how many slots there are, two for each level, and the numbers of them all
 abbrev pub slots : ℕ
-slots = 128
+slots = 32
 
 abbrev pub keptNumbers : ℕ
-keptNumbers = 1024
+keptNumbers = 256
 
 -- a number of a slot
 abbrev pub cell : (kept : List ℕ) (slot i : ℕ) → ℕ

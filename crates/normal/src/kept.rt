@@ -8,11 +8,11 @@ ghost use Prim.Native.Nat.{_+_, _*_, _<_, _≤_};
 ghost use lib.ListN.{length};
 ghost use Rattle.normal.specs.Kept.{slots, told, KeyAt, written};
 
-// The slot of a run: of each level there are eight.
+// The slot of a run: of each level there are two.
 pub fn slot_of(from: usize, room: usize) -> usize
     ensures { λ r. ⌜ r < slots ⌝ }
 {
-    room % 16 * 8 + from / 8 % 8
+    room % 16 * 2 + from / 128 % 2
 }
 
 // How a run ends, as it is kept.

@@ -341,7 +341,7 @@ pub fn write(s: &[u8], out: &mut [u8]) -> Answer
     ensures { λ r. ⌜ GivesAnswer (answerOf (normalForm (now (s .entry))) (now (out .entry))) (normalForm (now (s .entry))) (now (out .entry)) r
         (now (out .exit)) ⌝ }
 {
-    let mut kept = [0usize; 1024];
+    let mut kept = [0usize; 256];
     let m = measure_run(s, 0, s.len(), false, DEEPEST, &mut kept);
     let length = m.size;
     let shortest = m.shortest;
