@@ -10,7 +10,7 @@ use lib.Seq.{getD-set-same, getD-set-other}
 use borrow.Author.Tests.{eqb-true, eqb-false, ltb-true, ltb-false}
 use Rattle.normal.specs.declared.Measured.{Measured}
 use Rattle.normal.specs.Passes.{RunMeasures}
-use Rattle.normal.specs.Kept.{keptNumbers, cell, told, KeyAt, written, Holds}
+use Rattle.normal.specs.Kept.{keptNumbers, told, KeyAt, written, Holds}
 
 -- ---- at first
 
@@ -169,7 +169,7 @@ module _ (kept : List ℕ) (slot from limit : ℕ) (marked : Bool) (room : ℕ) 
           → RunMeasures room′ s from′ limit′ marked′ (told k6 slot′)
       elsewhere slot′ ne from′ limit′ marked′ room′ k =
           let same : (i : ℕ) → i < 8 → getD k6 (slot′ * 8 + i) 0 ≡ getD kept (slot′ * 8 + i) 0
-              = λ i l. other (slot′ * 8 + i) (λ j h e. ne (omega arith)) in
+          = λ i l. other (slot′ * 8 + i) (λ j h e. ne (omega arith)) in
           let z : slot′ * 8 + 0 ≡ slot′ * 8 = omega arith in
           let first : getD k6 (slot′ * 8) 0 ≡ getD kept (slot′ * 8) 0 = subst (λ (x : ℕ). getD k6 x 0 ≡ getD kept x 0) z (same 0 (omega arith)) in
           let old : KeyAt kept slot′ from′ limit′ marked′ room′ = record {
@@ -179,7 +179,7 @@ module _ (kept : List ℕ) (slot from limit : ℕ) (marked : Bool) (room : ℕ) 
             levels = sym (same 6 (omega arith)) ∙ k .levels;
           } in
           let e : told k6 slot′ ≡ told kept slot′
-              = measured-is (told kept slot′) _ _ _ (same 3 (omega arith)) (same 4 (omega arith)) (ap (λ (x : ℕ). eqb x 1) (same 5 (omega arith))) in
+          = measured-is (told kept slot′) _ _ _ (same 3 (omega arith)) (same 4 (omega arith)) (ap (λ (x : ℕ). eqb x 1) (same 5 (omega arith))) in
           subst (λ (x : Measured). RunMeasures room′ s from′ limit′ marked′ x) (sym e) (held .true-of slot′ from′ limit′ marked′ room′ old)
 
       at-slot : (slot′ : ℕ) (b : Bool) → eqb slot′ slot ≡ b → (from′ limit′ : ℕ) (marked′ : Bool) (room′ : ℕ) → KeyAt k6 slot′ from′ limit′ marked′ room′
@@ -190,4 +190,4 @@ module _ (kept : List ℕ) (slot from limit : ℕ) (marked : Bool) (room : ℕ) 
       at-slot slot′ false e from′ limit′ marked′ room′ k = elsewhere slot′ (eqb-false slot′ slot e) from′ limit′ marked′ room′ k
 
       pub keeps : Holds s (written kept slot from limit marked room m)
-      keeps = record { long = long6 ∙ held .long; true-of = λ slot′ from′ limit′ marked′ room′ k. at-slot slot′ (eqb slot′ slot) refl from′ limit′ marked′ room′ k }
+      keeps = record { long = long6 ∙ held .long; true-of = λ slot′. at-slot slot′ (eqb slot′ slot) refl }

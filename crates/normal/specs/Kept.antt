@@ -1,19 +1,19 @@
 -- What is kept of runs that were measured: eight numbers a slot. Each slot that keeps a run says what measuring it again would.
 use Prim.Native.Nat.{ℕ, _+_, _*_}
 use mathlib.Core.Path.{_≡_}
-use mathlib.Core.Bool.{Bool, cond, true, false}
+use mathlib.Core.Bool.{Bool, cond}
 use mathlib.Core.List.{List}
 use lib.Dec.{eqb}
 use lib.ListN.{length, getD, set}
 use Rattle.normal.specs.declared.Measured.{Measured}
 use Rattle.normal.specs.Passes.{RunMeasures}
 
--- how many slots there are, eight for each level, and the numbers of them all
+-- how many slots there are, two for each level, and the numbers of them all
 abbrev pub slots : ℕ
-slots = 128
+slots = 32
 
 abbrev pub keptNumbers : ℕ
-keptNumbers = 1024
+keptNumbers = 256
 
 -- a number of a slot
 abbrev pub cell : (kept : List ℕ) (slot i : ℕ) → ℕ

@@ -8,36 +8,35 @@ ghost use Prim.Native.Nat.{_+_, _*_, _<_, _≤_};
 ghost use lib.ListN.{length};
 ghost use Rattle.normal.specs.Kept.{slots, told, KeyAt, written};
 
-// The slot of a run: of each level there are eight.
+// The slot of a run: of each level there are two.
 pub fn slot_of(from: usize, room: usize) -> usize
     ensures { λ r. ⌜ r < slots ⌝ }
 {
-    room % 16 * 8 + from / 8 % 8
+    room % 16 * 2 + from / 128 % 2
 }
 
 // How a run ends, as it is kept.
 fn ending(marked: bool) -> usize
     ensures { λ r. ⌜ r ≡ cond marked 1 2 ⌝ }
 {
-    if marked {
-        1
-    } else {
-        2
-    }
+    if marked { 1 } else { 2 }
 }
 
 fn flag(set: bool) -> usize
     ensures { λ r. ⌜ r ≡ cond set 1 0 ⌝ }
 {
-    if set {
-        1
-    } else {
-        0
-    }
+    if set { 1 } else { 0 }
 }
 
 // Whether a slot is about this run.
-pub fn is_kept(kept: &[usize], slot: usize, from: usize, limit: usize, marked: bool, room: usize) -> bool
+pub fn is_kept(
+    kept: &[usize],
+    slot: usize,
+    from: usize,
+    limit: usize,
+    marked: bool,
+    room: usize,
+) -> bool
     requires { ⌜ slot * 8 + 8 ≤ length (now kept) ⌝ }
     ensures { λ r. ⌜ (r ≡ true → KeyAt (now (kept .entry)) slot from limit marked room) ⌝ }
 {

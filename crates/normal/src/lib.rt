@@ -22,6 +22,9 @@ mod mailroom; // mailroom.rt: the writer of the mailroom box
 
 pub use mailroom::write_short;
 
+// A run whose normal form is shorter is not kept.
+const SHORT: usize = 128;
+
 // What a pass over a run that was walked to its end meets at a place: an item, or the end of the run, with the place past it.
 enum Ahead {
     Item(Header),
@@ -135,7 +138,7 @@ fn stays_shortest(shortest: bool, at: usize, h: Header, m: Measured, head: usize
     false
 }
 
-// Measures the value of the item with the header h, or recalls it.
+// Measures the value of the item with the header h.
 fn measure_item(s: &[u8], h: Header, room: usize, kept: &mut [usize]) -> Measured
     requires { ⌜ ValueEnds room (now s) h × Holds (now s) (now kept) ⌝ }
     ensures { λ r. ⌜ ValueMeasures room (now (s .entry)) h r × Holds (now (s .entry)) (now (kept .exit)) ⌝ }
@@ -145,13 +148,7 @@ fn measure_item(s: &[u8], h: Header, room: usize, kept: &mut [usize]) -> Measure
     let bound = h.bound;
     let marked = h.marked;
     if code / 32 % 2 == 1 {
-        let slot = kept::slot_of(start, room);
-        if kept::is_kept(kept, slot, start, bound, marked, room - 1) {
-            return kept::kept_at(kept, slot);
-        }
-        let m = measure_run(s, start, bound, marked, room - 1, kept);
-        kept::keep(kept, slot, start, bound, marked, room - 1, m);
-        m
+        measure_inner(s, start, bound, marked, room - 1, kept)
     } else {
         Measured {
             next: bound,
@@ -159,6 +156,30 @@ fn measure_item(s: &[u8], h: Header, room: usize, kept: &mut [usize]) -> Measure
             shortest: true,
         }
     }
+}
+
+// Measures the run that a constructed value is, or recalls it. A short one is not kept: it is soon measured again.
+fn measure_inner(
+    s: &[u8],
+    from: usize,
+    limit: usize,
+    marked: bool,
+    room: usize,
+    kept: &mut [usize],
+) -> Measured
+    requires { ⌜ RunEnds room (now s) from limit marked × Holds (now s) (now kept) ⌝ }
+    ensures { λ r. ⌜ RunMeasures room (now (s .entry)) from limit marked r × Holds (now (s .entry)) (now (kept .exit)) ⌝ }
+{
+    let slot = kept::slot_of(from, room);
+    if kept::is_kept(kept, slot, from, limit, marked, room) {
+        return kept::kept_at(kept, slot);
+    }
+    let m = measure_run(s, from, limit, marked, room, kept);
+    if m.size < SHORT {
+        return m;
+    }
+    kept::keep(kept, slot, from, limit, marked, room, m);
+    m
 }
 
 // Measures a run of items that was walked to its end.
@@ -190,6 +211,26 @@ fn measure_run(
                 size,
                 shortest,
             },
+        }
+    }
+}
+
+// `measure_item`, for the writing alone: each is called at one place, so the compiler makes it part of that, and a primitive item costs no call.
+fn measure_again(s: &[u8], h: Header, room: usize, kept: &mut [usize]) -> Measured
+    requires { ⌜ ValueEnds room (now s) h × Holds (now s) (now kept) ⌝ }
+    ensures { λ r. ⌜ ValueMeasures room (now (s .entry)) h r × Holds (now (s .entry)) (now (kept .exit)) ⌝ }
+{
+    let code = h.code;
+    let start = h.start;
+    let bound = h.bound;
+    let marked = h.marked;
+    if code / 32 % 2 == 1 {
+        measure_inner(s, start, bound, marked, room - 1, kept)
+    } else {
+        Measured {
+            next: bound,
+            size: bound - start,
+            shortest: true,
         }
     }
 }
@@ -284,7 +325,7 @@ fn put_run(
     loop {
         match meet(s, at, limit, marked, room) {
             Ahead::Item(h) => {
-                let m = measure_item(s, h, room, kept);
+                let m = measure_again(s, h, room, kept);
                 let past = put_header(out, pos, h.code, m.size);
                 pos = put_item(s, h, m, room, kept, out, past);
                 at = m.next;
@@ -300,7 +341,7 @@ pub fn write(s: &[u8], out: &mut [u8]) -> Answer
     ensures { λ r. ⌜ GivesAnswer (answerOf (normalForm (now (s .entry))) (now (out .entry))) (normalForm (now (s .entry))) (now (out .entry)) r
         (now (out .exit)) ⌝ }
 {
-    let mut kept = [0usize; 1024];
+    let mut kept = [0usize; 256];
     let m = measure_run(s, 0, s.len(), false, DEEPEST, &mut kept);
     let length = m.size;
     let shortest = m.shortest;

@@ -18,7 +18,7 @@ pub fn write_short(s: &[u8], out: &mut [u8]) -> Answer
     requires { ⌜ (length (now s) ≤ shortLimit) × Whole (run deepest (now s) 0 (length (now s)) false .how) ⌝ }
     ensures { λ r. ⌜ ShortWrites (now (s .entry)) (now (out .entry)) r (now (out .exit)) ⌝ }
 {
-    let mut kept = [0usize; 1024];
+    let mut kept = [0usize; 256];
     let m = measure_run(s, 0, s.len(), false, DEEPEST, &mut kept);
     let length = m.size;
     let shortest = m.shortest;

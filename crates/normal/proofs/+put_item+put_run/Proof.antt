@@ -25,7 +25,7 @@ use Rattle.normal.proofs.+put_item+put_run.Lts-put_item as item-lts
 use Rattle.normal.proofs.put_run.Reads as put-run
 use Rattle.normal.proofs.put_run.Kinds as put-run-kinds
 use Rattle.normal.proofs.+put_item+put_run.Lts-put_run as run-lts
-use Rattle.normal.proofs.measure_item.Reads as measure-item-reads
+use Rattle.normal.proofs.measure_again.Reads as measure-again-reads
 use Rattle.normal.proofs.meet.Reads as meet-reads
 use Rattle.normal.proofs.put_header.Reads as put-header-reads
 use Rattle.normal.proofs.put_value.Reads as put-value-reads
@@ -57,8 +57,8 @@ abbrev run-calls : ℕ → run-lts.Claims
 run-calls t = (
   meet-reads.Asked,
   meet-reads.Learnt,
-  measure-item-reads.Asked,
-  measure-item-reads.Learnt,
+  measure-again-reads.Asked,
+  measure-again-reads.Learnt,
   put-header-reads.Asked,
   put-header-reads.Learnt,
   item-below t,
@@ -105,10 +105,14 @@ module _ (t : ℕ) where
   same-length c = c .before .before .put-value .kept .1 .1 .1 .0
 
   returns : item-lts.Need-returns (item-calls t) (item-at t) put-item.Post
-  returns c = (rw (copied (c .before .before .before .before) .1) (c .before .before .put-value .ensures), c .before .before .before .before .before .before .before .before .pre .1 .0 .2)
+  returns c =
+      let p = c .before .before .before .before .before .before .before .before .pre .1 in
+      (rw (copied (c .before .before .before .before) .1) (c .before .before .put-value .ensures), p .0 .2)
 
   same-length-2 : item-lts.Need-same-length-2 (item-calls t) (item-at t) put-item.Post
-  same-length-2 c = c .before .before .before .before .put-run .ensures .1 .long ∙ sym (c .before .before .before .before .before .before .before .before .before .before .before .pre .1 .0 .2 .long)
+  same-length-2 c =
+      let p = c .before .before .before .before .before .before .before .before .before .before .before .pre .1 in
+      c .before .before .before .before .put-run .ensures .1 .long ∙ sym (p .0 .2 .long)
 
   same-length-3 : item-lts.Need-same-length-3 (item-calls t) (item-at t) put-item.Post
   same-length-3 c = c .before .before .before .before .put-run .kept .1 .1 .1 .1 .1 .1 .0
@@ -135,17 +139,17 @@ module _ (t : ℕ) where
   met-item c = let h = c .before .h .given in met (c .before .before .before) (Inner (h .0 .0)) (h .1)
 
   -- where the run goes on, and that there is room for the item
-  next : (c : run-lts.After-measure-item (run-calls t) (run-at t) put-run.Post Inv μ) →
+  next : (c : run-lts.After-measure-again (run-calls t) (run-at t) put-run.Post Inv μ) →
       let a = c .before .before .before .before .before .before .before .before .before .before .args in
       let l = c .before .before .before .before .before .before .loop in
       let h = c .before .before .before .h .given .0 .0 in
-      let m = c .measure-item .result in
+      let m = c .measure-again .result in
       (l .at + 2 ≤ m .next) × (m .next ≤ a .limit) × (l .pos + (headerSize (h .code) (m .size) + m .size) ≤ length (l .out))
       × (m .size ≤ 3 * length (now (a .s)))
   next c =
       let a = c .before .before .before .before .before .before .before .before .before .before .args in
       let l = c .before .before .before .before .before .before .loop in
-      let m = c .measure-item in
+      let m = c .measure-again in
       let h = c .before .before .before .h .given .0 .0 in
       let u = met-item (c .before .before) in
       let k = turned (a .room) (now (a .s)) (l .at) (a .limit) (a .marked) h u (m .result) (m .ensures .0) in
@@ -165,24 +169,27 @@ module _ (t : ℕ) where
   enum-known-h : run-lts.Need-enum-known-h (run-calls t) (run-at t) put-run.Post Inv μ
   enum-known-h c = search needs
 
-  measure-item-requires : run-lts.Need-measure-item-requires (run-calls t) (run-at t) put-run.Post Inv μ
-  measure-item-requires c κs = (met-item (c .before) .inside, c .before .before .before .before .before .loop .inv .1)
+  measure-again-requires : run-lts.Need-measure-again-requires (run-calls t) (run-at t) put-run.Post Inv μ
+  measure-again-requires c κs = (met-item (c .before) .inside, c .before .before .before .before .before .loop .inv .1)
 
   put-header-requires : run-lts.Need-put-header-requires (run-calls t) (run-at t) put-run.Post Inv μ
   put-header-requires c κs =
       let a = c .before .before .before .before .before .before .before .before .before .before .before .before .before .args in
       let l = c .before .before .before .before .before .before .before .before .before .loop in
       let h = c .before .before .before .before .before .before .h .given .0 .0 in
-      let octets : Octets (now (a .s)) = λ i. omega (arith, c .before .before .before .before .before .before .before .before .before .before .before .before .shared-slice-known .given i) in
+      let s = c .before .before .before .before .before .before .before .before .before .before .before .before .shared-slice-known in
+      let octets : Octets (now (a .s)) = λ i. omega (arith, s .given i) in
       let u = met-item (c .before .before .before .before .before) in
       let n = next (c .before .before .before) in
-      (omega (arith, n .3, c .before .before .before .before .before .before .before .before .before .before .before .before .before .pre .1 .0 .0 .small), octets-field (now (a .s)) (l .at) (a .limit) (a .room) h octets (u .read), omega (arith, n .2))
+      let p = c .before .before .before .before .before .before .before .before .before .before .before .before .before .pre .1 in
+      let field = octets-field (now (a .s)) (l .at) (a .limit) (a .room) h octets (u .read) in
+      (omega (arith, n .3, p .0 .0 .small), field, omega (arith, n .2))
 
   put-item-requires : run-lts.Need-put-item-requires (run-calls t) (run-at t) put-run.Post Inv μ
   put-item-requires c κs =
       let u = met-item (c .before .before .before .before .before .before .before .before .before .before) in
       let n = next (c .before .before .before .before .before .before .before .before) in
-      let m = c .before .before .before .before .before .before .before .before .measure-item in
+      let m = c .before .before .before .before .before .before .before .before .measure-again in
       let h = c .before .before .before .before .before .before .before .before .before .before .before .h .given .0 .0 in
       let p = c .before .before .before .before .put-header in
       let r = c .before .before .before .before .before .before .before .before .before .before .before .before .before .before .before .before .before .before .pre in
@@ -195,7 +202,9 @@ module _ (t : ℕ) where
       )
 
   loop-less : run-lts.Need-loop-less (run-calls t) (run-at t) put-run.Post Inv μ
-  loop-less c = let n = next (c .before .before .before .before .before .before .before .before .before .before .before .before .before) in omega (arith, n .0, n .1)
+  loop-less c =
+      let n = next (c .before .before .before .before .before .before .before .before .before .before .before .before .before) in
+      omega (arith, n .0, n .1)
 
   loop-again : run-lts.Need-loop-again (run-calls t) (run-at t) put-run.Post Inv μ
   loop-again c =
@@ -203,11 +212,13 @@ module _ (t : ℕ) where
       let l = c .before .before .before .before .before .before .before .before .before .before .before .before .before .before .before .before .before .before .before .loop in
       let h = c .before .before .before .before .before .before .before .before .before .before .before .before .before .before .before .before .h .given .0 .0 in
       let u = met-item (c .before .before .before .before .before .before .before .before .before .before .before .before .before .before .before) in
-      let m = c .before .before .before .before .before .before .before .before .before .before .before .before .before .measure-item in
+      let m = c .before .before .before .before .before .before .before .before .before .before .before .before .before .measure-again in
       let p = c .before .before .before .before .before .before .before .before .before .put-header in
-      let q = c .before .before .before .before .put-item in
-      (item-put (a .room) (now (a .s)) (a .from) (a .limit) (a .marked) (now (a .out)) (a .begin) (l .at) (l .pos) (l .out) (l .inv .0) h u (m .result)
-      (m .ensures .0) (p .result) (q .result) _ _ (p .ensures) (q .ensures .0), q .ensures .1)
+      let q = c .before .before .before .before .put-item in (
+        item-put (a .room) (now (a .s)) (a .from) (a .limit) (a .marked) (now (a .out)) (a .begin) (l .at) (l .pos) (l .out) (l .inv .0) h u (m .result)
+            (m .ensures .0) (p .result) (q .result) _ _ (p .ensures) (q .ensures .0),
+        q .ensures .1,
+      )
 
   enum-told : run-lts.Need-enum-told (run-calls t) (run-at t) put-run.Post Inv μ
   enum-told c = search needs
@@ -221,9 +232,11 @@ module _ (t : ℕ) where
   run-returns : run-lts.Need-returns (run-calls t) (run-at t) put-run.Post Inv μ
   run-returns c =
       let a = c .before .before .before .before .before .before .before .args in
-      let l = c .before .before .before .loop in
-      (all-put (a .room) (now (a .s)) (a .from) (a .limit) (a .marked) (now (a .out)) (a .begin) (l .at) (l .pos) (l .out) (l .inv .0) _
-      (met (c .before .before) (Last _) (c .enum-told .given .1)), l .inv .1)
+      let l = c .before .before .before .loop in (
+        all-put (a .room) (now (a .s)) (a .from) (a .limit) (a .marked) (now (a .out)) (a .begin) (l .at) (l .pos) (l .out) (l .inv .0) _
+            (met (c .before .before) (Last _) (c .enum-told .given .1)),
+        l .inv .1,
+      )
 
 pub +put-item+put-run-spec : {M : Type 1} → statement M
 +put-item+put-run-spec =
@@ -232,5 +245,5 @@ pub +put-item+put-run-spec : {M : Type 1} → statement M
     (add-put-value t) (put-value-requires t) (sub-put-run t) (put-run-requires t) (same-length t) (returns t) (same-length-2 t)
     (same-length-3 t) (returns-2 t))
     (λ t. run-lts.spec (run-calls t) (run-at t) put-run.Post Inv μ
-    (loop-holds t) (meet-requires t) (enum-known-h t) (measure-item-requires t) (put-header-requires t)
+    (loop-holds t) (meet-requires t) (enum-known-h t) (measure-again-requires t) (put-header-requires t)
     (put-item-requires t) (loop-less t) (loop-again t) (enum-told t) (run-same-length t) (run-same-length-2 t) (run-returns t))

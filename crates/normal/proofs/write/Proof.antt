@@ -73,7 +73,8 @@ returns-4 : tie.Need-returns-4
 returns-4 c =
     let a = c .before .before .before .before .before .before .before .before .before .before .before .before .before .before .args in
     let e = measured (c .before .before .before .before .before .before .before .before .before .before) .0 in
-    gives-form (normalForm (now (a .s))) (now (a .out)) (omega arith) (omega arith) _ e _ (form-is (now (a .s))) _ _ (c .before .before .before .put-run .ensures .0)
+    let p = c .before .before .before .put-run .ensures in
+    gives-form (normalForm (now (a .s))) (now (a .out)) (omega arith) (omega arith) _ e _ (form-is (now (a .s))) _ _ (p .0)
 
 pub write-spec : {M : Type 1} → statement M
 write-spec =

@@ -1,5 +1,4 @@
 -- `normal::kept::keep` meets its contract: seven numbers are written, one after another.
-use mathlib.Core.Path.{ap}
 use borrow.Author.Needs.{needs}
 use native.Mathlib.Omega.{arith}
 use lib.ListN.{length-set}

@@ -1,5 +1,5 @@
--- The proof of the cycle of calls {measure_item, measure_run}, which ends as `walk_item` and `walk_run` do: 2 room + 1 for `measure_run`,
--- 2 room for `measure_item`. The invariant of the loop is `Counted`, and that what is kept is true.
+-- The proof of the cycle of calls {measure_inner, measure_item, measure_run}, which ends as `walk_item` and `walk_run` do: 3 room + 2 for
+-- `measure_inner`, 3 room + 1 for `measure_run`, 3 room for `measure_item`. The invariant of the loop is `Counted`, and that what is kept is true.
 use mathlib.Core.Path.{_≡_, refl, ap, sym, _∙_, subst}
 use Prim.Native.Nat.{ℕ, _+_, _-_, _*_, _<_, _≤_}
 use native.Mathlib.Omega.{arith}
@@ -19,12 +19,15 @@ use Rattle.normal.proofs.Keeping.{keeps}
 use Rattle.normal.proofs.Measuring.{plain-measured, run-measured, Counted, none-counted, all-counted, bounded, item-counted}
 use borrow.Fn.Kinds.{In}
 use borrow.Fn.PlainCycle.{Measures, is, falls, and}
+use Rattle.normal.proofs.measure_inner.Reads as measure-inner
+use Rattle.normal.proofs.measure_inner.Kinds as measure-inner-kinds
+use Rattle.normal.proofs.+measure_inner+measure_item+measure_run.Lts-measure_inner as inner-lts
 use Rattle.normal.proofs.measure_item.Reads as measure-item
 use Rattle.normal.proofs.measure_item.Kinds as measure-item-kinds
-use Rattle.normal.proofs.+measure_item+measure_run.Lts-measure_item as item-lts
+use Rattle.normal.proofs.+measure_inner+measure_item+measure_run.Lts-measure_item as item-lts
 use Rattle.normal.proofs.measure_run.Reads as measure-run
 use Rattle.normal.proofs.measure_run.Kinds as measure-run-kinds
-use Rattle.normal.proofs.+measure_item+measure_run.Lts-measure_run as run-lts
+use Rattle.normal.proofs.+measure_inner+measure_item+measure_run.Lts-measure_run as run-lts
 use Rattle.normal.proofs.header_size.Reads as header-size-reads
 use Rattle.normal.proofs.kept.is_kept.Reads as is-kept-reads
 use Rattle.normal.proofs.kept.keep.Reads as keep-reads
@@ -32,14 +35,23 @@ use Rattle.normal.proofs.kept.kept_at.Reads as kept-at-reads
 use Rattle.normal.proofs.kept.slot_of.Reads as slot-of-reads
 use Rattle.normal.proofs.meet.Reads as meet-reads
 use Rattle.normal.proofs.stays_shortest.Reads as stays-shortest-reads
-use Rattle.normal.proofs.+measure_item+measure_run.{statement}
-use Rattle.normal.proofs.+measure_item+measure_run.Tie.{close}
+use Rattle.normal.proofs.+measure_inner+measure_item+measure_run.{statement}
+use Rattle.normal.proofs.+measure_inner+measure_item+measure_run.Tie.{close}
+
+abbrev μ-inner : Measures 2 measure-inner-kinds.ps ℕ
+μ-inner κs a = 3 * a .1 .1 .1 .1 .0 + 2
 
 abbrev μ-item : Measures 2 measure-item-kinds.ps ℕ
-μ-item κs a = a .1 .1 .0 + a .1 .1 .0
+μ-item κs a = 3 * a .1 .1 .0
 
 abbrev μ-run : Measures 2 measure-run-kinds.ps ℕ
-μ-run κs a = a .1 .1 .1 .1 .0 + a .1 .1 .1 .1 .0 + 1
+μ-run κs a = 3 * a .1 .1 .1 .1 .0 + 1
+
+abbrev inner-at : ℕ → In 2 measure-inner-kinds.ps
+inner-at t = and 2 measure-inner-kinds.ps (is 2 measure-inner-kinds.ps μ-inner t) measure-inner.Pre
+
+abbrev inner-below : ℕ → In 2 measure-inner-kinds.ps
+inner-below t = and 2 measure-inner-kinds.ps (falls 2 measure-inner-kinds.ps _<_ μ-inner t) measure-inner.Pre
 
 abbrev item-at : ℕ → In 2 measure-item-kinds.ps
 item-at t = and 2 measure-item-kinds.ps (is 2 measure-item-kinds.ps μ-item t) measure-item.Pre
@@ -53,8 +65,8 @@ run-at t = and 2 measure-run-kinds.ps (is 2 measure-run-kinds.ps μ-run t) measu
 abbrev run-below : ℕ → In 2 measure-run-kinds.ps
 run-below t = and 2 measure-run-kinds.ps (falls 2 measure-run-kinds.ps _<_ μ-run t) measure-run.Pre
 
-abbrev item-calls : ℕ → item-lts.Claims
-item-calls t = (
+abbrev inner-calls : ℕ → inner-lts.Claims
+inner-calls t = (
   slot-of-reads.Asked,
   slot-of-reads.Learnt,
   is-kept-reads.Asked,
@@ -66,6 +78,9 @@ item-calls t = (
   keep-reads.Asked,
   keep-reads.Learnt,
 )
+
+abbrev item-calls : ℕ → item-lts.Claims
+item-calls t = (inner-below t, measure-inner.Post)
 
 abbrev run-calls : ℕ → run-lts.Claims
 run-calls t = (
@@ -86,70 +101,91 @@ abbrev μ : run-lts.MeasureT-loop
 μ s from limit marked room kept₀ at₀ size₀ shortest₀ kept at size shortest = limit - at
 
 module _ (t : ℕ) where
-  slot-of-requires : item-lts.Need-slot-of-requires (item-calls t) (item-at t) measure-item.Post
+  slot-of-requires : inner-lts.Need-slot-of-requires (inner-calls t) (inner-at t) measure-inner.Post
   slot-of-requires c κs = search needs
 
-  sub-is-kept : item-lts.Need-sub-is-kept (item-calls t) (item-at t) measure-item.Post
-  sub-is-kept c = omega arith
+  is-kept-requires : inner-lts.Need-is-kept-requires (inner-calls t) (inner-at t) measure-inner.Post
+  is-kept-requires c κs = omega (arith, c .before .slot-of .ensures, c .before .before .before .before .pre .1 .1 .long)
 
-  is-kept-requires : item-lts.Need-is-kept-requires (item-calls t) (item-at t) measure-item.Post
-  is-kept-requires c κs = omega (arith, c .before .slot-of .ensures, c .before .before .before .before .before .pre .1 .1 .long)
+  kept-at-requires : inner-lts.Need-kept-at-requires (inner-calls t) (inner-at t) measure-inner.Post
+  kept-at-requires c κs =
+      let p = c .before .before .before .before .before .before .before .pre .1 in
+      omega (arith, c .before .before .before .before .slot-of .ensures, p .1 .long)
 
-  kept-at-requires : item-lts.Need-kept-at-requires (item-calls t) (item-at t) measure-item.Post
-  kept-at-requires c κs = omega (arith, c .before .before .before .before .slot-of .ensures, c .before .before .before .before .before .before .before .before .pre .1 .1 .long)
-
-  same-length : item-lts.Need-same-length (item-calls t) (item-at t) measure-item.Post
+  same-length : inner-lts.Need-same-length (inner-calls t) (inner-at t) measure-inner.Post
   same-length c = refl
 
-  returns : item-lts.Need-returns (item-calls t) (item-at t) measure-item.Post
+  returns : inner-lts.Need-returns (inner-calls t) (inner-at t) measure-inner.Post
   returns c =
-      let a = c .before .before .before .before .before .before .before .before .before .args in
-      let p = c .before .before .before .before .before .before .before .before .before .pre .1 in
-      let h = a .h in
-      let k = c .before .before .before .is-kept .ensures (c .before .before .if2 .taken) in
-      let r = p .1 .true-of (c .before .before .before .before .before .slot-of .result) (h .start) (h .bound) (h .marked) (a .room - 1) k in
-      let r′ = subst (λ (x : Measured). RunMeasures (a .room - 1) (now (a .s)) (h .start) (h .bound) (h .marked) x) (sym (c .kept-at .ensures)) r in
-      (run-measured (a .room) (now (a .s)) h (eq-eqb _ _ (c .before .before .before .before .before .before .if1 .taken)) (c .kept-at .result) r′, p .1)
-
-  sub-measure-run : item-lts.Need-sub-measure-run (item-calls t) (item-at t) measure-item.Post
-  sub-measure-run c = omega arith
-
-  measure-run-requires : item-lts.Need-measure-run-requires (item-calls t) (item-at t) measure-item.Post
-  measure-run-requires c κs =
       let a = c .before .before .before .before .before .before .before .before .args in
       let p = c .before .before .before .before .before .before .before .before .pre .1 in
-      (omega (arith, p .0 .deep), (value-run-ends (a .room) (now (a .s)) (a .h) (p .0) (eq-eqb _ _ (c .before .before .before .before .before .if1 .taken)), p .1))
+      let k = c .before .before .before .is-kept .ensures (c .before .before .if1 .taken) in
+      let r = p .1 .true-of (c .before .before .before .before .before .slot-of .result) (a .from) (a .limit) (a .marked) (a .room) k in
+      (subst (λ (x : Measured). RunMeasures (a .room) (now (a .s)) (a .from) (a .limit) (a .marked) x) (sym (c .kept-at .ensures)) r, p .1)
 
-  sub-keep : item-lts.Need-sub-keep (item-calls t) (item-at t) measure-item.Post
-  sub-keep c = omega arith
+  measure-run-requires : inner-lts.Need-measure-run-requires (inner-calls t) (inner-at t) measure-inner.Post
+  measure-run-requires c κs = (omega arith, c .before .before .before .before .before .before .before .pre .1)
 
-  keep-requires : item-lts.Need-keep-requires (item-calls t) (item-at t) measure-item.Post
-  keep-requires c κs = omega (arith, c .before .before .before .before .before .before .before .before .slot-of .ensures, c .before .before .before .measure-run .ensures .1 .long)
+  same-length-2 : inner-lts.Need-same-length-2 (inner-calls t) (inner-at t) measure-inner.Post
+  same-length-2 c =
+      let p = c .before .before .before .before .before .before .before .before .before .before .before .before .pre .1 in
+      c .before .before .before .before .measure-run .ensures .1 .long ∙ sym (p .1 .long)
 
-  sub-t26 : item-lts.Need-sub-t26 (item-calls t) (item-at t) measure-item.Post
-  sub-t26 c = omega arith
+  returns-2 : inner-lts.Need-returns-2 (inner-calls t) (inner-at t) measure-inner.Post
+  returns-2 c = c .before .before .before .before .measure-run .ensures
+
+  keep-requires : inner-lts.Need-keep-requires (inner-calls t) (inner-at t) measure-inner.Post
+  keep-requires c κs =
+      let r = c .before .before .before .before .before .measure-run .ensures in
+      omega (arith, c .before .before .before .before .before .before .before .before .before .before .slot-of .ensures, r .1 .long)
 
   -- what is kept then is true
-  held : (c : item-lts.After-slice-known3 (item-calls t) (item-at t) measure-item.Post) → Holds (now (c .before .before .before .before .before .before .before .before .before .before .before .before .before .before .before .args .s)) (c .before .before .keep .last .0)
+  held : (c : inner-lts.After-slice-known3 (inner-calls t) (inner-at t) measure-inner.Post) →
+      let a = c .before .before .before .before .before .before .before .before .before .before .before .before .before .before .before .before .args in
+      Holds (now (a .s)) (c .before .before .keep .last .0)
   held c =
-      let a = c .before .before .before .before .before .before .before .before .before .before .before .before .before .before .before .args in
-      let r = c .before .before .before .before .before .before .measure-run .ensures in
-      let slot = c .before .before .before .before .before .before .before .before .before .before .before .slot-of in
+      let a = c .before .before .before .before .before .before .before .before .before .before .before .before .before .before .before .before .args in
+      let m = c .before .before .before .before .before .before .before .before .measure-run in
+      let r = m .ensures in
+      let slot = c .before .before .before .before .before .before .before .before .before .before .before .before .before .slot-of in
       subst (λ (l : List ℕ). Holds (now (a .s)) l) (sym (c .before .before .keep .ensures))
-      (keeps (c .before .before .before .before .before .before .measure-run .last .1 .1 .1 .1 .1 .0) (slot .result) (a .h .start) (a .h .bound) (a .h .marked) (a .room - 1)
-      (c .before .before .before .before .before .before .measure-run .result) (omega (arith, slot .ensures, r .1 .long)) (now (a .s)) (r .1) (r .0))
+      (keeps (m .last .1 .1 .1 .1 .1 .0) (slot .result) (a .from) (a .limit) (a .marked) (a .room) (m .result)
+      (omega (arith, slot .ensures, r .1 .long)) (now (a .s)) (r .1) (r .0))
 
-  same-length-2 : item-lts.Need-same-length-2 (item-calls t) (item-at t) measure-item.Post
-  same-length-2 c = held c .long ∙ sym (c .before .before .before .before .before .before .before .before .before .before .before .before .before .before .before .pre .1 .1 .long)
+  same-length-3 : inner-lts.Need-same-length-3 (inner-calls t) (inner-at t) measure-inner.Post
+  same-length-3 c =
+      let p = c .before .before .before .before .before .before .before .before .before .before .before .before .before .before .before .before .pre .1 in
+      held c .long ∙ sym (p .1 .long)
 
-  returns-2 : item-lts.Need-returns-2 (item-calls t) (item-at t) measure-item.Post
-  returns-2 c =
-      let a = c .before .before .before .before .before .before .before .before .before .before .before .before .before .before .before .args in
-      let r = c .before .before .before .before .before .before .measure-run in
-      (run-measured (a .room) (now (a .s)) (a .h) (eq-eqb _ _ (c .before .before .before .before .before .before .before .before .before .before .before .before .if1 .taken)) (r .result) (r .ensures .0), held c)
+  returns-3 : inner-lts.Need-returns-3 (inner-calls t) (inner-at t) measure-inner.Post
+  returns-3 c = (c .before .before .before .before .before .before .before .before .measure-run .ensures .0, held c)
 
-  returns-3 : item-lts.Need-returns-3 (item-calls t) (item-at t) measure-item.Post
-  returns-3 c =
+  sub-measure-inner : item-lts.Need-sub-measure-inner (item-calls t) (item-at t) measure-item.Post
+  sub-measure-inner c = omega arith
+
+  measure-inner-requires : item-lts.Need-measure-inner-requires (item-calls t) (item-at t) measure-item.Post
+  measure-inner-requires c κs =
+      let a = c .before .before .before .before .args in
+      let p = c .before .before .before .before .pre .1 in
+      let k = eq-eqb _ _ (c .before .if1 .taken) in
+      (omega (arith, p .0 .deep), (value-run-ends (a .room) (now (a .s)) (a .h) (p .0) k, p .1))
+
+  sub-t16 : item-lts.Need-sub-t16 (item-calls t) (item-at t) measure-item.Post
+  sub-t16 c = omega arith
+
+  item-same-length : item-lts.Need-same-length (item-calls t) (item-at t) measure-item.Post
+  item-same-length c =
+      let p = c .before .before .before .before .before .before .before .pre .1 in
+      c .before .before .measure-inner .ensures .1 .long ∙ sym (p .1 .long)
+
+  item-returns : item-lts.Need-returns (item-calls t) (item-at t) measure-item.Post
+  item-returns c =
+      let a = c .before .before .before .before .before .before .before .args in
+      let r = c .before .before .measure-inner in
+      (run-measured (a .room) (now (a .s)) (a .h) (eq-eqb _ _ (c .before .before .before .before .if1 .taken)) (r .result) (r .ensures .0), r .ensures .1)
+
+  item-returns-2 : item-lts.Need-returns-2 (item-calls t) (item-at t) measure-item.Post
+  item-returns-2 c =
       let a = c .before .before .before .args in
       let p = c .before .before .before .pre .1 in
       (plain-measured (a .room) (now (a .s)) (a .h) (p .0) (ne-eqb _ _ (c .if1 .left)), p .1)
@@ -195,12 +231,18 @@ module _ (t : ℕ) where
       let h = c .before .before .before .h .given .0 .0 in
       let m = c .measure-item in
       let u = met-item (c .before .before) in
-      let k = turned (a .room) (now (a .s)) (l .at) (a .limit) (a .marked) h u (m .result) (m .ensures .0) in
-      (k .0, k .1, bounded (a .room) (now (a .s)) (a .from) (a .limit) (a .marked) (l .at) (l .size) (l .shortest) (l .inv .0) h u (m .result)
-      (m .ensures .0) (c .before .before .before .before .before .before .before .before .before .pre .1 .0))
+      let k = turned (a .room) (now (a .s)) (l .at) (a .limit) (a .marked) h u (m .result) (m .ensures .0) in (
+        k .0,
+        k .1,
+        bounded (a .room) (now (a .s)) (a .from) (a .limit) (a .marked) (l .at) (l .size) (l .shortest) (l .inv .0) h u (m .result)
+            (m .ensures .0) (c .before .before .before .before .before .before .before .before .before .pre .1 .0),
+      )
 
   header-size-requires : run-lts.Need-header-size-requires (run-calls t) (run-at t) measure-run.Post Inv μ
-  header-size-requires c κs = let n = next (c .before .before) in omega (arith, n .2, c .before .before .before .before .before .before .before .before .before .before .before .pre .1 .0 .small)
+  header-size-requires c κs =
+      let n = next (c .before .before) in
+      let p = c .before .before .before .before .before .before .before .before .before .before .before .pre .1 in
+      omega (arith, n .2, p .0 .small)
 
   stays-shortest-requires : run-lts.Need-stays-shortest-requires (run-calls t) (run-at t) measure-run.Post Inv μ
   stays-shortest-requires c κs = let o = met-item (c .before .before .before .before .before) .lies in omega arith
@@ -218,15 +260,18 @@ module _ (t : ℕ) where
   loop-again c =
       let a = c .before .before .before .before .before .before .before .before .before .before .before .before .before .before .args in
       let l = c .before .before .before .before .before .before .before .before .before .before .before .loop in
-      let octets : Octets (now (a .s)) = λ i. omega (arith, c .before .before .before .before .before .before .before .before .before .before .before .before .before .shared-slice-known .given i) in
+      let s = c .before .before .before .before .before .before .before .before .before .before .before .before .before .shared-slice-known in
+      let octets : Octets (now (a .s)) = λ i. omega (arith, s .given i) in
       let m = c .before .before .before .before .before .measure-item in
       let h = c .before .before .before .before .before .before .before .before .h .given .0 .0 in
       let head = c .before .before .header-size in
-      let stays = c .before .stays-shortest in
-      (item-counted (a .room) (now (a .s)) (a .from) (a .limit) (a .marked) (l .at) (l .size) (l .shortest) (l .inv .0) h
-      (met-item (c .before .before .before .before .before .before .before)) (m .result) (m .ensures .0) octets _ (stays .result)
-      (ap (λ (k : ℕ). l .size + k + m .result .size) (head .ensures))
-      (λ b. let (p, n, i, q) = stays .ensures b in (p, n, i, q ∙ ap (λ (k : ℕ). l .at + k) (head .ensures))), m .ensures .1)
+      let stays = c .before .stays-shortest in (
+        item-counted (a .room) (now (a .s)) (a .from) (a .limit) (a .marked) (l .at) (l .size) (l .shortest) (l .inv .0) h
+            (met-item (c .before .before .before .before .before .before .before)) (m .result) (m .ensures .0) octets _ (stays .result)
+            (ap (λ (k : ℕ). l .size + k + m .result .size) (head .ensures))
+            (λ b. let (p, n, i, q) = stays .ensures b in (p, n, i, q ∙ ap (λ (k : ℕ). l .at + k) (head .ensures))),
+        m .ensures .1,
+      )
 
   enum-known-past : run-lts.Need-enum-known-past (run-calls t) (run-at t) measure-run.Post Inv μ
   enum-known-past c = search needs
@@ -238,16 +283,20 @@ module _ (t : ℕ) where
   run-returns c =
       let a = c .before .before .before .before .before .before .before .args in
       let l = c .before .before .before .before .loop in
-      let v = c .before .past .given in
-      (all-counted (a .room) (now (a .s)) (a .from) (a .limit) (a .marked) (l .at) (l .size) (l .shortest) (l .inv .0) (v .0 .0)
-      (met (c .before .before .before) (Last (v .0 .0)) (v .1)), l .inv .1)
+      let v = c .before .past .given in (
+        all-counted (a .room) (now (a .s)) (a .from) (a .limit) (a .marked) (l .at) (l .size) (l .shortest) (l .inv .0) (v .0 .0)
+            (met (c .before .before .before) (Last (v .0 .0)) (v .1)),
+        l .inv .1,
+      )
 
-pub +measure-item+measure-run-spec : {M : Type 1} → statement M
-+measure-item+measure-run-spec =
-    close μ-item μ-run
+pub +measure-inner+measure-item+measure-run-spec : {M : Type 1} → statement M
++measure-inner+measure-item+measure-run-spec =
+    close μ-inner μ-item μ-run
+    (λ t. inner-lts.spec (inner-calls t) (inner-at t) measure-inner.Post
+    (slot-of-requires t) (is-kept-requires t) (kept-at-requires t) (same-length t) (returns t) (measure-run-requires t) (same-length-2 t)
+    (returns-2 t) (keep-requires t) (same-length-3 t) (returns-3 t))
     (λ t. item-lts.spec (item-calls t) (item-at t) measure-item.Post
-    (slot-of-requires t) (sub-is-kept t) (is-kept-requires t) (kept-at-requires t) (same-length t) (returns t) (sub-measure-run t)
-    (measure-run-requires t) (sub-keep t) (keep-requires t) (sub-t26 t) (same-length-2 t) (returns-2 t) (returns-3 t))
+    (sub-measure-inner t) (measure-inner-requires t) (sub-t16 t) (item-same-length t) (item-returns t) (item-returns-2 t))
     (λ t. run-lts.spec (run-calls t) (run-at t) measure-run.Post Inv μ
     (loop-holds t) (meet-requires t) (enum-known-h t) (measure-item-requires t) (header-size-requires t) (stays-shortest-requires t)
     (add-size t) (add-size-2 t) (loop-less t) (loop-again t) (enum-known-past t) (run-same-length t) (run-returns t))
