@@ -49,7 +49,7 @@ struct Answers {
     normal: (raw::Written, Vec<u8>),
     short: (raw::Written, Vec<u8>),
     texts: [(raw::TextRead, Vec<raw::Line>, Vec<u8>); 2],
-    sources: [(raw::Sourced, Vec<(u32, Vec<u8>)>); 2],
+    sources: [sources::Told; 2],
     contents: Vec<(raw::Found, raw::Copied, Vec<u8>)>,
 }
 

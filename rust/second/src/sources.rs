@@ -151,8 +151,11 @@ fn told_of(edition: Edition, side: Side, stream: &[u8]) -> (raw::Sourced, Vec<ra
     (told, list)
 }
 
-/// What the library says of both sides: the answer, and of each record its line and its octets.
-pub fn told(edition: Edition, stream: &[u8]) -> [(raw::Sourced, Vec<(u32, Vec<u8>)>); 2] {
+/// What the library says of a side: the answer, and of each record its line and its octets.
+pub type Told = (raw::Sourced, Vec<(u32, Vec<u8>)>);
+
+/// What the library says of both sides.
+pub fn told(edition: Edition, stream: &[u8]) -> [Told; 2] {
     [Side::Layout, Side::Logical].map(|side| {
         let (told, sources) = told_of(edition, side, stream);
         (told, sources.iter().map(|source| (source.line, stream[range(source)].to_vec())).collect())
