@@ -110,7 +110,7 @@ pub enum Rule {
 
 impl Rule {
     /// Every rule that this crate knows, in the order of the numbers.
-    pub const ALL: [Rule; 29] = [
+    pub const ALL: [Rule; 30] = [
         Rule::StreamTooLong,
         Rule::MisplacedZero,
         Rule::TooDeep,
