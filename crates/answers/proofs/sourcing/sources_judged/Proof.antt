@@ -38,14 +38,14 @@ put-sources-requires c κs =
     let room = c .before .before .if1 .left in
     ((fine, l .held, l .within-limit), (all-listed l (start .args .side) lists, omega (arith, room, c .before .before .before .count-sources .ensures)))
 
-cast-lines : tie.Need-cast-t26
+cast-lines : tie.Need-cast-t23
 cast-lines c =
     let start = c .before .before .before .before .before .before .before .before .before .before .before .before .before .before .before .before .before in
     let l = accepted-judged (start .pre .0 .ended) (start .pre .1 .0) in
     let lists = c .before .before .before .before .before .before .before .before .before .before .list-matches .ensures (start .args .edition) (l .held) in
     omega (arith, few-lines l (start .args .side) lists)
 
-cast-total : tie.Need-cast-t27
+cast-total : tie.Need-cast-t24
 cast-total c =
     let start = c .before .before .before .before .before .before .before .before .before .before .before .before .before .before .before .before .before in
     let l = accepted-judged (start .pre .0 .ended) (start .pre .1 .0) in
