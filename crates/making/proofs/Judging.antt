@@ -8,7 +8,7 @@ use native.Mathlib.Omega.{arith}
 use lib.ListN.{length, replicate, length-replicate}
 use Rattle.names.specs.Hash.{hashes}
 use Rattle.rows.specs.Rows.{scratchWidth}
-use Rattle.rows.specs.Index.{linksBegin, linksOf}
+use Rattle.rows.specs.Index.{linksBegin}
 use Rattle.answers.proofs.Zeros.{zeros-unused}
 use Rattle.making.specs.Entries.{Said, saidBy, entryRefusal, fit, refusedEntry, judgeEntriesFrom, judgeEntries}
 use Rattle.making.specs.Answers.{reasonOf}

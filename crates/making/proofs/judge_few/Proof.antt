@@ -9,10 +9,10 @@ use Rattle.making.proofs.judge_few.Tie as tie
 
 judge-entries-requires : tie.Need-judge-entries-requires
 judge-entries-requires c κs =
-    let start = c .before .before .before .before .before in
+    let start = c .before .before .before .before in
     zeros-roomy (now (start .args .numbers)) 1536 385 128 (inl (omega (arith, start .pre))) (omega arith) (omega (arith, few-links))
     (omega (arith, few-links)) (omega (arith, few-links))
 
 pub judge-few-spec : {M : Type 1} → statement M
 judge-few-spec =
-    tie.close (tie.spec (λ c. search needs) (λ c. search needs) (λ c. search needs) judge-entries-requires (λ c. search needs))
+    tie.close (tie.spec (λ c. search needs) (λ c. search needs) judge-entries-requires (λ c. search needs))

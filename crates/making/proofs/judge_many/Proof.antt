@@ -9,10 +9,10 @@ use Rattle.making.proofs.judge_many.Tie as tie
 
 judge-entries-requires : tie.Need-judge-entries-requires
 judge-entries-requires c κs =
-    let start = c .before .before .before .before .before in
+    let start = c .before .before .before .before in
     zeros-roomy (now (start .args .numbers)) 24564 6145 2047 (inr (omega arith)) (omega arith) (omega (arith, many-links))
     (omega (arith, many-links)) (omega (arith, many-links))
 
 pub judge-many-spec : {M : Type 1} → statement M
 judge-many-spec =
-    tie.close (tie.spec (λ c. search needs) (λ c. search needs) (λ c. search needs) judge-entries-requires (λ c. search needs))
+    tie.close (tie.spec (λ c. search needs) (λ c. search needs) judge-entries-requires (λ c. search needs))

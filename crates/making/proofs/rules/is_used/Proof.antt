@@ -14,7 +14,7 @@ use Rattle.making.proofs.rules.is_used.Tie as tie
 
 find-requires : tie.Need-find-requires
 find-requires c κs =
-    let a = c .before .before .before .before in
+    let a = c .before .before .before in
     let lies = a .pre .1 .0 in (
       a .pre .0 .0,
       (
@@ -37,7 +37,7 @@ enum-told c = search needs
 returns : tie.Need-returns
 returns c =
     let find = c .before .before .find in
-    let a = c .before .before .before .before .before .before .before in
+    let a = c .before .before .before .before .before .before in
     let buffer = now (a .args .buffer) in
     let rows = now (a .args .rows) in
     λ done said keeps spelt e.
@@ -47,7 +47,7 @@ returns c =
 returns-2 : tie.Need-returns-2
 returns-2 c =
     let find = c .before .before .find in
-    let a = c .before .before .before .before .before .before .before in
+    let a = c .before .before .before .before .before .before in
     let buffer = now (a .args .buffer) in
     let rows = now (a .args .rows) in
     λ done said keeps spelt e.
@@ -55,4 +55,5 @@ returns-2 c =
     sym (used-found keeps said spelt (find .result) finds ∙ ap isFound (c .enum-told2 .given .1))
 
 pub is-used-spec : {M : Type 1} → statement M
-is-used-spec = tie.close (tie.spec find-requires enum-told (λ c. search needs) returns returns-2)
+is-used-spec =
+    tie.close (tie.spec find-requires enum-told (λ c. search needs) returns returns-2)

@@ -17,7 +17,7 @@ slice-write-rows-3 c = simp length-set (omega arith)
 
 insert-requires : tie.Need-insert-requires
 insert-requires c κs =
-    let a = c .before .before .before .before .before .before .before in
+    let a = c .before .before .before .before .before in
     let rows = now (a .args .rows) in
     let buffer = now (a .args .buffer) in
     let n = a .args .n in
@@ -34,7 +34,7 @@ insert-requires c κs =
 
 returns : tie.Need-returns
 returns c =
-    let a = c .before .before .before .before .before .before .before .before .before .before .before .before in
+    let a = c .before .before .before .before .before .before .before .before in
     let rows = now (a .args .rows) in
     let buffer = now (a .args .buffer) in
     let n = a .args .n in
@@ -43,11 +43,11 @@ returns c =
     let long = a .pre .1 .0 .0 in
     let bounded = put-bounded rows n first past long buffer (a .pre .1 .1 .0) (a .pre .1 .1 .1) (a .pre .0 .0) in
     λ done entry keeps e f.
-    keeps-more rows n first past long buffer (now (a .args .index)) done keeps entry e f _ _ bounded
-    (c .before .before .before .before .insert .ensures .0)
+    keeps-more rows n first past long buffer (now (a .args .index)) done keeps entry e f (c .before .before .insert .last .1 .1 .0) bounded
+    (c .before .before .insert .ensures .0)
 
 pub keep-spec : {M : Type 1} → statement M
 keep-spec =
     tie.close (tie.spec (λ c. search needs) (λ c. search needs) (λ c. search needs) (λ c. search needs) (λ c. search needs)
-    slice-write-rows-2 (λ c. search needs) (λ c. search needs) (λ c. search needs) slice-write-rows-3 insert-requires
-    (λ c. search needs) (λ c. search needs) (λ c. search needs) returns)
+    slice-write-rows-2 (λ c. search needs) (λ c. search needs) (λ c. search needs) slice-write-rows-3 insert-requires (λ c. search needs)
+    (λ c. search needs) returns)

@@ -12,7 +12,7 @@ use Rattle.making.proofs.rules.rule.Tie as tie
 
 returns : tie.Need-returns
 returns c =
-    let a = c .before .before .before .before .before .before in
+    let a = c .before .before .before .before .before in
     let buffer = now (a .args .buffer) in
     let entry = a .args .entry in
     record {
@@ -23,7 +23,7 @@ returns c =
 
 is-well-spelt-requires : tie.Need-is-well-spelt-requires
 is-well-spelt-requires c κs =
-    let a = c .before .before .before .before .before .before in
+    let a = c .before .before .before .before .before in
     let buffer = now (a .args .buffer) in
     let entry = a .args .entry in
     let i = sym (c .before .parts-lie .ensures) ∙ not-false (c .before .parts-lie .result) (c .if1 .left) in
@@ -32,7 +32,7 @@ is-well-spelt-requires c κs =
 returns-2 : tie.Need-returns-2
 returns-2 c =
     let parts-lie = c .before .before .before .parts-lie in
-    let a = c .before .before .before .before .before .before .before .before in
+    let a = c .before .before .before .before .before .before .before in
     let buffer = now (a .args .buffer) in
     let entry = a .args .entry in
     let i = sym (parts-lie .ensures) ∙ not-false (parts-lie .result) (c .before .before .if1 .left) in
@@ -45,7 +45,7 @@ returns-2 c =
 hash-over-requires : tie.Need-hash-over-requires
 hash-over-requires c κs =
     let parts-lie = c .before .before .before .before .parts-lie in
-    let a = c .before .before .before .before .before .before .before .before .before in
+    let a = c .before .before .before .before .before .before .before .before in
     let buffer = now (a .args .buffer) in
     let entry = a .args .entry in
     let i = sym (parts-lie .ensures) ∙ not-false (parts-lie .result) (c .before .before .before .if1 .left) in
@@ -55,7 +55,7 @@ hash-over-requires c κs =
 is-used-requires : tie.Need-is-used-requires
 is-used-requires c κs =
     let parts-lie = c .before .before .before .before .before .parts-lie in
-    let a = c .before .before .before .before .before .before .before .before .before .before in
+    let a = c .before .before .before .before .before .before .before .before .before in
     let buffer = now (a .args .buffer) in
     let entry = a .args .entry in
     let i = sym (parts-lie .ensures) ∙ not-false (parts-lie .result) (c .before .before .before .before .if1 .left) in
@@ -65,7 +65,7 @@ returns-3 : tie.Need-returns-3
 returns-3 c =
     let parts-lie = c .before .before .before .before .before .before .before .parts-lie in
     let is-well-spelt = c .before .before .before .before .before .is-well-spelt in
-    let a = c .before .before .before .before .before .before .before .before .before .before .before .before in
+    let a = c .before .before .before .before .before .before .before .before .before .before .before in
     let buffer = now (a .args .buffer) in
     let entry = a .args .entry in
     let i = sym (parts-lie .ensures) ∙ not-false (parts-lie .result) (c .before .before .before .before .before .before .if1 .left) in
@@ -80,7 +80,7 @@ returns-4 : tie.Need-returns-4
 returns-4 c =
     let parts-lie = c .before .before .before .before .before .before .before .before .parts-lie in
     let is-well-spelt = c .before .before .before .before .before .before .is-well-spelt in
-    let a = c .before .before .before .before .before .before .before .before .before .before .before .before .before in
+    let a = c .before .before .before .before .before .before .before .before .before .before .before .before in
     let buffer = now (a .args .buffer) in
     let entry = a .args .entry in
     let i = sym (parts-lie .ensures) ∙ not-false (parts-lie .result) (c .before .before .before .before .before .before .before .if1 .left) in
@@ -96,7 +96,7 @@ returns-5 : tie.Need-returns-5
 returns-5 c =
     let parts-lie = c .before .before .before .before .before .before .before .before .parts-lie in
     let is-well-spelt = c .before .before .before .before .before .before .is-well-spelt in
-    let a = c .before .before .before .before .before .before .before .before .before .before .before .before .before in
+    let a = c .before .before .before .before .before .before .before .before .before .before .before .before in
     let buffer = now (a .args .buffer) in
     let entry = a .args .entry in
     let i = sym (parts-lie .ensures) ∙ not-false (parts-lie .result) (c .before .before .before .before .before .before .before .if1 .left) in
