@@ -44,7 +44,7 @@ pub struct Hashes {
     pub logical: usize,
 }
 
-const MOST_ELEMENTS: usize = 4096;
+pub const MOST_ELEMENTS: usize = 4096;
 
 const PROFILE: usize = 0xA0;
 

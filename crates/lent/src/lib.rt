@@ -15,8 +15,8 @@ ghost use Rattle.letters.specs.Lent.{rowsNeeded};
 ghost use Rattle.answers.specs.Answers.{ruled};
 ghost use Rattle.lent.specs.Lent.{rowsFor, sizeFor, indexFor, ruledLent};
 
-// The most elements that a letter may have.
-const MOST_ELEMENTS: usize = 4096;
+// The most elements that are counted.
+const MOST_ELEMENTS: usize = judging::MOST_ELEMENTS;
 
 const TOO_SMALL: u32 = 32;
 

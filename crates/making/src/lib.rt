@@ -27,9 +27,9 @@ const ENTRY_WIDTH: usize = 6;
 // How many entries are judged in the small frame.
 const FEW_ENTRIES: usize = 128;
 
-const TOO_LONG: u32 = 17;
+const TOO_LONG: u32 = normal::TOO_LONG as u32;
 
-const OUTPUT_TOO_SHORT: u32 = 18;
+const OUTPUT_TOO_SHORT: u32 = normal::OUTPUT_TOO_SHORT as u32;
 
 fn wide(x: u32) -> usize
     ensures { λ r. ⌜ r ≡ x ⌝ }

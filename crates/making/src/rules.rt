@@ -5,6 +5,7 @@ use super::entry_at;
 use answers::Reason;
 use contents::Span;
 use names::Asked;
+use names::LONGEST_IDENTIFIER;
 use rows::RowFound;
 ghost use mathlib.Core.Path.{_≡_};
 ghost use mathlib.Core.Bool.{true};
@@ -38,8 +39,6 @@ const TOO_MANY: u32 = 9;
 
 // The most entries of a letter: with the profile they are 4,095 elements, and one more would be 4,097.
 const MOST_ENTRIES: usize = 2047;
-
-const LONGEST_NAME: usize = 64;
 
 // The kind of a block, a layout object, as a row has it.
 const BLOCK: u32 = rows::LAYOUT_OBJECT as u32;
@@ -76,7 +75,7 @@ fn is_well_spelt(buffer: &[u8], entry: Entry) -> bool
     if names::is_identifier(buffer, identifier.first, identifier.past) {
         if names::is_portion(buffer, portion.first, portion.past) {
             let size = identifier.past - identifier.first + 1 + (portion.past - portion.first);
-            return size <= LONGEST_NAME;
+            return size <= LONGEST_IDENTIFIER;
         }
     }
     false

@@ -8,9 +8,9 @@ ghost use Rattle.names.specs.Names.{spaceByte, isDigit, isIdentifier, is
 ghost use Rattle.names.specs.Asked.{spelling, AskedWithin};
 ghost use Rattle.names.specs.Hash.{hashes, hashStep, hashFrom, bucket};
 
-const SPACE: u8 = 32;
+pub const SPACE: u8 = 32;
 
-const LONGEST_IDENTIFIER: usize = 64;
+pub const LONGEST_IDENTIFIER: usize = 64;
 
 const LONGEST_PORTION: usize = 16;
 

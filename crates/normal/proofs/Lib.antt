@@ -14,8 +14,6 @@ pub mod Fewest
 pub mod Shorter
 -- what a pass over a run that was walked to its end meets
 pub mod Passes
--- what is kept of runs that were measured stays true
-pub mod Keeping
 -- a turn of the measuring
 pub mod Measuring
 -- a turn of the writing

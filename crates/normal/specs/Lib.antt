@@ -4,4 +4,3 @@ pub mod Passes
 pub mod Writes
 pub mod Examples
 pub mod Short
-pub mod Kept

@@ -15,15 +15,15 @@ ghost use Rattle.tree.specs.Accepts.{Whole};
 ghost use Rattle.normal.specs.Normal.{furtherOctets, numberOctets, lengthOctets, Octets, normalForm};
 ghost use Rattle.normal.specs.Passes.{RunEnds, ValueEnds, normalFrom, normalIn, aheadAt, headerSize, RunMeasures, ValueMeasures, PutsOctets};
 ghost use Rattle.normal.specs.Writes.{answerOf, GivesAnswer};
-ghost use Rattle.normal.specs.Kept.{Holds};
 
-mod kept; // kept.rt: what is kept of runs that were measured
 mod mailroom; // mailroom.rt: the writer of the mailroom box
 
 pub use mailroom::write_short;
 
-// A run whose normal form is shorter is not kept.
-const SHORT: usize = 128;
+// The refusals of a writer: its form passes the stream limit, or the output.
+pub const TOO_LONG: usize = 17;
+
+pub const OUTPUT_TOO_SHORT: usize = 18;
 
 // What a pass over a run that was walked to its end meets at a place: an item, or the end of the run, with the place past it.
 enum Ahead {
@@ -139,16 +139,16 @@ fn stays_shortest(shortest: bool, at: usize, h: Header, m: Measured, head: usize
 }
 
 // Measures the value of the item with the header h.
-fn measure_item(s: &[u8], h: Header, room: usize, kept: &mut [usize]) -> Measured
-    requires { ⌜ ValueEnds room (now s) h × Holds (now s) (now kept) ⌝ }
-    ensures { λ r. ⌜ ValueMeasures room (now (s .entry)) h r × Holds (now (s .entry)) (now (kept .exit)) ⌝ }
+fn measure_item(s: &[u8], h: Header, room: usize) -> Measured
+    requires { ⌜ ValueEnds room (now s) h ⌝ }
+    ensures { λ r. ⌜ ValueMeasures room (now (s .entry)) h r ⌝ }
 {
     let code = h.code;
     let start = h.start;
     let bound = h.bound;
     let marked = h.marked;
     if code / 32 % 2 == 1 {
-        measure_inner(s, start, bound, marked, room - 1, kept)
+        measure_run(s, start, bound, marked, room - 1)
     } else {
         Measured {
             next: bound,
@@ -158,41 +158,10 @@ fn measure_item(s: &[u8], h: Header, room: usize, kept: &mut [usize]) -> Measure
     }
 }
 
-// Measures the run that a constructed value is, or recalls it. A short one is not kept: it is soon measured again.
-fn measure_inner(
-    s: &[u8],
-    from: usize,
-    limit: usize,
-    marked: bool,
-    room: usize,
-    kept: &mut [usize],
-) -> Measured
-    requires { ⌜ RunEnds room (now s) from limit marked × Holds (now s) (now kept) ⌝ }
-    ensures { λ r. ⌜ RunMeasures room (now (s .entry)) from limit marked r × Holds (now (s .entry)) (now (kept .exit)) ⌝ }
-{
-    let slot = kept::slot_of(from, room);
-    if kept::is_kept(kept, slot, from, limit, marked, room) {
-        return kept::kept_at(kept, slot);
-    }
-    let m = measure_run(s, from, limit, marked, room, kept);
-    if m.size < SHORT {
-        return m;
-    }
-    kept::keep(kept, slot, from, limit, marked, room, m);
-    m
-}
-
 // Measures a run of items that was walked to its end.
-fn measure_run(
-    s: &[u8],
-    from: usize,
-    limit: usize,
-    marked: bool,
-    room: usize,
-    kept: &mut [usize],
-) -> Measured
-    requires { ⌜ RunEnds room (now s) from limit marked × Holds (now s) (now kept) ⌝ }
-    ensures { λ r. ⌜ RunMeasures room (now (s .entry)) from limit marked r × Holds (now (s .entry)) (now (kept .exit)) ⌝ }
+fn measure_run(s: &[u8], from: usize, limit: usize, marked: bool, room: usize) -> Measured
+    requires { ⌜ RunEnds room (now s) from limit marked ⌝ }
+    ensures { λ r. ⌜ RunMeasures room (now (s .entry)) from limit marked r ⌝ }
 {
     let mut at = from;
     let mut size: usize = 0;
@@ -200,7 +169,7 @@ fn measure_run(
     loop {
         match meet(s, at, limit, marked, room) {
             Ahead::Item(h) => {
-                let m = measure_item(s, h, room, kept);
+                let m = measure_item(s, h, room);
                 let head = header_size(h.code, m.size);
                 shortest = stays_shortest(shortest, at, h, m, head);
                 size = size + head + m.size;
@@ -211,26 +180,6 @@ fn measure_run(
                 size,
                 shortest,
             },
-        }
-    }
-}
-
-// `measure_item`, for the writing alone: each is called at one place, so the compiler makes it part of that, and a primitive item costs no call.
-fn measure_again(s: &[u8], h: Header, room: usize, kept: &mut [usize]) -> Measured
-    requires { ⌜ ValueEnds room (now s) h × Holds (now s) (now kept) ⌝ }
-    ensures { λ r. ⌜ ValueMeasures room (now (s .entry)) h r × Holds (now (s .entry)) (now (kept .exit)) ⌝ }
-{
-    let code = h.code;
-    let start = h.start;
-    let bound = h.bound;
-    let marked = h.marked;
-    if code / 32 % 2 == 1 {
-        measure_inner(s, start, bound, marked, room - 1, kept)
-    } else {
-        Measured {
-            next: bound,
-            size: bound - start,
-            shortest: true,
         }
     }
 }
@@ -278,19 +227,9 @@ fn put_header(out: &mut [u8], begin: usize, code: usize, size: usize) -> usize
 }
 
 // Writes the normal form of the value of the item with the header h, which was measured as m.
-fn put_item(
-    s: &[u8],
-    h: Header,
-    m: Measured,
-    room: usize,
-    kept: &mut [usize],
-    out: &mut [u8],
-    begin: usize,
-) -> usize
-    requires { ⌜ ValueEnds room (now s) h × ValueMeasures room (now s) h m × Holds (now s) (now kept) ⌝ }
-    requires { ⌜ begin + length (normalIn room (now s) h) ≤ length (now out) ⌝ }
-    ensures { λ r. ⌜ PutsOctets (now (out .entry)) begin (normalIn room (now (s .entry)) h) r (now (out .exit))
-        × Holds (now (s .entry)) (now (kept .exit)) ⌝ }
+fn put_item(s: &[u8], h: Header, m: Measured, room: usize, out: &mut [u8], begin: usize) -> usize
+    requires { ⌜ ValueEnds room (now s) h × ValueMeasures room (now s) h m × (begin + length (normalIn room (now s) h) ≤ length (now out)) ⌝ }
+    ensures { λ r. ⌜ PutsOctets (now (out .entry)) begin (normalIn room (now (s .entry)) h) r (now (out .exit)) ⌝ }
 {
     let start = h.start;
     let bound = h.bound;
@@ -300,7 +239,7 @@ fn put_item(
     if shortest {
         put_value(s, start, start + size, out, begin)
     } else {
-        put_run(s, start, bound, marked, room - 1, kept, out, begin)
+        put_run(s, start, bound, marked, room - 1, out, begin)
     }
 }
 
@@ -311,23 +250,20 @@ fn put_run(
     limit: usize,
     marked: bool,
     room: usize,
-    kept: &mut [usize],
     out: &mut [u8],
     begin: usize,
 ) -> usize
-    requires { ⌜ RunEnds room (now s) from limit marked × Holds (now s) (now kept) ⌝ }
-    requires { ⌜ begin + length (normalFrom room (now s) from limit marked) ≤ length (now out) ⌝ }
-    ensures { λ r. ⌜ PutsOctets (now (out .entry)) begin (normalFrom room (now (s .entry)) from limit marked) r (now (out .exit))
-        × Holds (now (s .entry)) (now (kept .exit)) ⌝ }
+    requires { ⌜ RunEnds room (now s) from limit marked × (begin + length (normalFrom room (now s) from limit marked) ≤ length (now out)) ⌝ }
+    ensures { λ r. ⌜ PutsOctets (now (out .entry)) begin (normalFrom room (now (s .entry)) from limit marked) r (now (out .exit)) ⌝ }
 {
     let mut at = from;
     let mut pos = begin;
     loop {
         match meet(s, at, limit, marked, room) {
             Ahead::Item(h) => {
-                let m = measure_again(s, h, room, kept);
+                let m = measure_item(s, h, room);
                 let past = put_header(out, pos, h.code, m.size);
-                pos = put_item(s, h, m, room, kept, out, past);
+                pos = put_item(s, h, m, room, out, past);
                 at = m.next;
             }
             Ahead::Last { past: _ } => return pos,
@@ -341,26 +277,25 @@ pub fn write(s: &[u8], out: &mut [u8]) -> Answer
     ensures { λ r. ⌜ GivesAnswer (answerOf (normalForm (now (s .entry))) (now (out .entry))) (normalForm (now (s .entry))) (now (out .entry)) r
         (now (out .exit)) ⌝ }
 {
-    let mut kept = [0usize; 256];
-    let m = measure_run(s, 0, s.len(), false, DEEPEST, &mut kept);
+    let m = measure_run(s, 0, s.len(), false, DEEPEST);
     let length = m.size;
     let shortest = m.shortest;
     if STREAM_LIMIT < length {
         return Answer::Refused {
-            number: 17,
+            number: TOO_LONG,
             place: 0,
         };
     }
     if out.len() < length {
         return Answer::Refused {
-            number: 18,
+            number: OUTPUT_TOO_SHORT,
             place: 0,
         };
     }
     if shortest {
         put_value(s, 0, length, out, 0);
     } else {
-        put_run(s, 0, s.len(), false, DEEPEST, &mut kept, out, 0);
+        put_run(s, 0, s.len(), false, DEEPEST, out, 0);
     }
     Answer::Written { length }
 }

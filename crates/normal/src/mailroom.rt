@@ -4,6 +4,7 @@ use super::Answer;
 use super::measure_run;
 use super::put_run;
 use super::put_value;
+use super::OUTPUT_TOO_SHORT;
 use octets::DEEPEST;
 ghost use mathlib.Core.Bool.{false};
 ghost use Prim.Native.Nat.{_≤_};
@@ -18,20 +19,19 @@ pub fn write_short(s: &[u8], out: &mut [u8]) -> Answer
     requires { ⌜ (length (now s) ≤ shortLimit) × Whole (run deepest (now s) 0 (length (now s)) false .how) ⌝ }
     ensures { λ r. ⌜ ShortWrites (now (s .entry)) (now (out .entry)) r (now (out .exit)) ⌝ }
 {
-    let mut kept = [0usize; 256];
-    let m = measure_run(s, 0, s.len(), false, DEEPEST, &mut kept);
+    let m = measure_run(s, 0, s.len(), false, DEEPEST);
     let length = m.size;
     let shortest = m.shortest;
     if out.len() < length {
         return Answer::Refused {
-            number: 18,
+            number: OUTPUT_TOO_SHORT,
             place: 0,
         };
     }
     if shortest {
         put_value(s, 0, length, out, 0);
     } else {
-        put_run(s, 0, s.len(), false, DEEPEST, &mut kept, out, 0);
+        put_run(s, 0, s.len(), false, DEEPEST, out, 0);
     }
     Answer::Written { length }
 }

@@ -43,7 +43,7 @@ pub record OwnIs (side : Side) (elements : List Element) (n u : ℕ) (own : Own)
   pub no-later : (row portion : ℕ) → matchOf row portion u ∈ matches side elements → (row < u) ⊎ (own .later ≤ row)
   pub later-is : (own .later ≡ n) ⊎ ((portion : ℕ) × (u < own .later) × (matchOf (own .later) portion u ∈ matches side elements))
 
--- the same of whatever elements the rows tell
+-- so it is of whatever elements the rows tell
 pub record OwnAt (side : Side) (s rows : List ℕ) (n u : ℕ) (own : Own) : Type 0 where
   pub is : (elements : List Element) → RowsTell s rows n elements → OwnIs side elements n u own
   pub in-rows : own .row ≤ u

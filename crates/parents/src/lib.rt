@@ -1,5 +1,6 @@
 // Whose child an element is: the row of the class or object whose identifier is its own without the last group.
 use names::Asked;
+use names::SPACE;
 use rows::IDENTIFIER;
 use rows::LAYOUT_CLASS;
 use rows::LAYOUT_OBJECT;
@@ -24,8 +25,6 @@ ghost use Rattle.parents.specs.Lookup.{objectSpace, LastSpace, FoundIn, 
 
 // Stands for no row where a parent's row is told.
 pub const NO_PARENT: usize = 65535;
-
-const SPACE: u8 = 32;
 
 fn wide(x: u32) -> usize
     ensures { λ r. ⌜ r ≡ x ⌝ }

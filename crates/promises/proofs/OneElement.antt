@@ -162,7 +162,7 @@ row-untiled (x ∷ y ∷ []) o =
     (λ u. rw (t, u)))
 row-untiled (x ∷ y ∷ z ∷ cs) o = absurd (false≢true (sym (never-three x y z cs) ∙ o))
 
--- the same of a run
+-- a run that holds a 04 or a 24
 pub record Holds (run : Tree) : Type 0 where
   pub some-item : amount 0x04 run + amount 0x24 run ≡ 0 → ⊥
 
@@ -223,7 +223,7 @@ tabled edition done type run =
     cond-holds P (xor (eqb (length done) 0) (is profileOctet type)) (λ _ z. absurd (omega arith)) (λ _.
     cond-holds P (not (asTabled (shape .contents) run)) (λ _ z. absurd (omega arith)) (λ t _. not-false (asTabled (shape .contents) run) t))))
 
--- the same of a text unit of 1988
+-- the shape of a text unit of 1988
 text-unit : (type : List ℕ) → is 0xA3 type ≡ true → shapeOf Of1988 type ≡ entry 0xA3 (unit true false)
 unfolding shapeOf
 text-unit type t = let e : codeOf type ≡ 0xA3 = eqb-true (codeOf type) 0xA3 t in rw e

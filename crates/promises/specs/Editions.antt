@@ -103,7 +103,7 @@ pub record Editions : Type 0 where
   pub contained : (s : List ℕ) (headers : ℕ) (elements : List Element) → letterIn Of1988 s ≡ letter headers elements → SameLetterIn s headers elements
   -- "A stream with no protected parts and only items on which both editions agree gets the same answer from either."
   pub alike : (s : List ℕ) → agree (treeOf s) ≡ true → SameAnswers s
-  -- the same of the date that is read of the first element alone
+  -- and alike is the date that is read of the first element alone
   pub first-alike : (s : List ℕ) → agree (firstTree s) ≡ true → (firstDateOf Of1993 s ≡ firstDateOf Of1988 s) × (firstDated Of1993 s ≡ firstDated Of1988 s)
   -- "Protected parts have kinds above 8 .. no identifier in the row or in rules 14 and 15"
   pub unnamed : (s : List ℕ) (headers : ℕ) (elements : List Element) → letterIn Of1993 s ≡ letter headers elements

@@ -29,7 +29,7 @@ pub record SameLetter (edition : Edition) : Type 0 where
   pub shortest : (s : List ℕ) → IsAccepted edition s → (r : List ℕ) (coded : Codes deepest (treeOf s) r) → Definite coded → Octets r
       → length (normalForm s) ≤ length r
   pub definite : (s : List ℕ) → IsAccepted edition s → (coded : Codes deepest (treeOf s) (normalForm s)) × Definite coded
-  -- the same of two outputs that the writer has written: the finder may compare them octet by octet, and a form that it has written it would
+  -- of two outputs that the writer has written: the finder may compare them octet by octet, and a form that it has written it would
   -- write again
   pub found : (s r out other : List ℕ) → written edition s out .number ≡ 0 → written edition r other .number ≡ 0
       → (treeOf s ≡ treeOf r) ↔ (formWritten edition s out ≡ formWritten edition r other)

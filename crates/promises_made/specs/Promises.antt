@@ -40,7 +40,7 @@ pub record Reads (edition : Edition) (said : List Said) : Type 0 where
 abbrev pub writtenBy : (buffer : List ℕ) → List Entry → (out : List ℕ) → List ℕ
 writtenBy buffer entries out = take (madeOf buffer entries out .length) (madeOutput buffer entries out)
 
--- The same of what stands in the output after an answer 0, by the questions that are there.
+-- What stands in the output after an answer 0 reads as the entries, by the questions that are there.
 pub record Readable (edition : Edition) (buffer : List ℕ) (entries : List Entry) (out : List ℕ) : Type 0 where
   pub accepted : letterIn edition (writtenBy buffer entries out)
       ≡ letter (itemsFor (length entries)) (elementsOf (map (saidBy buffer) entries))

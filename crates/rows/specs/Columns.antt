@@ -18,7 +18,7 @@ wholeColumn = 2
 abbrev pub identifierColumn : ℕ
 identifierColumn = 4
 
--- the same for "the unit's logical identifier"
+-- where a row has the first of "the unit's logical identifier"
 abbrev pub logicalColumn : ℕ
 logicalColumn = 6
 

@@ -50,7 +50,7 @@ fn is_short(head: &[u16], next: &[u16], n: usize, bucket: usize) -> bool
     true
 }
 
-// The same of an index.
+// Whether the chain of a bucket of an index has room for a row more.
 fn has_room(index: &[u16], n: usize, bucket: usize) -> bool
     requires { ⌜ Linked (headsOf (now index)) (linksOf (now index)) n × (bucket < linksBegin (length (now index))) ⌝ }
     ensures { λ r. ⌜ (r ≡ true → AtMost (linksOf (now (index .entry))) 7 (getD (headsOf (now (index .entry))) bucket 0)) ⌝ }
@@ -86,7 +86,7 @@ fn find_any(
     }
 }
 
-// The same. Mostly no row is in order and the bucket has none: that much is small enough to stand in the caller.
+// Finds that row in an index. Mostly no row is in order and the bucket has none: that much is small enough to stand in the caller.
 pub fn find(
     s: &[u8],
     rows: &[u32],

@@ -3,6 +3,7 @@ use super::SCRATCH_WIDTH;
 use super::space_of;
 use super::wide32;
 use names::Asked;
+use names::SPACE;
 ghost use mathlib.Core.Path.{_≡_};
 ghost use mathlib.Core.Bool.{_&&_};
 ghost use mathlib.Core.List.{_∷_};
@@ -17,8 +18,6 @@ ghost use Rattle.rows.specs.Columns.{firstAt, pastAt};
 ghost use Rattle.rows.specs.Chains.{named};
 ghost use Rattle.rows.specs.Order.{less};
 ghost use Rattle.rows.specs.Lookup.{keyAt};
-
-const SPACE: u8 = 32;
 
 // Whether s[first..past] comes before s[from..to].
 fn is_less(s: &[u8], first: usize, past: usize, from: usize, to: usize) -> bool

@@ -81,7 +81,7 @@ fn find_in_order(
     RowFound::Nothing
 }
 
-// The same, where mostly there are no such rows.
+// Finds a row among those in order, where mostly there are none.
 pub fn find_later(
     s: &[u8],
     rows: &[u32],
