@@ -1,10 +1,10 @@
 // The normal form of a short stream, for the mailroom box: a stream of at most 65,535 octets is never shorter than its normal form, so there
 // is no 17 to give.
 use super::Answer;
+use super::OUTPUT_TOO_SHORT;
 use super::measure_run;
 use super::put_run;
 use super::put_value;
-use super::OUTPUT_TOO_SHORT;
 use octets::DEEPEST;
 ghost use mathlib.Core.Bool.{false};
 ghost use Prim.Native.Nat.{_≤_};
