@@ -17,10 +17,9 @@
 
    Every question judges the whole stream anew, so each costs what odif_check costs, and the contents of n text units
    asked for one by one cost n checks. odif_layout_text and odif_logical_text hand over all texts of a side with one.
-   odif_normal measures an item before it writes it, and keeps what it measured in a few places: an item is passed over
-   some three times, and one at level 16 of a letter that was made to be slow 16 times. A check takes time as the stream
-   is long, some 3 ns an octet, whoever chose the names: a letter made to be slow takes some ten times as long as others
-   of its length.
+   odif_normal measures an item before it writes it, so one at level 16 is passed over 16 times. A check takes time as the
+   stream is long, some 3 ns an octet, whoever chose the names: a letter made to be slow takes some ten times as long as
+   others of its length.
 
    Their scratch memory is on the stack. Of a small stream, which has up to 512 elements and up to 8,192 items in all, a
    question takes up to 40 KiB of it, the two lists up to 88 KiB and the two whole readings up to 120 KiB; of any other
