@@ -11,7 +11,7 @@ use Rattle.octets.specs.Walk.{walkOf}
 use Rattle.elements.specs.declared.Edition.{Edition}
 use Rattle.letters.specs.Lent.{rowsNeeded}
 use Rattle.answers.specs.Answers.{ruled}
-use Rattle.answers.proofs.Letters.{refused-walk}
+use Rattle.letters.proofs.Letters.{refused-walk}
 use Rattle.answers.proofs.Working.{ruled-refused}
 use Rattle.lent.specs.Lent.{rowsFor, indexFor, tooFew, ruledLent}
 

@@ -23,7 +23,7 @@ use Rattle.elements.specs.ElementRows.{rowsOf}
 use Rattle.letters.specs.Letter.{letter, letterIn, itemsOfStream}
 use Rattle.letters.specs.Lent.{rowsNeeded}
 use Rattle.answers.specs.declared.Written.{Written}
-use Rattle.answers.proofs.Letters.{refused-walk}
+use Rattle.letters.proofs.Letters.{refused-walk}
 use Rattle.lent.specs.Lent.{rowsFor, indexFor, tooFew, onceWalked, isLacking, writtenLent, writtenLentOutput}
 use Rattle.promises.specs.Demands.{Answered}
 use Rattle.promises.proofs.Demand1.{told-own}
