@@ -27,7 +27,7 @@
    stream and 246 kB for any other, the lists and the whole readings somewhat more. Mind it where threads are started
    with small stacks, and on a box where nothing stops a stack that runs over: 128 KiB are enough for small streams
    alone. Whether a stream is small can be asked with less than 2 KiB: one of which odif_blocks_close counts up to 512
-   headers has no more elements than that, and is small. odif_normal_short_lent takes less than 2 KiB of any stream: its
+   headers has no more elements than that, and is small. odif_normal_short_lent takes less than 8 KiB of any stream: its
    scratch is lent by the caller.
 
    A question reads by the edition of 1988, and its twin with _1993 at its end by that of 1993. The octet rules are the
@@ -141,7 +141,7 @@ extern "C" {
 #define ODIF_STACK_MAKE    131072  /* and for odif_make */
 #define ODIF_MOST_ENTRIES  2047    /* the most entries of a letter that is made */
 #define ODIF_SHORT_LIMIT   65535   /* the most octets of a stream that odif_normal_short takes */
-#define ODIF_STACK_LENT    2048    /* octets of stack: odif_normal_short_lent takes no more of any stream */
+#define ODIF_STACK_LENT    8192    /* octets of stack: odif_normal_short_lent takes no more of any stream */
 #define ODIF_UTF8_MOST     8       /* the most octets that odif_utf8 writes for one */
 
 /* How much to lend. A side has no more matches than the letter has text units, nor than portions are listed on that

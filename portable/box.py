@@ -68,7 +68,8 @@ def ran_no_product(name, lines):
 def limits():
     """How much stack the header says a question takes at most, of small streams and of any."""
     said = {name: int(size) for name, size in re.findall(r'^#define ODIF_(STACK\w*) +(\d+)', (TOP / 'include/odif.h').read_text('utf-8'), re.M)}
-    most = {False: dict(list='STACK_LISTS', text='STACK_TEXTS'), True: dict(list='STACK_SMALL_LISTS', text='STACK_SMALL_TEXTS')}
+    most = {False: dict(list='STACK_LISTS', sources='STACK_LISTS', text='STACK_TEXTS'),
+            True: dict(list='STACK_SMALL_LISTS', sources='STACK_SMALL_LISTS', text='STACK_SMALL_TEXTS')}
     for question, limit in ('pages', said['STACK'] + 32768), ('make', said['STACK_MAKE']), ('normal_short_lent', said['STACK_LENT']), *((f'blocks_{part}', 2048) for part in ('start', 'take', 'close')):
         said[question] = limit
     return lambda question, small: said.get(question) or said[most[small].get(question, 'STACK_SMALL' if small else 'STACK')]

@@ -35,8 +35,8 @@ pub fn normal_short(edition: Edition, stream: &[u8], out: &mut [u8]) -> Written
     written_as(normal::write_short(stream, out))
 }
 
-// The normal form of a short stream, in scratch that the caller lends: rows, and an index of names. A box with little stack asks this, and it takes less than 2 KiB of any
-// letter. 32 is given where the scratch is too small for the letter's elements; what it holds at exit is left open.
+// The normal form of a short stream, in scratch that the caller lends: rows, and an index of names. A box with little stack asks this: it takes
+// less than 8 KiB of any stream.
 pub fn normal_short_lent(
     edition: Edition,
     stream: &[u8],

@@ -99,11 +99,12 @@ pub fn meet(s: &[u8], r: Run) -> Met
 {
     let at = r.at;
     let limit = r.limit;
+    let marked = r.marked;
     let room = r.room;
     if at == limit {
         return Met::End;
     }
-    match headers::passed_head(s, at, limit, r.marked, room) {
+    match headers::passed_head(s, at, limit, marked, room) {
         Head::ClosingMark => Met::End,
         Head::Refusal {
             number: _,
@@ -125,7 +126,12 @@ pub fn meet(s: &[u8], r: Run) -> Met
                         marked: true,
                         room: below,
                     },
-                    rest: Run { at: next, ..r },
+                    rest: Run {
+                        at: next,
+                        limit,
+                        marked,
+                        room,
+                    },
                 };
             }
             Met::Item {
@@ -133,7 +139,12 @@ pub fn meet(s: &[u8], r: Run) -> Met
                 first,
                 past: bound,
                 inner: inside_of(h, room),
-                rest: Run { at: bound, ..r },
+                rest: Run {
+                    at: bound,
+                    limit,
+                    marked,
+                    room,
+                },
             }
         }
     }

@@ -248,7 +248,7 @@ pub fn short_normal_form_in(edition: Edition, stream: &[u8]) -> Result<Vec<u8>, 
 }
 
 /// Writes the normal form of a stream of at most [`SHORT_LIMIT`](crate::SHORT_LIMIT) octets in memory that the caller lends:
-/// it allocates nothing and takes less than 2 KiB of stack. An output as long as the stream is always enough;
+/// it allocates nothing and takes less than 8 KiB of stack. An output as long as the stream is always enough;
 /// [`lent_rows`](raw::lent_rows) and [`lent_index`](raw::lent_index) say how much scratch is, and less is refused by rule 32.
 pub fn short_normal_form_lent<'a>(
     edition: Edition,

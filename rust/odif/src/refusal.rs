@@ -224,7 +224,7 @@ mod tests {
             assert_eq!((rule.number(), Rule::from_number(number)), (number, Some(rule)));
             assert_eq!(Refusal::unless_accepted(number, 7), Err(Refusal { rule, place: 7 }));
         }
-        assert_eq!(Rule::ALL.last().map(|rule| rule.number()), Some(31));
+        assert_eq!(Rule::ALL.last().map(|rule| rule.number()), Some(32));
         assert_eq!(Refusal::unless_accepted(0, 0), Ok(()));
     }
 

@@ -114,5 +114,5 @@ fn no_more_stack_than_the_header_says() {
     let output = run("stack", "-std=gnu99", &[]);
     let told = String::from_utf8_lossy(&output.stdout);
     assert!(output.status.success(), "{told}");
-    assert_eq!(told.lines().count(), 33, "{told}");
+    assert_eq!(told.lines().count(), 35, "{told}");
 }

@@ -84,8 +84,8 @@ end-of-marked-requires c κs =
       marked-whole (stream p) (its-run p) (its-fine p) (before-limit p) (header p) (read p) (c .if2 .taken),
     )
 
-sub-t15 : tie.Need-sub-t15
-sub-t15 c =
+sub-t16 : tie.Need-sub-t16
+sub-t16 c =
     let p = c .before .before .before in
     let m = c .before .if2 .taken in
     let v = marked-value (stream p) (its-run p) (its-fine p) (before-limit p) (header p) (read p) m ∙ c .end-of-marked .ensures in
@@ -133,4 +133,4 @@ returns-5 c =
 pub meet-spec : {M : Type 1} → statement M
 meet-spec =
     tie.close (tie.spec returns passed-head-requires enum-told (λ c. search needs) (λ c. search needs) sub-below end-of-marked-requires
-    sub-t15 returns-2 inside-of-requires returns-3 returns-4 returns-5)
+    sub-t16 returns-2 inside-of-requires returns-3 returns-4 returns-5)

@@ -25,7 +25,7 @@ fn number(value: &Value) -> usize {
 fn library() -> String {
     let run = odif(&["--version"]);
     let line = run.text().lines().nth(1).unwrap();
-    line.rsplit(' ').next().unwrap().into()
+    line.split_once("sha256 ").unwrap().1[..64].into()
 }
 
 #[test]
