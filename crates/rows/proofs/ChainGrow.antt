@@ -1,7 +1,7 @@
 -- A row more: without a value there it changes nothing; with one it goes before the others of its bucket.
-use mathlib.Core.Path.{_≡_, refl, sym, _∙_, subst}
+use mathlib.Core.Path.{_≡_, sym, _∙_, subst}
 use mathlib.Core.List.{List}
-use mathlib.Core.Logic.{inl, inr}
+use mathlib.Core.Logic.{inr}
 use Prim.Native.Nat.{ℕ, _+_, _-_, _<_, _≤_}
 use native.Mathlib.Omega.{arith}
 use borrow.Author.Tests.{eqb-true, eqb-false}
@@ -83,7 +83,7 @@ module _ {s rows : List ℕ} {column : ℕ} {head next : List ℕ} {n : ℕ} (x 
           nexts = rw e nexts';
         }
 
--- what the two stores change, and what no store does
+-- what the two stores change
 pub links-added : (head next : List ℕ) {b own n : ℕ} → b ≡ own → b < length head → n < length next
     → Links head next (set head b (n + 1)) (set next n (getD head b 0)) own n
 links-added head next {b} {own} {n} e low room = record {
@@ -92,6 +92,3 @@ links-added head next {b} {own} {n} e low room = record {
   own =
       inr (rw (← e) (getD-set-same head b (n + 1) 0 low), rw (← e) (getD-set-same next n (getD head b 0) 0 room));
 }
-
-pub links-none : (head next : List ℕ) (b n : ℕ) → Links head next head next b n
-links-none head next b n = record { other-heads = λ a ne. refl; other-links = λ i ne. refl; own = inl refl }

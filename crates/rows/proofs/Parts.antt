@@ -11,9 +11,9 @@ use Rattle.names.proofs.Hashing.{hash-below}
 use Rattle.rows.specs.Columns.{valueAt, Present}
 use Rattle.rows.specs.Chains.{Indexed, Links}
 use Rattle.rows.specs.Lookup.{Ordered, markOf, AtMost, Around}
-use Rattle.rows.specs.Index.{linksBegin, headsOf, linksOf, Filed}
+use Rattle.rows.specs.Index.{linksBegin, headsOf, linksOf, linkedAt, Filed}
 use Rattle.rows.proofs.ChainGrow.{added, links-added}
-use Rattle.rows.proofs.Filing.{filed-in-order, filed-by-hash, filed-first}
+use Rattle.rows.proofs.Filing.{by-hash-all, filed-in-order, filed-by-hash, filed-first}
 
 -- the heads are not all: two numbers at least are left
 pub links-inside : (size : ℕ) → linksBegin size ≤ size - 2
@@ -156,7 +156,7 @@ module _ (index : List ℕ) {at : ℕ} (is : at ≡ linksBegin (length index)) (
         head-set-links (set index (at + n) (getD index b 0)) here b (n + 1) low
         ∙ link-set-links index is n (getD index b 0) ∙ ap (set (linksOf index) n) (head-at index is b low)
 
-pub chain-grown : {s rows : List ℕ} {column n : ℕ} (index : List ℕ) {at hashed b : ℕ} → at ≡ linksBegin (length index)
+chain-grown : {s rows : List ℕ} {column n : ℕ} (index : List ℕ) {at hashed b : ℕ} → at ≡ linksBegin (length index)
     → Indexed s rows column (headsOf index) (linksOf index) n → n < length (linksOf index) → b ≡ bucket at hashed → b < at
     → hashed ≡ hash (valueAt s rows column n) → Present rows column n
     → let index' = set (set index (at + n) (getD index b 0)) b (n + 1) in
@@ -173,19 +173,21 @@ chain-grown {s} {rows} {column} {n} index {at} {hashed} {b} is x room e low same
       ),
     )
 
--- a row more: the chain of its bucket has it, or it is the first in order
-pub filed-grown : {s rows : List ℕ} {column n mark b : ℕ} (index index' : List ℕ) (x : Filed s rows column index n) (hashed : ℕ) {at : ℕ}
-    → mark ≡ markOf (linksOf index) → n + 1 < length (linksOf index) → mark ≡ 0 → Indexed s rows column (headsOf index') (linksOf index') (n + 1)
-    → length index' ≡ length index
-    → Links (headsOf index) (linksOf index) (headsOf index') (linksOf index') (bucket (linksBegin (length index)) hashed) n
-    → at ≡ linksBegin (length index) → b ≡ bucket at hashed → b < at → AtMost (linksOf index) 7 (getD (headsOf index) b 0)
-    → Filed s rows column index' (n + 1)
-filed-grown index index' x hashed is room unmarked y size links at e low few =
-    filed-by-hash x is room unmarked y (heads-alike index index' size) (links-alike index index' size) links
-    (e ∙ ap (λ (k : ℕ). bucket k hashed) at) (omega (arith, heads-size index)) few
-
 module _ {s rows : List ℕ} {column n mark : ℕ} (index : List ℕ) (x : Filed s rows column index n) {at : ℕ} (is : at ≡ linksBegin (length index))
     (marks : mark ≡ markOf (linksOf index)) (room : n + 1 < length (linksOf index)) where
+  -- the chain of the row's bucket has it
+  pub filed-linked : mark ≡ 0 → (hashed : ℕ) {b : ℕ} → b ≡ bucket at hashed → b < at → hashed ≡ hash (valueAt s rows column n) → Present rows column n
+      → AtMost (linksOf index) 7 (getD (headsOf index) b 0)
+      → Filed s rows column (linkedAt index at b n) (n + 1) × (length (linkedAt index at b n) ≡ length index)
+  filed-linked unmarked hashed {b} e low same present few =
+      let g = chain-grown index is (by-hash-all x marks unmarked) (omega arith) e low same present in
+      let size = g .1 .0 in (
+        filed-by-hash x marks room unmarked (g .0) (heads-alike index (linkedAt index at b n) size) (links-alike index (linkedAt index at b n) size)
+            (g .1 .1) (e ∙ ap (λ (k : ℕ). bucket k hashed) is) (omega (arith, heads-size index)) few,
+        size,
+      )
+
+  -- it is put in order
   pub filed-back : (mark ≡ 0 → ⊥) → (links : List ℕ) → Ordered s rows column links (mark - 1) (n + 1)
       → Around (take (length index - at) (drop at index)) links (mark - 1) n
       → let index' = take at index ++ (links ++ drop (length index - at) (drop at index)) in
@@ -196,6 +198,7 @@ module _ {s rows : List ℕ} {column n mark : ℕ} (index : List ℕ) (x : Filed
       subst (λ (xs : List ℕ). Around xs links (mark - 1) n) (links-part index is) around in
       (rw (back-heads index is links size, back-links index is links size) (filed-in-order x marks room marked o a), back-size index is links size)
 
+  -- it is the first in order
   pub filed-marked : mark ≡ 0 → let index' = set (set index (at + n) n) (length index - 1) (n + 1) in
       Filed s rows column index' (n + 1) × (length index' ≡ length index)
   filed-marked unmarked =

@@ -2,9 +2,9 @@
 -- A letter has two: the first half of what is lent is that of the identifiers, the second that of the logical identifiers.
 use mathlib.Core.Path.{_≡_}
 use mathlib.Core.List.{List}
-use Prim.Native.Nat.{ℕ, _-_, _/_, _<_, _≤_}
+use Prim.Native.Nat.{ℕ, _+_, _-_, _/_, _<_, _≤_}
 use lib.Bits.{bitAnd}
-use lib.ListN.{length, take, drop}
+use lib.ListN.{length, getD, set, take, drop}
 use Rattle.names.specs.Hash.{hashes}
 use Rattle.rows.specs.Columns.{identifierColumn, logicalColumn}
 use Rattle.rows.specs.Chains.{Empty}
@@ -19,6 +19,10 @@ headsOf index = take (linksBegin (length index)) index
 
 abbrev pub linksOf : (index : List ℕ) → List ℕ
 linksOf index = drop (linksBegin (length index)) index
+
+-- row n linked before the others of bucket b
+abbrev pub linkedAt : (index : List ℕ) (links b n : ℕ) → List ℕ
+linkedAt index links b n = set (set index (links + n) (getD index b 0)) b (n + 1)
 
 -- the first n rows can be looked up in an index by what they have at a column
 abbrev pub Filed : (s rows : List ℕ) (column : ℕ) (index : List ℕ) (n : ℕ) → Type 0

@@ -1,7 +1,6 @@
 // Look-up by hash: a chain of rows for each bucket of their hashes, each next one an earlier row.
 use super::RowFound;
 use super::SCRATCH_WIDTH;
-use super::links_begin;
 use super::space_of;
 use super::wide16;
 use super::wide32;
@@ -10,11 +9,11 @@ ghost use mathlib.Core.Path.{_≡_};
 ghost use Prim.Native.Nat.{_+_, _*_, _<_, _≤_};
 ghost use lib.ListN.{length};
 ghost use Rattle.names.specs.Asked.{spelling, AskedWithin};
-ghost use Rattle.names.specs.Hash.{hash, bucket};
+ghost use Rattle.names.specs.Hash.{hash};
 ghost use Rattle.rows.specs.Rows.{scratchWidth};
-ghost use Rattle.rows.specs.Columns.{firstAt, pastAt, valueAt, Bounded};
-ghost use Rattle.rows.specs.Chains.{Indexed, Links, named, FindsRow};
-ghost use Rattle.rows.specs.Index.{linksBegin, headsOf, linksOf};
+ghost use Rattle.rows.specs.Columns.{firstAt, pastAt, Bounded};
+ghost use Rattle.rows.specs.Chains.{Indexed, named, FindsRow};
+ghost use Rattle.rows.specs.Index.{linkedAt};
 
 // Whether row j is of the name space and has the name asked for.
 fn has(s: &[u8], rows: &[u32], column: usize, j: usize, space: u8, asked: Asked) -> bool
@@ -64,23 +63,11 @@ pub fn find(
     RowFound::Nothing
 }
 
-// Adds row n, if it has a value there. `hashed` is that value's hash, by which the caller has looked it up before.
-pub fn insert(s: &[u8], rows: &[u32], index: &mut [u16], n: usize, column: usize, hashed: usize)
-    requires { ⌜ Bounded (now s) (now rows) column (n + 1) ⌝ }
-    requires { ⌜ Indexed (now s) (now rows) column (headsOf (now index)) (linksOf (now index)) n ⌝ }
-    requires { ⌜ n < length (linksOf (now index)) ⌝ }
-    requires { ⌜ n + 1 < 65536 ⌝ }
-    requires { ⌜ hashed ≡ hash (valueAt (now s) (now rows) column n) ⌝ }
-    ensures { λ _. ⌜ Indexed (now (s .entry)) (now (rows .entry)) column (headsOf (now (index .exit))) (linksOf (now (index .exit))) (n + 1) ⌝ }
-    ensures { λ _. ⌜ length (now (index .exit)) ≡ length (now (index .entry)) ⌝ }
-    ensures { λ _. ⌜ Links (headsOf (now (index .entry))) (linksOf (now (index .entry))) (headsOf (now (index .exit))) (linksOf (now (index .exit)))
-        (bucket (linksBegin (length (now (index .entry)))) hashed) n ⌝ }
+// Links row n before the others of bucket b.
+pub fn link(index: &mut [u16], links: usize, b: usize, n: usize)
+    requires { ⌜ (b < links) × (links + n < length (now index)) × (n + 1 < 65536) ⌝ }
+    ensures { λ _. ⌜ now (index .exit) ≡ linkedAt (now (index .entry)) links b n ⌝ }
 {
-    let at = n * SCRATCH_WIDTH + column;
-    if rows[at] < rows[at + 1] {
-        let links = links_begin(index.len());
-        let b = names::bucket_of(links, hashed);
-        index[links + n] = index[b];
-        index[b] = (n + 1) as u16;
-    }
+    index[links + n] = index[b];
+    index[b] = (n + 1) as u16;
 }

@@ -13,9 +13,9 @@ ghost use Prim.Native.Nat.{_+_, _<_};
 ghost use lib.ListN.{length, getD};
 ghost use Rattle.names.specs.Asked.{spelling, AskedWithin};
 ghost use Rattle.names.specs.Hash.{hash};
-ghost use Rattle.rows.specs.Columns.{valueAt, Bounded};
+ghost use Rattle.rows.specs.Columns.{valueAt, Present, Bounded};
 ghost use Rattle.rows.specs.Chains.{FindsRow};
-ghost use Rattle.rows.specs.Lookup.{chained, AtMost, Linked};
+ghost use Rattle.rows.specs.Lookup.{markOf, chained, AtMost, Linked};
 ghost use Rattle.rows.specs.Index.{linksBegin, headsOf, linksOf, Filed};
 
 // Most rows of a chain. Names that nobody chose for it come nowhere near.
@@ -119,6 +119,7 @@ fn insert_any(s: &[u8], rows: &[u32], index: &mut [u16], n: usize, column: usize
     requires { ⌜ n + 1 < length (linksOf (now index)) ⌝ }
     requires { ⌜ n + 1 < 65536 ⌝ }
     requires { ⌜ hashed ≡ hash (valueAt (now s) (now rows) column n) ⌝ }
+    requires { ⌜ (markOf (linksOf (now index)) ≡ 0 → Present (now rows) column n) ⌝ }
     ensures { λ _. ⌜ Filed (now (s .entry)) (now (rows .entry)) column (now (index .exit)) (n + 1) ⌝ }
     ensures { λ _. ⌜ length (now (index .exit)) ≡ length (now (index .entry)) ⌝ }
 {
@@ -129,8 +130,9 @@ fn insert_any(s: &[u8], rows: &[u32], index: &mut [u16], n: usize, column: usize
         places::put_in_order(s, rows, &mut index[links..], mark - 1, n, column);
         return;
     }
-    if has_room(index, n, names::bucket_of(links, hashed)) {
-        chains::insert(s, rows, index, n, column, hashed);
+    let b = names::bucket_of(links, hashed);
+    if has_room(index, n, b) {
+        chains::link(index, links, b, n);
         return;
     }
     index[links + n] = n as u16;
@@ -158,8 +160,10 @@ pub fn insert(s: &[u8], rows: &[u32], index: &mut [u16], n: usize, column: usize
     if rows[at + 1] <= rows[at] {
         return;
     }
-    if index[names::bucket_of(links_begin(index.len()), hashed)] == 0 {
-        chains::insert(s, rows, index, n, column, hashed);
+    let links = links_begin(index.len());
+    let b = names::bucket_of(links, hashed);
+    if index[b] == 0 {
+        chains::link(index, links, b, n);
         return;
     }
     insert_any(&*s, &*rows, index, n, column, hashed);

@@ -1,14 +1,14 @@
 -- `rows::lookup::insert_any` meets its contract: a row more in order, a row more in a chain, or the first row in order.
 use mathlib.Core.Path.{_≡_, sym, _∙_, subst}
 use mathlib.Core.List.{List}
-use Prim.Native.Nat.{ℕ, _-_, _<_}
+use Prim.Native.Nat.{ℕ, _+_, _-_, _<_}
 use native.Mathlib.Omega.{arith}
 use lib.ListN.{length, length-set}
 use Rattle.rows.specs.Columns.{valueAt}
 use Rattle.rows.specs.Lookup.{Ordered, markOf}
-use Rattle.rows.specs.Index.{linksOf}
+use Rattle.rows.specs.Index.{linksOf, Filed}
 use Rattle.rows.proofs.Filing.{by-hash-all, in-order-some}
-use Rattle.rows.proofs.Parts.{some-links, links-size, links-part, mark-last, bucket-asked, filed-grown, filed-back, filed-marked}
+use Rattle.rows.proofs.Parts.{some-links, links-size, links-part, mark-last, bucket-asked, filed-linked, filed-back, filed-marked}
 use borrow.Author.Needs.{needs}
 use Rattle.rows.proofs.lookup.insert_any.Statement.{statement}
 use Rattle.rows.proofs.lookup.insert_any.Tie as tie
@@ -52,10 +52,10 @@ returns c =
 
 bucket-of-requires : tie.Need-bucket-of-requires
 bucket-of-requires c κs =
-    let a = c .before .before .before .before .before .before .before .before .args in
-    let p = c .before .before .before .before .before .before .before .before .pre in
-    bucket-asked (a .index .now) (valueAt (a .s .now) (a .rows .now) (a .column) (a .n)) (c .before .before .before .before .links-begin .ensures .0) (p .1 .0 .by-hash)
-    (p .1 .1 .1 .1)
+    let a = c .before .before .before .before .before .before .before .args in
+    let p = c .before .before .before .before .before .before .before .pre in
+    bucket-asked (a .index .now) (valueAt (a .s .now) (a .rows .now) (a .column) (a .n)) (c .before .before .before .links-begin .ensures .0) (p .1 .0 .by-hash)
+    (p .1 .1 .1 .1 .0)
 
 has-room-requires : tie.Need-has-room-requires
 has-room-requires c κs =
@@ -67,24 +67,25 @@ has-room-requires c κs =
         column = a .column;
         indexed = by-hash-all (p .1 .0) (marks (c .before .before .before)) (c .before .before .if1 .left);
       },
-      omega (arith, c .bucket-of .ensures .1, c .before .before .before .before .before .links-begin .ensures .0),
+      omega (arith, c .before .bucket-of .ensures .1, c .before .before .before .before .before .links-begin .ensures .0),
     )
 
-insert-requires : tie.Need-insert-requires
-insert-requires c κs =
+link-requires : tie.Need-link-requires
+link-requires c κs =
+    let a = c .before .before .before .before .before .before .before .before .before .before .before .before .args in
     let p = c .before .before .before .before .before .before .before .before .before .before .before .before .pre in
-    (p .0, (by-hash-all (p .1 .0) (marks (c .before .before .before .before .before .before)) (c .before .before .before .before .before .if1 .left), (omega (arith, p .1 .1 .0), (p .1 .1 .1 .0, p .1 .1 .1 .1))))
+    (c .before .before .before .before .bucket-of .ensures .1, omega (arith, p .1 .1 .0, c .before .before .before .before .before .before .before .before .links-begin .ensures .0, links-size (a .index .now)), p .1 .1 .1 .0)
 
 returns-2 : tie.Need-returns-2
 returns-2 c =
     let a = c .before .before .before .before .before .before .before .before .before .before .before .before .before .before .before .args in
     let p = c .before .before .before .before .before .before .before .before .before .before .before .before .before .before .before .pre in
-    let e = c .before .before .insert .ensures in
-    let b = c .before .before .before .before .before .before .bucket-of .ensures in (
-      filed-grown (a .index .now) (c .before .before .insert .last .1 .1 .0) (p .1 .0) (a .hashed) (marks (c .before .before .before .before .before .before .before .before .before)) (p .1 .1 .0) (c .before .before .before .before .before .before .before .before .if1 .left) (e .0) (e .1 .0) (e .1 .1)
-          (c .before .before .before .before .before .before .before .before .before .before .before .links-begin .ensures .0) (b .0) (b .1) (c .before .before .before .before .before .has-room .ensures (c .before .before .before .before .if2 .taken)),
-      e .1 .0,
-    )
+    let b = c .before .before .before .before .before .before .before .bucket-of .ensures in
+    let unmarked = c .before .before .before .before .before .before .before .before .if1 .left in
+    subst (λ (index : List ℕ). Filed (a .s .now) (a .rows .now) (a .column) index (a .n + 1) × (length index ≡ length (a .index .now)))
+    (sym (c .before .before .link .ensures))
+    (filed-linked (a .index .now) (p .1 .0) (c .before .before .before .before .before .before .before .before .before .before .before .links-begin .ensures .0) (marks (c .before .before .before .before .before .before .before .before .before)) (p .1 .1 .0) unmarked (a .hashed) (b .0) (b .1)
+    (p .1 .1 .1 .1 .0) (p .1 .1 .1 .1 .1 (sym (marks (c .before .before .before .before .before .before .before .before .before)) ∙ unmarked)) (c .before .before .before .before .before .has-room .ensures (c .before .before .before .before .if2 .taken)))
 
 slice-write-index : tie.Need-slice-write-index
 slice-write-index c =
@@ -104,6 +105,6 @@ pub insert-any-spec : {M : Type 1} → statement M
 insert-any-spec =
     tie.close (tie.spec sub-last links-begin-requires (λ c. search needs) slice-read-wide16 (λ c κs. search needs) (λ c. search needs)
     (λ c. search needs) (λ c. search needs) (λ c. search needs) (λ c. search needs) put-in-order-requires (λ c. search needs) returns
-    bucket-of-requires has-room-requires insert-requires (λ c. search needs) returns-2 (λ c. search needs) (λ c. search needs)
+    bucket-of-requires has-room-requires link-requires (λ c. search needs) returns-2 (λ c. search needs) (λ c. search needs)
     (λ c. search needs) slice-write-index (λ c. search needs) (λ c. search needs) (λ c. search needs) slice-write-index-2
     (λ c. search needs) returns-3)
