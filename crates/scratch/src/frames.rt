@@ -1,5 +1,6 @@
 // The frames: arrays in which a stream is judged, and then the work of any question done. One for few elements, which are soon cleared, and one
-// for as many as a letter may have. A question that is added later has these arrays too.
+// for as many as a letter may have. A question that is added later has these arrays too. What is done in them stands twice: with that in a function of
+// its own the frames are so short that they become part of their callers, and every stream takes the stack of the large one.
 use answers::Question;
 use answers::Told;
 use elements::Edition;
@@ -9,7 +10,7 @@ ghost use mathlib.Core.Path.{_≡_};
 ghost use Prim.Native.Nat.{_≤_};
 ghost use lib.ListN.{length};
 ghost use Rattle.octets.specs.Walk.{walkOf};
-ghost use Rattle.letters.specs.Lent.{rowsNeeded, Lent};
+ghost use Rattle.letters.specs.Lent.{rowsNeeded};
 ghost use Rattle.answers.specs.Questions.{Leaves, Roomy};
 
 pub fn few(
@@ -30,18 +31,26 @@ pub fn few(
     let mut rows = [0u32; 6144];
     let mut index = [0u16; 3074];
     let mut bounds = [0u32; 128];
-    answer(
-        edition,
-        stream,
-        headers,
-        question,
-        &mut rows,
-        &mut index,
-        &mut bounds,
-        table,
-        flat,
-        out,
-    )
+    match letters::judge_stream(edition, stream, &mut rows, &mut index, &mut bounds) {
+        Verdict::Refused { number, place } => answers::tell_refused(
+            question,
+            number as u32,
+            place as u32,
+            headers,
+        ),
+        Verdict::Accepted { count } => answers::work(
+            edition,
+            stream,
+            headers,
+            question,
+            &rows,
+            &index,
+            count,
+            table,
+            flat,
+            out,
+        ),
+    }
 }
 
 pub fn many(
@@ -61,40 +70,7 @@ pub fn many(
     let mut rows = [0u32; 49152];
     let mut index = [0u16; 24578];
     let mut bounds = [0u32; 128];
-    answer(
-        edition,
-        stream,
-        headers,
-        question,
-        &mut rows,
-        &mut index,
-        &mut bounds,
-        table,
-        flat,
-        out,
-    )
-}
-
-// The answer to a question, in arrays that have room: the stream is judged, and of a letter the question's work is done.
-fn answer(
-    edition: Edition,
-    stream: &[u8],
-    headers: u32,
-    question: Question,
-    rows: &mut [u32],
-    index: &mut [u16],
-    bounds: &mut [u32],
-    table: &mut [u32],
-    flat: &mut [u32],
-    out: &mut [u8],
-) -> Told
-    requires { ⌜ walkOf (now stream) ≡ Outcome.Ended (length (now stream)) headers ⌝ }
-    requires { ⌜ Lent (now stream) (now rows) (now index) (now bounds) ⌝ }
-    requires { ⌜ Roomy question (now stream) (length (now flat)) ⌝ }
-    ensures { λ r. ⌜ Leaves edition question (now (stream .entry)) (now (table .entry)) (now (flat .entry)) (now (out .entry)) r (now (table .exit))
-        (now (flat .exit)) (now (out .exit)) ⌝ }
-{
-    match letters::judge_stream(edition, stream, rows, index, bounds) {
+    match letters::judge_stream(edition, stream, &mut rows, &mut index, &mut bounds) {
         Verdict::Refused { number, place } => answers::tell_refused(
             question,
             number as u32,
@@ -106,8 +82,8 @@ fn answer(
             stream,
             headers,
             question,
-            rows,
-            index,
+            &rows,
+            &index,
             count,
             table,
             flat,
