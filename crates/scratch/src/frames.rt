@@ -1,6 +1,5 @@
 // The frames: arrays in which a stream is judged, and then the work of any question done. One for few elements, which are soon cleared, and one
-// for as many as a letter may have. A question that is added later has these arrays too. What is done in them stands twice: with that in a function of
-// its own the frames are so short that they become part of their callers, and every stream takes the stack of the large one.
+// for as many as a letter may have. A question that is added later has these arrays too.
 use answers::Question;
 use answers::Told;
 use elements::Edition;
