@@ -21,15 +21,15 @@ zeros : (n : ℕ) → length (replicate {A = ℕ} n 0) ≡ n
 zeros n = length-replicate n 0
 
 -- rows, both indexes and bounds of a letter with no more rows than are lent
-pub lent : (s : List ℕ) (rows index half : ℕ) → index ≡ half + half → rowsNeeded s < half - linksBegin half
-    → rowsNeeded s * scratchWidth ≤ rows → 0 < linksBegin half → linksBegin half ≤ hashes → Lent s (replicate rows 0) (replicate index 0) (replicate 128 0)
-lent s rows index half twice needed room some few =
+pub lent : (s : List ℕ) (rows index half : ℕ) (bounds : List ℕ) → length bounds ≡ 128 → index ≡ half + half → rowsNeeded s < half - linksBegin half
+    → rowsNeeded s * scratchWidth ≤ rows → 0 < linksBegin half → linksBegin half ≤ hashes → Lent s (replicate rows 0) (replicate index 0) bounds
+lent s rows index half bounds wide twice needed room some few =
     let both = zeros-both index half twice some few in record {
       identifiers = both .identifiers;
       logicals = both .logicals;
       rows = omega (arith, zeros rows);
       links = both .links (rowsNeeded s) needed;
-      portions = omega (arith, zeros 128);
+      portions = omega (arith, wide);
     }
 
 -- where the links begin in the arrays of either size

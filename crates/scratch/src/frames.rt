@@ -1,5 +1,7 @@
 // The frames: arrays in which a stream is judged, and then the work of any question done. One for few elements, which are soon cleared, and one
-// for as many as a letter may have. A question that is added later has these arrays too.
+// for as many as a letter may have. A question that is added later has these arrays too. Each must be a function of its own, or every stream takes the
+// stack of the large one. By a hair the compiler would make them part of their callers: the two numbers that are put into the bounds, which nobody
+// reads, are for that. The stack test looks.
 use answers::Question;
 use answers::Told;
 use elements::Edition;
@@ -30,6 +32,8 @@ pub fn few(
     let mut rows = [0u32; 6144];
     let mut index = [0u16; 3074];
     let mut bounds = [0u32; 128];
+    bounds[0] = headers;
+    bounds[127] = headers;
     match letters::judge_stream(edition, stream, &mut rows, &mut index, &mut bounds) {
         Verdict::Refused { number, place } => answers::tell_refused(
             question,
@@ -69,6 +73,8 @@ pub fn many(
     let mut rows = [0u32; 49152];
     let mut index = [0u16; 24578];
     let mut bounds = [0u32; 128];
+    bounds[0] = headers;
+    bounds[127] = headers;
     match letters::judge_stream(edition, stream, &mut rows, &mut index, &mut bounds) {
         Verdict::Refused { number, place } => answers::tell_refused(
             question,

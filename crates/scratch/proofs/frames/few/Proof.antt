@@ -14,7 +14,7 @@ use Rattle.scratch.proofs.frames.few.Tie as tie
 judge-stream-requires : tie.Need-judge-stream-requires
 judge-stream-requires c κs =
     let a = c .before .before .before .before .before .before .before in
-    let l = lent (now (a .args .stream)) 6144 3074 1537 (omega arith) (omega (arith, few-links)) (omega arith) (omega (arith, few-links))
+    let l = lent (now (a .args .stream)) 6144 3074 1537 _ refl (omega arith) (omega (arith, few-links)) (omega arith) (omega (arith, few-links))
     (omega (arith, few-links)) in
     (walked-fine (now (a .args .stream)) _ _ (a .pre .0), l)
 
@@ -54,6 +54,7 @@ returns c =
 
 pub few-spec : {M : Type 1} → statement M
 few-spec =
-    tie.close (tie.spec (λ c. search needs) (λ c. search needs) (λ c. search needs) judge-stream-requires (λ c. search needs) cast-tell-refused
+    tie.close (tie.spec (λ c. search needs) (λ c. search needs) (λ c. search needs) (λ c. search needs) (λ c. search needs) judge-stream-requires
+    (λ c. search needs) cast-tell-refused
     cast-tell-refused-2 (λ c κs. search needs) (λ c. search needs) (λ c. search needs) (λ c. search needs) work-requires returns
     (λ c. search needs) (λ c. search needs) (λ c. search needs) (λ c. search needs))

@@ -14,7 +14,7 @@ use Rattle.scratch.proofs.frames.many.Tie as tie
 judge-stream-requires : tie.Need-judge-stream-requires
 judge-stream-requires c κs =
     let a = c .before .before .before .before .before .before .before in
-    let l = lent (now (a .args .stream)) 49152 24578 12289 (omega arith) (omega (arith, many-links)) (omega arith) (omega (arith, many-links))
+    let l = lent (now (a .args .stream)) 49152 24578 12289 _ refl (omega arith) (omega (arith, many-links)) (omega arith) (omega (arith, many-links))
     (omega (arith, many-links)) in
     (walked-fine (now (a .args .stream)) _ _ (a .pre .0), l)
 
@@ -54,6 +54,7 @@ returns c =
 
 pub many-spec : {M : Type 1} → statement M
 many-spec =
-    tie.close (tie.spec (λ c. search needs) (λ c. search needs) (λ c. search needs) judge-stream-requires (λ c. search needs) cast-tell-refused
+    tie.close (tie.spec (λ c. search needs) (λ c. search needs) (λ c. search needs) (λ c. search needs) (λ c. search needs) judge-stream-requires
+    (λ c. search needs) cast-tell-refused
     cast-tell-refused-2 (λ c κs. search needs) (λ c. search needs) (λ c. search needs) (λ c. search needs) work-requires returns
     (λ c. search needs) (λ c. search needs) (λ c. search needs) (λ c. search needs))
