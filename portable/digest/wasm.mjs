@@ -1,7 +1,7 @@
 // The digest in WebAssembly: node wasm.mjs digest.wasm CORPUS
 import { readFile } from 'node:fs/promises';
 
-const QUESTIONS = 17;
+const QUESTIONS = 19;
 const { instance: { exports } } = await WebAssembly.instantiate(await readFile(process.argv[2]), {});
 const corpus = await readFile(process.argv[3]);
 const told = exports.__heap_base.value, at = told + 64 & ~15;
