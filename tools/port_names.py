@@ -15,7 +15,7 @@ import sys
 
 TOP = pathlib.Path(__file__).resolve().parent.parent
 # A word of antt: a run of letters, digits, underscores, primes and dashes between them; the part before a dot is another word.
-WORD = re.compile(r"[^\W\d](?:[\w'₀-₉]|-(?=[\w]))*")
+WORD = re.compile(r"(?<![\w'₀-₉])[^\W\d](?:[\w'₀-₉]|-(?=[\w]))*")
 CAMEL = re.compile(r'[a-z][a-z0-9]*(?:[A-Z][a-z0-9]*)+')
 PAGES = ['docs/READING.md', 'docs/PROMISES.md', 'docs/ARCHITECTURE.md', 'docs/DECISIONS.md', 'docs/EXCEPTIONS.md', 'docs/CONTRIBUTING.md',
          'docs/PROVING.md', 'docs/ORDER.md', 'docs/DATES.md', 'docs/EDITIONS.md', 'docs/EVIDENCE.md', 'docs/PM1.md', 'docs/CHARACTERS.md']

@@ -44,7 +44,7 @@ date_of edition s = date_after (ruled edition s) (date_in (profile_in (tree_of s
 
 -- Where it stands: the value of the one item on the path. With a refusal the bounds are 0 and 0.
 abbrev pub date_places : Items → List Place
-date_places elements = in_each_at 0x_a3 (in_each_at 0x_a0 zeros_at) (items_in profile_octet elements)
+date_places elements = in_each_at 0xA3 (in_each_at 0xA0 zeros_at) (items_in profile_octet elements)
 
 abbrev pub sole_span : List Place → Span
 sole_span [] = no_span

@@ -25,7 +25,7 @@ abbrev pub zero_digit : ℕ
 zero_digit = 0x30
 
 abbrev pub hyphen : ℕ
-hyphen = 0x2_d
+hyphen = 0x2D
 
 -- two digits from place i of a value, and the number that they spell
 unfoldable pub two_digits : List ℕ → (i : ℕ) → Bool

@@ -44,8 +44,8 @@ few-numbers : (x : Points) → is_number x ≤ length (octets_of x)
 few-numbers (One p) = omega arith
 few-numbers (Two p q) = omega arith
 few-numbers (Number o) =
-    let rest : List ℕ = utf8 (hex_digit (o / 16)) ++ (utf8 (hex_digit (o % 16)) ++ utf8 0x27_e7) in
-    rw (number-octets o) (omega (arith, length-append (utf8 0x27_e6) rest, bracket-long.0))
+    let rest : List ℕ = utf8 (hex_digit (o / 16)) ++ (utf8 (hex_digit (o % 16)) ++ utf8 0x27E7) in
+    rw (number-octets o) (omega (arith, length-append (utf8 0x27E6) rest, bracket-long.0))
 
 pub few-all : (xs : List Sign) → numbers_in xs ≤ length (utf8_of xs)
 unfolding numbers_in utf8_of

@@ -18,7 +18,7 @@ use Rattle.characters.proofs.Rules.{no-accent-below}
 
 -- an octet that is its own character: where it lies
 abbrev Lies : ℕ → Type 0
-Lies o = (0 < o) × (o < 0x80) × (o ≡ 0x0_d → ⊥)
+Lies o = (0 < o) × (o < 0x80) × (o ≡ 0x0D → ⊥)
 
 either : (p q : Bool) → (p || q) ≡ true → (p ≡ true) ⊎ (q ≡ true)
 either true q t = inl refl
@@ -28,7 +28,7 @@ both : (p q : Bool) → (p && q) ≡ true → (p ≡ true) × (q ≡ true)
 both true q t = (refl, t)
 both false q t = absurd (false≢true t)
 
-lies_at : (o n : ℕ) → 0 < n → n < 0x0_d → eqb o n ≡ true → Lies o
+lies_at : (o n : ℕ) → 0 < n → n < 0x0D → eqb o n ≡ true → Lies o
 lies_at o n l h t =
     let e : o ≡ n = eqb-true o n t in
     (omega arith, omega arith, λ z. omega arith)
@@ -36,27 +36,27 @@ lies_at o n l h t =
 lies : (o : ℕ) → is_own o ≡ true → Lies o
 lies o t = go (leb 0x20 o) refl t
   where
-    last : (eqb o 0x09 ≡ true) ⊎ (eqb o 0x0_c ≡ true) → Lies o
+    last : (eqb o 0x09 ≡ true) ⊎ (eqb o 0x0C ≡ true) → Lies o
     last (inl u) = lies_at o 0x09 (omega arith) (omega arith) u
-    last (inr u) = lies_at o 0x0_c (omega arith) (omega arith) u
+    last (inr u) = lies_at o 0x0C (omega arith) (omega arith) u
 
-    control : (eqb o 0x0_a ≡ true) ⊎ ((eqb o 0x09 || eqb o 0x0_c) ≡ true) → Lies o
-    control (inl u) = lies_at o 0x0_a (omega arith) (omega arith) u
-    control (inr u) = last (either (eqb o 0x09) (eqb o 0x0_c) u)
+    control : (eqb o 0x0A ≡ true) ⊎ ((eqb o 0x09 || eqb o 0x0C) ≡ true) → Lies o
+    control (inl u) = lies_at o 0x0A (omega arith) (omega arith) u
+    control (inr u) = last (either (eqb o 0x09) (eqb o 0x0C) u)
 
-    go : (b : Bool) → leb 0x20 o ≡ b → cond b (leb o 0x7_e) (eqb o 0x0_a || (eqb o 0x09 || eqb o 0x0_c)) ≡ true → Lies o
+    go : (b : Bool) → leb 0x20 o ≡ b → cond b (leb o 0x7E) (eqb o 0x0A || (eqb o 0x09 || eqb o 0x0C)) ≡ true → Lies o
     go true e u =
         let l : 0x20 ≤ o = leb-true 0x20 o e in
-        let h : o ≤ 0x7_e = leb-true o 0x7_e u in
+        let h : o ≤ 0x7E = leb-true o 0x7E u in
         (omega arith, omega arith, λ z. omega arith)
-    go false e u = control (either (eqb o 0x0_a) (eqb o 0x09 || eqb o 0x0_c) u)
+    go false e u = control (either (eqb o 0x0A) (eqb o 0x09 || eqb o 0x0C) u)
 
 module _ (s o : ℕ) (own : is_own o ≡ true) (other : is_currency s o ≡ false) where
   point-own : point_of s o ≡ o
   unfolding point_of left_point
   point-own =
-      let low : o < 0x_a0 = omega (arith, (lies o own).1) in
-      rw (lt-leb 0x_a0 o low, other, own)
+      let low : o < 0xA0 = omega (arith, (lies o own).1) in
+      rw (lt-leb 0xA0 o low, other, own)
 
   alone-own : alone s o ≡ One o
   unfolding alone
@@ -76,7 +76,7 @@ module _ (s o : ℕ) (own : is_own o ≡ true) (other : is_currency s o ≡ fals
 
   first-own : (b : ℕ) → first_sign s o b ≡ sign (alone s o) 1
   unfolding first_sign
-  first-own b = rw (ne_eqb o 0x0_d (lies o own).2, no-pair b)
+  first-own b = rw (ne_eqb o 0x0D (lies o own).2, no-pair b)
 
   -- an octet that is its own character is shown as it is, whatever follows
   pub own-text : (rest : List ℕ) → utf8_of (signs s (o ∷ rest)) ≡ o ∷ utf8_of (signs s rest)

@@ -19,11 +19,11 @@ pub utf8-one : (p : ℕ) → p < 0x80 → utf8 p ≡ p ∷ []
 unfolding utf8
 utf8-one p h = rw (lt-ltb p 0x80 h)
 
-pub utf8-two : (p : ℕ) → 0x80 ≤ p → p < 0x800 → utf8 p ≡ (0x_c0 + p / 64) ∷ next p ∷ []
+pub utf8-two : (p : ℕ) → 0x80 ≤ p → p < 0x800 → utf8 p ≡ (0xC0 + p / 64) ∷ next p ∷ []
 unfolding utf8
 utf8-two p l h = rw (le-ltb p 0x80 l, lt-ltb p 0x800 h)
 
-pub utf8-three : (p : ℕ) → 0x800 ≤ p → p < 0x10000 → utf8 p ≡ (0x_e0 + p / 4096) ∷ next (p / 64) ∷ next p ∷ []
+pub utf8-three : (p : ℕ) → 0x800 ≤ p → p < 0x10000 → utf8 p ≡ (0xE0 + p / 4096) ∷ next (p / 64) ∷ next p ∷ []
 unfolding utf8
 utf8-three p l h =
     let m : 0x80 ≤ p = omega arith in
@@ -85,11 +85,11 @@ digit-small v h = go (ltb v 10)
     go true = omega arith
     go false = omega arith
 
-pub number-octets : (o : ℕ) → number_octets o ≡ utf8 0x27_e6 ++ (utf8 (hex_digit (o / 16)) ++ (utf8 (hex_digit (o % 16)) ++ utf8 0x27_e7))
+pub number-octets : (o : ℕ) → number_octets o ≡ utf8 0x27E6 ++ (utf8 (hex_digit (o / 16)) ++ (utf8 (hex_digit (o % 16)) ++ utf8 0x27E7))
 unfolding utf8s
-number-octets o = ap (λ r. utf8 0x27_e6 ++ (utf8 (hex_digit (o / 16)) ++ (utf8 (hex_digit (o % 16)) ++ r))) (append-nil (utf8 0x27_e7))
+number-octets o = ap (λ r. utf8 0x27E6 ++ (utf8 (hex_digit (o / 16)) ++ (utf8 (hex_digit (o % 16)) ++ r))) (append-nil (utf8 0x27E7))
 
-pub bracket-long : (length (utf8 0x27_e6) ≡ 3) × (length (utf8 0x27_e7) ≡ 3)
+pub bracket-long : (length (utf8 0x27E6) ≡ 3) × (length (utf8 0x27E7) ≡ 3)
 unfolding utf8
 bracket-long = (refl, refl)
 

@@ -7,7 +7,7 @@ use Rattle.characters.specs.Signs.{utf8_of, numbers_in, text_of, numbers_of}
 
 -- the answer counts octets in 32 bits: no more of an output is used
 abbrev pub most : ℕ
-most = 0x_fFFFFFFF
+most = 0xFFFFFFFF
 
 abbrev pub room_of : ℕ → ℕ
 room_of long = cond (leb long most) long most

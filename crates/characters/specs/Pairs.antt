@@ -83,12 +83,12 @@ accents =
     ∷ accent dot_above 0x307
     ∷ accent diaeresis 0x308
     ∷ accent diaeresis 0x308
-    ∷ accent ring 0x30_a
+    ∷ accent ring 0x30A
     ∷ accent cedilla 0x327
     ∷ accent underline 0x332
-    ∷ accent double_acute 0x30_b
+    ∷ accent double_acute 0x30B
     ∷ accent ogonek 0x328
-    ∷ accent caron 0x30_c
+    ∷ accent caron 0x30C
     ∷ []
 
 abbrev pub accent_at : List Accent → ℕ → Accent
@@ -96,13 +96,13 @@ accent_at [] k = accent "" 0
 accent_at (x ∷ xs) k = cond (eqb k 0) x (accent_at xs (k - 1))
 
 abbrev pub accent_of : ℕ → Accent
-accent_of a = accent_at accents (a - 0x_c0)
+accent_of a = accent_at accents (a - 0xC0)
 
 abbrev pub is_accent : ℕ → Bool
-is_accent a = leb 0x_c1 a && leb a 0x_cF
+is_accent a = leb 0xC1 a && leb a 0xCF
 
 abbrev pub is_letter : ℕ → Bool
-is_letter b = (leb 0x41 b && leb b 0x5_a) || (leb 0x61 b && leb b 0x7_a)
+is_letter b = (leb 0x41 b && leb b 0x5A) || (leb 0x61 b && leb b 0x7A)
 
 -- the character after b in a row; 1 where b is not in it
 abbrev pub found : ℕ → String → ℕ
@@ -127,4 +127,4 @@ column j = cond (eqb j 0) 0x20 (0x40 + j)
 
 pub record PairTable (table : List ℕ) : Type 0 where
   pub long : length table ≡ 1024
-  pub entry : (k : ℕ) → k < 1024 → get_or table k 0 ≡ composed (0x_c0 + k / 64) (column (k % 64))
+  pub entry : (k : ℕ) → k < 1024 → get_or table k 0 ≡ composed (0xC0 + k / 64) (column (k % 64))

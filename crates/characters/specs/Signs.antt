@@ -13,7 +13,7 @@ hex_digit v = cond (ltb v 10) (48 + v) (55 + v)
 
 -- an octet by its number: ⟦, two digits, ⟧
 abbrev pub number_points : ℕ → List ℕ
-number_points o = 0x27_e6 ∷ hex_digit (o / 16) ∷ hex_digit (o % 16) ∷ 0x27_e7 ∷ []
+number_points o = 0x27E6 ∷ hex_digit (o / 16) ∷ hex_digit (o % 16) ∷ 0x27E7 ∷ []
 
 abbrev pub number_octets : ℕ → List ℕ
 number_octets o = utf8s (number_points o)
@@ -33,7 +33,7 @@ alone s o = cond (eqb (point_of s o) 0) (Number o) (One (point_of s o))
 
 -- a carriage return and a line feed
 abbrev pub is_line_end : ℕ → ℕ → Bool
-is_line_end a b = eqb a 0x0_d && eqb b 0x0_a
+is_line_end a b = eqb a 0x0D && eqb b 0x0A
 
 -- an accent and its letter
 abbrev pub accented : ℕ → ℕ → ℕ → Points

@@ -8,9 +8,9 @@ next p = 0x80 + p % 64
 unfoldable pub utf8 : ℕ → List ℕ
 utf8 p =
     cond (ltb p 0x80) (p ∷ [])
-    (cond (ltb p 0x800) ((0x_c0 + p / 64) ∷ next p ∷ [])
-    (cond (ltb p 0x10000) ((0x_e0 + p / 4096) ∷ next (p / 64) ∷ next p ∷ [])
-    ((0x_f0 + p / 262144) ∷ next (p / 4096) ∷ next (p / 64) ∷ next p ∷ [])))
+    (cond (ltb p 0x800) ((0xC0 + p / 64) ∷ next p ∷ [])
+    (cond (ltb p 0x10000) ((0xE0 + p / 4096) ∷ next (p / 64) ∷ next p ∷ [])
+    ((0xF0 + p / 262144) ∷ next (p / 4096) ∷ next (p / 64) ∷ next p ∷ [])))
 
 -- code points, one after another
 unfoldable pub utf8s : List ℕ → List ℕ

@@ -22,7 +22,7 @@ const LATIN1: usize = 2;
 const OUTPUT_TOO_SHORT: u32 = 18;
 
 // The most octets that the answer's length can count.
-const MOST: usize = 0x_fFFFFFFF;
+const MOST: usize = 0xFFFFFFFF;
 
 // The code points of a sign.
 #[derive(Drop)]

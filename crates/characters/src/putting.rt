@@ -59,11 +59,11 @@ fn put_point(out: &mut [u8], at: usize, p: u16) -> usize
         return at + 1;
     }
     if p < 0x800 {
-        out[at] = (0x_c0 + p / 64) as u8;
+        out[at] = (0xC0 + p / 64) as u8;
         out[at + 1] = (0x80 + p % 64) as u8;
         return at + 2;
     }
-    out[at] = (0x_e0 + p / 4096) as u8;
+    out[at] = (0xE0 + p / 4096) as u8;
     out[at + 1] = (0x80 + p / 64 % 64) as u8;
     out[at + 2] = (0x80 + p % 64) as u8;
     at + 3
@@ -86,10 +86,10 @@ fn put_number(out: &mut [u8], at: usize, octet: u8) -> usize
     ensures value { result ≡ at + length (number_octets octet) }
     ensures out_after { out.new ≡ sets out.old at (number_octets octet) }
 {
-    let a = put_point(out, at, 0x27_e6);
+    let a = put_point(out, at, 0x27E6);
     let b = put_point(out, a, hex(octet / 16));
     let c = put_point(out, b, hex(octet % 16));
-    put_point(out, c, 0x27_e7)
+    put_point(out, c, 0x27E7)
 }
 
 // Writes two code points.

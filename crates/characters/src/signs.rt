@@ -20,8 +20,8 @@ fn alone_of(set: usize, octet: u8) -> Points
 fn is_line_end(a: u8, b: u8) -> bool
     ensures { result ≡ is_line_end a b }
 {
-    if a == 0x0_d {
-        return b == 0x0_a;
+    if a == 0x0D {
+        return b == 0x0A;
     }
     false
 }

@@ -24,15 +24,15 @@ fn is_own(octet: u8) -> bool
     ensures { result ≡ is_own octet }
 {
     if 0x20 <= octet {
-        return octet <= 0x7_e;
+        return octet <= 0x7E;
     }
-    if octet == 0x0_a {
+    if octet == 0x0A {
         return true;
     }
     if octet == 0x09 {
         return true;
     }
-    octet == 0x0_c
+    octet == 0x0C
 }
 
 // Whether an octet is its own character in all sets: T.61 has another sign in the place of the dollar.
@@ -60,7 +60,7 @@ fn left_point(set: usize, octet: u8) -> u16
     ensures { result ≡ left_point set octet }
 {
     if is_currency(set, octet) {
-        return 0x_a4;
+        return 0xA4;
     }
     if is_own(octet) {
         return point(octet);
@@ -70,20 +70,20 @@ fn left_point(set: usize, octet: u8) -> u16
 
 // The code point of an octet from A0 on.
 fn right_point(set: usize, octet: u8) -> u16
-    requires { 0x_a0 ≤ octet }
+    requires { 0xA0 ≤ octet }
     ensures { result ≡ right_point set octet }
 {
     if set == LATIN1 {
         return point(octet);
     }
-    SUPPLEMENT[wide(octet - 0x_a0)]
+    SUPPLEMENT[wide(octet - 0xA0)]
 }
 
 // The code point of an octet alone; 0 where the set has none.
 pub fn point_of(set: usize, octet: u8) -> u16
     ensures { result ≡ point_of set octet }
 {
-    if 0x_a0 <= octet {
+    if 0xA0 <= octet {
         return right_point(set, octet);
     }
     left_point(set, octet)
@@ -94,22 +94,22 @@ fn composed_of(pairs: &[u16], a: u8, b: u8) -> u16
     requires { PairTable pairs.now }
     ensures { result ≡ composed a b }
 {
-    if a < 0x_c0 {
+    if a < 0xC0 {
         return 0;
     }
-    if 0x_cF < a {
+    if 0xCF < a {
         return 0;
     }
     if b == 0x20 {
-        return pairs[wide(a - 0x_c0) * 64];
+        return pairs[wide(a - 0xC0) * 64];
     }
     if b <= 0x40 {
         return 0;
     }
-    if 0x7_f < b {
+    if 0x7F < b {
         return 0;
     }
-    pairs[wide(a - 0x_c0) * 64 + wide(b - 0x40)]
+    pairs[wide(a - 0xC0) * 64 + wide(b - 0x40)]
 }
 
 // What an accent and the octet after it are in a set: ISO 8859-1 has no accents.
@@ -125,8 +125,8 @@ pub fn pair_of(set: usize, pairs: &[u16], a: u8, b: u8) -> u16
 
 // The combining accent of an accent.
 pub fn combining_of(a: u8) -> u16
-    requires { (0x_c0 ≤ a) × (a ≤ 0x_cF) }
+    requires { (0xC0 ≤ a) × (a ≤ 0xCF) }
     ensures { result ≡ combining a }
 {
-    ACCENTS[wide(a - 0x_c0)]
+    ACCENTS[wide(a - 0xC0)]
 }

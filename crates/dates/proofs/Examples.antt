@@ -18,6 +18,6 @@ pub values-hold : map (λ e. as_answered e (date_from e.octets)) values ≡ valu
 unfolding date_from names_day spells_ten exists day_at two_digits two_number days_in is_digit
 values-hold = refl
 
-pub streams-hold : map (λ e. as_answered e (date_in (first_run 0x_a0 (tree_of e.octets)))) streams ≡ streams
+pub streams-hold : map (λ e. as_answered e (date_in (first_run 0xA0 (tree_of e.octets)))) streams ≡ streams
 unfolding the_date date_from names_day spells_ten exists day_at two_digits two_number days_in is_digit dates_in in_each zeros first_run run run_for head_at item_at closing_at length_at by_first long_at indefinite_at definite_at misfits big_endian_from form_allowed permits
 streams-hold = refl

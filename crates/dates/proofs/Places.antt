@@ -42,8 +42,8 @@ zero-cases s first past l k false true = unfit (no_bounds ∷ []) (omega arith)
 zero-cases s first past l k false false = no_place
 
 pub zero-tells : (s : List ℕ) (code first past : ℕ) → first ≤ past → past ≤ length s
-    → Tells s (zero_at code first past) (cond (eqb code 0x80) (found 1 first past) (cond (eqb code 0x_a0) (found 2 0 0) (found 0 0 0)))
-zero-tells s code first past l k = zero-cases s first past l k (eqb code 0x80) (eqb code 0x_a0)
+    → Tells s (zero_at code first past) (cond (eqb code 0x80) (found 1 first past) (cond (eqb code 0xA0) (found 2 0 0) (found 0 0 0)))
+zero-tells s code first past l k = zero-cases s first past l k (eqb code 0x80) (eqb code 0xA0)
 
 -- the run from `from` has been passed up to `to`, and `had` tells what was found
 pub record SoFar (s : List ℕ) (level : ℕ) (from to : Run) (had : Found) : Type 0 where

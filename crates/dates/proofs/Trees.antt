@@ -23,13 +23,13 @@ form_of : (octet known : ℕ) (b : Bool) → eqb octet known ≡ true → constr
 form_of octet known b e f = sym (ap constructed (eqb-true octet known e)) ∙ f
 
 module _ (code : ℕ) (value : List ℕ) (inside after : Tree) where
-  zero-formed : (b x y : Bool) → constructed code ≡ b → eqb code 0x80 ≡ x → eqb code 0x_a0 ≡ y
+  zero-formed : (b x y : Bool) → constructed code ≡ b → eqb code 0x80 ≡ x → eqb code 0xA0 ≡ y
       → zeros (formed b (type_field code) value inside after) ≡ cond x (in_primitive value ∷ []) (cond y (dates.in_constructed ∷ []) []) ++ zeros after
   unfolding zeros
   zero-formed true true y f e g = absurd (false≢true (form_of code 0x80 true e f))
-  zero-formed true false y f e g = rw (is_field 0x_a0 code, g)
+  zero-formed true false y f e g = rw (is_field 0xA0 code, g)
   zero-formed false true y f e g = rw (is_field 0x80 code, e)
-  zero-formed false false true f e g = absurd (true≢false (form_of code 0x_a0 false g f))
+  zero-formed false false true f e g = absurd (true≢false (form_of code 0xA0 false g f))
   zero-formed false false false f e g = rw (is_field 0x80 code, e)
 
   each-formed : (known : ℕ) → constructed known ≡ true → (list : Tree → List DateItem) → (b x : Bool) → constructed code ≡ b → eqb code known ≡ x
@@ -52,8 +52,8 @@ module _ (s : List ℕ) where
   zeros-places (item at code first past inside after) =
       map-append (read_at s) (zero_at code first past) (zeros_at after)
       ∙ ap (λ (l : List DateItem). map (read_at s) (zero_at code first past) ++ l) (zeros-places after)
-      ∙ ap (λ (l : List DateItem). l ++ zeros (plain s after)) (read-zero first past (eqb code 0x80) (eqb code 0x_a0))
-      ∙ sym (zero-formed code (slice first past s) (plain s inside) (plain s after) (constructed code) (eqb code 0x80) (eqb code 0x_a0) refl refl refl)
+      ∙ ap (λ (l : List DateItem). l ++ zeros (plain s after)) (read-zero first past (eqb code 0x80) (eqb code 0xA0))
+      ∙ sym (zero-formed code (slice first past s) (plain s inside) (plain s after) (constructed code) (eqb code 0x80) (eqb code 0xA0) refl refl refl)
 
   read-cond : (x : Bool) (l : List Place) → map (read_at s) (cond x l []) ≡ cond x (map (read_at s) l) []
   read-cond true l = refl
@@ -73,7 +73,7 @@ module _ (s : List ℕ) where
   -- the items on the path, read in the stream, are those of the tree
   pub dates-places : (i : Items) → map (read_at s) (places_from 2 i) ≡ dates_in (plain s i)
   unfolding places_from dates_in
-  dates-places i = each-places 0x_a3 refl (in_each 0x_a0 zeros) (places_from 1) (each-places 0x_a0 refl zeros zeros_at zeros-places) i
+  dates-places i = each-places 0xA3 refl (in_each 0xA0 zeros) (places_from 1) (each-places 0xA0 refl zeros zeros_at zeros-places) i
 
 unfit-date : (s : List ℕ) (places : List Place) → 2 ≤ counted places → the_date (map (read_at s) places) ≡ no_date_by 23
 unfolding counted the_date

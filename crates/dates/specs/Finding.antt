@@ -11,7 +11,7 @@ use Rattle.dates.specs.Places.{bounds, Place, no_bounds, zeros_at, in_each_at}
 
 -- the octets of the path, by how many are still to come after them
 abbrev pub path_octet : (level : ℕ) → ℕ
-path_octet level = cond (eqb level 0) 0x_a0 0x_a3
+path_octet level = cond (eqb level 0) 0xA0 0xA3
 
 -- the items [0] at the end of the path, from a run that is so many octets before it
 unfoldable pub places_from : (level : ℕ) → Items → List Place

@@ -9,7 +9,7 @@ pub data Place : Type 0 where
 
 -- an item, if it is [0]
 abbrev pub zero_at : (code first past : ℕ) → List Place
-zero_at code first past = cond (eqb code 0x80) (bounds first past ∷ []) (cond (eqb code 0x_a0) (no_bounds ∷ []) [])
+zero_at code first past = cond (eqb code 0x80) (bounds first past ∷ []) (cond (eqb code 0xA0) (no_bounds ∷ []) [])
 
 -- the items [0] of a run
 unfoldable pub zeros_at : Items → List Place

@@ -5,13 +5,13 @@ ghost use Rattle.dates.specs.Finding.{path_octet, places_from, found, Tells, Ans
 
 use runs::{Met, Run};
 
-const MANAGEMENT: usize = 0x_a3;
+const MANAGEMENT: usize = 0xA3;
 
-const TIMES: usize = 0x_a0;
+const TIMES: usize = 0xA0;
 
 const DATE: usize = 0x80;
 
-const CONSTRUCTED_DATE: usize = 0x_a0;
+const CONSTRUCTED_DATE: usize = 0xA0;
 
 const PATH_LENGTH: usize = 2;
 
@@ -46,7 +46,7 @@ fn path_octet(level: usize) -> usize
 
 // An item, if it is [0].
 fn zero_at(code: usize, first: usize, past: usize) -> Found
-    ensures { result ≡ cond (eqb code 0x80) (found 1 first past) (cond (eqb code 0x_a0) (found 2 0 0) (found 0 0 0)) }
+    ensures { result ≡ cond (eqb code 0x80) (found 1 first past) (cond (eqb code 0xA0) (found 2 0 0) (found 0 0 0)) }
 {
     if code == DATE {
         return Found {

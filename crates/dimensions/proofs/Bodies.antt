@@ -24,21 +24,21 @@ use Rattle.dimensions.specs.Dimensions.{verdict_of_items, verdict_of_body, verdi
 pub found : (s : List ℕ) (r : Run) (octet : ℕ) {x y : PartFound} → FoundIn s r octet x → x ≡ y → FoundIn s r octet y
 found s r octet f e = subst (FoundIn s r octet) e f
 
-module _ (s : List ℕ) (r : Run) {n : ℕ} (counted : n ≡ amount 0x_a4 (tree_in s r)) where
+module _ (s : List ℕ) (r : Run) {n : ℕ} (counted : n ≡ amount 0xA4 (tree_in s r)) where
   pub no-a4 : n ≡ 0 → none ≡ verdict_of_body (tree_in s r)
   unfolding verdict_of_body
-  no-a4 zero = let e : amount 0x_a4 (tree_in s r) ≡ 0 = sym counted ∙ zero in rw e
+  no-a4 zero = let e : amount 0xA4 (tree_in s r) ≡ 0 = sym counted ∙ zero in rw e
 
   pub second-a4 : (n ≡ 0 → ⊥) → (n ≡ 1 → ⊥) → not_fixed ≡ verdict_of_body (tree_in s r)
   unfolding verdict_of_body
   second-a4 some more =
-      let not_none : eqb (amount 0x_a4 (tree_in s r)) 0 ≡ false = ne_eqb (amount 0x_a4 (tree_in s r)) 0 (λ z. some (counted ∙ z)) in
-      let not-one : eqb (amount 0x_a4 (tree_in s r)) 1 ≡ false = ne_eqb (amount 0x_a4 (tree_in s r)) 1 (λ z. more (counted ∙ z)) in
+      let not_none : eqb (amount 0xA4 (tree_in s r)) 0 ≡ false = ne_eqb (amount 0xA4 (tree_in s r)) 0 (λ z. some (counted ∙ z)) in
+      let not-one : eqb (amount 0xA4 (tree_in s r)) 1 ≡ false = ne_eqb (amount 0xA4 (tree_in s r)) 1 (λ z. more (counted ∙ z)) in
       rw (not_none, not-one)
 
-  pub one-a4 : n ≡ 1 → (list : Run) → tree_in s list ≡ first_run 0x_a4 (tree_in s r) → verdict_of_items (tree_in s list) ≡ verdict_of_body (tree_in s r)
+  pub one-a4 : n ≡ 1 → (list : Run) → tree_in s list ≡ first_run 0xA4 (tree_in s r) → verdict_of_items (tree_in s list) ≡ verdict_of_body (tree_in s r)
   unfolding verdict_of_body
-  one-a4 one list inside = let e : amount 0x_a4 (tree_in s r) ≡ 1 = sym counted ∙ one in rw (e, inside)
+  one-a4 one list inside = let e : amount 0xA4 (tree_in s r) ≡ 1 = sym counted ∙ one in rw (e, inside)
 
 -- a page without a descriptor has no dimensions
 pub no-descriptor : {s : List ℕ} {r : Run} → Lacks s r 0x31 → none ≡ verdict_of (tree_in s r)
@@ -75,5 +75,5 @@ items-small (leaf one h (leaf two v (branch type inside after))) = omega arith
 pub body-small : (t : Tree) → verdict_of_body t ≤ 4
 unfolding verdict_of_body
 body-small t =
-    either-small (eqb (amount 0x_a4 t) 0) none _ (omega arith)
-    (either-small (eqb (amount 0x_a4 t) 1) _ not_fixed (items-small (first_run 0x_a4 t)) (omega arith))
+    either-small (eqb (amount 0xA4 t) 0) none _ (omega arith)
+    (either-small (eqb (amount 0xA4 t) 1) _ not_fixed (items-small (first_run 0xA4 t)) (omega arith))

@@ -20,8 +20,8 @@ verdict_of_items (leaf one horizontal (leaf two vertical (branch type inside aft
 -- The verdict on a descriptor body: "A page without dimensions is 'none'"; "a second A4, is 'not fixed'".
 unfoldable pub verdict_of_body : Tree → ℕ
 verdict_of_body body =
-    cond (eqb (amount 0x_a4 body) 0) none
-    (cond (eqb (amount 0x_a4 body) 1) (verdict_of_items (first_run 0x_a4 body))
+    cond (eqb (amount 0xA4 body) 0) none
+    (cond (eqb (amount 0xA4 body) 1) (verdict_of_items (first_run 0xA4 body))
     not_fixed)
 
 -- The verdict on an element: its descriptor body is its 31, of which it has one at most.

@@ -9,7 +9,7 @@ use runs::Run;
 // The octets of the items on the way to the numbers.
 const DESCRIPTOR: usize = 0x31;
 
-const DIMENSIONS: usize = 0x_a4;
+const DIMENSIONS: usize = 0xA4;
 
 const FIXED: usize = 0x80;
 

@@ -166,7 +166,7 @@ tabled-same octet (described needed types) run z y =
       content-same octet contents run z,
       no_run 0 run z,
       y,
-      last-first (none_of 0x61 body) (none_of 0x81 body) (all_portions (first_run 0x_a1 body)),
+      last-first (none_of 0x61 body) (none_of 0x81 body) (all_portions (first_run 0xA1 body)),
     )
 tabled-same octet (unit needed tiled) run z y =
     rw (

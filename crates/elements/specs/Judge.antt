@@ -45,9 +45,9 @@ abbrev pub looks_of : Contents → Looks
 looks_of profile = record { identifier = none; needed = false; logical = none; portions = none; barred = []; typed = none; types = 0; holders = [] }
 looks_of (described needed types) =
     let barred : List ℕ = 0x61 ∷ 0x81 ∷ [] in
-    record { identifier = some 0x41; needed = needed; logical = none; portions = some 0x_a1; barred = barred; typed = some 0x02; types = types; holders = [] }
+    record { identifier = some 0x41; needed = needed; logical = none; portions = some 0xA1; barred = barred; typed = some 0x02; types = types; holders = [] }
 looks_of (unit needed tiled) =
-    let barred : List ℕ = 0x60 ∷ 0x_a4 ∷ [] in
+    let barred : List ℕ = 0x60 ∷ 0xA4 ∷ [] in
     let holders = cond tiled octet_string_or_tiles octet_string in
     record { identifier = some 0x40; needed = false; logical = some 0x84; portions = none; barred = barred; typed = none; types = 0; holders = holders }
 looks_of style = record { identifier = some 0x45; needed = true; logical = none; portions = none; barred = 0x65 ∷ []; typed = none; types = 0; holders = [] }
@@ -237,7 +237,7 @@ most_elements = 4096
 
 -- "The profile is first and only there."
 abbrev pub profile_octet : ℕ
-profile_octet = 0x_a0
+profile_octet = 0xA0
 
 -- whether two values are there and the same, byte by byte
 abbrev pub shares : Value → Value → Bool

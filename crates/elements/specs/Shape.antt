@@ -56,25 +56,25 @@ octet_string_or_tiles = pieced 0x24 ∷ pieced 0x30 ∷ whole 0x04 ∷ []
 -- the elements of 1988
 abbrev pub shapes1988 : Shapes
 shapes1988 =
-    entry 0x_a0 profile
-    ∷ entry 0x_a1 (described true layout_types)
-    ∷ entry 0x_a2 (described false layout_types)
-    ∷ entry 0x_a3 (unit true false)
-    ∷ entry 0x_a5 (described true logical_types)
-    ∷ entry 0x_a6 (described false logical_types)
-    ∷ entry 0x_a7 style
-    ∷ entry 0x_a8 style
+    entry 0xA0 profile
+    ∷ entry 0xA1 (described true layout_types)
+    ∷ entry 0xA2 (described false layout_types)
+    ∷ entry 0xA3 (unit true false)
+    ∷ entry 0xA5 (described true logical_types)
+    ∷ entry 0xA6 (described false logical_types)
+    ∷ entry 0xA7 style
+    ∷ entry 0xA8 style
     ∷ []
 
 -- what 1993 has of its own: a text unit may have no content, or tiles, and there are a sealed profile, an enciphered profile, and body parts
 -- that were enciphered before or after the layout (7.6, 7.13, 7.15)
 abbrev pub added1993 : Shapes
 added1993 =
-    entry 0x_a3 (unit false true)
-    ∷ entry 0x_a9 (protected false)
-    ∷ entry 0x_aA (protected true)
-    ∷ entry 0x_aB (protected true)
-    ∷ entry 0x_aC (protected true)
+    entry 0xA3 (unit false true)
+    ∷ entry 0xA9 (protected false)
+    ∷ entry 0xAA (protected true)
+    ∷ entry 0xAB (protected true)
+    ∷ entry 0xAC (protected true)
     ∷ []
 
 -- the elements of 1993: those, and the others as in 1988

@@ -80,7 +80,7 @@ fn described_slots(octet: usize, needed: bool, types: usize) -> Slots
             needed,
         },
         logical: 0,
-        portions: 0x_a1,
+        portions: 0xA1,
         never: 0x61,
         neither: 0x81,
         object: 0x02,
@@ -120,7 +120,7 @@ fn unit_slots(octet: usize, needed: bool, tiles: Slot) -> Slots
         logical: 0x84,
         portions: 0,
         never: 0x60,
-        neither: 0x_a4,
+        neither: 0xA4,
         object: 0,
         types: 0,
         content: 0x04,
@@ -231,14 +231,14 @@ fn shape_1988(code: usize) -> Slots
     ensures { result ≡ slots_of (shape_in shapes1988 (type_field code)) }
 {
     match code {
-        0x_a0 => profile_slots(0x_a0),
-        0x_a1 => described_slots(0x_a1, true, LAYOUT_TYPES),
-        0x_a2 => described_slots(0x_a2, false, LAYOUT_TYPES),
-        0x_a3 => unit_slots(0x_a3, true, NEVER),
-        0x_a5 => described_slots(0x_a5, true, LOGICAL_TYPES),
-        0x_a6 => described_slots(0x_a6, false, LOGICAL_TYPES),
-        0x_a7 => style_slots(0x_a7),
-        0x_a8 => style_slots(0x_a8),
+        0xA0 => profile_slots(0xA0),
+        0xA1 => described_slots(0xA1, true, LAYOUT_TYPES),
+        0xA2 => described_slots(0xA2, false, LAYOUT_TYPES),
+        0xA3 => unit_slots(0xA3, true, NEVER),
+        0xA5 => described_slots(0xA5, true, LOGICAL_TYPES),
+        0xA6 => described_slots(0xA6, false, LOGICAL_TYPES),
+        0xA7 => style_slots(0xA7),
+        0xA8 => style_slots(0xA8),
         _ => profile_slots(0),
     }
 }
@@ -248,11 +248,11 @@ fn shape_1993(code: usize) -> Slots
     ensures { result ≡ slots_of (shape_in shapes1993 (type_field code)) }
 {
     match code {
-        0x_a3 => unit_slots(0x_a3, false, TILES),
-        0x_a9 => sealed_slots(0x_a9),
-        0x_aA => enciphered_slots(0x_aA),
-        0x_aB => enciphered_slots(0x_aB),
-        0x_aC => enciphered_slots(0x_aC),
+        0xA3 => unit_slots(0xA3, false, TILES),
+        0xA9 => sealed_slots(0xA9),
+        0xAA => enciphered_slots(0xAA),
+        0xAB => enciphered_slots(0xAB),
+        0xAC => enciphered_slots(0xAC),
         _ => shape_1988(code),
     }
 }

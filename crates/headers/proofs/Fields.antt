@@ -30,12 +30,12 @@ field-size code =
 pub above-thirty : (octet : ℕ) → is_in octet above_thirty ≡ true → (64 ≤ octet) × (octet < 256) × (number_bits octet ≡ 31)
 above-thirty octet =
     let P : Bool → Type 0 = λ b. b ≡ true → (64 ≤ octet) × (octet < 256) × (number_bits octet ≡ 31) in
-    cond-holds P (eqb octet 0x5_f) (λ e _. let q = eqb-true octet 0x5_f e in (omega arith, omega arith, omega arith))
-    (λ _. cond-holds P (eqb octet 0x7_f) (λ e _. let q = eqb-true octet 0x7_f e in (omega arith, omega arith, omega arith))
-    (λ _. cond-holds P (eqb octet 0x9_f) (λ e _. let q = eqb-true octet 0x9_f e in (omega arith, omega arith, omega arith))
-    (λ _. cond-holds P (eqb octet 0x_bF) (λ e _. let q = eqb-true octet 0x_bF e in (omega arith, omega arith, omega arith))
-    (λ _. cond-holds P (eqb octet 0x_dF) (λ e _. let q = eqb-true octet 0x_dF e in (omega arith, omega arith, omega arith))
-    (λ _. cond-holds P (eqb octet 0x_fF) (λ e _. let q = eqb-true octet 0x_fF e in (omega arith, omega arith, omega arith))
+    cond-holds P (eqb octet 0x5F) (λ e _. let q = eqb-true octet 0x5F e in (omega arith, omega arith, omega arith))
+    (λ _. cond-holds P (eqb octet 0x7F) (λ e _. let q = eqb-true octet 0x7F e in (omega arith, omega arith, omega arith))
+    (λ _. cond-holds P (eqb octet 0x9F) (λ e _. let q = eqb-true octet 0x9F e in (omega arith, omega arith, omega arith))
+    (λ _. cond-holds P (eqb octet 0xBF) (λ e _. let q = eqb-true octet 0xBF e in (omega arith, omega arith, omega arith))
+    (λ _. cond-holds P (eqb octet 0xDF) (λ e _. let q = eqb-true octet 0xDF e in (omega arith, omega arith, omega arith))
+    (λ _. cond-holds P (eqb octet 0xFF) (λ e _. let q = eqb-true octet 0xFF e in (omega arith, omega arith, omega arith))
     (λ _ z. absurd (false≢true z)))))))
 
 -- the type field of a code of one octet

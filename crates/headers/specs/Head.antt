@@ -48,7 +48,7 @@ form_allowed octet = cond (universal octet) (permits (number_bits octet) (constr
 
 -- The octets with number bits 11111 whose class is not universal: "5 also for a universal number above 30".
 abbrev pub above_thirty : List ℕ
-above_thirty = 0x5_f ∷ 0x7_f ∷ 0x9_f ∷ 0x_bF ∷ 0x_dF ∷ 0x_fF ∷ []
+above_thirty = 0x5F ∷ 0x7F ∷ 0x9F ∷ 0xBF ∷ 0xDF ∷ 0xFF ∷ []
 
 -- A type field is held as one number, its code: the first octet, and 256 times the octets after it. So the code of one octet is that octet.
 abbrev pub code_of : (type : List ℕ) → ℕ

@@ -144,10 +144,10 @@ fn length_at(s: &[u8], code: usize, at: usize, from: usize, limit: usize) -> Hea
     }
     let first = s[from];
     match first {
-        0x00..=0x7_f => definite_at(code, at, from + 1, wide(first), limit),
+        0x00..=0x7F => definite_at(code, at, from + 1, wide(first), limit),
         0x80 => indefinite_at(code, at, from, limit),
         0x81..=0x84 => long_at(s, code, at, from, wide(first - 0x80), limit),
-        0x85..=0x_fF => Head::Refusal {
+        0x85..=0xFF => Head::Refusal {
             number: 6,
             place: at,
         },
@@ -215,14 +215,14 @@ fn is_usual(octet: u8, len: u8, left: usize, room: usize) -> bool
     if left <= wide(len) {
         return false;
     }
-    if 0x7_f < len {
+    if 0x7F < len {
         return false;
     }
     match octet {
         0x02 => len != 0,
         0x05 => len == 0,
         0x04 | 0x12 | 0x30 | 0x31 => true,
-        0x40..=0x_fF => octet % 32 != 31,
+        0x40..=0xFF => octet % 32 != 31,
         _ => false,
     }
 }

@@ -102,7 +102,7 @@ fn numbered_field(first: u8, code: usize, past: usize) -> Field
     ensures { result ≡ numbered_field first code past }
 {
     match first {
-        0x5_f | 0x7_f | 0x9_f | 0x_bF | 0x_dF | 0x_fF => Field::Read { code, past },
+        0x5F | 0x7F | 0x9F | 0xBF | 0xDF | 0xFF => Field::Read { code, past },
         _ => Field::Wrong { number: 5 },
     }
 }
@@ -134,10 +134,10 @@ fn long_field(s: &[u8], first: u8, at: usize, limit: usize) -> Field
     }
     let second = s[next];
     match second {
-        0x00..=0x1_e => Field::Wrong { number: 4 },
-        0x1_f..=0x7_f => numbered_field(first, code_of(first, second, 0), at + 2),
+        0x00..=0x1E => Field::Wrong { number: 4 },
+        0x1F..=0x7F => numbered_field(first, code_of(first, second, 0), at + 2),
         0x80 => Field::Wrong { number: 4 },
-        0x81..=0x_fF => third_field(s, first, second, at, limit),
+        0x81..=0xFF => third_field(s, first, second, at, limit),
     }
 }
 

@@ -44,7 +44,7 @@ pub struct Hashes {
 
 pub const MOST_ELEMENTS: usize = 4096;
 
-const PROFILE: usize = 0x_a0;
+const PROFILE: usize = 0xA0;
 
 // Rules 9 to 11 for element n: the number of the one that refuses, or 0. `known` is the octet of its shape.
 pub fn early(n: usize, code: usize, known: usize) -> usize
@@ -166,7 +166,7 @@ fn may_be_bare(code: usize) -> bool
     ensures { result ≡ true → (edition : Edition) → MayBeBare edition code }
 {
     match code {
-        0x_a0 | 0x_a2 | 0x_a6 => true,
+        0xA0 | 0xA2 | 0xA6 => true,
         _ => false,
     }
 }

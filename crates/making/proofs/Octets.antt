@@ -62,18 +62,18 @@ module _ (x : Said) (few : length (unit_name x) ≤ longest_identifier) where
 
   -- what a block names: its identifier and its portions
   abbrev named : List ℕ
-  named = 0x41 ∷ i ∷ (x.identifier ++ 0x_a1 ∷ (p + 2) ∷ 0x12 ∷ p ∷ x.portion)
+  named = 0x41 ∷ i ∷ (x.identifier ++ 0xA1 ∷ (p + 2) ∷ 0x12 ∷ p ∷ x.portion)
 
-  named-are : normal_of (leaf (0x41 ∷ []) x.identifier (branch (0x_a1 ∷ []) (leaf (0x12 ∷ []) x.portion empty) empty)) ≡ named
+  named-are : normal_of (leaf (0x41 ∷ []) x.identifier (branch (0xA1 ∷ []) (leaf (0x12 ∷ []) x.portion empty) empty)) ≡ named
   named-are =
       let n = name-short in
       let portion = leaf_last 0x12 p (omega arith) x.portion refl in
-      let portions = branch-last 0x_a1 (p + 2) (omega arith) (leaf (0x12 ∷ []) x.portion empty) (0x12 ∷ p ∷ x.portion) portion (omega arith) in
-      leaf-short 0x41 i (omega arith) x.identifier (branch (0x_a1 ∷ []) (leaf (0x12 ∷ []) x.portion empty) empty) refl
+      let portions = branch-last 0xA1 (p + 2) (omega arith) (leaf (0x12 ∷ []) x.portion empty) (0x12 ∷ p ∷ x.portion) portion (omega arith) in
+      leaf-short 0x41 i (omega arith) x.identifier (branch (0xA1 ∷ []) (leaf (0x12 ∷ []) x.portion empty) empty) refl
       ∙ ap (λ (l : List ℕ). 0x41 ∷ i ∷ (x.identifier ++ l)) portions
 
   named-size : length named ≡ name_size x + 6
-  named-size = let e = length-append x.identifier (0x_a1 ∷ (p + 2) ∷ 0x12 ∷ p ∷ x.portion) in omega arith
+  named-size = let e = length-append x.identifier (0xA1 ∷ (p + 2) ∷ 0x12 ∷ p ∷ x.portion) in omega arith
 
   block_inside : normal_of (block_run x) ≡ 0x02 ∷ 0x01 ∷ 0x04 ∷ 0x31 ∷ (name_size x + 6) ∷ named
   block_inside =
@@ -86,8 +86,8 @@ module _ (x : Said) (few : length (unit_name x) ≤ longest_identifier) where
   block-are after =
       let n = name-short in
       let e = named-size in
-      branch-short 0x_a2 (name_size x + 11) (omega arith) (block_run x) after (0x02 ∷ 0x01 ∷ 0x04 ∷ 0x31 ∷ (name_size x + 6) ∷ named) block_inside (omega arith)
-      ∙ rw (append_assoc x.identifier (0x_a1 ∷ (p + 2) ∷ 0x12 ∷ p ∷ x.portion) (normal_of after))
+      branch-short 0xA2 (name_size x + 11) (omega arith) (block_run x) after (0x02 ∷ 0x01 ∷ 0x04 ∷ 0x31 ∷ (name_size x + 6) ∷ named) block_inside (omega arith)
+      ∙ rw (append_assoc x.identifier (0xA1 ∷ (p + 2) ∷ 0x12 ∷ p ∷ x.portion) (normal_of after))
 
   -- what a unit says: its name, and the text
   abbrev name : List ℕ
@@ -122,8 +122,8 @@ module _ (x : Said) (few : length (unit_name x) ≤ longest_identifier) where
   unit-are : (after : Tree) → normal_of (branch unit_type (unit_run x) after) ≡ unit_octets x (normal_of after)
   unfolding unit_octets
   unit-are after =
-      branch-is 0x_a3 (unit_size x) (unit_run x) after (name ++ text) unit-inside unit-value
-      ∙ ap (λ (l : List ℕ). 0x_a3 ∷ (length_octets (unit_size x) ++ 0x31 ∷ (name_size x + 3) ∷ 0x40 ∷ (name_size x + 1) ∷ l)) (simp append_assoc)
+      branch-is 0xA3 (unit_size x) (unit_run x) after (name ++ text) unit-inside unit-value
+      ∙ ap (λ (l : List ℕ). 0xA3 ∷ (length_octets (unit_size x) ++ 0x31 ∷ (name_size x + 3) ∷ 0x40 ∷ (name_size x + 1) ∷ l)) (simp append_assoc)
 
   -- how long an entry is
   entry-size : (after : List ℕ) → length (block_octets x (unit_octets x after)) ≡ entry_size x + length after
@@ -148,7 +148,7 @@ entries-are (x ∷ said) (few, s) =
 -- The stream is its octets from front to back.
 pub octets-are : (said : List Said) → Short said → stream_of said ≡ stream_octets said
 unfolding normal_of
-octets-are said s = ap (λ (l : List ℕ). 0x_a0 ∷ 0x00 ∷ l) (entries-are said s)
+octets-are said s = ap (λ (l : List ℕ). 0xA0 ∷ 0x00 ∷ l) (entries-are said s)
 
 -- how long they are
 pub entries-size : (said : List Said) → Short said → length (entries_octets said) ≡ entries_size said

@@ -49,12 +49,12 @@ module _ (said : Said) where
   block-pieces = rw (append-nil said.portion)
 
   -- a text unit in its pieces
-  pub unit-pieces : header 0x_a3 (unit_size said)
+  pub unit-pieces : header 0xA3 (unit_size said)
       ++ ((unit_front n ++ (said.identifier ++ ((space_byte ∷ []) ++ said.portion))) ++ (header 0x04 (length said.text) ++ said.text))
       ≡ unit_octets said []
   unfolding unit_octets
   unit-pieces =
-      ap (λ (l : List ℕ). 0x_a3 ∷ (length_octets (unit_size said) ++ 0x31 ∷ (n + 3) ∷ 0x40 ∷ (n + 1) ∷ l))
+      ap (λ (l : List ℕ). 0xA3 ∷ (length_octets (unit_size said) ++ 0x31 ∷ (n + 3) ∷ 0x40 ∷ (n + 1) ∷ l))
       (grouped said.identifier said.portion (0x04 ∷ length_octets (length said.text)) said.text)
 
   block-then : (after : List ℕ) → block_octets said after ≡ block_octets said [] ++ after

@@ -88,11 +88,11 @@ block-by said i p e f =
     ∙ block-pieces said
 
 pub unit-by : (said : Said) (u n t : ℕ) → u ≡ unit_size said → n ≡ name_size said → t ≡ length said.text
-    → header 0x_a3 u ++ ((unit_front n ++ (said.identifier ++ ((space_byte ∷ []) ++ said.portion))) ++ (header 0x04 t ++ said.text)) ≡ unit_octets said []
+    → header 0xA3 u ++ ((unit_front n ++ (said.identifier ++ ((space_byte ∷ []) ++ said.portion))) ++ (header 0x04 t ++ said.text)) ≡ unit_octets said []
 unit-by said u n t e f g =
-    ap (λ (k : ℕ). header 0x_a3 k ++ ((unit_front n ++ (said.identifier ++ ((space_byte ∷ []) ++ said.portion))) ++ (header 0x04 t ++ said.text))) e
-    ∙ ap (λ (k : ℕ). header 0x_a3 (unit_size said) ++ ((unit_front k ++ (said.identifier ++ ((space_byte ∷ []) ++ said.portion))) ++
+    ap (λ (k : ℕ). header 0xA3 k ++ ((unit_front n ++ (said.identifier ++ ((space_byte ∷ []) ++ said.portion))) ++ (header 0x04 t ++ said.text))) e
+    ∙ ap (λ (k : ℕ). header 0xA3 (unit_size said) ++ ((unit_front k ++ (said.identifier ++ ((space_byte ∷ []) ++ said.portion))) ++
     (header 0x04 t ++ said.text))) f
-    ∙ ap (λ (k : ℕ). header 0x_a3 (unit_size said) ++ ((unit_front (name_size said) ++ (said.identifier ++ ((space_byte ∷ []) ++ said.portion))) ++
+    ∙ ap (λ (k : ℕ). header 0xA3 (unit_size said) ++ ((unit_front (name_size said) ++ (said.identifier ++ ((space_byte ∷ []) ++ said.portion))) ++
     (header 0x04 k ++ said.text))) g
     ∙ unit-pieces said

@@ -35,10 +35,10 @@ header octet size = octet ∷ length_octets size
 
 -- what comes before the identifier of a block, before its portion, and before the identifier of a text unit
 abbrev pub block_front : (names identifier : ℕ) → List ℕ
-block_front names identifier = 0x_a2 ∷ (names + 11) ∷ 0x02 ∷ 0x01 ∷ 0x04 ∷ 0x31 ∷ (names + 6) ∷ 0x41 ∷ identifier ∷ []
+block_front names identifier = 0xA2 ∷ (names + 11) ∷ 0x02 ∷ 0x01 ∷ 0x04 ∷ 0x31 ∷ (names + 6) ∷ 0x41 ∷ identifier ∷ []
 
 abbrev pub portion_front : (portion : ℕ) → List ℕ
-portion_front portion = 0x_a1 ∷ (portion + 2) ∷ 0x12 ∷ portion ∷ []
+portion_front portion = 0xA1 ∷ (portion + 2) ∷ 0x12 ∷ portion ∷ []
 
 abbrev pub unit_front : (names : ℕ) → List ℕ
 unit_front names = 0x31 ∷ (names + 3) ∷ 0x40 ∷ (names + 1) ∷ []
@@ -55,7 +55,7 @@ block_octets said after =
 -- a text unit, and what follows it
 unfoldable pub unit_octets : Said → (after : List ℕ) → List ℕ
 unit_octets said after =
-    header 0x_a3 (unit_size said)
+    header 0xA3 (unit_size said)
     ++ (unit_front (name_size said)
     ++ (said.identifier
     ++ space_byte ∷ (said.portion
@@ -78,7 +78,7 @@ entries_size (said ∷ more) = entry_size said + entries_size more
 
 -- the stream, and its length
 abbrev pub stream_octets : List Said → List ℕ
-stream_octets said = 0x_a0 ∷ 0x00 ∷ entries_octets said
+stream_octets said = 0xA0 ∷ 0x00 ∷ entries_octets said
 
 abbrev pub stream_size : List Said → ℕ
 stream_size said = 2 + entries_size said

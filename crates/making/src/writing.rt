@@ -86,7 +86,7 @@ fn put_front(out: &mut [u8], at: usize, names: usize, identifier: usize) -> usiz
     requires { (names ≤ 63) × (identifier ≤ names) × (at + 9 ≤ length out.old) }
     ensures { PutsOctets out.old at (block_front names identifier) result out.new }
 {
-    let first = put_four(out, at, 0x_a2, (names + 11) as u8, 0x02, 0x01);
+    let first = put_four(out, at, 0xA2, (names + 11) as u8, 0x02, 0x01);
     let second = put_four(out, first, 0x04, 0x31, (names + 6) as u8, 0x41);
     out[second] = identifier as u8;
     second + 1
@@ -101,7 +101,7 @@ fn put_block(buffer: &[u8], entry: Entry, out: &mut [u8], at: usize) -> usize
     let portion = size_of(entry.portion);
     let fronted = put_front(out, at, identifier + portion, identifier);
     let named = put_part(buffer, entry.identifier, out, fronted);
-    let listed = put_four(out, named, 0x_a1, (portion + 2) as u8, 0x12, portion as u8);
+    let listed = put_four(out, named, 0xA1, (portion + 2) as u8, 0x12, portion as u8);
     put_part(buffer, entry.portion, out, listed)
 }
 
@@ -126,7 +126,7 @@ fn put_unit(buffer: &[u8], entry: Entry, out: &mut [u8], at: usize) -> usize
 {
     let names = size_of(entry.identifier) + size_of(entry.portion);
     let text = size_of(entry.text);
-    let headed = put_header(out, at, 0x_a3, unit_size(names, text));
+    let headed = put_header(out, at, 0xA3, unit_size(names, text));
     let named = put_name(buffer, entry, out, headed, names);
     let held = put_header(out, named, 0x04, text);
     put_part(buffer, entry.text, out, held)
@@ -189,7 +189,7 @@ pub fn put_letter(buffer: &[u8], numbers: &[u32], out: &mut [u8]) -> usize
     requires { AllLie buffer.now numbers.now × (size_for numbers.now ≤ stream_limit) × (size_for numbers.now ≤ length out.old) }
     ensures { PutsOctets out.old 0 (stream_octets (said_in buffer.now numbers.now)) result out.new }
 {
-    out[0] = 0x_a0;
+    out[0] = 0xA0;
     out[1] = 0x00;
     put_entries(buffer, numbers, out, 2)
 }

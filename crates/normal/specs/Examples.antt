@@ -18,14 +18,14 @@ lent = 9 ∷ 9 ∷ 9 ∷ 9 ∷ 9 ∷ 9 ∷ 9 ∷ 9 ∷ []
 -- an item of every form of length; a normal form that is one octet too long
 abbrev pub examples : List Example
 examples =
-    record { stream = 0x_a0 ∷ 0x80 ∷ 0x00 ∷ 0x00 ∷ []; answer = Written 2; output = 0x_a0 ∷ 0x00 ∷ 9 ∷ 9 ∷ 9 ∷ 9 ∷ 9 ∷ 9 ∷ [] }
-    ∷ record { stream = 0x_a0 ∷ 0x00 ∷ []; answer = Written 2; output = 0x_a0 ∷ 0x00 ∷ 9 ∷ 9 ∷ 9 ∷ 9 ∷ 9 ∷ 9 ∷ [] }
+    record { stream = 0xA0 ∷ 0x80 ∷ 0x00 ∷ 0x00 ∷ []; answer = Written 2; output = 0xA0 ∷ 0x00 ∷ 9 ∷ 9 ∷ 9 ∷ 9 ∷ 9 ∷ 9 ∷ [] }
+    ∷ record { stream = 0xA0 ∷ 0x00 ∷ []; answer = Written 2; output = 0xA0 ∷ 0x00 ∷ 9 ∷ 9 ∷ 9 ∷ 9 ∷ 9 ∷ 9 ∷ [] }
     ∷ record {
-      stream = 0x_a0 ∷ 0x80 ∷ 0x04 ∷ 0x82 ∷ 0x00 ∷ 0x01 ∷ 0x07 ∷ 0x00 ∷ 0x00 ∷ [];
+      stream = 0xA0 ∷ 0x80 ∷ 0x04 ∷ 0x82 ∷ 0x00 ∷ 0x01 ∷ 0x07 ∷ 0x00 ∷ 0x00 ∷ [];
       answer = Written 5;
-      output = 0x_a0 ∷ 0x03 ∷ 0x04 ∷ 0x01 ∷ 0x07 ∷ 9 ∷ 9 ∷ 9 ∷ [];
+      output = 0xA0 ∷ 0x03 ∷ 0x04 ∷ 0x01 ∷ 0x07 ∷ 9 ∷ 9 ∷ 9 ∷ [];
     }
-    ∷ record { stream = 0x_a0 ∷ 0x07 ∷ 0x04 ∷ 0x05 ∷ 1 ∷ 2 ∷ 3 ∷ 4 ∷ 5 ∷ []; answer = Refused 18 0; output = lent }
+    ∷ record { stream = 0xA0 ∷ 0x07 ∷ 0x04 ∷ 0x05 ∷ 1 ∷ 2 ∷ 3 ∷ 4 ∷ 5 ∷ []; answer = Refused 18 0; output = lent }
     ∷ []
 
 -- what the writer gives

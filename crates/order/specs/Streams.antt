@@ -13,28 +13,28 @@ abbrev pub asked : (a b : Ordered) → List ℕ → Stream
 asked a b stream = record { a = a; b = b; stream = stream }
 
 abbrev pub profile : List ℕ
-profile = 0x_a0 ∷ 0x00 ∷ []
+profile = 0xA0 ∷ 0x00 ∷ []
 
 -- a class or an object with the identifier "a b" that lists portion 0
 abbrev pub lists : (octet object a b : ℕ) → List ℕ
 lists octet object a b =
-    octet ∷ 0x0_f ∷ 0x02 ∷ 0x01 ∷ object ∷ 0x31 ∷ 0x0_a ∷ 0x41 ∷ 0x03 ∷ (48 + a) ∷ 0x20 ∷ (48 + b) ∷ 0x_a1 ∷ 0x03 ∷ 0x12 ∷ 0x01 ∷ 0x30 ∷ []
+    octet ∷ 0x0F ∷ 0x02 ∷ 0x01 ∷ object ∷ 0x31 ∷ 0x0A ∷ 0x41 ∷ 0x03 ∷ (48 + a) ∷ 0x20 ∷ (48 + b) ∷ 0xA1 ∷ 0x03 ∷ 0x12 ∷ 0x01 ∷ 0x30 ∷ []
 
 abbrev pub block : (a b : ℕ) → List ℕ
-block a b = lists 0x_a2 4 a b
+block a b = lists 0xA2 4 a b
 
 -- a layout style
 abbrev pub style : List ℕ
-style = 0x_a8 ∷ 0x05 ∷ 0x45 ∷ 0x03 ∷ 0x34 ∷ 0x20 ∷ 0x30 ∷ []
+style = 0xA8 ∷ 0x05 ∷ 0x45 ∷ 0x03 ∷ 0x34 ∷ 0x20 ∷ 0x30 ∷ []
 
 -- the text unit of portion 0 of the element "a b", by its layout identifier; and of two elements, by both its identifiers
 abbrev pub of_layout : (a b : ℕ) → List ℕ
 of_layout a b =
-    0x_a3 ∷ 0x0_c ∷ 0x31 ∷ 0x07 ∷ 0x40 ∷ 0x05 ∷ (48 + a) ∷ 0x20 ∷ (48 + b) ∷ 0x20 ∷ 0x30 ∷ 0x04 ∷ 0x01 ∷ 0x78 ∷ []
+    0xA3 ∷ 0x0C ∷ 0x31 ∷ 0x07 ∷ 0x40 ∷ 0x05 ∷ (48 + a) ∷ 0x20 ∷ (48 + b) ∷ 0x20 ∷ 0x30 ∷ 0x04 ∷ 0x01 ∷ 0x78 ∷ []
 
 abbrev pub of_both : (a b c d : ℕ) → List ℕ
 of_both a b c d =
-    0x_a3 ∷ 0x13 ∷ 0x31 ∷ 0x0_e ∷ 0x40 ∷ 0x05 ∷ (48 + a) ∷ 0x20 ∷ (48 + b) ∷ 0x20 ∷ 0x30
+    0xA3 ∷ 0x13 ∷ 0x31 ∷ 0x0E ∷ 0x40 ∷ 0x05 ∷ (48 + a) ∷ 0x20 ∷ (48 + b) ∷ 0x20 ∷ 0x30
     ∷ 0x84 ∷ 0x05 ∷ (48 + c) ∷ 0x20 ∷ (48 + d) ∷ 0x20 ∷ 0x30 ∷ 0x04 ∷ 0x01 ∷ 0x78 ∷ []
 
 abbrev pub streams : List Stream
@@ -50,7 +50,7 @@ streams =
     -- in neither: a unit before its block; a unit missing, at the stream's length; a generic unit that a later object lists too
     ∷ asked (verdict 26 2) (verdict 26 2) (profile ++ of_layout 1 0 ++ block 1 0)
     ∷ asked (verdict 26 19) (verdict 26 19) (profile ++ block 1 0)
-    ∷ asked (verdict 26 40) (verdict 26 40) (profile ++ lists 0x_a1 4 0 0 ++ of_both 0 0 3 0 ++ lists 0x_a6 2 3 0)
+    ∷ asked (verdict 26 40) (verdict 26 40) (profile ++ lists 0xA1 4 0 0 ++ of_both 0 0 3 0 ++ lists 0xA6 2 3 0)
     -- refused by 11: no profile
     ∷ asked (verdict 11 0) (verdict 11 0) (block 1 0)
     ∷ []

@@ -214,7 +214,7 @@ both-in to (p ∷ ps) qs a b = (a.0, both-in to ps qs a.1 b)
 module _ (from to : ℕ) where
   zero_in : (octet first past : ℕ) → first ≤ past → past ≤ to → AllIn to (zero_at octet first past)
   zero_in octet first past order inside =
-      cond-holds (AllIn to) (eqb octet 0x80) (λ _. ((order, inside), tt)) (λ _. cond-holds (AllIn to) (eqb octet 0x_a0) (λ _. (tt, tt)) (λ _. tt))
+      cond-holds (AllIn to) (eqb octet 0x80) (λ _. ((order, inside), tt)) (λ _. cond-holds (AllIn to) (eqb octet 0xA0) (λ _. (tt, tt)) (λ _. tt))
 
   zeros-in : (i : Items) → Nested from to i → AllIn to (zeros_at i)
   unfolding zeros_at
@@ -230,8 +230,8 @@ module _ (from to : ℕ) where
       both-in to (cond (eqb type octet) (list inside) []) (in_each_at octet list after)
       (cond-holds (AllIn to) (eqb type octet) (λ _. all inside w.3) (λ _. tt)) (each_in octet list all after w.4)
 
-  path-in : (i : Items) → Nested from to i → AllIn to (in_each_at 0x_a3 (in_each_at 0x_a0 zeros_at) i)
-  path-in = each_in 0x_a3 (in_each_at 0x_a0 zeros_at) (each_in 0x_a0 zeros_at zeros-in)
+  path-in : (i : Items) → Nested from to i → AllIn to (in_each_at 0xA3 (in_each_at 0xA0 zeros_at) i)
+  path-in = each_in 0xA3 (in_each_at 0xA0 zeros_at) (each_in 0xA0 zeros_at zeros-in)
 
   dates-in : (i : Items) → Nested from to i → AllIn to (date_places i)
   unfolding items_in

@@ -77,7 +77,7 @@ alike-by type run e =
         some_item = λ z.
             let a : amount 0x04 run ≡ 0 = omega arith in
             let b : amount 0x24 run ≡ 0 = omega arith in
-            let w : not (is 0x_a3 type) || not (none_of 0x04 run && none_of 0x24 run) ≡ false = rw (t, a, b) in
+            let w : not (is 0xA3 type) || not (none_of 0x04 run && none_of 0x24 run) ≡ false = rw (t, a, b) in
             false≢true (sym w ∙ content);
       };
     }
@@ -126,17 +126,17 @@ letters-agree s h = walk-agrees s h (walk_of s)
 protected-unknown : (type : List ℕ) → is_protected type ≡ true → is (shape_of Of1988 type).octet type ≡ false
 unfolding shape_of
 protected-unknown type p =
-    cases (is 0x_a9 type)
-    (λ t. let e : code_of type ≡ 0x_a9 = eqb-true (code_of type) 0x_a9 t in rw e)
+    cases (is 0xA9 type)
+    (λ t. let e : code_of type ≡ 0xA9 = eqb-true (code_of type) 0xA9 t in rw e)
     (λ a.
-    cases (is 0x_aA type)
-    (λ t. let e : code_of type ≡ 0x_aA = eqb-true (code_of type) 0x_aA t in rw e)
+    cases (is 0xAA type)
+    (λ t. let e : code_of type ≡ 0xAA = eqb-true (code_of type) 0xAA t in rw e)
     (λ b.
-    cases (is 0x_aB type)
-    (λ t. let e : code_of type ≡ 0x_aB = eqb-true (code_of type) 0x_aB t in rw e)
+    cases (is 0xAB type)
+    (λ t. let e : code_of type ≡ 0xAB = eqb-true (code_of type) 0xAB t in rw e)
     (λ c.
-    cases (is 0x_aC type)
-    (λ t. let e : code_of type ≡ 0x_aC = eqb-true (code_of type) 0x_aC t in rw e)
+    cases (is 0xAC type)
+    (λ t. let e : code_of type ≡ 0xAC = eqb-true (code_of type) 0xAC t in rw e)
     (λ d. let w : is_protected type ≡ false = rw (a, b, c, d) in absurd (false≢true (sym w ∙ p))))))
 
 known : (edition : Edition) (done : List Element) (type : List ℕ) (run : Tree) → refusal_of edition done type run ≡ 0
@@ -151,7 +151,7 @@ known edition done type run =
 -- no tiles in an element's run, if it is a text unit, and it is no protected part: so its row is the same
 record Untiled (type : List ℕ) (run : Tree) : Type 0 where
   unprotected : is_protected type ≡ false
-  untiled : is 0x_a3 type ≡ true → none_of 0x30 run ≡ true
+  untiled : is 0xA3 type ≡ true → none_of 0x30 run ≡ true
 
 abbrev AllUntiled : Tree → Type 0
 AllUntiled empty = Unit {0}
@@ -212,8 +212,8 @@ module _ (s : List ℕ) where
       → row_of (shape_of Of1993 (type_field code)) s first past inside ≡ row_of (shape_of Of1988 (type_field code)) s first past inside
   unfolding shape_of row_of body_in content_octet element_of
   row-agrees code first past inside h =
-      cases (is 0x_a3 (type_field code))
-      (λ t. let e : code_of (type_field code) ≡ 0x_a3 = eqb-true (code_of (type_field code)) 0x_a3 t in rw (e, h.untiled t))
+      cases (is 0xA3 (type_field code))
+      (λ t. let e : code_of (type_field code) ≡ 0xA3 = eqb-true (code_of (type_field code)) 0xA3 t in rw (e, h.untiled t))
       (λ t. let same = shapes-agree (type_field code) t h.unprotected in rw same)
 
   -- an item that is primitive is no text unit
@@ -224,7 +224,7 @@ module _ (s : List ℕ) where
     record {
       unprotected = h.0.unprotected;
       untiled = λ t.
-          let e : code ≡ 0x_a3 = eqb-true code 0x_a3 (sym (is_field 0x_a3 code) ∙ t) in
+          let e : code ≡ 0xA3 = eqb-true code 0xA3 (sym (is_field 0xA3 code) ∙ t) in
           absurd (true≢false (sym (ap constructed e) ∙ c));
     },
     h.1,
@@ -242,8 +242,8 @@ module _ (s : List ℕ) where
       → content_places (shape_of Of1993 (type_field code)).contents s inside ≡ content_places (shape_of Of1988 (type_field code)).contents s inside
   unfolding shape_of content_places content_octet
   content-agrees code inside h =
-      cases (is 0x_a3 (type_field code))
-      (λ t. let e : code_of (type_field code) ≡ 0x_a3 = eqb-true (code_of (type_field code)) 0x_a3 t in rw (e, h.untiled t))
+      cases (is 0xA3 (type_field code))
+      (λ t. let e : code_of (type_field code) ≡ 0xA3 = eqb-true (code_of (type_field code)) 0xA3 t in rw (e, h.untiled t))
       (λ t. let same = shapes-agree (type_field code) t h.unprotected in rw same)
 
   places-agree : (items : Items) → AllUntiled (plain s items) → places_of_each Of1993 s items ≡ places_of_each Of1988 s items
@@ -395,8 +395,8 @@ module _ (s : List ℕ) (same : letter_in Of1993 s ≡ letter_in Of1988 s) where
 octet-agrees : (type : List ℕ) (run : Tree) → Alike type run → (shape_of Of1993 type).octet ≡ (shape_of Of1988 type).octet
 unfolding shape_of
 octet-agrees type run h =
-    cases (is 0x_a3 type)
-    (λ t. let e : code_of type ≡ 0x_a3 = eqb-true (code_of type) 0x_a3 t in rw e)
+    cases (is 0xA3 type)
+    (λ t. let e : code_of type ≡ 0xA3 = eqb-true (code_of type) 0xA3 t in rw e)
     (λ t. let same = shapes-agree type t h.unprotected in ap (λ (shape : Shape). shape.octet) same)
 
 rule-agrees : (t : Tree) → AllAlike t → first_rule Of1993 t ≡ first_rule Of1988 t
@@ -442,13 +442,13 @@ no_names type =
     among shapes1993 (
       low-kind _ _ refl,
       (
-        no_name 0x_a9 false,
+        no_name 0xA9 false,
         (
-          no_name 0x_aA true,
+          no_name 0xAA true,
           (
-            no_name 0x_aB true,
+            no_name 0xAB true,
             (
-              no_name 0x_aC true,
+              no_name 0xAC true,
               (
                 low-kind _ _ refl,
                 (

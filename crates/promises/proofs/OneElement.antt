@@ -224,18 +224,18 @@ tabled edition done type run =
     cond-holds P (not (as_tabled shape.contents run)) (λ _ z. absurd (omega arith)) (λ t _. not-false (as_tabled shape.contents run) t))))
 
 -- the shape of a text unit of 1988
-text-unit : (type : List ℕ) → is 0x_a3 type ≡ true → shape_of Of1988 type ≡ entry 0x_a3 (unit true false)
+text-unit : (type : List ℕ) → is 0xA3 type ≡ true → shape_of Of1988 type ≡ entry 0xA3 (unit true false)
 unfolding shape_of
-text-unit type t = let e : code_of type ≡ 0x_a3 = eqb-true (code_of type) 0x_a3 t in rw e
+text-unit type t = let e : code_of type ≡ 0xA3 = eqb-true (code_of type) 0xA3 t in rw e
 
-pub unit-tabled : (done : List Element) (type : List ℕ) (run : Tree) → is 0x_a3 type ≡ true → refusal_of Of1988 done type run ≡ 0
+pub unit-tabled : (done : List Element) (type : List ℕ) (run : Tree) → is 0xA3 type ≡ true → refusal_of Of1988 done type run ≡ 0
     → as_tabled (unit true false) run ≡ true
 unit-tabled done type run t z = subst (λ (shape : Shape). as_tabled shape.contents run ≡ true) (text-unit type t) (tabled Of1988 done type run z)
 
 -- both editions read an element alike
 pub record Alike (type : List ℕ) (run : Tree) : Type 0 where
   pub unprotected : is_protected type ≡ false
-  pub held : is 0x_a3 type ≡ true → Holds run
+  pub held : is 0xA3 type ≡ true → Holds run
 
 either-false : (a b : Bool) → a || b ≡ false → (a ≡ false) × (b ≡ false)
 either-false false false e = (refl, refl)
@@ -243,29 +243,29 @@ either-false false true e = absurd (true≢false e)
 either-false true b e = absurd (true≢false e)
 
 -- where neither adds a shape of its own, the shapes are the same
-pub shapes-agree : (type : List ℕ) → is 0x_a3 type ≡ false → is_protected type ≡ false → shape_of Of1993 type ≡ shape_of Of1988 type
+pub shapes-agree : (type : List ℕ) → is 0xA3 type ≡ false → is_protected type ≡ false → shape_of Of1993 type ≡ shape_of Of1988 type
 unfolding shape_of
 shapes-agree type other free =
-    let (a, abc) = either-false (is 0x_a9 type) _ free in
-    let (b, bc) = either-false (is 0x_aA type) _ abc in
-    let (c, d) = either-false (is 0x_aB type) _ bc in
-    let (e, _) = either-false (is 0x_aC type) _ d in
+    let (a, abc) = either-false (is 0xA9 type) _ free in
+    let (b, bc) = either-false (is 0xAA type) _ abc in
+    let (c, d) = either-false (is 0xAB type) _ bc in
+    let (e, _) = either-false (is 0xAC type) _ d in
     rw (other, a, b, c, e)
 
 pub refusals-agree : (done : List Element) (type : List ℕ) (run : Tree) → Alike type run → refusal_of Of1993 done type run ≡ refusal_of Of1988 done type run
 unfolding refusal_of shape_of element_of body_of names_fit twice clash
 refusals-agree done type run h =
-    cases (is 0x_a3 type)
-    (λ t. let e : code_of type ≡ 0x_a3 = eqb-true (code_of type) 0x_a3 t in rw (e, tabled-agrees run (h.held t)))
+    cases (is 0xA3 type)
+    (λ t. let e : code_of type ≡ 0xA3 = eqb-true (code_of type) 0xA3 t in rw (e, tabled-agrees run (h.held t)))
     (λ t. let same = shapes-agree type t h.unprotected in rw same)
 
 pub elements-agree : (done : List Element) (type : List ℕ) (run : Tree) → Alike type run → refusal_of Of1988 done type run ≡ 0
     → element_of (shape_of Of1993 type) run ≡ element_of (shape_of Of1988 type) run
 unfolding shape_of element_of body_of
 elements-agree done type run h z =
-    cases (is 0x_a3 type)
+    cases (is 0xA3 type)
     (λ t.
-    let e : code_of type ≡ 0x_a3 = eqb-true (code_of type) 0x_a3 t in
+    let e : code_of type ≡ 0xA3 = eqb-true (code_of type) 0xA3 t in
     let fits = unit-tabled done type run t z in
     rw (e, content-agrees run (ordered-untiled run (tabled-ordered run fits))))
     (λ t. let same = shapes-agree type t h.unprotected in rw same)

@@ -198,7 +198,7 @@ module _ (s : List ℕ) where
   no-portions-at : (contents : Contents) {room : ℕ} {i : Items} → Proper s room i
       → (bounds_at (portions_octet contents) i ≡ no_span) ↔ (amount_at (portions_octet contents) (plain s i) ≡ 0)
   no-portions-at profile p = (λ _. refl, λ _. refl)
-  no-portions-at (described needed types) p = there-at 0x_a1 p
+  no-portions-at (described needed types) p = there-at 0xA1 p
   no-portions-at (unit needed tiled) p = (λ _. refl, λ _. refl)
   no-portions-at style p = (λ _. refl, λ _. refl)
   no-portions-at (protected enciphered) p = (λ _. refl, λ _. refl)
@@ -256,7 +256,7 @@ module _ (s : List ℕ) where
   portions-at : (contents : Contents) {room : ℕ} {i : Items} → Proper s room i → all_portions (run_at (portions_octet contents) (plain s i)) ≡ true
       → Codes 1 (portion_items (values (run_at (portions_octet contents) (plain s i)))) (bytes_in s (bounds_at (portions_octet contents) i))
   portions-at profile p only = no-list
-  portions-at (described needed types) p only = listed_at 0x_a1 refl p only
+  portions-at (described needed types) p only = listed_at 0xA1 refl p only
   portions-at (unit needed tiled) p only = no-list
   portions-at style p only = no-list
   portions-at (protected enciphered) p only = no-list

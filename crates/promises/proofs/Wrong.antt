@@ -78,13 +78,13 @@ table = replicate 39 0
 
 -- a profile, the same with a closing mark, and two of them
 abbrev profile : List ℕ
-profile = 0x_a0 ∷ 0x00 ∷ []
+profile = 0xA0 ∷ 0x00 ∷ []
 
 abbrev marked : List ℕ
-marked = 0x_a0 ∷ 0x80 ∷ 0x00 ∷ 0x00 ∷ []
+marked = 0xA0 ∷ 0x80 ∷ 0x00 ∷ 0x00 ∷ []
 
 abbrev two : List ℕ
-two = 0x_a0 ∷ 0x00 ∷ 0x_a0 ∷ 0x00 ∷ []
+two = 0xA0 ∷ 0x00 ∷ 0xA0 ∷ 0x00 ∷ []
 
 -- an output of four octets
 abbrev nines : List ℕ
@@ -93,13 +93,13 @@ nines = 9 ∷ 9 ∷ 9 ∷ 9 ∷ []
 -- the letter that document 01 prints: a profile, the layout object "1 0 2" with the portion "0", and the text unit "1 0 2 0"
 abbrev printed : List ℕ
 printed =
-    0x_a0 ∷ 0x00
-    ∷ 0x_a2 ∷ 0x11 ∷ 0x02 ∷ 0x01 ∷ 0x04 ∷ 0x31 ∷ 0x0_c ∷ 0x41 ∷ 0x05 ∷ 0x31 ∷ 0x20 ∷ 0x30 ∷ 0x20 ∷ 0x32 ∷ 0x_a1 ∷ 0x03 ∷ 0x12 ∷ 0x01 ∷ 0x30
-    ∷ 0x_a3 ∷ 0x0_f ∷ 0x31 ∷ 0x09 ∷ 0x40 ∷ 0x07 ∷ 0x31 ∷ 0x20 ∷ 0x30 ∷ 0x20 ∷ 0x32 ∷ 0x20 ∷ 0x30 ∷ 0x04 ∷ 0x02 ∷ 0x48 ∷ 0x69 ∷ []
+    0xA0 ∷ 0x00
+    ∷ 0xA2 ∷ 0x11 ∷ 0x02 ∷ 0x01 ∷ 0x04 ∷ 0x31 ∷ 0x0C ∷ 0x41 ∷ 0x05 ∷ 0x31 ∷ 0x20 ∷ 0x30 ∷ 0x20 ∷ 0x32 ∷ 0xA1 ∷ 0x03 ∷ 0x12 ∷ 0x01 ∷ 0x30
+    ∷ 0xA3 ∷ 0x0F ∷ 0x31 ∷ 0x09 ∷ 0x40 ∷ 0x07 ∷ 0x31 ∷ 0x20 ∷ 0x30 ∷ 0x20 ∷ 0x32 ∷ 0x20 ∷ 0x30 ∷ 0x04 ∷ 0x02 ∷ 0x48 ∷ 0x69 ∷ []
 
 -- the letter with content in pieces that document 01 prints, and what its elements say
 abbrev pieced : List ℕ
-pieced = 0x_a0 ∷ 0x00 ∷ 0x_a3 ∷ 0x08 ∷ 0x24 ∷ 0x06 ∷ 0x04 ∷ 0x01 ∷ 0x48 ∷ 0x04 ∷ 0x01 ∷ 0x69 ∷ []
+pieced = 0xA0 ∷ 0x00 ∷ 0xA3 ∷ 0x08 ∷ 0x24 ∷ 0x06 ∷ 0x04 ∷ 0x01 ∷ 0x48 ∷ 0x04 ∷ 0x01 ∷ 0x69 ∷ []
 
 abbrev saying : (kind : ℕ) → Content → Element
 saying kind content = record { kind = kind; object = 255; identifier = absent; logical = absent; portions = []; content = content }
@@ -147,7 +147,7 @@ unfolding permits form_allowed big_endian_from misfits definite_at indefinite_at
 one-header Of1988 = refl
 one-header Of1993 = refl
 
-shorter-form : (edition : Edition) → ((written edition marked nines).number ≡ 0) × (written_output edition marked nines ≡ 0x_a0 ∷ 0x00 ∷ 9 ∷ 9 ∷ [])
+shorter-form : (edition : Edition) → ((written edition marked nines).number ≡ 0) × (written_output edition marked nines ≡ 0xA0 ∷ 0x00 ∷ 9 ∷ 9 ∷ [])
 unfolding permits form_allowed big_endian_from misfits definite_at indefinite_at long_at by_first length_at item_at closing_at head_at run_for run walk_of amount first_value first_run all_portions values well_spelt repeats shape_of body_of content_of element_of items_in_order as_tabled names_fit clash twice refusal_of judge_one judge_from judge place_of letter_in number_octets normal_of written written_output xor
 shorter-form Of1988 = (refl, refl)
 shorter-form Of1993 = (refl, refl)

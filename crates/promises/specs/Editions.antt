@@ -30,11 +30,11 @@ use Rattle.promises.specs.Refusals.{TopItem, top_items, Refuses}
 
 -- a protected part: A9 to AC
 abbrev pub is_protected : (type : List ℕ) → Bool
-is_protected type = any (is 0x_a9 type ∷ is 0x_aA type ∷ is 0x_aB type ∷ is 0x_aC type ∷ [])
+is_protected type = any (is 0xA9 type ∷ is 0xAA type ∷ is 0xAB type ∷ is 0xAC type ∷ [])
 
 -- an element that both editions read alike: no protected part, and a text unit with its content in a 04 or a 24
 abbrev pub read_alike : TopItem → Bool
-read_alike item = not (is_protected item.type) && (not (is 0x_a3 item.type) || not (none_of 0x04 item.run && none_of 0x24 item.run))
+read_alike item = not (is_protected item.type) && (not (is 0xA3 item.type) || not (none_of 0x04 item.run && none_of 0x24 item.run))
 
 -- "no protected parts and only items on which both editions agree"
 abbrev pub agree : Tree → Bool

@@ -34,10 +34,10 @@ pub record SameLetter (edition : Edition) : Type 0 where
 
 -- "The order of items in a set counts as part of the tree.": two letters whose profiles hold the same two items in a set, 31, in two orders
 abbrev pub one_order : List ℕ
-one_order = 0x_a0 ∷ 0x06 ∷ 0x31 ∷ 0x04 ∷ 0x80 ∷ 0x00 ∷ 0x81 ∷ 0x00 ∷ []
+one_order = 0xA0 ∷ 0x06 ∷ 0x31 ∷ 0x04 ∷ 0x80 ∷ 0x00 ∷ 0x81 ∷ 0x00 ∷ []
 
 abbrev pub other_order : List ℕ
-other_order = 0x_a0 ∷ 0x06 ∷ 0x31 ∷ 0x04 ∷ 0x81 ∷ 0x00 ∷ 0x80 ∷ 0x00 ∷ []
+other_order = 0xA0 ∷ 0x06 ∷ 0x31 ∷ 0x04 ∷ 0x81 ∷ 0x00 ∷ 0x80 ∷ 0x00 ∷ []
 
 pub record OrderCounts : Type 0 where
   pub one : IsAccepted Of1988 one_order

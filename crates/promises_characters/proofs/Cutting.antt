@@ -79,19 +79,19 @@ accent-none k l h =
     let both : (leb 32 k && leb k 47) ≡ true = rw (le-leb 32 k l, le-leb k 47 h) in
     eqb→eq (get_or supplement k 0) 0 (subst (λ (b : Bool). T (cond b (eqb (get_or supplement k 0) 0) true)) both (at none-accent supplement tt k within))
 
-accent-point : (s a : ℕ) → 0x_c0 ≤ a → a ≤ 0x_cF → eqb s latin1 ≡ false → point_of s a ≡ 0
+accent-point : (s a : ℕ) → 0xC0 ≤ a → a ≤ 0xCF → eqb s latin1 ≡ false → point_of s a ≡ 0
 unfolding point_of right_point
 accent-point s a l h e =
-    let high : 0x_a0 ≤ a = omega arith in
-    rw (le-leb 0x_a0 a high, e) (accent-none (a - 0x_a0) (omega arith) (omega arith))
+    let high : 0xA0 ≤ a = omega arith in
+    rw (le-leb 0xA0 a high, e) (accent-none (a - 0xA0) (omega arith) (omega arith))
 
 pub and-false : (x : Bool) (p q : ℕ) → cond (x && false) p q ≡ q
 and-false true p q = refl
 and-false false p q = refl
 
-return-point : (s a : ℕ) → a ≡ 0x0_d → point_of s a ≡ 0
+return-point : (s a : ℕ) → a ≡ 0x0D → point_of s a ≡ 0
 unfolding point_of left_point
-return-point s a e = rw e (and-false (eqb s 1) 0x_a4 0)
+return-point s a e = rw e (and-false (eqb s 1) 0xA4 0)
 
 both : (p q : Bool) → (p && q) ≡ true → p ≡ true
 both true q t = refl
@@ -119,7 +119,7 @@ module _ (s a b : ℕ) where
     where
       go : (x y : Bool) → is_line_end a b ≡ x → eqb (pair_of s a b) 0 ≡ y →
           Pair (cond x (sign (Two a b) 2) (cond y (sign (alone s a) 1) (sign (accented (pair_of s a b) a b) 2)))
-      go true y e f w = (return-point s a (eqb-true a 0x0_d (both (eqb a 0x0_d) (eqb b 0x0_a) e)), refl)
+      go true y e f w = (return-point s a (eqb-true a 0x0D (both (eqb a 0x0D) (eqb b 0x0A) e)), refl)
       go false true e f w = absurd (omega arith)
       go false false e f w =
           let some : (pair_of s a b ≡ 0 → ⊥) = eqb-false (pair_of s a b) 0 f in

@@ -37,13 +37,13 @@ signs-count s (a ∷ b ∷ rest) = fewer s a b rest (sign-wide s a b) (signs-cou
 abbrev Fine : Points → Type 0
 Fine x = Scalars (points_of x) × (length (octets_of x) ≤ 8)
 
-scalar : (p : ℕ) → p < 0x_d800 → is_scalar p ≡ true
-scalar p h = rw (lt-ltb p 0x_d800 h)
+scalar : (p : ℕ) → p < 0xD800 → is_scalar p ≡ true
+scalar p h = rw (lt-ltb p 0xD800 h)
 
-fine-one : (p : ℕ) → p < 0x_d800 → Fine (One p)
+fine-one : (p : ℕ) → p < 0xD800 → Fine (One p)
 fine-one p h = ((scalar p h, tt), omega (arith, ap length (is-point (One p) p refl), at-most-three p (omega arith)))
 
-fine-two : (p q : ℕ) → p < 0x_d800 → q < 0x_d800 → Fine (Two p q)
+fine-two : (p q : ℕ) → p < 0xD800 → q < 0xD800 → Fine (Two p q)
 fine-two p q hp hq = (
   (scalar p hp, (scalar q hq, tt)),
   omega (arith, ap length (is-two (Two p q) p q refl) ∙ length-append (utf8 p) (utf8 q), at-most-three p (omega arith), at-most-three q (omega arith)),

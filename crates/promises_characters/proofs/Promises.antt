@@ -76,7 +76,7 @@ itself-in s n (o ∷ xs) f = own-text s o f.0 (no-currency s o n) xs ∙ ap (λ 
 -- a control takes eight octets, and so does each of many
 zero-alone : (s : ℕ) → alone s 0 ≡ Number 0
 unfolding point_of left_point
-zero-alone s = no-point s 0 (and-false (eqb s 1) 0x_a4 0)
+zero-alone s = no-point s 0 (and-false (eqb s 1) 0xA4 0)
 
 no-pair : (s : ℕ) → pair_of s 0 0 ≡ 0
 no-pair s = go (eqb s latin1) (no-accent-below 0 0 (omega arith))

@@ -14,7 +14,7 @@ Octets (o ∷ os) = (o < 256) × Octets os
 
 -- a Unicode scalar value (RFC 3629: "the surrogates" D800 to DFFF are none): these are what UTF-8 may stand for
 abbrev pub is_scalar : ℕ → Bool
-is_scalar p = ltb p 0x_d800 || (leb 0x_e000 p && ltb p 0x110000)
+is_scalar p = ltb p 0xD800 || (leb 0xE000 p && ltb p 0x110000)
 
 abbrev pub Scalars : List ℕ → Type 0
 Scalars [] = Unit {0}

@@ -45,7 +45,7 @@ entries-codable : (said : List Said) → Codable deepest (entries_tree said)
 unfolding entries_tree permits form_allowed misfits
 entries-codable [] = tt
 entries-codable (x ∷ said) = (
-  field 0x_a2 (λ e. omega arith) refl,
+  field 0xA2 (λ e. omega arith) refl,
   (
     field 0x02 (λ e. omega arith) refl,
     refl,
@@ -54,13 +54,13 @@ entries-codable (x ∷ said) = (
       (
         field 0x41 (λ e. omega arith) refl,
         refl,
-        (field 0x_a1 (λ e. omega arith) refl, (field 0x12 (λ e. omega arith) refl, refl, tt), tt),
+        (field 0xA1 (λ e. omega arith) refl, (field 0x12 (λ e. omega arith) refl, refl, tt), tt),
       ),
       tt,
     ),
   ),
   (
-    field 0x_a3 (λ e. omega arith) refl,
+    field 0xA3 (λ e. omega arith) refl,
     (field 0x31 (λ e. omega arith) refl, (field 0x40 (λ e. omega arith) refl, refl, tt), (field 0x04 (λ e. omega arith) refl, refl, tt)),
     entries-codable said,
   ),
@@ -68,7 +68,7 @@ entries-codable (x ∷ said) = (
 
 pub letter-codable : (said : List Said) → Codable deepest (letter_tree said)
 unfolding permits form_allowed
-letter-codable said = (field 0x_a0 (λ e. omega arith) refl, tt, entries-codable said)
+letter-codable said = (field 0xA0 (λ e. omega arith) refl, tt, entries-codable said)
 
 entry-items : (said : List Said) → item_count (entries_tree said) ≡ 10 * length said
 unfolding entries_tree

@@ -56,8 +56,8 @@ page-alike : (item : TopItem) → is_protected item.type ≡ false
     → is_page (says_in Of1993 item).kind (says_in Of1993 item).object ≡ is_page (says_in Of1988 item).kind (says_in Of1988 item).object
 unfolding shape_of element_of body_of
 page-alike item free =
-    cases (is 0x_a3 item.type)
-    (λ t. let e : code_of item.type ≡ 0x_a3 = eqb-true (code_of item.type) 0x_a3 t in rw e)
+    cases (is 0xA3 item.type)
+    (λ t. let e : code_of item.type ≡ 0xA3 = eqb-true (code_of item.type) 0xA3 t in rw e)
     (λ t. let same = shapes-agree item.type t free in rw same)
 
 pages-from : (n : ℕ) (items : List TopItem) → all (map read_alike items) ≡ true → for_each n items (page_of Of1993) ≡ for_each n items (page_of Of1988)

@@ -21,7 +21,7 @@ among edition (inl e) one two three = subst (MayBeBare edition) (sym e) one
 among edition (inr (inl e)) one two three = subst (MayBeBare edition) (sym e) two
 among edition (inr (inr e)) one two three = subst (MayBeBare edition) (sym e) three
 
-in-each : {code : ℕ} (edition : Edition) → (code ≡ 0x_a0) ⊎ ((code ≡ 0x_a2) ⊎ (code ≡ 0x_a6)) → MayBeBare edition code
+in-each : {code : ℕ} (edition : Edition) → (code ≡ 0xA0) ⊎ ((code ≡ 0xA2) ⊎ (code ≡ 0xA6)) → MayBeBare edition code
 unfolding shape_of shape_refusal as_tabled items_in_order element_of content_of body_of names_fit amount first_value first_run in_order all_portions values well_spelt
 in-each Of1988 key =
     among Of1988 key (record { known = refl; fits = refl }) (record { known = refl; fits = refl }) (record { known = refl; fits = refl })

@@ -102,7 +102,7 @@ returns c =
         three.auto.0,
       ),
       rw (four.1, three.ensures.1, two.ensures.1, one.ensures.1, high, low, number-octets o)
-          (join-four a.out.now a.at _ _ _ (utf8 0x27_e6) (utf8 (hex_digit (o / 16))) (utf8 (hex_digit (o % 16))) (utf8 0x27_e7)
+          (join-four a.out.now a.at _ _ _ (utf8 0x27E6) (utf8 (hex_digit (o / 16))) (utf8 (hex_digit (o % 16))) (utf8 0x27E7)
           one.ensures.0 (two.ensures.0 ∙ ap (λ v. one.result + length (utf8 v)) high) (three.ensures.0 ∙ ap (λ v. two.result + length (utf8 v)) low)),
     )
 

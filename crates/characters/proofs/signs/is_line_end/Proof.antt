@@ -7,7 +7,7 @@ returns : tie.Need-returns
 returns c = rw c.if1.true
 
 returns-2 : tie.Need-returns-2
-returns-2 c = rw (ne_eqb _ 0x0_d c.if1.false)
+returns-2 c = rw (ne_eqb _ 0x0D c.if1.false)
 
 pub is-line-end-spec : {M : Type 1} → statement M
 is-line-end-spec = tie.close (tie.spec returns returns-2)

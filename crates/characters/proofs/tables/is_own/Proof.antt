@@ -13,7 +13,7 @@ returns-3 : tie.Need-returns-3
 returns-3 c = rw c.if3.true
 
 returns-4 : tie.Need-returns-4
-returns-4 c = rw (lt-leb 0x20 _ c.before.before.if1.false, ne_eqb _ 0x0_a c.before.if2.false, ne_eqb _ 0x09 c.if3.false)
+returns-4 c = rw (lt-leb 0x20 _ c.before.before.if1.false, ne_eqb _ 0x0A c.before.if2.false, ne_eqb _ 0x09 c.if3.false)
 
 pub is-own-spec : {M : Type 1} → statement M
 is-own-spec = tie.close (tie.spec returns returns-2 returns-3 returns-4)

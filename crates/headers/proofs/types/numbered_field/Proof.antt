@@ -9,7 +9,7 @@ use Rattle.headers.proofs.types.numbered_field.Statement.{statement}
 use Rattle.headers.proofs.types.numbered_field.Tie as tie
 
 -- an octet of the list
-listed : (o : ℕ) → (o ≡ 0x5_f) ⊎ ((o ≡ 0x7_f) ⊎ ((o ≡ 0x9_f) ⊎ ((o ≡ 0x_bF) ⊎ ((o ≡ 0x_dF) ⊎ (o ≡ 0x_fF))))) → is_in o above_thirty ≡ true
+listed : (o : ℕ) → (o ≡ 0x5F) ⊎ ((o ≡ 0x7F) ⊎ ((o ≡ 0x9F) ⊎ ((o ≡ 0xBF) ⊎ ((o ≡ 0xDF) ⊎ (o ≡ 0xFF))))) → is_in o above_thirty ≡ true
 listed o (inl e) = rw e refl
 listed o (inr (inl e)) = rw e refl
 listed o (inr (inr (inl e))) = rw e refl
@@ -25,12 +25,12 @@ returns-2 c =
     let o = c.before.args.first in
     let r = c.match.rest.1 in
     simp (
-      ne_eqb o 0x5_f (λ e. r (inl e)),
-      ne_eqb o 0x7_f (λ e. r (inr (inl e))),
-      ne_eqb o 0x9_f (λ e. r (inr (inr (inl e)))),
-      ne_eqb o 0x_bF (λ e. r (inr (inr (inr (inl e))))),
-      ne_eqb o 0x_dF (λ e. r (inr (inr (inr (inr (inl e)))))),
-      ne_eqb o 0x_fF (λ e. r (inr (inr (inr (inr (inr e)))))),
+      ne_eqb o 0x5F (λ e. r (inl e)),
+      ne_eqb o 0x7F (λ e. r (inr (inl e))),
+      ne_eqb o 0x9F (λ e. r (inr (inr (inl e)))),
+      ne_eqb o 0xBF (λ e. r (inr (inr (inr (inl e))))),
+      ne_eqb o 0xDF (λ e. r (inr (inr (inr (inr (inl e)))))),
+      ne_eqb o 0xFF (λ e. r (inr (inr (inr (inr (inr e)))))),
     )
 
 pub numbered-field-spec : {M : Type 1} → statement M
