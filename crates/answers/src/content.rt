@@ -121,7 +121,7 @@ fn copy_part(stream: &[u8], first: usize, past: usize, out: &mut [u8]) -> Copied
             length: 0,
         };
     }
-    let length = bytes::copy(&stream[first..past], out);
+    let length = pieces::copy(&stream[first..past], out);
     Copied {
         number: 0,
         place: 0,

@@ -1,5 +1,6 @@
 // The work behind the questions: what each does with a stream that was judged.
 // Nothing that was lent to a question is written before all that can refuse it is known.
+#![tactic(auto)]
 ghost use Rattle.std.specs.Prelude.{◌≡◌, length};
 ghost use Rattle.octets.specs.Walk.{walk_of};
 ghost use Rattle.rows.specs.Columns.{identifier_column};
@@ -54,7 +55,7 @@ const SOURCES_TOO_SHORT: u32 = 31;
 
 // What the check answers. Number 0 is accepted.
 #[repr(C)]
-#[derive(Drop)]
+#[derive(Clone, Copy)]
 pub struct Checked {
     pub number: u32,
     pub place: u32,
@@ -64,7 +65,7 @@ pub struct Checked {
 
 // What the writer of the normal form answers.
 #[repr(C)]
-#[derive(Drop)]
+#[derive(Clone, Copy)]
 pub struct Written {
     pub number: u32,
     pub place: u32,
@@ -73,7 +74,7 @@ pub struct Written {
 
 // What the lister of a side answers.
 #[repr(C)]
-#[derive(Drop)]
+#[derive(Clone, Copy)]
 pub struct Listed {
     pub number: u32,
     pub place: u32,
@@ -83,7 +84,7 @@ pub struct Listed {
 
 // Why a fetch of content gave nothing: number 0 if it was answered.
 #[repr(C)]
-#[derive(Drop)]
+#[derive(Clone, Copy)]
 pub struct Reason {
     pub number: u32,
     pub place: u32,
@@ -91,7 +92,7 @@ pub struct Reason {
 
 // The bounds of a text unit's content, for callers to whom no part can be handed back.
 #[repr(C)]
-#[derive(Drop)]
+#[derive(Clone, Copy)]
 pub struct Found {
     pub number: u32,
     pub place: u32,
@@ -101,7 +102,7 @@ pub struct Found {
 
 // What the copier of a joined content answers.
 #[repr(C)]
-#[derive(Drop)]
+#[derive(Clone, Copy)]
 pub struct Copied {
     pub number: u32,
     pub place: u32,
@@ -110,7 +111,7 @@ pub struct Copied {
 
 // The date of the document: the bounds of its octets in the stream, and its day. With a refusal they are 0.
 #[repr(C)]
-#[derive(Drop)]
+#[derive(Clone, Copy)]
 pub struct Dated {
     pub number: u32,
     pub place: u32,
@@ -123,7 +124,7 @@ pub struct Dated {
 
 // The date of the document by its first element alone, with the note that the remainder is unread: always 1.
 #[repr(C)]
-#[derive(Drop)]
+#[derive(Clone, Copy)]
 pub struct FirstDated {
     pub number: u32,
     pub place: u32,
@@ -137,7 +138,7 @@ pub struct FirstDated {
 
 // What is answered of the children of a row.
 #[repr(C)]
-#[derive(Drop)]
+#[derive(Clone, Copy)]
 pub struct Related {
     pub number: u32,
     pub place: u32,
@@ -147,7 +148,7 @@ pub struct Related {
 
 // What is answered of the whole reading of a side.
 #[repr(C)]
-#[derive(Drop)]
+#[derive(Clone, Copy)]
 pub struct TextRead {
     pub number: u32,
     pub place: u32,
@@ -158,7 +159,7 @@ pub struct TextRead {
 
 // What is answered of the sources of a side: how many lines it has, and how many records were put.
 #[repr(C)]
-#[derive(Drop)]
+#[derive(Clone, Copy)]
 pub struct Sourced {
     pub number: u32,
     pub place: u32,
@@ -167,7 +168,7 @@ pub struct Sourced {
 }
 
 // A question that is put to a stream. Those that want a list say how many records or rows it has room for.
-#[derive(Drop)]
+#[derive(Clone, Copy)]
 pub enum Question {
     Rules,
     Check,
@@ -181,7 +182,7 @@ pub enum Question {
 }
 
 // What the work of any question tells. What the question does not ask for is 0.
-#[derive(Drop)]
+#[derive(Clone, Copy)]
 pub struct Told {
     pub number: u32,
     pub place: u32,
@@ -194,7 +195,7 @@ pub struct Told {
 }
 
 // What a fetch of content finds in a letter: a part of the stream, or pieces.
-#[derive(Drop)]
+#[derive(Clone, Copy)]
 pub enum ContentFound {
     NoUnit,
     Content { first: usize, past: usize },

@@ -53,7 +53,7 @@ fn put_text(
     ensures out_after { out.new ≡ text_in edition stream.now unit ++ drop result out.old }
 {
     match fetch_judged(edition, stream, unit, rows, count) {
-        ContentFound::Content { first, past } => bytes::copy(&stream[first..past], out),
+        ContentFound::Content { first, past } => pieces::copy(&stream[first..past], out),
         ContentFound::Pieces { run } => pieces::put_joined(stream, run, out),
         ContentFound::NoUnit => 0,
     }

@@ -1,11 +1,12 @@
 // Days of the Gregorian calendar, as the first ten octets of a value spell them: four, two and two digits with hyphens between.
+#![tactic(auto)]
 ghost use Rattle.std.specs.Prelude.{◌≡◌, true, cond, ◌+◌, ◌<◌, length};
 ghost use Rattle.calendar.specs.Calendar.{leap, days_in, exists, two_digits, two_number, spells_ten, day_at, names_day, no_day};
 
 const MONTH_DAYS: [u8; 13] = [0, 31, 28, 31, 30, 31, 30, 31, 31, 30, 31, 30, 31];
 
 // A day of the calendar; no day is 0, 0 and 0.
-#[derive(Drop)]
+#[derive(Clone, Copy)]
 pub struct Day {
     pub year: usize,
     pub month: usize,

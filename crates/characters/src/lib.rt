@@ -1,5 +1,6 @@
 // The octets of a letter's text, in one of three sets of characters, as UTF-8. Every octet is shown: as its character, as a part of a character of two
 // octets, or by its number.
+#![tactic(auto)]
 ghost use Rattle.std.specs.Prelude.{◌≡◌, ◌≤◌, length};
 ghost use Rattle.std.proofs.lemmas.List.Edits.{sets};
 ghost use Rattle.characters.specs.Sets.{set_of};
@@ -25,7 +26,7 @@ const OUTPUT_TOO_SHORT: u32 = 18;
 const MOST: usize = 0xFFFFFFFF;
 
 // The code points of a sign.
-#[derive(Drop)]
+#[derive(Clone, Copy)]
 pub enum Points {
     // A character.
     One(u16),
@@ -36,14 +37,14 @@ pub enum Points {
 }
 
 // A sign, and how many octets it has.
-#[derive(Drop)]
+#[derive(Clone, Copy)]
 pub struct Sign {
     pub points: Points,
     pub wide: usize,
 }
 
 // A step: how many octets it has, how many it takes in UTF-8, and how many are shown by their number.
-#[derive(Drop)]
+#[derive(Clone, Copy)]
 pub struct Step {
     pub wide: usize,
     pub length: usize,
@@ -51,7 +52,7 @@ pub struct Step {
 }
 
 // What all octets take: whether there is room for it, how many octets, and how many are shown by their number.
-#[derive(Drop)]
+#[derive(Clone, Copy)]
 pub struct Size {
     pub fits: bool,
     pub length: usize,
@@ -60,7 +61,7 @@ pub struct Size {
 
 // What the question answers: how many octets were written, and how many of those asked about were shown by their number.
 #[repr(C)]
-#[derive(Drop)]
+#[derive(Clone, Copy)]
 pub struct Shown {
     pub number: u32,
     pub place: u32,

@@ -1,4 +1,5 @@
 // What an element holds: its first items, and, of a run, the items that name it. Each is one pass over the run.
+#![tactic(auto)]
 ghost use Rattle.std.specs.Prelude.{◌≡◌, cond, not, ◌&&◌, ◌||◌, List, ℕ, ◌+◌, ◌<◌, ◌^◌, eqb};
 ghost use Rattle.runs.specs.Runs.{tree_in, Fine};
 ghost use Rattle.contents.specs.Search.{in_order};
@@ -9,14 +10,14 @@ ghost use Rattle.contents.specs.Gather.{Gathers, unseen, earlier, seen_with, gat
 use runs::{Met, Run};
 
 // The bounds of a value; absent is 0 and 0.
-#[derive(Drop)]
+#[derive(Clone, Copy)]
 pub struct Span {
     pub first: usize,
     pub past: usize,
 }
 
 // An item of a run: the code of its type field, its value from `first` to `past`, and the run inside it.
-#[derive(Drop)]
+#[derive(Clone, Copy)]
 pub struct Part {
     pub code: usize,
     pub first: usize,
@@ -25,7 +26,7 @@ pub struct Part {
 }
 
 // How many items a run has, 3 for more than two, and the first two of them.
-#[derive(Drop)]
+#[derive(Clone, Copy)]
 pub struct Opening {
     pub count: usize,
     pub one: Part,
@@ -33,14 +34,14 @@ pub struct Opening {
 }
 
 // An item that is needed, or may be missing.
-#[derive(Drop)]
+#[derive(Clone, Copy)]
 pub struct Slot {
     pub octet: usize,
     pub needed: bool,
 }
 
 // The first item with an octet, or none.
-#[derive(Drop)]
+#[derive(Clone, Copy)]
 pub enum PartFound {
     At(Part),
     Missing,
@@ -48,7 +49,7 @@ pub enum PartFound {
 
 // The octets that matter in the run that names an element: its identifier, its logical identifier, its portions, and two that may
 // not stand there. 0 is none.
-#[derive(Drop)]
+#[derive(Clone, Copy)]
 pub struct Sought {
     pub identifier: usize,
     pub logical: usize,
@@ -58,7 +59,7 @@ pub struct Sought {
 }
 
 // How often each of them stands there, and the first one's value; `list` is the run of the portions.
-#[derive(Drop)]
+#[derive(Clone, Copy)]
 pub struct Gathered {
     pub identifiers: usize,
     pub identifier: Span,
@@ -71,7 +72,7 @@ pub struct Gathered {
 }
 
 // How many items with one octet were seen, and the first of them.
-#[derive(Drop)]
+#[derive(Clone, Copy)]
 struct Tally {
     amount: usize,
     part: Part,

@@ -1,4 +1,5 @@
 // The date of the document: the one item [0] on the path A3, A0 in the profile, and the day that its first ten octets name.
+#![tactic(auto)]
 ghost use Rattle.std.specs.Prelude.{◌≡◌, cond, eqb};
 ghost use Rattle.runs.specs.Runs.{items_of, Fine};
 ghost use Rattle.dates.specs.Finding.{path_octet, places_from, found, Tells, Answers};
@@ -16,7 +17,7 @@ const CONSTRUCTED_DATE: usize = 0xA0;
 const PATH_LENGTH: usize = 2;
 
 // What a pass found: 0 for nothing, 1 for one primitive item with its value from `first` to `past`, 2 for more, or a constructed one.
-#[derive(Drop)]
+#[derive(Clone, Copy)]
 struct Found {
     count: usize,
     first: usize,
@@ -24,7 +25,7 @@ struct Found {
 }
 
 // The date: a refusal's number or 0, the bounds of its octets, and the day. With a refusal all else is 0.
-#[derive(Drop)]
+#[derive(Clone, Copy)]
 pub struct DateFound {
     pub number: usize,
     pub first: usize,

@@ -1,4 +1,5 @@
 // The shapes of elements; and of one element rules 12 to 14, and its row.
+#![tactic(auto)]
 ghost use Rattle.std.specs.Prelude.{◌≡◌, true, ◌≤◌, length};
 ghost use Rattle.octets.specs.Walk.{no_items, stream_limit};
 ghost use Rattle.runs.specs.Runs.{items_of, tree_in, Fine};
@@ -24,7 +25,7 @@ pub use shapes::shape_of;
 
 // Which edition of the Recommendation a letter is read by. It travels by value from a question to the look-up of a shape, and decides
 // nothing else.
-#[derive(Drop)]
+#[derive(Clone, Copy)]
 pub enum Edition {
     Of1988,
     Of1993,
@@ -35,7 +36,7 @@ pub const NO_TYPE: usize = 255;
 
 // A shape as the code looks for it: the definitions have a case for each kind of element, and here one record has the slots of them all, so
 // that one function serves every element. Most slots are empty: an octet 0 stands for none.
-#[derive(Drop)]
+#[derive(Clone, Copy)]
 pub struct Slots {
     pub octet: usize,
     // whether its items are looked at, and whether they are free or stand in order
@@ -65,7 +66,7 @@ pub struct Slots {
 
 // A row of the scratch: the element's kind and object type, and the bounds of the element, of its identifier (a unit's layout one), of a unit's
 // logical identifier, of the portions' value and of the content. The lent table's row has the parent's row besides (`answers::table`).
-#[derive(Drop)]
+#[derive(Clone, Copy)]
 pub struct Row {
     pub kind: usize,
     pub object: usize,
@@ -77,7 +78,7 @@ pub struct Row {
 }
 
 // What holds the content of an element: the bounds of its value, and whether that is a run of pieces.
-#[derive(Drop)]
+#[derive(Clone, Copy)]
 pub struct Holder {
     pub value: Span,
     pub pieced: bool,
@@ -85,7 +86,7 @@ pub struct Holder {
 }
 
 // The top of an element: whether its items stand in order, and if so the run that names it, its object type and its content.
-#[derive(Drop)]
+#[derive(Clone, Copy)]
 pub struct Frame {
     pub fits: bool,
     pub body: Run,
@@ -94,14 +95,14 @@ pub struct Frame {
 }
 
 // Whether an object type is in its range, and which it is.
-#[derive(Drop)]
+#[derive(Clone, Copy)]
 pub struct Typed {
     pub fits: bool,
     pub value: usize,
 }
 
 // What is seen of an element: a refusal, 12 to 14, or 0 with its row and how many portions it has.
-#[derive(Drop)]
+#[derive(Clone, Copy)]
 pub struct Seen {
     pub refusal: usize,
     pub row: Row,

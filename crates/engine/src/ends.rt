@@ -6,7 +6,7 @@ ghost use Rattle.engine.specs.Stored.{open_of, opens_of};
 use super::wide;
 
 // What closing the items that end at a place leaves: so many open items, or the end at which one was not closed.
-#[derive(Drop)]
+#[derive(Clone, Copy)]
 pub struct Settled {
     pub level: usize,
     pub unclosed: bool,

@@ -1,5 +1,6 @@
 // The block engine: a letter that arrives block by block, and is not held. Its state is a struct by value with the ends of the open items;
 // it keeps nothing else. Any caller may ask, with any state: what the crate `blocks` defines is what is answered.
+#![tactic(auto)]
 ghost use Rattle.std.specs.Prelude.{◌≡◌, true, ◌+◌, ◌≤◌, length};
 ghost use Rattle.blocks.specs.Engine.{feed};
 ghost use Rattle.blocks.specs.Blocks.{start};
@@ -18,7 +19,7 @@ mod turn; // turn.rt: what the skimming leaves
 // are in `begun`; so many headers have passed. An end is stored twice, and one more if its item waits for a closing mark; the innermost
 // is the last. Or there is a finding: its number, not 0, and its place. (A total may be any number, and its octets are counted.)
 #[repr(C)]
-#[derive(Drop)]
+#[derive(Clone, Copy)]
 pub struct Blocks {
     pub total: usize,
     pub taken: usize,
@@ -34,7 +35,7 @@ pub struct Blocks {
 
 // A number, 0 or a refusal, and a state.
 #[repr(C)]
-#[derive(Drop)]
+#[derive(Clone, Copy)]
 pub struct Taken {
     pub number: u32,
     pub state: Blocks,
@@ -42,7 +43,7 @@ pub struct Taken {
 
 // What the walk of a letter tells: its number and place, and the header count.
 #[repr(C)]
-#[derive(Drop)]
+#[derive(Clone, Copy)]
 pub struct Walked {
     pub number: u32,
     pub place: u32,
@@ -50,7 +51,7 @@ pub struct Walked {
 }
 
 // A state, and the place in a block up to which its octets were taken.
-#[derive(Drop)]
+#[derive(Clone, Copy)]
 pub struct Moved {
     pub state: Blocks,
     pub to: usize,

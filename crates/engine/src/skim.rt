@@ -10,7 +10,7 @@ use headers::Head;
 use octets::DEEPEST;
 
 // Where a block lies in a letter of so many octets: its place `from` is the letter's place `base`, and it has `size` octets.
-#[derive(Drop)]
+#[derive(Clone, Copy)]
 pub struct Seat {
     pub total: usize,
     pub base: usize,
@@ -21,7 +21,7 @@ pub struct Seat {
 // Where the skimming of a block stands: the next header is at `i` of the block, or past its end, inside `level` open items. The run that is
 // read there goes on to `stop` of the block, and waits for a closing mark if it is `marked`; a `stop` that is not past `i` tells
 // nothing. Or there is a finding, and then all of the block is taken.
-#[derive(Drop)]
+#[derive(Clone, Copy)]
 pub struct Skim {
     pub level: usize,
     pub i: usize,

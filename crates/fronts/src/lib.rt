@@ -1,4 +1,5 @@
 // The first item of a stream, walked alone: no octet after it is read.
+#![tactic(auto)]
 ghost use Rattle.std.specs.Prelude.{◌≡◌, ◌<◌, length};
 ghost use Rattle.octets.specs.Walk.{ends};
 ghost use Rattle.fronts.specs.First.{walk_first};
@@ -8,7 +9,7 @@ use octets::{DEEPEST, Outcome};
 use runs::{Met, Run};
 
 // What a stream begins with: an item that is whole, with the run inside it, or a refusal by 2 to 8.
-#[derive(Drop)]
+#[derive(Clone, Copy)]
 pub enum First {
     Item { code: usize, inner: Run },
     Refused { number: usize, place: usize },

@@ -1,4 +1,5 @@
 // X.209 at one position: what reading there yields, a header, a closing mark or a refusal by one of 2 to 8.
+#![tactic(auto)]
 ghost use Rattle.std.specs.Prelude.{◌≡◌, true, false, ◌+◌, ◌<◌, ◌≤◌, ◌^◌, min, length, take, drop};
 ghost use Rattle.headers.specs.Head.{number_bits, form_allowed, type_field, misfits, big_endian, definite_at, indefinite_at, long_at, length_at, closing_at};
 ghost use Rattle.headers.specs.Head.{head_at};
@@ -10,7 +11,7 @@ mod types; // types.rt: the type field
 // that the field says. The value starts at `start`. A definite value ends at `bound`; an indefinite one (`marked`) ends at its
 // closing mark, before `bound`, which is then the limit. (The code is as wide as the rest: a narrow field of an enum goes through
 // memory where two paths meet.)
-#[derive(Drop)]
+#[derive(Clone, Copy)]
 pub struct Header {
     pub code: usize,
     pub number: usize,
@@ -20,7 +21,7 @@ pub struct Header {
 }
 
 // What reading at a position yields.
-#[derive(Drop)]
+#[derive(Clone, Copy)]
 pub enum Head {
     Item(Header),
     ClosingMark,
@@ -28,7 +29,7 @@ pub enum Head {
 }
 
 // The type field at a place: what an item holds of it, and the place past it; or the number of a refusal.
-#[derive(Drop)]
+#[derive(Clone, Copy)]
 pub enum Field {
     Read { code: usize, past: usize },
     Wrong { number: usize },

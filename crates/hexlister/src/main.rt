@@ -2,6 +2,7 @@
 //
 // What `read` puts into a block no contract says. `take_in` has all that is made of its answer and of the block; the loop that calls the two
 // adds nothing, and hands on where reading stands after some bytes. `page::put_output` makes of that the whole output, which is written at once.
+#![tactic(auto)]
 mod page;
 
 ghost use Rattle.std.specs.Prelude.{◌≡◌};
@@ -12,7 +13,7 @@ use lister_hex::{INPUT_LIMIT, State};
 use page::PAGE_ROOM;
 
 // What one answer of `read` leads to: reading goes on, or it is over, or it failed.
-#[derive(Drop)]
+#[derive(Clone, Copy)]
 enum Turn {
     More(State),
     Over(State),
@@ -20,7 +21,7 @@ enum Turn {
 }
 
 // What reading to the end gave.
-#[derive(Drop)]
+#[derive(Clone, Copy)]
 enum Input {
     Ended(State),
     Failed,

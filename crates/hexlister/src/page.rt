@@ -25,7 +25,7 @@ const RECORDS: usize = 1024;
 pub const PAGE_ROOM: usize = (1 + ROWS + 2 * RECORDS) * LINE_ROOM;
 
 // What the list of a side answers, and the list.
-#[derive(Drop)]
+#[derive(Clone, Copy)]
 struct SideList {
     answer: Listed,
     records: [Match; RECORDS],

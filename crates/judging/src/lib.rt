@@ -1,4 +1,5 @@
 // Rules 9 to 15 for one element, after those that are done.
+#![tactic(auto)]
 ghost use Rattle.std.specs.Prelude.{◌≡◌, true, List, ℕ, ◌*◌, ◌≤◌, length, take};
 ghost use Rattle.octets.specs.Walk.{stream_limit, no_items};
 ghost use Rattle.runs.specs.Runs.{items_of, Fine};
@@ -20,7 +21,7 @@ use rows::RowFound;
 use runs::Run;
 
 // An item of the stream that is to be judged: the code of its type field, where it stands, and the run inside it.
-#[derive(Drop)]
+#[derive(Clone, Copy)]
 pub struct PlacedItem {
     pub code: usize,
     pub first: usize,
@@ -29,14 +30,14 @@ pub struct PlacedItem {
 }
 
 // What rules 9 to 15 say of an element: a refusal number, or its row.
-#[derive(Drop)]
+#[derive(Clone, Copy)]
 pub enum Judgement {
     Fails { number: usize },
     Passes { row: Row, hashes: Hashes },
 }
 
 // The hashes of a row's identifier and logical identifier: looked up by them, and then inserted.
-#[derive(Drop)]
+#[derive(Clone, Copy)]
 pub struct Hashes {
     pub identifier: usize,
     pub logical: usize,

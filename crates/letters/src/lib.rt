@@ -1,4 +1,5 @@
 // The judge of a whole stream: elements in order, rules 9 to 15 in order within each; and the rows of its table.
+#![tactic(auto)]
 ghost use Rattle.std.specs.Prelude.{◌≡◌, ◌≤◌, ltb, length};
 ghost use Rattle.octets.specs.Walk.{stream_limit};
 ghost use Rattle.runs.specs.Runs.{items_of, whole_stream, tops, Fine};
@@ -16,14 +17,14 @@ pub use content::{content_of, element_at};
 pub use writing::copy_numbers;
 
 // What the judge of a stream gives: accepted with so many elements, or refused by a number at a place.
-#[derive(Drop)]
+#[derive(Clone, Copy)]
 pub enum Verdict {
     Accepted { count: usize },
     Refused { number: usize, place: usize },
 }
 
 // Where the content of an element stands: a part of the stream, or a run of pieces.
-#[derive(Drop)]
+#[derive(Clone, Copy)]
 pub enum Held {
     Part { first: usize, past: usize },
     Pieces { run: Run },

@@ -2,6 +2,7 @@
 //
 // A text can be longer than any buffer, so it comes in blocks: `start`, then `feed` for each block, then `finish`.
 // No function here requires anything of its caller, whatever the state and the bytes are.
+#![tactic(auto)]
 ghost use Rattle.std.specs.Prelude.{◌≡◌, ◌+◌, min, take};
 ghost use Rattle.lister_hex.specs.Lines.{digit_value};
 ghost use Rattle.lister_hex.specs.Blocks.{last_line, standing, started, first, second, fed, finished};
@@ -14,7 +15,7 @@ const NEWLINE: u8 = b'\n';
 pub const INPUT_LIMIT: usize = 32768;
 
 // Where reading stands: the stream's length so far, and the number of the line, from 1.
-#[derive(Drop)]
+#[derive(Clone, Copy)]
 pub enum State {
     // After whole pairs.
     Pairs { length: usize, line: u64 },
@@ -25,7 +26,7 @@ pub enum State {
 }
 
 // What a text reads as.
-#[derive(Drop)]
+#[derive(Clone, Copy)]
 pub enum Read {
     // A stream, which stands at the front of the lent array.
     Stream { length: usize },

@@ -1,5 +1,6 @@
 // Making a letter of entries: the question behind `odif::make`. Entries are judged in order, then the letter is measured, and only then is
 // anything written.
+#![tactic(auto)]
 ghost use Rattle.std.specs.Prelude.{◌≡◌, ◌+◌, ◌*◌, ◌/◌, ◌<◌, ◌≤◌, length};
 ghost use Rattle.making.specs.Entries.{judge_entries};
 ghost use Rattle.making.specs.Answers.{reason_of, MakeOutcome};
@@ -13,7 +14,7 @@ mod rules; // rules.rt: the refusals of entries
 mod writing; // writing.rt: how long a letter is, and its octets
 
 // An entry that a letter is made of: where its identifier, its portion and its text stand in the buffer.
-#[derive(Drop)]
+#[derive(Clone, Copy)]
 pub struct Entry {
     pub identifier: Span,
     pub portion: Span,

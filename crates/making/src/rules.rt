@@ -19,7 +19,7 @@ use names::{Asked, LONGEST_IDENTIFIER};
 use rows::RowFound;
 
 // What the rules make of an entry: the number of its refusal, or 0 and the hash of its identifier.
-#[derive(Drop)]
+#[derive(Clone, Copy)]
 struct Ruled {
     number: u32,
     hashed: usize,

@@ -1,4 +1,5 @@
 // The two numbers of a page, and what they are to PM1: X.209 integers, and the verdict on them by T.502's table 10.
+#![tactic(auto)]
 ghost use Rattle.std.specs.Prelude.{◌≡◌, [], ◌∷◌, ◌≤◌, ◌^◌};
 ghost use Rattle.measures.specs.Integers.{is_integer, integer_of};
 ghost use Rattle.measures.specs.Verdicts.{pair, not_over, within, essential_pairs, non_essential_pairs, verdict_of_sizes, under_one, verdict_of_two};
@@ -15,7 +16,7 @@ const OUTSIDE: usize = 3;
 pub const NOT_FIXED: usize = 4;
 
 // An integer: whether octets are one, whether it is under 0, and how far from 0 it is.
-#[derive(Drop)]
+#[derive(Clone, Copy)]
 pub struct Integer {
     pub valid: bool,
     pub negative: bool,

@@ -1,4 +1,5 @@
 // Identifiers and portion numbers: how they are spelt, when two are the same, and the hash of their bytes.
+#![tactic(auto)]
 ghost use Rattle.std.specs.Prelude.{◌≡◌, [], ◌∷◌, ◌+◌, ◌-◌, ◌<◌, ◌≤◌, length};
 ghost use Rattle.std.proofs.Math.Seq.{slice};
 ghost use Rattle.names.specs.Names.{space_byte, is_digit, is_identifier, is_portion, same};
@@ -100,7 +101,7 @@ pub fn is_same(s: &[u8], first: usize, past: usize, from: usize, to: usize) -> b
 }
 
 // A name that is looked for: s[first..past], or, if joined, that, one space and s[from..to].
-#[derive(Drop)]
+#[derive(Clone, Copy)]
 pub struct Asked {
     pub first: usize,
     pub past: usize,

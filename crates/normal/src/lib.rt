@@ -1,4 +1,5 @@
 // The normal form of a stream: each item in the same order, definite, with the fewest length octets.
+#![tactic(auto)]
 ghost use Rattle.std.specs.Prelude.{◌≡◌, true, false, ◌++◌, ◌+◌, ◌-◌, ◌<◌, ◌≤◌, length};
 ghost use Rattle.std.proofs.Math.Seq.{slice};
 ghost use Rattle.std.proofs.lemmas.List.Edits.{sets};
@@ -22,7 +23,7 @@ pub const TOO_LONG: usize = 17;
 pub const OUTPUT_TOO_SHORT: usize = 18;
 
 // What a pass over a run that was walked to its end meets at a place: an item, or the end of the run, with the place past it.
-#[derive(Drop)]
+#[derive(Clone, Copy)]
 enum Ahead {
     Item(Header),
     Last { past: usize },
@@ -30,7 +31,7 @@ enum Ahead {
 
 // What is measured of a run, or of the value of an item: where it ends, how many octets its normal form has, and whether it is known that
 // its own octets are that.
-#[derive(Drop)]
+#[derive(Clone, Copy)]
 struct Measured {
     next: usize,
     size: usize,
@@ -38,7 +39,7 @@ struct Measured {
 }
 
 // What the writer answers: how many octets it wrote, or a refusal, which leaves the output untouched.
-#[derive(Drop)]
+#[derive(Clone, Copy)]
 pub enum Answer {
     Written { length: usize },
     Refused { number: usize, place: usize },

@@ -1,4 +1,5 @@
 // X.209 on a slice: the walk of a stream, refusals 1 to 8 with the header count.
+#![tactic(auto)]
 ghost use Rattle.std.specs.Prelude.{◌≡◌, ◌<◌, ◌≤◌, length};
 ghost use Rattle.octets.specs.Walk.{run, answer, walk_of};
 ghost use Rattle.octets.specs.Further.{one_of};
@@ -7,7 +8,7 @@ ghost use Rattle.octets.specs.Values.{value_of};
 use headers::{Head, Header};
 
 // How a walk ended, past a run or with a refusal, and how many items passed.
-#[derive(Drop)]
+#[derive(Clone, Copy)]
 pub enum Outcome {
     Ended {
         at: usize,

@@ -1,4 +1,5 @@
 // The order of class A in one pass over the rows, by numbers: no array, a small state by value.
+#![tactic(auto)]
 ghost use Rattle.std.specs.Prelude.{◌≡◌, ◌<◌};
 ghost use Rattle.rows.specs.Columns.{identifier_column, kind_at};
 ghost use Rattle.order.specs.Fault.{FaultIn};
@@ -23,7 +24,7 @@ pub use ranks::without;
 
 // What is known of the elements so far: the step's own state; the first row that a unit before it is associated with; up to which row the portions were
 // counted by which units are ordered, and how many they are; whether there was a layout object.
-#[derive(Drop)]
+#[derive(Clone, Copy)]
 pub struct Walk {
     pub state: State,
     pub least: usize,
@@ -33,7 +34,7 @@ pub struct Walk {
 }
 
 // What comes of an element: 26, or what is known after it.
-#[derive(Drop)]
+#[derive(Clone, Copy)]
 pub enum Step {
     Stops,
     Goes(Walk),

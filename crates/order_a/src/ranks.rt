@@ -18,7 +18,7 @@ const SPECIFIC: usize = 8;
 // What is seen of an element: its kind, whether it has an identifier, how many portions it lists, whether a unit before it represents one of
 // them; of a unit how many portions of classes and of objects before it it represents, whether it is one of those that are ordered, and whether
 // its turn has come.
-#[derive(Drop)]
+#[derive(Clone, Copy)]
 pub struct Sight {
     pub kind: usize,
     pub named: bool,
@@ -32,7 +32,7 @@ pub struct Sight {
 
 // What is known of the elements so far: the rank of the last; how many portions of classes, and of objects, wait for their units; how many
 // ordered units there were.
-#[derive(Drop)]
+#[derive(Clone, Copy)]
 pub struct State {
     pub rank: usize,
     pub generic: usize,

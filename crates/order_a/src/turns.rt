@@ -14,7 +14,7 @@ use rows::{LAYOUT_OBJECT, LOGICAL_OBJECT};
 
 // Whose portion a unit represents on a side: the kind of the element, if it stands before the unit, its row and the place of the portion; kind 0,
 // if there is none. And its row, if it stands after the unit; else how many rows there are.
-#[derive(Drop)]
+#[derive(Clone, Copy)]
 pub struct Own {
     pub kind: usize,
     pub row: usize,

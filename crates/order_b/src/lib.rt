@@ -1,5 +1,6 @@
 // The order of class B in one pass over the rows, with a small state by value. Nothing is stored: the element that a unit is associated with is looked up in
 // the index that is there.
+#![tactic(auto)]
 ghost use Rattle.std.specs.Prelude.{◌≡◌, ◌||◌, ◌+◌, ◌*◌, ◌<◌, ◌≤◌, eqb, length};
 ghost use Rattle.rows.specs.Rows.{scratch_width};
 ghost use Rattle.rows.specs.Columns.{identifier_column};
@@ -23,14 +24,14 @@ use rows::{PROFILE, TEXT_UNIT};
 const NO_RANK: usize = 7;
 
 // After the last element that is no text unit: its rank, its row, and how many of its portions wait for their units.
-#[derive(Drop)]
+#[derive(Clone, Copy)]
 pub struct State {
     pub rank: usize,
     pub head: usize,
     pub left: usize,
 }
 
-#[derive(Drop)]
+#[derive(Clone, Copy)]
 pub enum Step {
     Goes(State),
     Stops,

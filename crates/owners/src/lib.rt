@@ -1,5 +1,6 @@
 // Which portion of which element a text unit represents: what its identifier says, looked up by the index that is there. And what else the order
 // rules look at. Nothing is stored: each is asked of the rows when it is wanted.
+#![tactic(auto)]
 ghost use Rattle.std.specs.Prelude.{◌≡◌, ◌+◌, ◌*◌, ◌<◌, ◌≤◌, length};
 ghost use Rattle.std.proofs.Math.Seq.{slice};
 ghost use Rattle.rows.specs.Rows.{scratch_width};
@@ -14,7 +15,7 @@ use rows::{RowFound, TEXT_UNIT};
 use runs::Met;
 
 // The element whose portion a text unit represents, and the place of that portion, both from 0.
-#[derive(Drop)]
+#[derive(Clone, Copy)]
 pub enum Owner {
     Nobody,
     Of { row: usize, portion: usize },

@@ -1,6 +1,7 @@
 // A string in pieces: an octet string that is constructed, 24, holding 04 and 24 items down to the level limit; or a bit string, 23, holding 03
 // and 23 items. Whether a run holds nothing else, how many octets its pieces have in all, and the pieces joined in order. Each function
 // calls itself for the run inside a constructed piece, a level deeper.
+#![tactic(auto)]
 ghost use Rattle.std.specs.Prelude.{◌≡◌, true, false, ◌++◌, ◌≤◌, length, drop};
 ghost use Rattle.headers.specs.Head.{constructed};
 ghost use Rattle.runs.specs.Runs.{tree_in, Fine};
@@ -66,6 +67,17 @@ pub fn joined_length(s: &[u8], r: Run) -> usize
     }
 }
 
+// Copies `from` to the start of `to`, and says how many octets that are. What `to` has past them stays.
+pub fn copy(from: &[u8], to: &mut [u8]) -> usize
+    requires { length from.now ≤ length to.old }
+    ensures count { result ≡ length from.now }
+    ensures out_after { to.new ≡ from.now ++ drop (length from.now) to.old }
+{
+    let count = from.len();
+    to[..count].copy_from_slice(from);
+    count
+}
+
 // Writes the pieces of a run, joined in order, to the start of the output, and says how many octets they are. Output past them stays.
 pub fn put_joined(s: &[u8], r: Run, out: &mut [u8]) -> usize
     requires { Fine s.now r × (length (joined (tree_in s.now r)) ≤ length out.old) }
@@ -88,7 +100,7 @@ pub fn put_joined(s: &[u8], r: Run, out: &mut [u8]) -> usize
                 if code / 32 % 2 == 1 {
                     done = done + put_joined(s, inner, &mut out[done..]);
                 } else {
-                    done = done + bytes::copy(&s[first..past], &mut out[done..]);
+                    done = done + copy(&s[first..past], &mut out[done..]);
                 }
             }
         }

@@ -1,5 +1,6 @@
 // The PM1 desk: a question over the reader, which pages of a letter are within PM1. It asks `odif::check`, and goes through the elements by
 // `runs::meet`.
+#![tactic(auto)]
 ghost use Rattle.std.specs.Prelude.{◌≡◌, [], ◌∷◌, ◌+◌, ◌*◌, ◌<◌, ◌≤◌, length};
 ghost use Rattle.std.proofs.lemmas.List.Edits.{sets};
 ghost use Rattle.runs.specs.Runs.{tree_in, Fine};
@@ -27,7 +28,7 @@ const PAGE_WIDTH: usize = 2;
 
 // What the question answers. Number 0 is answered.
 #[repr(C)]
-#[derive(Drop)]
+#[derive(Clone, Copy)]
 pub struct Paged {
     pub number: u32,
     pub place: u32,

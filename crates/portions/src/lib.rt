@@ -1,4 +1,5 @@
 // The portions of an element: read once into lent numbers, and compared there.
+#![tactic(auto)]
 ghost use Rattle.std.specs.Prelude.{◌≡◌, false, not, ◌||◌, [], ◌∷◌, ◌++◌, ◌+◌, ◌*◌, ◌<◌, ◌≤◌, length, take};
 ghost use Rattle.std.proofs.Math.Seq.{slice};
 ghost use Rattle.octets.specs.Walk.{stream_limit};
@@ -22,7 +23,7 @@ const NO_DIGITS: usize = 16;
 
 // What one reading of the portions tells: how many they are, whether other items than portions are among them (then nothing else is
 // told), and whether one is misspelt.
-#[derive(Drop)]
+#[derive(Clone, Copy)]
 pub struct PortionList {
     pub count: usize,
     pub others: bool,

@@ -1,1 +1,3 @@
 // What is promised of a letter that is made. This crate has definitions and theorems only, and no code.
+
+#![tactic(auto)]

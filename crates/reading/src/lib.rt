@@ -1,4 +1,5 @@
 // The reading list of a side.
+#![tactic(auto)]
 ghost use Rattle.std.specs.Prelude.{◌≡◌, true, [], ◌∷◌, ◌++◌, ◌+◌, ◌*◌, ◌<◌, ◌≤◌, length, drop};
 ghost use Rattle.headers.specs.Head.{is_in};
 ghost use Rattle.names.specs.Names.{space_byte};
@@ -25,7 +26,7 @@ use rows::{
 use runs::Met;
 
 // Which objects and classes are read, and by which identifier of a text unit.
-#[derive(Drop)]
+#[derive(Clone, Copy)]
 pub enum Side {
     Layout,
     Logical,
@@ -33,7 +34,7 @@ pub enum Side {
 
 // One record of the reading list: an element, a place in its portions and a text unit, all from 0.
 #[repr(C)]
-#[derive(Drop)]
+#[derive(Clone, Copy)]
 pub struct Match {
     pub element: u32,
     pub portion: u32,

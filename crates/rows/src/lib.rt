@@ -1,4 +1,5 @@
 // The rows of a letter: which numbers a row has and where, the kinds of elements and who shares a name space; and look-up of rows by their names.
+#![tactic(auto)]
 ghost use Rattle.std.specs.Prelude.{◌≡◌, ◌+◌, ◌≤◌};
 ghost use Rattle.rows.specs.Rows.{name_space_of};
 ghost use Rattle.rows.specs.Index.{links_begin, half_of, identifier_index, logical_index};
@@ -44,7 +45,7 @@ pub const UNITS: u8 = 2;
 const SPACES: [u8; 9] = [0, 1, 1, 2, 0, 1, 1, 3, 3];
 
 // What a look-up answers: a row's number, or that there is none.
-#[derive(Drop)]
+#[derive(Clone, Copy)]
 pub enum RowFound {
     At(usize),
     Nothing,

@@ -1,4 +1,5 @@
 // A run of items as a value: what is met at its start. Every pass after the walk goes through `meet`, but the normal form's writer.
+#![tactic(auto)]
 ghost use Rattle.std.specs.Prelude.{◌≡◌, true, ◌<◌, ◌≤◌, eqb, length};
 ghost use Rattle.headers.specs.Head.{constructed};
 ghost use Rattle.octets.specs.Walk.{ends, run};
@@ -10,7 +11,7 @@ use headers::{Head, Header};
 use octets::DEEPEST;
 
 // A run of items from `at` to `limit`, or, if it is marked, to a closing mark before it; with `room` levels left.
-#[derive(Drop)]
+#[derive(Clone, Copy)]
 pub struct Run {
     pub at: usize,
     pub limit: usize,
@@ -20,7 +21,7 @@ pub struct Run {
 
 // What is met at the start of a run: an item with its value from `first` to `past`, the run inside it and the rest of the run; or
 // the run's end.
-#[derive(Drop)]
+#[derive(Clone, Copy)]
 pub enum Met {
     Item {
         code: usize,

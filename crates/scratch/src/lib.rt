@@ -1,5 +1,6 @@
 // A stream is walked, its size told, and the question put in a frame of that size: there it is judged, and the rest left to `answers`. Frames have
 // two sizes, for few elements and for as many as a letter may have, since every letter pays for clearing one.
+#![tactic(auto)]
 ghost use Rattle.std.specs.Prelude.{◌≡◌, true, cond, ◌≤◌, length};
 ghost use Rattle.octets.specs.Walk.{walk_of};
 ghost use Rattle.letters.specs.Lent.{rows_needed};
