@@ -1,0 +1,15 @@
+-- `answers::children::count_children` meets its contract. The loop's invariant: those that were found, and those that are left.
+use mathlib.Core.Path.{◌≡◌, ap, sym, ◌∙◌}
+use Prim.Native.Nat.{ℕ, suc, ◌+◌, ◌-◌, ◌≤◌}
+use native.Mathlib.Omega.{arith}
+use lib.ListN.{length}
+use borrow.Author.Rules.{rules}
+use Rattle.answers.specs.Filling.{rows_with}
+use Rattle.answers.proofs.Tabling.{rows-hit, rows-miss, rows-done}
+use Rattle.answers.proofs.children.count_children.Given as goal
+
+abbrev pub invariant-loop-j : goal.invariant-loop-j
+invariant-loop-j l = (l.j ≤ l.count) × (l.found ≤ l.j) × (length (rows_with l.table l.row 0 l.count) ≡ l.found + length (rows_with l.table l.row l.j (l.count - l.j)))
+
+abbrev pub decreases-loop-j : goal.decreases-loop-j
+decreases-loop-j l = l.count - l.j

@@ -1,0 +1,30 @@
+-- `answers::children::put_children` meets its contract: what is put, and then those that are left, is all.
+use mathlib.Core.Path.{sym, ◌∙◌}
+use Prim.Native.Nat.{◌-◌}
+use native.Mathlib.Omega.{arith}
+use borrow.Author.Rules.{rules}
+use Rattle.answers.proofs.Tabling.{Putting, putting-all, putting-room, putting-hit, putting-miss, putting-none}
+use Rattle.answers.proofs.children.put_children.Goals as goal
+
+pub loop-j-init : goal.loop-j-init
+loop-j-init c =
+    let a = c.args in
+    putting-all a.table.now a.count a.row a.list.now c.requires.1
+
+pub bounds-list-found : goal.bounds-list-found
+bounds-list-found c =
+    putting-room c.loop-j.invariant c.loop-j-test.true (sym c.wide-parent.ensures ∙ c.if-parent-row.true)
+
+pub loop-j-preserved-then-parent-row : goal.loop-j-preserved-then-parent-row
+loop-j-preserved-then-parent-row c = putting-hit c.loop-j.invariant c.loop-j-test.true (sym c.wide-parent.ensures
+    ∙ c.if-parent-row.true)
+
+pub loop-j-preserved : goal.loop-j-preserved
+loop-j-preserved c = putting-miss c.loop-j.invariant c.loop-j-test.true
+    (λ e. c.if-parent-row.false (c.wide-parent.ensures ∙ e))
+
+pub shape_of-list : goal.shape_of-list
+shape_of-list c = c.loop-j.invariant.kept
+
+pub returns : goal.returns
+returns c = putting-none c.loop-j.invariant c.loop-j-test.false c.requires.1

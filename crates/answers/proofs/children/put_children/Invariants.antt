@@ -1,0 +1,13 @@
+-- `answers::children::put_children` meets its contract: what is put, and then those that are left, is all.
+use mathlib.Core.Path.{sym, ◌∙◌}
+use Prim.Native.Nat.{◌-◌}
+use native.Mathlib.Omega.{arith}
+use borrow.Author.Rules.{rules}
+use Rattle.answers.proofs.Tabling.{Putting, putting-all, putting-room, putting-hit, putting-miss, putting-none}
+use Rattle.answers.proofs.children.put_children.Given as goal
+
+abbrev pub invariant-loop-j : goal.invariant-loop-j
+invariant-loop-j l = Putting l.table l.count l.row l.initial.list l.list l.j l.found
+
+abbrev pub decreases-loop-j : goal.decreases-loop-j
+decreases-loop-j l = l.count - l.j

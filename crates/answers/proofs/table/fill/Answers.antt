@@ -1,0 +1,27 @@
+-- `answers::table::fill` meets its contract: the rows are put in turn.
+use Prim.Native.Nat.{◌-◌}
+use native.Mathlib.Omega.{arith}
+use Rattle.answers.proofs.Tabling.{Filling, filling-all, filling-more, filling-none}
+use Rattle.answers.proofs.table.fill.Goals as goal
+
+pub loop-j-init : goal.loop-j-init
+loop-j-init c = let a = c.args in filling-all a.s.now a.rows.now a.count a.table.now
+
+pub put_row-requires : goal.put_row-requires
+put_row-requires c =
+    (
+      c.requires.0,
+      (c.requires.1.0, (c.loop-j-test.true, c.requires.1.1.0, omega (arith, c.requires.1.1.1, c.loop-j.invariant.kept))),
+    )
+
+pub loop-j-preserved : goal.loop-j-preserved
+loop-j-preserved c =
+    let put-row = c.put_row in
+    filling-more c.loop-j.invariant c.loop-j-test.true put-row.ensures
+    put-row.auto.1.1.1.1.1.0
+
+pub shape_of-table : goal.shape_of-table
+shape_of-table c = c.loop-j.invariant.kept
+
+pub returns : goal.returns
+returns c = filling-none c.loop-j.invariant c.loop-j-test.false c.requires.1.1.1

@@ -1,0 +1,23 @@
+-- `answers::table::finish` meets its contract: the table is filled, or nothing is done.
+use mathlib.Core.Path.{sym, ◌∙◌}
+use native.Mathlib.Omega.{arith}
+use borrow.Author.Rules.{rules}
+use borrow.Author.Tests.{not-true, not-false}
+use Rattle.answers.proofs.Judging.{accepted-judged}
+use Rattle.answers.proofs.Tabling.{table_filled}
+use Rattle.answers.proofs.table.finish.Goals as goal
+
+pub returns-then-not-is_finishing : goal.returns-then-not-is_finishing
+returns-then-not-is_finishing c = rw (sym c.is_finishing.ensures ∙ c.if-not-is_finishing.true)
+
+pub fill-requires : goal.fill-requires
+fill-requires c =
+    let l = accepted-judged c.requires.0.ended c.requires.1.0 in
+    let enough = c.requires.1.1.1 (sym c.is_finishing.ensures ∙ c.if-not-is_finishing.false) in
+    ((c.args.edition, c.requires.1.0), (c.requires.1.1.0, (l.few, omega (arith, enough))))
+
+pub returns : goal.returns
+returns c =
+    let l = accepted-judged c.requires.0.ended c.requires.1.0 in
+    let filled = table_filled l.held l.judged c.args.table.now _ c.fill.ensures in
+    filled ∙ rw (sym c.is_finishing.ensures ∙ c.if-not-is_finishing.false)

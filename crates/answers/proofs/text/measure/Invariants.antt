@@ -1,0 +1,18 @@
+-- `answers::text::measure` meets its contract: what is counted, and what is left, is all.
+use mathlib.Core.Path.{◌≡◌, ap, ◌∙◌}
+use Prim.Native.Nat.{ℕ, ◌+◌, ◌-◌, ◌≤◌}
+use native.Mathlib.Omega.{arith}
+use lib.ListN.{length}
+use borrow.Author.Rules.{rules}
+use Rattle.text_lines.specs.Text.{texts_of}
+use Rattle.text_lines.specs.Flat.{records_from}
+use Rattle.text_lines.proofs.Putting.{size-left, size_none}
+use Rattle.answers.specs.Text.{text_in}
+use Rattle.answers.proofs.text.measure.Given as goal
+
+abbrev pub invariant-loop-k : goal.invariant-loop-k
+invariant-loop-k l = (l.k ≤ l.lines) × (l.total + length (texts_of (text_in l.edition l.stream) (records_from l.numbers l.k (l.lines - l.k))) ≡ length
+    (texts_of (text_in l.edition l.stream) (records_from l.numbers 0 l.lines)))
+
+abbrev pub decreases-loop-k : goal.decreases-loop-k
+decreases-loop-k l = l.lines - l.k

@@ -1,0 +1,70 @@
+-- `answers::text::put_text` meets its contract: a part or the pieces that were fetched are the text, and are copied.
+use mathlib.Core.Path.{refl, ap, subst}
+use mathlib.Core.List.{[]}
+use native.Mathlib.Omega.{arith}
+use borrow.Author.Rules.{rules}
+use lib.ListN.{length}
+use Rattle.pieces.proofs.Putting.{part_slice, copied}
+use Rattle.answers.specs.Answers.{Fetched}
+use Rattle.answers.specs.Asking.{FindsContent}
+use Rattle.answers.proofs.TextSteps.{as-text}
+use Rattle.answers.proofs.text.put_text.Goals as goal
+
+pub slice_bounds-copy-count : goal.slice_bounds-copy-count
+slice_bounds-copy-count c =
+    let a = c.args in
+    let f = subst (FindsContent a.edition a.stream.now a.unit) c.in-Content.is c.fetch_judged.ensures in
+    f.fetches.stands.order
+
+pub slice_bounds-copy-start : goal.slice_bounds-copy-start
+slice_bounds-copy-start c =
+    let a = c.args in
+    let f = subst (FindsContent a.edition a.stream.now a.unit) c.in-Content.is c.fetch_judged.ensures in
+    f.fetches.stands.order
+
+pub slice_bounds-copy-end : goal.slice_bounds-copy-end
+slice_bounds-copy-end c =
+    let a = c.args in
+    let f = subst (FindsContent a.edition a.stream.now a.unit) c.in-Content.is c.fetch_judged.ensures in
+    f.fetches.stands.inside
+
+pub copy-requires : goal.copy-requires
+copy-requires c =
+    let a = c.args in
+    let f = subst (FindsContent a.edition a.stream.now a.unit) c.in-Content.is
+    c.fetch_judged.ensures in
+    let part = part_slice _ _ a.stream.now f.fetches.stands.order in
+    omega (arith, ap length part, ap (λ (x : Fetched). length x.part) f.joins, c.requires.1.1)
+
+pub put_joined-requires : goal.put_joined-requires
+put_joined-requires c =
+    let a = c.args in
+    let f = subst (FindsContent a.edition a.stream.now a.unit) c.in-Pieces.is
+    c.fetch_judged.ensures in
+    (f.known, omega (arith, ap (λ (x : Fetched). length x.part) f.joins, c.requires.1.1))
+
+pub returns-in-Content : goal.returns-in-Content
+returns-in-Content c =
+    let copy_step = c.copy in
+    let a = c.args in
+    let f = subst (FindsContent a.edition a.stream.now a.unit) c.in-Content.is
+    c.fetch_judged.ensures in
+    let put = copy_step.ensures in
+    let part = part_slice _ _ a.stream.now f.fetches.stands.order in
+    let copy = copied _ _ a.out.now _ copy_step.result part put.0 put.1 in
+    as-text _ _ a.out.now _ copy_step.result (ap (λ (x : Fetched). x.part) f.joins) copy.0 copy.1
+
+pub returns-in-Pieces : goal.returns-in-Pieces
+returns-in-Pieces c =
+    let put-joined = c.put_joined in
+    let a = c.args in
+    let f = subst (FindsContent a.edition a.stream.now a.unit) c.in-Pieces.is
+    c.fetch_judged.ensures in
+    let put = put-joined.ensures in
+    as-text _ _ a.out.now _ put-joined.result (ap (λ (x : Fetched). x.part) f.joins) put.0 put.1
+
+pub returns-in-NoUnit : goal.returns-in-NoUnit
+returns-in-NoUnit c =
+    let a = c.args in
+    let f = subst (FindsContent a.edition a.stream.now a.unit) c.in-NoUnit.is c.fetch_judged.ensures in
+    as-text _ [] a.out.now a.out.now 0 (ap (λ (x : Fetched). x.part) f.joins) refl refl

@@ -1,0 +1,136 @@
+-- `answers::text::put_texts` meets its contract. The loop's invariant is `PutSoFar`.
+use mathlib.Core.Path.{ap, ◌∙◌}
+use Prim.Native.Nat.{ℕ, ◌-◌, ◌≤◌}
+use native.Mathlib.Omega.{arith}
+use mathlib.Core.List.{◌++◌}
+use lib.ListN.{length, drop}
+use borrow.Author.Rules.{rules}
+use Rattle.pieces.proofs.Putting.{part_from, part_length}
+use Rattle.text_lines.proofs.Putting.{PutSoFar, none-put, all-put, room-left, end-within, more-put}
+use Rattle.answers.specs.Text.{text_in}
+use Rattle.answers.proofs.text.put_texts.Goals as goal
+
+pub loop-k-init : goal.loop-k-init
+loop-k-init c = let a = c.args in none-put (text_in a.edition a.stream.now) a.numbers.now a.lines a.out.now
+
+pub bounds-numbers-k : goal.bounds-numbers-k
+bounds-numbers-k c =
+    let a = c.args in
+    let l = c.loop-k in
+    let below = c.loop-k-test.true in
+    omega (arith, below, l.invariant.long, c.requires.1.1.0.room)
+
+pub slice_bounds-put_text-count : goal.slice_bounds-put_text-count
+slice_bounds-put_text-count c =
+    let a = c.args in
+    let l = c.loop-k in
+    let below = c.loop-k-test.true in
+    omega (arith, l.invariant.all, l.invariant.wide, c.requires.1.1.1)
+
+pub slice_bounds-put_text-start : goal.slice_bounds-put_text-start
+slice_bounds-put_text-start c =
+    let a = c.args in
+    let l = c.loop-k in
+    let below = c.loop-k-test.true in
+    let h : l.done ≤ length l.out = omega (arith, l.invariant.all, l.invariant.wide, c.requires.1.1.1) in
+    h
+
+pub put_text-done-requires : goal.put_text-done-requires
+put_text-done-requires c =
+    let a = c.args in
+    let l = c.loop-k in
+    let below = c.loop-k-test.true in
+    let same = ap (λ (u : ℕ). length (text_in a.edition a.stream.now u)) c.wide-unit.ensures in (
+      c.requires.0,
+      (
+        c.requires.1.0,
+        omega (
+          arith,
+          same,
+          room-left (text_in a.edition a.stream.now) a.numbers.now a.lines a.out.now l.invariant below c.requires.1.1.1,
+          part_length l.out l.done,
+        ),
+      ),
+    )
+
+pub overflow_add-done : goal.overflow_add-done
+overflow_add-done c =
+    let a = c.args in
+    let l = c.loop-k in
+    let below = c.loop-k-test.true in
+    let same = ap (λ (u : ℕ). length (text_in a.edition a.stream.now u)) c.wide-unit.ensures in
+    let own = c.put_text-done.ensures.value in
+    omega (
+      arith,
+      own,
+      same,
+      end-within (text_in a.edition a.stream.now) a.numbers.now a.lines a.out.now l.invariant below,
+      c.requires.1.1.0.short,
+    )
+
+pub overflow_cast-numbers : goal.overflow_cast-numbers
+overflow_cast-numbers c =
+    let a = c.args in
+    let l = c.loop-k in
+    let below = c.loop-k-test.true in
+    let same = ap (λ (u : ℕ). length (text_in a.edition a.stream.now u)) c.wide-unit.ensures in
+    let own = c.put_text-done.ensures.value in
+    omega (
+      arith,
+      own,
+      same,
+      end-within (text_in a.edition a.stream.now) a.numbers.now a.lines a.out.now l.invariant below,
+      c.requires.1.1.0.short,
+    )
+
+pub overflow_mul-numbers : goal.overflow_mul-numbers
+overflow_mul-numbers c =
+    let a = c.args in
+    let l = c.loop-k in
+    let below = c.loop-k-test.true in
+    omega (arith, below, c.requires.1.1.0.few)
+
+pub overflow_add-numbers : goal.overflow_add-numbers
+overflow_add-numbers c =
+    let a = c.args in
+    let l = c.loop-k in
+    let below = c.loop-k-test.true in
+    omega (arith, below, c.requires.1.1.0.few)
+
+pub offset_bounds-numbers-lines : goal.offset_bounds-numbers-lines
+offset_bounds-numbers-lines c =
+    let a = c.args in
+    let l = c.loop-k in
+    let below = c.loop-k-test.true in
+    omega (arith, below, c.requires.1.1.0.few)
+
+pub bounds-numbers-lines : goal.bounds-numbers-lines
+bounds-numbers-lines c =
+    let a = c.args in
+    let l = c.loop-k in
+    let below = c.loop-k-test.true in
+    omega (arith, below, l.invariant.long, c.requires.1.1.0.room)
+
+pub loop-k-preserved : goal.loop-k-preserved
+loop-k-preserved c =
+    let wide = c.wide-unit in
+    let a = c.args in
+    let l = c.loop-k in
+    let below = c.loop-k-test.true in
+    let same = ap (λ (u : ℕ). length (text_in a.edition a.stream.now u)) wide.ensures in
+    let put = c.put_text-done in
+    let octets = ap (λ (u : ℕ). text_in a.edition a.stream.now u ++ drop put.result (part_from l.out l.done)) wide.ensures in
+    more-put (text_in a.edition a.stream.now) a.numbers.now a.lines a.out.now l.invariant below c.requires.1.1.1 put.result _
+    (put.ensures.0 ∙ same) (put.ensures.1 ∙ octets)
+
+pub shape_of-numbers : goal.shape_of-numbers
+shape_of-numbers c = c.loop-k.invariant.long
+
+pub shape_of-out : goal.shape_of-out
+shape_of-out c = c.loop-k.invariant.wide
+
+pub returns : goal.returns
+returns c =
+    let a = c.args in
+    let l = c.loop-k in
+    all-put (text_in a.edition a.stream.now) a.numbers.now a.lines a.out.now l.invariant c.loop-k-test.false

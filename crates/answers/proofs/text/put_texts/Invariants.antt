@@ -1,0 +1,17 @@
+-- `answers::text::put_texts` meets its contract. The loop's invariant is `PutSoFar`.
+use mathlib.Core.Path.{ap, ◌∙◌}
+use Prim.Native.Nat.{ℕ, ◌-◌, ◌≤◌}
+use native.Mathlib.Omega.{arith}
+use mathlib.Core.List.{◌++◌}
+use lib.ListN.{length, drop}
+use borrow.Author.Rules.{rules}
+use Rattle.pieces.proofs.Putting.{part_from, part_length}
+use Rattle.text_lines.proofs.Putting.{PutSoFar, none-put, all-put, room-left, end-within, more-put}
+use Rattle.answers.specs.Text.{text_in}
+use Rattle.answers.proofs.text.put_texts.Given as goal
+
+abbrev pub invariant-loop-k : goal.invariant-loop-k
+invariant-loop-k l = PutSoFar (text_in l.edition l.stream) l.initial.numbers l.lines l.initial.out l.k l.done l.numbers l.out
+
+abbrev pub decreases-loop-k : goal.decreases-loop-k
+decreases-loop-k l = l.lines - l.k

@@ -1,0 +1,20 @@
+-- `characters::measure` meets its contract: the sizes from the start on are what is counted and those from here on.
+use Prim.Native.Nat.{◌+◌, ◌-◌, ◌≤◌, ◌<◌}
+use native.Mathlib.Nat.{zero-add}
+use native.Mathlib.Omega.{arith}
+use mathlib.Core.Path.{◌≡◌, ap}
+use lib.ListN.{length, drop}
+use borrow.Author.Tests.{lt-leb}
+use Rattle.characters.specs.Signs.{signs, utf8_of, numbers_in}
+use Rattle.characters.proofs.Next.{text-end, numbers-end}
+use Rattle.characters.proofs.Going.{goes, size-left}
+use Rattle.characters.proofs.Answers.{measured-fits}
+use Rattle.characters.proofs.measure.Given as goal
+
+abbrev pub invariant-loop-at : goal.invariant-loop-at
+invariant-loop-at l = (l.at ≤ length l.octets) × (l.here ≤ l.room) × (l.numbers ≤ l.here)
+    × (l.here + length (utf8_of (signs l.set (drop l.at l.octets))) ≡ length (utf8_of (signs l.set l.octets)))
+    × (l.numbers + numbers_in (signs l.set (drop l.at l.octets)) ≡ numbers_in (signs l.set l.octets))
+
+abbrev pub decreases-loop-at : goal.decreases-loop-at
+decreases-loop-at l = length l.octets - l.at

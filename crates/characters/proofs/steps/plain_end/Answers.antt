@@ -1,0 +1,31 @@
+-- `characters::steps::plain_end` meets its contract: the run from a place on is the octet there and the run past it.
+use Prim.Native.Nat.{◌+◌, ◌-◌, ◌≤◌, ◌<◌}
+use native.Mathlib.Omega.{arith}
+use mathlib.Core.Path.{◌≡◌, refl, sym, ap, ◌∙◌}
+use lib.ListN.{length, drop}
+use borrow.Author.Tests.{not-true, not-false}
+use Rattle.characters.specs.Steps.{plain_front}
+use Rattle.characters.proofs.Going.{front-more, front-stops, front_ends}
+use Rattle.characters.proofs.steps.plain_end.Goals as goal
+
+pub returns-then-not-is_plain : goal.returns-then-not-is_plain
+returns-then-not-is_plain c =
+    let l = c.loop-end in
+    let xs = c.args.octets.now in
+    let within : l.end < length xs = omega arith in
+    let no = sym c.is_plain.ensures ∙ c.if-not-is_plain.true in
+    omega (arith, l.invariant.2, ap length (front-stops xs l.end within no))
+
+pub loop-end-preserved : goal.loop-end-preserved
+loop-end-preserved c =
+    let l = c.loop-end in
+    let xs = c.args.octets.now in
+    let within : l.end < length xs = omega arith in
+    let so = sym c.is_plain.ensures ∙ c.if-not-is_plain.false in
+    (omega arith, omega arith, omega (arith, l.invariant.2, ap length (front-more xs l.end within so)))
+
+pub returns : goal.returns
+returns c =
+    let l = c.loop-end in
+    let xs = c.args.octets.now in
+    omega (arith, l.invariant.2, ap length (front_ends xs l.end c.loop-end-test.false))

@@ -1,0 +1,16 @@
+-- `characters::steps::plain_end` meets its contract: the run from a place on is the octet there and the run past it.
+use Prim.Native.Nat.{◌+◌, ◌-◌, ◌≤◌, ◌<◌}
+use native.Mathlib.Omega.{arith}
+use mathlib.Core.Path.{◌≡◌, refl, sym, ap, ◌∙◌}
+use lib.ListN.{length, drop}
+use borrow.Author.Tests.{not-true, not-false}
+use Rattle.characters.specs.Steps.{plain_front}
+use Rattle.characters.proofs.Going.{front-more, front-stops, front_ends}
+use Rattle.characters.proofs.steps.plain_end.Given as goal
+
+-- the end of the run from the start on is that from here on
+abbrev pub invariant-loop-end : goal.invariant-loop-end
+invariant-loop-end l = (l.at ≤ l.end) × (l.end ≤ length l.octets) × (l.end + length (plain_front (drop l.end l.octets)) ≡ l.at + length (plain_front (drop l.at l.octets)))
+
+abbrev pub decreases-loop-end : goal.decreases-loop-end
+decreases-loop-end l = length l.octets - l.end

@@ -1,0 +1,19 @@
+-- `dates::found_from` meets its contract. The loop's invariant: `had` tells what the part of the run that is passed has on the path.
+-- The function ends, for each call is one octet further on the path.
+use Prim.Native.Nat.{ℕ, ◌-◌, ◌<◌}
+use mathlib.Core.Path.{◌∙◌}
+use native.Mathlib.Omega.{arith}
+use borrow.Author.Rules.{rules}
+use Rattle.runs.specs.Runs.{Fine, Meeting}
+use Rattle.contents.proofs.Firsts.{met}
+use Rattle.dates.proofs.Places.{SoFar, at_start, at-end, go_on, pass-over, zero-tells, zero-adds, path-adds, other-adds}
+use Rattle.dates.proofs.+found_from.Given as goal
+
+abbrev pub decreases-found_from : goal.decreases-found_from
+decreases-found_from l = l.level
+
+abbrev pub invariant-loop-had : goal.invariant-loop-had
+invariant-loop-had l = Fine l.s l.cur × SoFar l.s l.level l.initial.cur l.cur l.had
+
+abbrev pub decreases-loop-had : goal.decreases-loop-had
+decreases-loop-had l = l.cur.limit - l.cur.at

@@ -1,0 +1,14 @@
+-- `elements::rules::is_spelt` meets its contract.
+use borrow.Author.Rules.{rules}
+use Rattle.elements.proofs.Values.{spelt-absent, spelt-there}
+use Rattle.elements.proofs.rules.is_spelt.Goals as goal
+
+pub returns-then-past-eq0 : goal.returns-then-past-eq0
+returns-then-past-eq0 c =
+    let a = c.args in
+    spelt-absent a.s.now a.v c.if-past-eq0.true
+
+pub returns : goal.returns
+returns c =
+    let a = c.args in
+    spelt-there a.s.now a.v c.if-past-eq0.false c.is_identifier.result c.is_identifier.ensures

@@ -1,0 +1,15 @@
+-- `close_ended`: each turn closes the innermost open item, as `settle` does.
+use mathlib.Core.Path.{◌≡◌, refl, ap, ◌∙◌}
+use Prim.Native.Nat.{ℕ, ◌≤◌}
+use native.Mathlib.Omega.{arith}
+use Rattle.blocks.specs.Engine.{settle}
+use Rattle.engine.specs.Stored.{opens_of}
+use Rattle.engine.proofs.Stores.{settle-going, settle-unclosed, settle-ended}
+use borrow.Author.Rules.{rules}
+use Rattle.engine.proofs.ends.close_ended.Given as goal
+
+abbrev pub invariant-loop-n : goal.invariant-loop-n
+invariant-loop-n l = (l.n ≤ 16) × ((k : ℕ) → settle k (opens_of l.level l.ends) l.at ≡ settle k (opens_of l.n l.ends) l.at)
+
+abbrev pub decreases-loop-n : goal.decreases-loop-n
+decreases-loop-n l = l.n

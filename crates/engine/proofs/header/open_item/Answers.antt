@@ -1,0 +1,29 @@
+-- `open_item`: the end is stored last, so it is the innermost.
+use mathlib.Core.Path.{◌≡◌, ◌∙◌}
+use Prim.Native.Nat.{◌<◌}
+use native.Mathlib.Omega.{arith}
+use lib.ListN.{length, length-map}
+use Rattle.engine.proofs.Stores.{pushed}
+use borrow.Author.Rules.{rules}
+use Rattle.engine.proofs.header.open_item.Goals as goal
+
+-- src/lib.rt:124:17
+-- src/lib.rt:124:5
+-- src/lib.rt:124:5
+-- src/lib.rt:125:15
+-- src/lib.rt:127:5
+-- src/lib.rt:119:1
+pub returns : goal.returns
+returns c =
+    let a = c.args in
+    let b = a.t1 in
+    let n : length b.ends ≡ 16 = omega (arith, c.well-formed, length-map b.ends (λ v. v)) in
+    let l : b.level < length b.ends = omega arith in
+    let w = c.arrived.ensures in
+    record {
+      state = w.state ∙ rw (pushed b.level b.ends c.end_of.result (record { bound = a.bound; marked = a.marked }) l
+          c.end_of.ensures);
+      depth = w.depth;
+      kept = w.kept;
+      headers = w.headers;
+    }

@@ -1,0 +1,25 @@
+-- `judging::is_taken` meets its contract: an empty name is no row's, and any other is looked up.
+use native.Mathlib.Omega.{arith}
+use Rattle.judging.proofs.Clash.{found-taken, nothing-taken, empty-untaken}
+use borrow.Author.Rules.{rules}
+use Rattle.judging.proofs.is_taken.Goals as goal
+
+pub returns-then-first-past : goal.returns-then-first-past
+returns-then-first-past c =
+    empty-untaken c.args.name c.requires.0 c.if-first-past.true
+
+pub find-requires : goal.find-requires
+find-requires c =
+    let placed = c.requires.1.1.0 in (
+      c.requires.0,
+      (
+        c.requires.1.0,
+        (record { first_order = placed.order; first_inside = placed.inside; second_order = omega arith; second_inside = omega arith }, c.requires.1.1.1),
+      ),
+    )
+
+pub returns-in-At : goal.returns-in-At
+returns-in-At c = found-taken c.find.ensures _ c.in-At.is
+
+pub returns-in-Nothing : goal.returns-in-Nothing
+returns-in-Nothing c = nothing-taken c.find.ensures c.in-Nothing.is

@@ -1,0 +1,44 @@
+-- `lent::judge` meets its contract: the cleared index is what the judge of a stream asks for, and what that says is what rules 9 to 15 say.
+use mathlib.Core.Path.{sym, ◌∙◌, subst}
+use borrow.Author.Rules.{rules}
+use native.Mathlib.Omega.{arith}
+use Rattle.runs.proofs.Laws.{stream-fine, stream-within}
+use Rattle.letters.specs.Scratch.{GivesVerdict}
+use Rattle.answers.proofs.Working.{ruled-refused, ruled-letter}
+use Rattle.answers.proofs.Judging.{Refusing, refused-stopped, accepted-judged}
+use Rattle.lent.proofs.Cleared.{cleared}
+use Rattle.lent.proofs.judge.Goals as goal
+use Rattle.lent.proofs.judge.Goals.{In-Refused}
+
+pub judge_stream-requires : goal.judge_stream-requires
+judge_stream-requires c =
+    let s = c.args.stream.now in
+    let w = c.requires.0.2 in
+    let clear = c.clear in
+    ((stream-fine s _ _ w, stream-within s _ _ w), cleared s _ _ c.requires.1.0 (clear.ensures.1 ∙ c.requires.1.1) clear.ensures.0)
+
+-- what rules 9 to 15 refuse
+refusing : (c : In-Refused) →
+    Refusing c.args.edition c.args.stream.now c.in-Refused.number c.in-Refused.place c.requires.0.1
+refusing c =
+    let j = c.judge_stream in
+    refused-stopped c.requires.0.2
+    (subst (GivesVerdict c.args.edition c.args.stream.now j.new.1.1.0 j.new.1.1.1.0) c.in-Refused.is j.ensures)
+
+pub overflow_cast-result : goal.overflow_cast-result
+overflow_cast-result c = let r = refusing (goal.at.overflow_cast-result c).In-Refused in omega arith
+
+pub overflow_cast-result-in-Refused : goal.overflow_cast-result-in-Refused
+overflow_cast-result-in-Refused c = let r = refusing (goal.at.overflow_cast-result-in-Refused c).In-Refused in omega arith
+
+pub returns-in-Accepted : goal.returns-in-Accepted
+returns-in-Accepted c =
+    let s = c.args.stream.now in
+    let j = c.judge_stream in
+    let held = subst (GivesVerdict c.args.edition s j.new.1.1.0 j.new.1.1.1.0) c.in-Accepted.is j.ensures in
+    sym (ruled-letter c.args.edition s (accepted-judged c.requires.0.2 held.0).judged)
+
+pub returns-in-Refused : goal.returns-in-Refused
+returns-in-Refused c =
+    let a = c.args in
+    sym (ruled-refused a.edition a.stream.now (refusing (goal.at.returns-in-Refused c).In-Refused).judged)

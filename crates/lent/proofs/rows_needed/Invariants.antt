@@ -1,0 +1,16 @@
+-- `lent::rows_needed` meets its contract: the elements counted so far and those of the rest are those of the stream.
+use mathlib.Core.Path.{◌≡◌, sym, ap, subst}
+use mathlib.Core.List.{List}
+use Prim.Native.Nat.{ℕ, ◌+◌, ◌-◌, ◌≤◌}
+use native.Mathlib.Omega.{arith}
+use borrow.Author.Rules.{rules}
+use Rattle.runs.specs.Runs.{items_of, whole_stream, tops, Fine, Meeting}
+use Rattle.runs.specs.declared.Run.{Run}
+use Rattle.contents.proofs.Firsts.{met}
+use Rattle.lent.proofs.rows_needed.Given as goal
+
+abbrev pub invariant-loop-rest : goal.invariant-loop-rest
+invariant-loop-rest l = Fine l.s l.cur × (l.n ≤ 4096) × (tops_in l.s l.initial.cur ≡ l.n + tops_in l.s l.cur)
+
+abbrev pub decreases-loop-rest : goal.decreases-loop-rest
+decreases-loop-rest l = l.cur.limit - l.cur.at

@@ -1,0 +1,46 @@
+-- `lister_text::put_number` meets its contract: it follows the two equations of a decimal number. Its measure is the number, whose tenth is less.
+use Prim.Native.Nat.{ℕ, ◌/◌, ◌%◌, ◌<◌}
+use native.Mathlib.Omega.{arith}
+use mathlib.Core.Path.{refl}
+use mathlib.Core.List.{[], ◌∷◌}
+use lib.ListN.{length, length-append, length-set}
+use Rattle.lister_text.specs.Decimal.{decimal, digit}
+use Rattle.lister_text.proofs.Decimal.{decimal-small, decimal-large, decimal-short}
+use Rattle.lister_text.proofs.Stores.{sets-join}
+use Rattle.lister_text.proofs.+put_number.Goals as goal
+use Rattle.lister_text.proofs.+put_number.Goals.{After-slice_known-2-1}
+
+pub shape_of-out-then-n-lt10 : goal.shape_of-out-then-n-lt10
+shape_of-out-then-n-lt10 t c = simp length-set
+
+pub returns-then-n-lt10 : goal.returns-then-n-lt10
+returns-then-n-lt10 t c = rw (decimal-small c.args.n (omega arith)) (refl, refl)
+
+pub put_number-last-requires : goal.put_number-last-requires
+put_number-last-requires t c = (omega arith, omega arith)
+
+-- there is room for the last digit
+last_within : (t : ℕ) (c : After-slice_known-2-1 t) → c.put_number-last.result < length
+    c.put_number-last.new.out
+last_within t c =
+    let n = c.args.n in
+    let put = c.put_number-last in
+    omega (arith, put.ensures.0, put.auto.0, decimal-short 18 (n / 10) (omega arith))
+
+pub bounds-out-last : goal.bounds-out-last
+bounds-out-last t c = omega (arith, last_within t (goal.at.bounds-out-last t c).After-slice_known-2-1, c.put_number-last.auto.out)
+
+pub overflow_add-result-2 : goal.overflow_add-result-2
+overflow_add-result-2 t c = omega (arith, last_within t (goal.at.overflow_add-result-2 t c).After-slice_known-2-1, c.put_number-last.auto.out)
+
+pub shape_of-out : goal.shape_of-out
+shape_of-out t c = simp length-set c.put_number-last.auto.out
+
+pub returns : goal.returns
+returns t c =
+    let a = c.args in
+    let put = c.put_number-last.ensures in
+    rw (decimal-large a.n (omega arith)) (
+      rw put.0 (simp length-append (omega arith)),
+      rw (put.1, put.0) (sets-join a.out.now a.at (decimal (a.n / 10)) (digit (a.n % 10) ∷ [])),
+    )

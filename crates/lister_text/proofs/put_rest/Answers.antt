@@ -1,0 +1,43 @@
+-- `lister_text::put_rest` meets its contract. The loop's invariant: storing what is left of the line from here is storing the whole rest of it from
+-- the start, and there is room for it. The measure is how many numbers are left.
+use Prim.Native.Nat.{◌+◌, ◌*◌, ◌-◌, ◌≤◌, ◌<◌}
+use native.Mathlib.Omega.{arith}
+use mathlib.Core.Path.{◌≡◌, refl, ◌∙◌}
+use lib.ListN.{length, length-set, drop, get_or}
+use lib.Seq.{sets}
+use Rattle.lister_text.specs.Lines.{rest}
+use Rattle.lister_text.proofs.Decimal.{decimal-short}
+use Rattle.lister_text.proofs.Stores.{rest-length, rest-stores, rest_end}
+use Rattle.lister_text.proofs.put_rest.Goals as goal
+
+pub loop-i-init : goal.loop-i-init
+loop-i-init c = (omega arith, omega arith, refl, refl, refl)
+
+pub put_number-here-requires : goal.put_number-here-requires
+put_number-here-requires c = simp length-set (omega arith)
+
+pub loop-i-preserved : goal.loop-i-preserved
+loop-i-preserved c =
+    let put-number = c.put_number-here in
+    let l = c.loop-i in
+    let a = c.args in
+    let numbers = a.numbers.now in
+    let put = put-number.ensures in
+    let within : l.i < length numbers = c.loop-i-test.true in
+    let fits = c.shared_slice_known-in-loop-i-1.given l.i in
+    let short = decimal-short 19 (get_or numbers l.i 0) (omega (arith, fits)) in (
+      omega arith,
+      omega (arith, put.0, short),
+      put-number.auto.0 ∙ simp length-set l.invariant.2,
+      rw put.0 (rest-length numbers l.i within l.here ∙ l.invariant.3),
+      rw (put.1, put.0) (rest-stores numbers l.i within l.out l.here ∙ l.invariant.4),
+    )
+
+pub shape_of-out : goal.shape_of-out
+shape_of-out c = simp length-set c.loop-i.invariant.2
+
+pub returns : goal.returns
+returns c =
+    let l = c.loop-i in
+    let end = rest_end c.args.numbers.now l.i c.loop-i-test.false in
+    ((rw end at l.invariant.3, omega arith), rw end at l.invariant.4)

@@ -1,0 +1,6 @@
+-- `making::span_at` meets its contract: two numbers, as they are.
+use borrow.Author.Rules.{rules}
+use Rattle.making.proofs.span_at.Goals as goal
+
+pub returns : goal.returns
+returns c = rw (c.wide.ensures, c.wide-2.ensures)

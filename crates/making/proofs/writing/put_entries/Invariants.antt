@@ -1,0 +1,18 @@
+-- `making::writing::put_entries` meets its contract: after k turns the first k entries are written.
+use mathlib.Core.Path.{◌≡◌, refl, sym, ◌∙◌, subst}
+use Prim.Native.Nat.{ℕ, suc, ◌+◌, ◌-◌, ◌/◌, ◌<◌, ◌≤◌}
+use lib.ListN.{length}
+use native.Mathlib.Omega.{arith}
+use Rattle.normal.specs.Passes.{PutsOctets}
+use Rattle.making.specs.Flat.{entry_width, said_up_to}
+use Rattle.making.specs.Octets.{entry_size_by, entries_octets}
+use Rattle.making.specs.declared.Entry.{Entry}
+use Rattle.making.specs.Lent.{names_of, text_of, EntryLies}
+use Rattle.making.proofs.Lent.{entry-there, size-next, size-on, octets-up-to, written_none, written_next}
+use Rattle.making.proofs.writing.put_entries.Given as goal
+
+abbrev pub invariant-loop-k : goal.invariant-loop-k
+invariant-loop-k l = (l.k ≤ length l.numbers / entry_width) × (length l.out ≡ length l.initial.out) × PutsOctets l.initial.out l.begin (entries_octets (said_up_to l.buffer l.numbers l.k)) l.at l.out
+
+abbrev pub decreases-loop-k : goal.decreases-loop-k
+decreases-loop-k l = l.count - l.k

@@ -1,0 +1,6 @@
+-- `measures::is_under_one` meets its contract.
+use borrow.Author.Rules.{rules}
+use Rattle.measures.proofs.is_under_one.Goals as goal
+
+pub returns : goal.returns
+returns c = rw c.if-n.false

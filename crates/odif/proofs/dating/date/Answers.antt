@@ -1,0 +1,20 @@
+-- `odif::date` meets its contract: the part is what the bounds bound, and empty if they are 0 and 0.
+use mathlib.Core.Path.{◌∙◌}
+use borrow.Author.Rules.{rules}
+use native.Mathlib.Omega.{arith}
+use Rattle.pieces.proofs.Putting.{part_slice}
+use Rattle.odif.proofs.dating.date.Goals as goal
+
+pub slice_bounds-result-count : goal.slice_bounds-result-count
+slice_bounds-result-count c = let f = c.find_date-told.ensures.stands in omega (arith, f.order)
+
+pub slice_bounds-result-start : goal.slice_bounds-result-start
+slice_bounds-result-start c = let f = c.find_date-told.ensures.stands in omega (arith, f.order)
+
+pub slice_bounds-result-end : goal.slice_bounds-result-end
+slice_bounds-result-end c = let f = c.find_date-told.ensures.stands in omega (arith, f.order, f.inside)
+
+pub returns : goal.returns
+returns c =
+    let f = c.find_date-told.ensures.stands in
+    part_slice _ _ c.args.stream.now f.order ∙ f.part

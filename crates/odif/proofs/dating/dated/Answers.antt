@@ -1,0 +1,6 @@
+-- `odif::dated` meets its contract: it is what was found.
+use borrow.Author.Rules.{rules}
+use Rattle.odif.proofs.dating.dated.Goals as goal
+
+pub returns : goal.returns
+returns c = c.find_date.ensures.answered

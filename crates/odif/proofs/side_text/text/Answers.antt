@@ -1,0 +1,25 @@
+-- `odif::text::text` meets its contract: the stream is walked, its size is told, and the function of that size does the rest.
+use mathlib.Core.Path.{◌≡◌, sym}
+use mathlib.Core.Bool.{Bool, true, false, cond}
+use mathlib.Core.List.{List}
+use Prim.Native.Nat.{ℕ}
+use borrow.Author.Rules.{rules}
+use Rattle.octets.specs.declared.Outcome.{Outcome}
+use Rattle.answers.specs.Asking.{Sized}
+use Rattle.odif.proofs.side_text.text.Goals as goal
+
+-- the size that was told
+few : {s : List ℕ} {walked : Outcome} {b : Bool} → b ≡ true → Sized s walked (cond b 512 4096) → Sized s walked 512
+few e sized = rw e at sized
+
+many : {s : List ℕ} {walked : Outcome} {b : Bool} → b ≡ false → Sized s walked (cond b 512 4096) → Sized s walked 4096
+many e sized = rw e at sized
+
+pub needs_few-requires : goal.needs_few-requires
+needs_few-requires c = sym c.walk-walked.ensures
+
+pub text_few-requires : goal.text_few-requires
+text_few-requires c = few c.if-needs_few.true c.needs_few.ensures
+
+pub text_many-requires : goal.text_many-requires
+text_many-requires c = many c.if-needs_few.false c.needs_few.ensures

@@ -1,0 +1,7 @@
+-- `odif::why` meets its contract: number and place are those of the fetch.
+use borrow.Author.Rules.{rules}
+use Rattle.answers.proofs.Fetching.{why-located}
+use Rattle.odif.proofs.why.Goals as goal
+
+pub returns : goal.returns
+returns c = why-located _ _ _ c.locate-located.ensures.0

@@ -1,0 +1,21 @@
+-- `order_a::fault_a` meets its contract: the first is the profile, and then the pass.
+use mathlib.Core.Path.{sym, ◌∙◌}
+use Prim.Native.Nat.{◌<◌}
+use native.Mathlib.Omega.{arith}
+use mathlib.Core.Logic.{inl, inr}
+use Rattle.owners.proofs.Telling.{kind-told}
+use Rattle.order_a.proofs.Passing.{no_profile}
+use borrow.Author.Rules.{rules}
+use Rattle.order_a.proofs.fault_a.Goals as goal
+
+pub returns-then-n-eq0 : goal.returns-then-n-eq0
+returns-then-n-eq0 c = λ elements ready aside. no_profile elements aside (inl (ready.counted ∙ c.if-n-eq0.true))
+
+pub returns-then-kind_at-ne-PROFILE : goal.returns-then-kind_at-ne-PROFILE
+returns-then-kind_at-ne-PROFILE c =
+    let l : 0 < c.args.n = omega arith in
+    λ elements ready aside. no_profile elements aside (inr (λ e. c.if-kind_at-ne-PROFILE.true (c.kind_at.ensures ∙ kind-told ready 0 l ∙ e)))
+
+pub pass-requires : goal.pass-requires
+pass-requires c =
+    (c.requires.0, (c.requires.1, (omega arith, sym c.kind_at.ensures ∙ c.if-kind_at-ne-PROFILE.false)))

@@ -1,0 +1,15 @@
+-- `order_a::pass` meets its contract: the rows are taken in turn. The measure is how many are left.
+use mathlib.Core.Path.{sym, ◌∙◌, subst}
+use Prim.Native.Nat.{◌-◌}
+use native.Mathlib.Omega.{arith}
+use Rattle.order_a.specs.Pass.{StepAt}
+use borrow.Author.Rules.{rules}
+use Rattle.letters.proofs.Telling.{few-rows}
+use Rattle.order_a.proofs.Stepping.{Walking, walking-first, walking-more, walking-stops, walking-ends, walking-whole}
+use Rattle.order_a.proofs.pass.Given as goal
+
+abbrev pub invariant-loop-k : goal.invariant-loop-k
+invariant-loop-k l = Walking l.s l.rows l.n l.k l.w
+
+abbrev pub decreases-loop-k : goal.decreases-loop-k
+decreases-loop-k l = l.n - l.k

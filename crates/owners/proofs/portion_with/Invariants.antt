@@ -1,0 +1,19 @@
+-- `owners::portion_with` meets its contract. The loop's invariant: the answer among all portions is that among those that are left.
+use mathlib.Core.Path.{◌≡◌, refl, sym, ◌∙◌, subst}
+use Prim.Native.Nat.{◌-◌}
+use native.Mathlib.Omega.{arith}
+use borrow.Author.Rules.{rules}
+use lib.Seq.{slice}
+use Rattle.runs.specs.Runs.{tree_in, Meeting, Meets}
+use Rattle.portions.specs.Portions.{values}
+use Rattle.owners.specs.Owner.{listed_at, owner_among}
+use Rattle.owners.proofs.Telling.{Left, left-all, left-more, left-small}
+use Rattle.owners.proofs.Among.{among_none, among-met, among-rest}
+use Rattle.owners.proofs.portion_with.Given as goal
+
+abbrev pub invariant-loop-from : goal.invariant-loop-from
+invariant-loop-from l = Left l.s l.rows l.row l.left l.portion
+    × (owner_among l.row 0 (listed_at l.s l.rows l.row) (slice l.first l.past l.s) ≡ owner_among l.row l.portion (values (tree_in l.s l.left)) (slice l.first l.past l.s))
+
+abbrev pub decreases-loop-from : goal.decreases-loop-from
+decreases-loop-from l = l.left.limit - l.left.at

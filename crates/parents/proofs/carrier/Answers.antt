@@ -1,0 +1,16 @@
+-- `parents::carrier` meets its contract: the name is hashed and looked up.
+use borrow.Author.Rules.{rules}
+use Rattle.parents.proofs.carrier.Goals as goal
+
+pub find-requires : goal.find-requires
+find-requires c =
+    let placed = c.requires.1.1 in (
+      c.requires.0,
+      (
+        c.requires.1.0,
+        (
+          record { first_order = placed.0; first_inside = placed.1; second_order = placed.0; second_inside = placed.1 },
+          c.hash_over-hashed.ensures.0,
+        ),
+      ),
+    )

@@ -1,0 +1,14 @@
+-- `pm1::count_pages` meets its contract. The loop's invariant: those that are counted, and then those of the rows that are left, are all.
+use mathlib.Core.Path.{◌≡◌, ap, sym, ◌∙◌}
+use mathlib.Core.Bool.{true, false}
+use Prim.Native.Nat.{◌+◌, ◌-◌, ◌≤◌}
+use native.Mathlib.Omega.{arith}
+use Rattle.pm1.specs.ByTable.{pages_among}
+use Rattle.pm1.proofs.Counting.{among_next, among_none}
+use Rattle.pm1.proofs.count_pages.Given as goal
+
+abbrev pub invariant-loop-j : goal.invariant-loop-j
+invariant-loop-j l = (l.j ≤ l.elements) × (l.count ≤ l.j) × (l.count + pages_among l.table l.j (l.elements - l.j) ≡ pages_among l.table 0 l.elements)
+
+abbrev pub decreases-loop-j : goal.decreases-loop-j
+decreases-loop-j l = l.elements - l.j

@@ -1,0 +1,20 @@
+-- `portions::has_repeats` meets its contract. The loop's invariant: the values from k on have no repeat, and their tags are marked.
+use mathlib.Core.Path.{◌≡◌, refl, sym, ap, subst, ◌∙◌}
+use mathlib.Core.Bool.{false}
+use mathlib.Core.List.{List}
+use Prim.Native.Nat.{ℕ, ◌+◌, ◌*◌, ◌-◌, ◌<◌, ◌≤◌}
+use native.Mathlib.Omega.{arith}
+use lib.ListN.{length, get_or, set, length-set, replicate}
+use lib.Seq.{slice}
+use Rattle.portions.specs.Portions.{repeats}
+use Rattle.portions.specs.Bounds.{bounded_at, bounded, Inside}
+use Rattle.portions.specs.Tags.{tag}
+use Rattle.portions.proofs.Pairs.{inside-more, repeats-more, repeats-none}
+use Rattle.portions.proofs.Tags.{Marked, none-marked, unmarked-apart, inside-from, repeats-before, marked_more}
+use Rattle.portions.proofs.has_repeats.Given as goal
+
+abbrev pub invariant-loop-k : goal.invariant-loop-k
+invariant-loop-k l = (l.k ≤ l.count) × (length l.marks ≡ 64) × (repeats (bounded l.s (slice (2 * l.k) (2 * l.count) l.bounds)) ≡ false) × Marked l.s l.bounds l.count l.k l.marks
+
+abbrev pub decreases-loop-k : goal.decreases-loop-k
+decreases-loop-k l = l.k

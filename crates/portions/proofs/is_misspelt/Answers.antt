@@ -1,0 +1,6 @@
+-- `portions::is_misspelt` meets its contract: both ways round the test before.
+use borrow.Author.Rules.{rules}
+use Rattle.portions.proofs.is_misspelt.Goals as goal
+
+pub returns : goal.returns
+returns c = rw (c.if-before.false, c.is_portion.ensures)

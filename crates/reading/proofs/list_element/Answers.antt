@@ -1,0 +1,29 @@
+-- `reading::list_element` meets its contract: an element that is not listed has no match.
+use mathlib.Core.Path.{sym, ◌∙◌, subst}
+use mathlib.Core.List.{List}
+use native.Mathlib.Omega.{arith}
+use borrow.Author.Tests.{not-true, not-false}
+use Rattle.reading.specs.declared.Match.{Match}
+use Rattle.reading.specs.Records.{PutsRecords}
+use Rattle.reading.proofs.Putting.{puts_none}
+use Rattle.reading.proofs.Listing.{unlisted}
+use borrow.Author.Rules.{rules}
+use Rattle.reading.proofs.list_element.Goals as goal
+
+pub is_listed-requires : goal.is_listed-requires
+is_listed-requires c =
+    omega (arith, c.requires.1.1.0, c.requires.0.1.holds.identifiers.in_table)
+
+pub returns-then-not-is_listed : goal.returns-then-not-is_listed
+returns-then-not-is_listed c =
+    let a = c.args in
+    let none = unlisted a.side a.s.now a.rows.now a.n a.element c.requires.1.1.0 elements ready
+    (sym c.is_listed.ensures ∙ c.if-not-is_listed.true) in
+    subst (λ (ms : List Match). PutsRecords a.flat.now a.count ms a.flat.now a.count) (sym none) (puts_none a.flat.now a.count)
+
+pub list_portions-requires : goal.list_portions-requires
+list_portions-requires c =
+    (
+      c.requires.0,
+      (c.requires.1.0, ((c.requires.1.1.0, sym c.is_listed.ensures ∙ c.if-not-is_listed.false), c.requires.1.1.1)),
+    )

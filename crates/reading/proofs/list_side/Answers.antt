@@ -1,0 +1,27 @@
+-- `reading::list_side` meets its contract: the elements are taken in turn. The measure is how many are left.
+use Prim.Native.Nat.{◌-◌}
+use native.Mathlib.Omega.{arith}
+use Rattle.reading.proofs.Turning.{Turning, turning-all, turning-none, turning-more, room-for-element}
+use Rattle.reading.proofs.list_side.Goals as goal
+
+pub loop-element-init : goal.loop-element-init
+loop-element-init c =
+    let a = c.args in
+    turning-all a.side a.s.now a.rows.now a.n a.flat.now c.requires.1.1
+
+pub list_element-count-requires : goal.list_element-count-requires
+list_element-count-requires c =
+    let less = c.loop-element-test.true in
+    (c.requires.0, (c.requires.1.0, (less, room-for-element c.loop-element.invariant less)))
+
+pub loop-element-preserved : goal.loop-element-preserved
+loop-element-preserved c =
+    let list-element = c.list_element-count in
+    turning-more c.loop-element.invariant c.loop-element-test.true list-element.ensures
+    list-element.auto.1.1.1.1.1.1.0
+
+pub shape_of-flat : goal.shape_of-flat
+shape_of-flat c = c.loop-element.invariant.kept
+
+pub returns : goal.returns
+returns c = turning-none c.loop-element.invariant c.loop-element-test.false

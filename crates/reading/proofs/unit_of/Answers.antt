@@ -1,0 +1,27 @@
+-- `reading::unit_of` meets its contract: the hash goes on over the portion, and the name is looked up in its parts.
+use mathlib.Core.Path.{refl}
+use Rattle.elements.specs.ElementRows.{bytes_in}
+use Rattle.names.proofs.Hashing.{hash-joined}
+use borrow.Author.Rules.{rules}
+use Rattle.reading.proofs.unit_of.Goals as goal
+
+pub find-requires : goal.find-requires
+find-requires c =
+    let a = c.args in
+    let name = c.requires.1.1.1.0 in
+    let portion = c.requires.1.1.1.1 in
+    let whole = hash-joined (bytes_in a.s.now a.name) (bytes_in a.s.now a.portion) refl c.requires.1.1.0.0 c.hash_over-whole.ensures.0 in (
+      c.requires.0,
+      (
+        c.requires.1.0,
+        (
+          record {
+            first_order = name.order;
+            first_inside = name.inside;
+            second_order = portion.order;
+            second_inside = portion.inside;
+          },
+          whole,
+        ),
+      ),
+    )

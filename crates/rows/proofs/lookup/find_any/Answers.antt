@@ -1,0 +1,60 @@
+-- `rows::lookup::find_any` meets its contract: rows in order are later than those in chains, so they are searched first.
+use mathlib.Core.Path.{subst}
+use mathlib.Core.List.{List}
+use Prim.Native.Nat.{ℕ, ◌-◌}
+use native.Mathlib.Omega.{arith}
+use lib.ListN.{length, take, drop}
+use Rattle.names.specs.Asked.{spelling}
+use Rattle.rows.specs.Lookup.{FindsFrom, FiledIn}
+use Rattle.rows.proofs.Finding.{finds-more}
+use Rattle.rows.proofs.Filing.{bounded-front, by-hash-from, in-order-from}
+use Rattle.rows.proofs.Parts.{some_links, heads-count, to-parts}
+use borrow.Author.Rules.{rules}
+use Rattle.rows.proofs.lookup.find_any.Goals as goal
+use Rattle.rows.proofs.lookup.find_any.Goals.{After-next-1}
+
+-- the rows are filed in the parts
+filed : (c : After-next-1) →
+    let a = c.args in
+    let at = c.links_begin-links.result in
+    FiledIn a.s.now a.rows.now a.column (take at a.index.now) (take (length a.index.now - at) (drop at a.index.now)) a.n
+filed c =
+    let a = c.args in
+    to-parts a.index.now c.links_begin-links.ensures.0 (λ (h l : List ℕ). FiledIn a.s.now a.rows.now a.column h l a.n)
+    c.requires.1.0
+
+pub links_begin-links-requires : goal.links_begin-links-requires
+links_begin-links-requires c = some_links c.args.index.now c.requires.1.0.by_hash.some_buckets
+
+pub slice_bounds-head-end : goal.slice_bounds-head-end
+slice_bounds-head-end c = heads-count c.args.index.now c.links_begin-links.ensures.0
+
+pub chained_of-from-requires : goal.chained_of-from-requires
+chained_of-from-requires c = omega (arith, (filed (goal.at.chained_of-from-requires c).After-next-1).room)
+
+pub find_later-requires : goal.find_later-requires
+find_later-requires c =
+    let p = c.requires in (p.0, (in-order-from (filed (goal.at.find_later-requires c).After-next-1) c.chained_of-from.ensures, p.1.1.0))
+
+pub find-requires : goal.find-requires
+find-requires c =
+    let chained-of = c.chained_of-from in
+    let p = c.requires in
+    let o = in-order-from (filed (goal.at.find-requires c).After-next-1) chained-of.ensures in
+    (bounded-front o.begins p.0, (by-hash-from (filed (goal.at.find-requires c).After-next-1) chained-of.ensures, (p.1.1.0, p.1.1.1)))
+
+pub returns-in-At : goal.returns-in-At
+returns-in-At c =
+    let a = c.args in
+    subst (FindsFrom a.s.now a.rows.now a.column c.chained_of-from.result a.n a.space (spelling a.s.now a.asked))
+    c.in-At.is c.find_later.ensures
+
+pub returns-in-Nothing : goal.returns-in-Nothing
+returns-in-Nothing c =
+    let chained-of = c.chained_of-from in
+    let a = c.args in
+    let o = in-order-from (filed (goal.at.returns-in-Nothing c).After-next-1) chained-of.ensures in
+    finds-more o.begins
+    (subst (FindsFrom a.s.now a.rows.now a.column chained-of.result a.n a.space (spelling a.s.now a.asked))
+    c.in-Nothing.is c.find_later.ensures)
+    c.find.result c.find.ensures

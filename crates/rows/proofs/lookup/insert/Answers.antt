@@ -1,0 +1,59 @@
+-- `rows::lookup::insert` meets its contract: a row with no value there is in no chain, the first row of a bucket is a chain of one, and
+-- `insert_any` has the rest.
+use mathlib.Core.Path.{◌≡◌, refl, sym, ◌∙◌, subst}
+use native.Mathlib.Omega.{arith}
+use lib.ListN.{length, get_or}
+use Prim.Native.Nat.{◌<◌}
+use Rattle.rows.specs.Columns.{value_at}
+use Rattle.rows.specs.Lookup.{AtMost}
+use Rattle.rows.specs.Index.{heads_of, links_of}
+use Rattle.rows.proofs.Links.{none-at-most}
+use Rattle.rows.proofs.Filing.{by-hash-all, filed-absent}
+use Rattle.rows.proofs.Parts.{some_links, links-size, mark-last, head_at, bucket-asked, filed-grown}
+use borrow.Author.Rules.{rules}
+use Rattle.rows.proofs.lookup.insert.Goals as goal
+
+pub overflow_sub-last : goal.overflow_sub-last
+overflow_sub-last c = omega (arith, c.requires.1.1.0, links-size c.args.index.now)
+
+pub bounds-index-last : goal.bounds-index-last
+bounds-index-last c = omega (arith, c.requires.1.1.0, links-size c.args.index.now)
+
+pub returns-then-rows-at : goal.returns-then-rows-at
+returns-then-rows-at c =
+    let a = c.args in
+    let p = c.requires in
+    let some : 0 < length (links_of a.index.now) = omega (arith, p.1.1.0) in
+    (filed-absent p.1.0 (mark-last a.index.now some) p.1.1.0 c.if-index-last-ne0.false (λ l. absurd (omega (arith, l, c.if-rows-at.true))), refl)
+
+pub links_begin-requires : goal.links_begin-requires
+links_begin-requires c = some_links c.args.index.now c.requires.1.0.by_hash.some_buckets
+
+pub bucket_of-requires : goal.bucket_of-requires
+bucket_of-requires c =
+    let a = c.args in
+    let p = c.requires in
+    bucket-asked a.index.now (value_at a.s.now a.rows.now a.column a.n) c.links_begin.ensures.0 p.1.0.by_hash p.1.1.1.1
+
+pub insert-requires : goal.insert-requires
+insert-requires c =
+    let a = c.args in
+    let p = c.requires in
+    let some : 0 < length (links_of a.index.now) = omega (arith, p.1.1.0) in
+    (p.0, (by-hash-all p.1.0 (mark-last a.index.now some) c.if-index-last-ne0.false, (omega (arith, p.1.1.0), (p.1.1.1.0, p.1.1.1.1))))
+
+pub returns-then-index-bucket_of-eq0 : goal.returns-then-index-bucket_of-eq0
+returns-then-index-bucket_of-eq0 c =
+    let a = c.args in
+    let p = c.requires in
+    let e = c.insert.ensures in
+    let b = c.bucket_of in
+    let is = c.links_begin.ensures.0 in
+    let some : 0 < length (links_of a.index.now) = omega (arith, p.1.1.0) in
+    let none : get_or (heads_of a.index.now) b.result 0 ≡ 0 = sym (head_at a.index.now is b.result b.ensures.1) ∙ c.if-index-bucket_of-eq0.true in
+    let few : AtMost (links_of a.index.now) 7 (get_or (heads_of a.index.now) b.result 0) =
+    subst (AtMost (links_of a.index.now) 7) (sym none) (none-at-most (links_of a.index.now) 7) in (
+      filed-grown a.index.now c.insert.new.index p.1.0 a.hashed (mark-last a.index.now some) p.1.1.0 c.if-index-last-ne0.false
+          e.0 e.1.0 e.1.1 is b.ensures.0 b.ensures.1 few,
+      e.1.0,
+    )

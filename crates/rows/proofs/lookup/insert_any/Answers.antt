@@ -1,0 +1,101 @@
+-- `rows::lookup::insert_any` meets its contract: a row more in order, a row more in a chain, or the first row in order.
+use mathlib.Core.Path.{◌≡◌, sym, ◌∙◌, subst}
+use mathlib.Core.List.{List}
+use Prim.Native.Nat.{ℕ, ◌-◌, ◌<◌}
+use native.Mathlib.Omega.{arith}
+use lib.ListN.{length, length-set}
+use Rattle.rows.specs.Columns.{value_at}
+use Rattle.rows.specs.Lookup.{Ordered, mark_of}
+use Rattle.rows.specs.Index.{links_of}
+use Rattle.rows.proofs.Filing.{by-hash-all, in-order-some}
+use Rattle.rows.proofs.Parts.{some_links, links-size, links-part, mark-last, bucket-asked, filed-grown, filed-back, filed-marked}
+use borrow.Author.Rules.{rules}
+use Rattle.rows.proofs.lookup.insert_any.Goals as goal
+use Rattle.rows.proofs.lookup.insert_any.Goals.{After-wide16-mark}
+
+-- what was read is the mark
+marks : (c : After-wide16-mark) → c.wide16-mark.result ≡ mark_of (links_of c.args.index.now)
+marks c =
+    let index = c.args.index.now in
+    let some : 0 < length (links_of index) = omega (arith, c.requires.1.1.0) in
+    c.wide16-mark.ensures ∙ mark-last index some
+
+pub overflow_sub-last : goal.overflow_sub-last
+overflow_sub-last c = omega (arith, c.requires.1.1.0, links-size c.args.index.now)
+
+pub links_begin-links-requires : goal.links_begin-links-requires
+links_begin-links-requires c = some_links c.args.index.now c.requires.1.0.by_hash.some_buckets
+
+pub bounds-index-last : goal.bounds-index-last
+bounds-index-last c = omega (arith, c.requires.1.1.0, links-size c.args.index.now)
+
+pub put_in_order-requires : goal.put_in_order-requires
+put_in_order-requires c =
+    let a = c.args in
+    let p = c.requires in
+    let part = links-part a.index.now c.links_begin-links.ensures.0 in (
+      p.0,
+      (
+        subst (λ (l : List ℕ). Ordered a.s.now a.rows.now a.column l (c.wide16-mark.result - 1) a.n) (sym part)
+            (in-order-some p.1.0 (marks (goal.at.put_in_order-requires c).After-wide16-mark) c.if-mark-ne0.true),
+        (subst (λ (l : List ℕ). a.n < length l) (sym part) (omega (arith, p.1.1.0)), omega (arith, p.1.1.1.0)),
+      ),
+    )
+
+pub returns-then-mark-ne0 : goal.returns-then-mark-ne0
+returns-then-mark-ne0 c =
+    let a = c.args in
+    let p = c.requires in
+    let e = c.put_in_order.ensures in
+    filed-back a.index.now p.1.0 c.links_begin-links.ensures.0 (marks (goal.at.returns-then-mark-ne0 c).After-wide16-mark) p.1.1.0 c.if-mark-ne0.true
+    c.put_in_order.new.next e.0 e.1
+
+pub bucket_of-requires : goal.bucket_of-requires
+bucket_of-requires c =
+    let a = c.args in
+    let p = c.requires in
+    bucket-asked a.index.now (value_at a.s.now a.rows.now a.column a.n) c.links_begin-links.ensures.0 p.1.0.by_hash
+    p.1.1.1.1
+
+pub has_room-requires : goal.has_room-requires
+has_room-requires c =
+    let a = c.args in
+    let p = c.requires in (
+      record {
+        s = a.s.now;
+        rows = a.rows.now;
+        column = a.column;
+        indexed = by-hash-all p.1.0 (marks (goal.at.has_room-requires c).After-wide16-mark) c.if-mark-ne0.false;
+      },
+      omega (arith, c.bucket_of.ensures.1, c.links_begin-links.ensures.0),
+    )
+
+pub insert-requires : goal.insert-requires
+insert-requires c =
+    let p = c.requires in
+    (p.0, (by-hash-all p.1.0 (marks (goal.at.insert-requires c).After-wide16-mark) c.if-mark-ne0.false, (omega (arith, p.1.1.0), (p.1.1.1.0, p.1.1.1.1))))
+
+pub returns-then-has_room : goal.returns-then-has_room
+returns-then-has_room c =
+    let a = c.args in
+    let p = c.requires in
+    let e = c.insert.ensures in
+    let b = c.bucket_of.ensures in (
+      filed-grown a.index.now c.insert.new.index p.1.0 a.hashed (marks (goal.at.returns-then-has_room c).After-wide16-mark) p.1.1.0 c.if-mark-ne0.false e.0 e.1.0 e.1.1
+          c.links_begin-links.ensures.0 b.0 b.1 (c.has_room.ensures c.if-has_room.true),
+      e.1.0,
+    )
+
+pub bounds-index-links : goal.bounds-index-links
+bounds-index-links c =
+    omega (arith, c.requires.1.1.0, c.links_begin-links.ensures.0, links-size c.args.index.now)
+
+pub bounds-index-last-2 : goal.bounds-index-last-2
+bounds-index-last-2 c =
+    simp length-set (omega (arith, c.requires.1.1.0, links-size c.args.index.now))
+
+pub returns : goal.returns
+returns c =
+    let a = c.args in
+    let p = c.requires in
+    filed-marked a.index.now p.1.0 c.links_begin-links.ensures.0 (marks (goal.at.returns c).After-wide16-mark) p.1.1.0 c.if-mark-ne0.false

@@ -1,0 +1,20 @@
+-- `rows::places::place` meets its contract. The loop's invariant: what stands before `low` does not come after what is asked for, what stands
+-- from `high` on does. The measure is how many stand between.
+use mathlib.Core.Bool.{true, false}
+use Rattle.rows.specs.Order.{less}
+use mathlib.Core.Path.{◌≡◌, sym, ◌∙◌, subst}
+use mathlib.Core.List.{◌∷◌}
+use Prim.Native.Nat.{ℕ, ◌+◌, ◌-◌, ◌/◌, ◌<◌}
+use native.Mathlib.Omega.{arith}
+use lib.ListN.{get_or}
+use Rattle.names.specs.Asked.{spelling}
+use Rattle.rows.specs.Lookup.{key_at, Between}
+use Rattle.rows.proofs.Sorted.{between-all, lower-half, upper-half, between-met}
+use borrow.Author.Rules.{rules}
+use Rattle.rows.proofs.places.place.Given as goal
+
+abbrev pub invariant-loop-low : goal.invariant-loop-low
+invariant-loop-low l = Between l.s l.rows l.column l.next l.from l.n (l.space ∷ spelling l.s l.asked) l.low l.high
+
+abbrev pub decreases-loop-low : goal.decreases-loop-low
+decreases-loop-low l = l.high - l.low

@@ -1,0 +1,58 @@
+-- `runs::is_over` meets its contract: a run has an item exactly where a header passed.
+use mathlib.Core.Path.{◌≡◌, sym, ap, ◌∙◌}
+use mathlib.Core.Bool.{true}
+use mathlib.Core.List.{List}
+use Prim.Native.Nat.{ℕ, ◌<◌}
+use native.Mathlib.Omega.{arith}
+use borrow.Author.Rules.{rules}
+use borrow.Author.Tests.{ne_eqb}
+use lib.Dec.{eqb}
+use Rattle.octets.specs.Walk.{Items, no_items}
+use Rattle.octets.proofs.Turns.{tree-ends, tree-closes, tree-refuses}
+use Rattle.runs.specs.declared.Run.{Run}
+use Rattle.runs.specs.Runs.{items_of, tops}
+use Rattle.runs.proofs.Meetings.{passed, some_item}
+use Rattle.runs.proofs.is_over.Goals as goal
+use Rattle.runs.proofs.is_over.Goals.{Else-at-limit}
+
+no-item : (s : List ℕ) (r : Run) → items_of s r ≡ no_items → true ≡ eqb (tops (items_of s r)) 0
+no-item s r e = sym (ap (λ (i : Items). eqb (tops i) 0) e)
+
+before-limit : (c : Else-at-limit) → let r = c.args.r in r.at < r.limit
+before-limit c = let o = c.requires.order in omega arith
+
+pub returns-then-at-limit : goal.returns-then-at-limit
+returns-then-at-limit c =
+    let a = c.args in
+    let r = a.r in
+    let e : r.at ≡ r.limit = c.if-at-limit.true in
+    no-item a.s.now r (rw e (tree-ends r.room a.s.now r.limit r.marked))
+
+pub passed_head-requires : goal.passed_head-requires
+passed_head-requires c =
+    let a = c.args in
+    let fine = c.requires in
+    (before-limit (goal.at.passed_head-requires c).Else-at-limit, fine.inside, passed a.s.now a.r fine (before-limit (goal.at.passed_head-requires c).Else-at-limit))
+
+pub returns-in-Item : goal.returns-in-Item
+returns-in-Item c =
+    let s = c.args.s.now in
+    let r = c.args.r in
+    sym (ne_eqb (tops (items_of s r)) 0
+    (some_item s r c.requires (before-limit (goal.at.returns-in-Item c).Else-at-limit) _ (sym c.passed_head.ensures ∙ c.in-Item.is)))
+
+pub returns-in-ClosingMark : goal.returns-in-ClosingMark
+returns-in-ClosingMark c =
+    let a = c.args in
+    let r = a.r in
+    no-item a.s.now r
+    (tree-closes r.room a.s.now r.at r.limit r.marked (before-limit (goal.at.returns-in-ClosingMark c).Else-at-limit) (sym c.passed_head.ensures
+    ∙ c.in-ClosingMark.is))
+
+pub returns-in-Refusal : goal.returns-in-Refusal
+returns-in-Refusal c =
+    let a = c.args in
+    let r = a.r in
+    no-item a.s.now r
+    (tree-refuses r.room a.s.now r.at r.limit r.marked (before-limit (goal.at.returns-in-Refusal c).Else-at-limit) _ _ (sym c.passed_head.ensures
+    ∙ c.in-Refusal.is))

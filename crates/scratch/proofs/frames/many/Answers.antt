@@ -1,0 +1,46 @@
+-- `scratch::frames::many` meets its contract: the arrays are what the judge asks for, what it refuses is refused, and of a letter the question's
+-- work is done.
+use mathlib.Core.Path.{refl, subst}
+use borrow.Author.Rules.{rules}
+use native.Mathlib.Omega.{arith}
+use Rattle.letters.specs.Scratch.{GivesVerdict}
+use Rattle.answers.proofs.Judging.{refused-stopped}
+use Rattle.answers.proofs.Working.{as-asked, leaves-refused}
+use Rattle.scratch.proofs.Arrays.{walked-fine, lent, many-links}
+use Rattle.scratch.proofs.frames.many.Goals as goal
+
+pub judge_stream-requires : goal.judge_stream-requires
+judge_stream-requires c =
+    let l = lent c.args.stream.now 49152 24578 12289 _ refl (omega arith) (omega (arith, many-links)) (omega arith) (omega (arith, many-links))
+    (omega (arith, many-links)) in
+    (walked-fine c.args.stream.now _ _ c.requires.0, l)
+
+pub overflow_cast-number : goal.overflow_cast-number
+overflow_cast-number c =
+    let j = c.judge_stream in
+    let given = subst (GivesVerdict c.args.edition c.args.stream.now j.new.1.1.0 j.new.1.1.1.0) c.in-Refused.is j.ensures in
+    let r = refused-stopped c.requires.0 given in
+    omega arith
+
+pub overflow_cast-place : goal.overflow_cast-place
+overflow_cast-place c =
+    let j = c.judge_stream in
+    let given = subst (GivesVerdict c.args.edition c.args.stream.now j.new.1.1.0 j.new.1.1.1.0) c.in-Refused.is j.ensures in
+    let r = refused-stopped c.requires.0 given in
+    omega arith
+
+pub work-requires : goal.work-requires
+work-requires c =
+    let j = c.judge_stream in
+    let held = subst (GivesVerdict c.args.edition c.args.stream.now j.new.1.1.0 j.new.1.1.1.0)
+    c.in-Accepted.is j.ensures in
+    (c.requires.0, (held.0, (held.1, c.requires.1)))
+
+pub returns-in-Refused : goal.returns-in-Refused
+returns-in-Refused c =
+    let j = c.judge_stream in
+    let given = subst (GivesVerdict c.args.edition c.args.stream.now j.new.1.1.0 j.new.1.1.1.0) c.in-Refused.is j.ensures in
+    let r = refused-stopped c.requires.0 given in
+    as-asked refl c.tell_refused.ensures
+    (leaves-refused c.args.edition c.args.stream.now c.args.table.now c.args.flat.now c.args.out.now
+    c.args.question _ _ _ r.judged)

@@ -1,0 +1,95 @@
+-- `sources::side::put_sources` meets its contract. The loop's invariant: the numbers that are put, and those of the lines that are left, are all
+-- (`Filling`).
+use mathlib.Core.Path.{◌≡◌, ap, sym, ◌∙◌, subst}
+use mathlib.Core.List.{List, [], ◌++◌}
+use Prim.Native.Nat.{ℕ, ◌+◌, ◌-◌, ◌*◌, ◌≤◌}
+use native.Mathlib.Omega.{arith}
+use borrow.Author.Rules.{rules}
+use lib.ListN.{length, drop}
+use Rattle.pieces.proofs.Putting.{part_length}
+use Rattle.sources.specs.Sources.{Source, source_numbers, place_numbers}
+use Rattle.sources.specs.Units.{places_in}
+use Rattle.sources.proofs.Filling.{Filling, none_filled, filled, room-left, more-filled}
+use Rattle.sources.proofs.Putting.{numbers-length}
+use Rattle.sources.proofs.Sides.{sources_left, numbers_left, left-all, left-none, left-length, left-numbers, source-length, no-numbers, all_there}
+use Rattle.sources.proofs.side.put_sources.Goals as goal
+use Rattle.sources.proofs.side.put_sources.Goals.{After-wide-unit}
+
+-- there is room for the records of the next line
+unit-fits : (c : After-wide-unit) →
+    let a = c.args in
+    let l = c.loop-k in
+    l.done + 3 * length (places_in a.edition a.s.now c.wide-unit.result) ≤ length l.list
+unit-fits c =
+    let a = c.args in
+    let l = c.loop-k in
+    let places = places_in a.edition a.s.now in
+    let left = sources_left places a.numbers.now a.lines in
+    let all = ap length (left-all places a.numbers.now a.lines) in
+    let unit = ap (λ (u : ℕ). length (places u)) c.wide-unit.ensures in
+    let room = room-left l.invariant.1 (omega (arith, source-length (left 0), c.requires.1.1)) in
+    omega (arith, source-length (left l.k), left-length places a.numbers.now a.lines l.k c.loop-k-test.true)
+
+pub loop-k-init : goal.loop-k-init
+loop-k-init c = (omega arith, none_filled)
+
+pub overflow_mul-k : goal.overflow_mul-k
+overflow_mul-k c = omega (arith, c.requires.1.0.room)
+
+pub overflow_add-k : goal.overflow_add-k
+overflow_add-k c = omega (arith, c.requires.1.0.room)
+
+pub offset_bounds-numbers-k : goal.offset_bounds-numbers-k
+offset_bounds-numbers-k c = omega (arith, c.requires.1.0.room)
+
+pub bounds-numbers-k : goal.bounds-numbers-k
+bounds-numbers-k c = omega (arith, c.requires.1.0.room)
+
+pub overflow_cast-k : goal.overflow_cast-k
+overflow_cast-k c = omega (arith, c.requires.1.0.few)
+
+pub offset_bounds-list-done : goal.offset_bounds-list-done
+offset_bounds-list-done c = omega (arith, c.loop-k.invariant.1.within)
+
+pub slice_bounds-put_unit-count : goal.slice_bounds-put_unit-count
+slice_bounds-put_unit-count c = c.loop-k.invariant.1.within
+
+pub slice_bounds-put_unit-start : goal.slice_bounds-put_unit-start
+slice_bounds-put_unit-start c = c.loop-k.invariant.1.within
+
+pub put_unit-done-requires : goal.put_unit-done-requires
+put_unit-done-requires c =
+    let l = c.loop-k in
+    (c.requires.0, omega (arith, unit-fits (goal.at.put_unit-done-requires c).After-wide-unit, part_length l.list l.done))
+
+pub overflow_add-done : goal.overflow_add-done
+overflow_add-done c = omega (arith, unit-fits (goal.at.overflow_add-done c).After-wide-unit, c.put_unit-done.ensures.value)
+
+pub loop-k-preserved : goal.loop-k-preserved
+loop-k-preserved c =
+    let a = c.args in
+    let l = c.loop-k in
+    let put = c.put_unit-done in
+    let unit = c.wide-unit in
+    let places = places_in a.edition a.s.now in
+    let left = numbers_left places a.numbers.now a.lines in
+    let listed = left-numbers places a.numbers.now a.lines l.k c.loop-k-test.true in
+    let next = subst (λ (u : ℕ). left l.k ≡ place_numbers l.k (places u) ++ left (l.k + 1)) (sym unit.ensures) listed in
+    let own = place_numbers l.k (places unit.result) in
+    let size : put.result ≡ length own = ◌∙◌ {b = 3 * length (places unit.result)} put.ensures.0
+    (sym (numbers-length l.k (places unit.result))) in
+    let fits : l.done + put.result ≤ length l.list = omega (arith, unit-fits (goal.at.loop-k-preserved c).After-wide-unit, put.ensures.0) in
+    (omega arith, more-filled l.invariant.1 own (left (l.k + 1)) next put.result size fits _ put.ensures.1)
+
+pub shape_of-list : goal.shape_of-list
+shape_of-list c = c.loop-k.invariant.1.kept
+
+pub returns : goal.returns
+returns c =
+    let a = c.args in
+    let l = c.loop-k in
+    let places = places_in a.edition a.s.now in
+    let none_left : numbers_left places a.numbers.now a.lines l.k ≡ [] =
+    ap source_numbers (left-none places a.numbers.now a.lines l.k (omega arith)) ∙ no-numbers in
+    subst (λ (xs : List Source). l.list ≡ source_numbers xs ++ drop (length (source_numbers xs)) a.list.now) (left-all places a.numbers.now a.lines)
+    (all_there (numbers_left places a.numbers.now a.lines 0) a.list.now l.list l.done (filled l.invariant.1 none_left))

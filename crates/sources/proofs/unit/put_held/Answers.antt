@@ -1,0 +1,32 @@
+-- `sources::unit::put_held` meets its contract: one piece, or the pieces of a run.
+use mathlib.Core.Path.{ap, subst}
+use native.Mathlib.Omega.{arith}
+use borrow.Author.Rules.{rules}
+use lib.ListN.{length}
+use Rattle.letters.specs.declared.Held.{Held}
+use Rattle.sources.specs.Steps.{held_places, HeldHere}
+use Rattle.sources.proofs.Holders.{puts-same}
+use Rattle.sources.proofs.unit.put_held.Goals as goal
+
+pub put_piece-requires : goal.put_piece-requires
+put_piece-requires c =
+    let s = c.args.s.now in
+    let here = subst (HeldHere s) c.in-Part.is c.requires.0.0 in
+    (omega (arith, here, c.requires.0.1), omega (arith, ap (λ (held : Held). length (held_places s held)) c.in-Part.is, c.requires.1))
+
+pub put_places-requires : goal.put_places-requires
+put_places-requires c =
+    let s = c.args.s.now in
+    ((subst (HeldHere s) c.in-Pieces.is c.requires.0.0, c.requires.0.1), omega (arith, ap (λ (held : Held). length (held_places s held)) c.in-Pieces.is, c.requires.1))
+
+pub returns-in-Part : goal.returns-in-Part
+returns-in-Part c =
+    let a = c.args in
+    let put = c.put_piece in
+    puts-same a.line put.result _ _ _ _ (ap (held_places a.s.now) c.in-Part.is) (put.ensures.0, put.ensures.1)
+
+pub returns-in-Pieces : goal.returns-in-Pieces
+returns-in-Pieces c =
+    let a = c.args in
+    let put = c.put_places in
+    puts-same a.line put.result _ _ _ _ (ap (held_places a.s.now) c.in-Pieces.is) (put.ensures.0, put.ensures.1)
