@@ -17,7 +17,7 @@ returns-then-table-count c =
 pub fill-requires : goal.fill-requires
 fill-requires c =
     let l = accepted-judged c.requires.0 c.requires.1.0 in
-    ((c.args.edition, c.requires.1.0), (c.requires.1.1, (l.few, omega arith)))
+    record { letter_rows = (c.args.edition, c.requires.1.0); filed = c.requires.1.1; count_le_most_elements = (l.few, omega arith) }
 
 pub overflow_cast-result : goal.overflow_cast-result
 overflow_cast-result c =

@@ -29,9 +29,8 @@ overflow_add-here c =
     let pre = c.requires in
     let xs = a.octets.now in
     let within : l.at < length xs = omega arith in
-    let step = c.put_step-step in
-    let g = goes a.set xs l.at within step.result step.ensures.0 in
-    omega (arith, pre.1, l.invariant.2, size-left a.set xs l.at step.result g)
+    let g = goes a.set xs l.at within c.put_step-step.result c.put_step-step.ensures.value in
+    omega (arith, pre.1, l.invariant.2, size-left a.set xs l.at c.put_step-step.result g)
 
 pub overflow_add-at : goal.overflow_add-at
 overflow_add-at c =
@@ -39,8 +38,7 @@ overflow_add-at c =
     let a = c.args in
     let xs = a.octets.now in
     let within : l.at < length xs = omega arith in
-    let step = c.put_step-step in
-    omega (arith, (goes a.set xs l.at within step.result step.ensures.0).within)
+    omega (arith, (goes a.set xs l.at within c.put_step-step.result c.put_step-step.ensures.value).within)
 
 pub loop-at-smaller : goal.loop-at-smaller
 loop-at-smaller c =
@@ -48,8 +46,7 @@ loop-at-smaller c =
     let a = c.args in
     let xs = a.octets.now in
     let within : l.at < length xs = omega arith in
-    let step = c.put_step-step in
-    let g = goes a.set xs l.at within step.result step.ensures.0 in
+    let g = goes a.set xs l.at within c.put_step-step.result c.put_step-step.ensures.value in
     omega (arith, g.forward, g.within)
 
 pub loop-at-preserved : goal.loop-at-preserved
@@ -58,15 +55,14 @@ loop-at-preserved c =
     let a = c.args in
     let xs = a.octets.now in
     let within : l.at < length xs = omega arith in
-    let step = c.put_step-step in
-    let g = goes a.set xs l.at within step.result step.ensures.0 in
+    let g = goes a.set xs l.at within c.put_step-step.result c.put_step-step.ensures.value in
     let text = step_text a.set xs l.at in
-    let rest = utf8_of (signs a.set (drop (l.at + step.result.wide) xs)) in
-    let past : l.here + step.result.length ≡ l.here + length text = ap (λ n. l.here + n) (sym g.long) in (
+    let rest = utf8_of (signs a.set (drop (l.at + c.put_step-step.result.wide) xs)) in
+    let past : l.here + c.put_step-step.result.length ≡ l.here + length text = ap (λ n. l.here + n) (sym g.long) in (
       omega (arith, g.within),
-      step.auto.1.1.1.1.0 ∙ l.invariant.1,
-      omega (arith, l.invariant.2, size-left a.set xs l.at step.result g),
-      rw step.ensures.1 (join l.out l.here _ text rest past ∙ (ap (sets l.out l.here) (sym g.text) ∙ l.invariant.3)),
+      c.put_step-step.auto.out ∙ l.invariant.1,
+      omega (arith, l.invariant.2, size-left a.set xs l.at c.put_step-step.result g),
+      rw c.put_step-step.ensures.out_after (join l.out l.here _ text rest past ∙ (ap (sets l.out l.here) (sym g.text) ∙ l.invariant.3)),
     )
 
 pub returns : goal.returns

@@ -41,7 +41,7 @@ is_taken-requires c =
     let known = c.requires.1.1.0 in
     let filed = subst (λ (index : List ℕ). Filed c.args.s.now c.args.rows.now identifier_column index c.args.n)
     (sym c.identifiers.ensures) c.requires.1.0.identifiers in
-    (c.requires.0.2.identifiers, (filed, (known.0.identifier, ap (λ (h : Hashes). h.identifier) known.1)))
+    record { bounded = c.requires.0.2.identifiers; filed = filed; placed = (known.0.identifier, ap (λ (h : Hashes). h.identifier) known.1) }
 
 pub returns-then-is_taken : goal.returns-then-is_taken
 returns-then-is_taken c = λ table done e holds says stored. sym (identifier-twice holds says (identifier-taken (goal.at.returns-then-is_taken c).After-is_taken true c.if-is_taken.true))
@@ -51,7 +51,7 @@ is_taken-requires-2 c =
     let known = c.requires.1.1.0 in
     let filed = subst (λ (index : List ℕ). Filed c.args.s.now c.args.rows.now logical_column index c.args.n)
     (sym c.logicals.ensures) c.requires.1.0.logicals in
-    (c.requires.0.2.logicals, (filed, (known.0.logical, ap (λ (h : Hashes). h.logical) known.1)))
+    record { bounded = c.requires.0.2.logicals; filed = filed; placed = (known.0.logical, ap (λ (h : Hashes). h.logical) known.1) }
 
 pub returns-then-is_taken-2 : goal.returns-then-is_taken-2
 returns-then-is_taken-2 c =

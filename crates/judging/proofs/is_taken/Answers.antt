@@ -10,13 +10,7 @@ returns-then-first-past c =
 
 pub find-requires : goal.find-requires
 find-requires c =
-    let placed = c.requires.1.1.0 in (
-      c.requires.0,
-      (
-        c.requires.1.0,
-        (record { first_order = placed.order; first_inside = placed.inside; second_order = omega arith; second_inside = omega arith }, c.requires.1.1.1),
-      ),
-    )
+    let placed = c.requires.1.1.0 in record { bounded = c.requires.0; filed = c.requires.1.0; asked_within = record { first_order = placed.order; first_inside = placed.inside; second_order = omega arith; second_inside = omega arith }; hashed_value = c.requires.1.1.1 }
 
 pub returns-in-At : goal.returns-in-At
 returns-in-At c = found-taken c.find.ensures _ c.in-At.is

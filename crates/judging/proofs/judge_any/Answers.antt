@@ -100,18 +100,8 @@ returns-then-seen-ne0 c =
 
 pub has_double-requires : goal.has_double-requires
 has_double-requires c =
-    let pre = c.requires in
     let seen = seen-is (goal.at.has_double-requires c).After-see-seen in
-    let passes = seen.passes c.if-seen-ne0.false in (
-      pre.0,
-      (
-        pre.1.0,
-        (
-          (seen.placed, c.hashes_of-hashes.ensures),
-          (omega (arith, passes.few, c.see-seen.auto.bounds, pre.1.1), passes.inside),
-        ),
-      ),
-    )
+    let passes = seen.passes c.if-seen-ne0.false in record { done_rows = c.requires.0; both_filed = c.requires.1.0; row_placed = (seen.placed, c.hashes_of-hashes.ensures); count_in_bounds = (omega (arith, passes.few, c.see-seen.auto.bounds, c.requires.1.1), passes.inside) }
 
 pub returns-then-has_double : goal.returns-then-has_double
 returns-then-has_double c =

@@ -28,4 +28,4 @@ pub shape_of-index : goal.shape_of-index
 shape_of-index c = c.loop-i.invariant.1
 
 pub returns : goal.returns
-returns c = let l = c.loop-i in (λ b below. l.invariant.2 b (omega (arith, below)), l.invariant.1)
+returns c = let l = c.loop-i in record { empty = λ b below. l.invariant.2 b (omega (arith, below)); index_len_unchanged = l.invariant.1 }

@@ -14,16 +14,14 @@ pub judge_stream-requires : goal.judge_stream-requires
 judge_stream-requires c =
     let s = c.args.stream.now in
     let w = c.requires.0.2 in
-    let clear = c.clear in
-    ((stream-fine s _ _ w, stream-within s _ _ w), cleared s _ _ c.requires.1.0 (clear.ensures.1 ∙ c.requires.1.1) clear.ensures.0)
+    record { fine = (stream-fine s _ _ w, stream-within s _ _ w); lent = cleared s _ _ c.requires.1.0 (c.clear.ensures.index_len_unchanged ∙ c.requires.1.1) c.clear.ensures.empty }
 
 -- what rules 9 to 15 refuse
 refusing : (c : In-Refused) →
     Refusing c.args.edition c.args.stream.now c.in-Refused.number c.in-Refused.place c.requires.0.1
 refusing c =
-    let j = c.judge_stream in
     refused-stopped c.requires.0.2
-    (subst (GivesVerdict c.args.edition c.args.stream.now j.new.1.1.0 j.new.1.1.1.0) c.in-Refused.is j.ensures)
+    (subst (GivesVerdict c.args.edition c.args.stream.now c.judge_stream.new.rows c.judge_stream.new.index) c.in-Refused.is c.judge_stream.ensures)
 
 pub overflow_cast-result : goal.overflow_cast-result
 overflow_cast-result c = let r = refusing (goal.at.overflow_cast-result c).In-Refused in omega arith
@@ -34,8 +32,7 @@ overflow_cast-result-in-Refused c = let r = refusing (goal.at.overflow_cast-resu
 pub returns-in-Accepted : goal.returns-in-Accepted
 returns-in-Accepted c =
     let s = c.args.stream.now in
-    let j = c.judge_stream in
-    let held = subst (GivesVerdict c.args.edition s j.new.1.1.0 j.new.1.1.1.0) c.in-Accepted.is j.ensures in
+    let held = subst (GivesVerdict c.args.edition s c.judge_stream.new.rows c.judge_stream.new.index) c.in-Accepted.is c.judge_stream.ensures in
     sym (ruled-letter c.args.edition s (accepted-judged c.requires.0.2 held.0).judged)
 
 pub returns-in-Refused : goal.returns-in-Refused

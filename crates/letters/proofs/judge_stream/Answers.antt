@@ -62,19 +62,13 @@ returns-in-End c =
 pub judge_element-requires : goal.judge_element-requires
 judge_element-requires c =
     let l = c.loop-code in
-    let m = meeting (goal.at.judge_element-requires c).In-Item in (
-      (l.invariant.0.table, l.invariant.0.done, l.invariant.0.holds),
-      (
-        l.invariant.0.filed,
-        (
+    let m = meeting (goal.at.judge_element-requires c).In-Item in record { done_rows = (l.invariant.0.table, l.invariant.0.done, l.invariant.0.holds); both_filed = l.invariant.0.filed; fine = (
           m.inner_fine,
           c.requires.0.1,
           omega (arith, m.starts, m.value_order, m.value_before),
           omega (arith, m.rest_fine.order, m.rest_fine.inside),
           omega (arith, c.requires.1.portions, l.invariant.3),
-        ),
-      ),
-    )
+        ) }
 
 pub returns-in-Fails : goal.returns-in-Fails
 returns-in-Fails c =
@@ -87,20 +81,11 @@ add_row-requires c =
     let l = c.loop-code in
     let w = passing (goal.at.add_row-requires c).In-Passes in
     let some = needed l.invariant.0 (meeting (goal.at.add_row-requires c).In-Item) w in
-    let lent = c.requires.1 in (
-      (l.invariant.0.table, l.invariant.0.done, l.invariant.0.holds),
-      (
-        l.invariant.0.filed,
-        (
-          (w.placed, w.hashed, c.requires.0.1),
-          (
+    let lent = c.requires.1 in record { done_rows = (l.invariant.0.table, l.invariant.0.done, l.invariant.0.holds); both_filed = l.invariant.0.filed; row_placed = (w.placed, w.hashed, c.requires.0.1); scratch_width_in_bounds = (
             omega (arith, some, lent.rows, l.invariant.1),
             links-enough c.args.index.now _ l.invariant.2 (fewer-links (omega (arith, some)) lent.links),
             few l.invariant.0 (meeting (goal.at.add_row-requires c).In-Item) w,
-          ),
-        ),
-      ),
-    )
+          ) }
 
 pub overflow_add-n : goal.overflow_add-n
 overflow_add-n c = omega (

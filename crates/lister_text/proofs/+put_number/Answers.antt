@@ -14,7 +14,7 @@ pub shape_of-out-then-n-lt10 : goal.shape_of-out-then-n-lt10
 shape_of-out-then-n-lt10 t c = simp length-set
 
 pub returns-then-n-lt10 : goal.returns-then-n-lt10
-returns-then-n-lt10 t c = rw (decimal-small c.args.n (omega arith)) (refl, refl)
+returns-then-n-lt10 t c = rw (decimal-small c.args.n (omega arith)) (record { value = refl; out_after = refl })
 
 pub put_number-last-requires : goal.put_number-last-requires
 put_number-last-requires t c = (omega arith, omega arith)
@@ -24,8 +24,7 @@ last_within : (t : ℕ) (c : After-slice_known-2-1 t) → c.put_number-last.resu
     c.put_number-last.new.out
 last_within t c =
     let n = c.args.n in
-    let put = c.put_number-last in
-    omega (arith, put.ensures.0, put.auto.0, decimal-short 18 (n / 10) (omega arith))
+    omega (arith, c.put_number-last.ensures.value, c.put_number-last.auto.out, decimal-short 18 (n / 10) (omega arith))
 
 pub bounds-out-last : goal.bounds-out-last
 bounds-out-last t c = omega (arith, last_within t (goal.at.bounds-out-last t c).After-slice_known-2-1, c.put_number-last.auto.out)
@@ -39,8 +38,4 @@ shape_of-out t c = simp length-set c.put_number-last.auto.out
 pub returns : goal.returns
 returns t c =
     let a = c.args in
-    let put = c.put_number-last.ensures in
-    rw (decimal-large a.n (omega arith)) (
-      rw put.0 (simp length-append (omega arith)),
-      rw (put.1, put.0) (sets-join a.out.now a.at (decimal (a.n / 10)) (digit (a.n % 10) ∷ [])),
-    )
+    rw (decimal-large a.n (omega arith)) (record { value = rw c.put_number-last.ensures.value (simp length-append (omega arith)); out_after = rw (c.put_number-last.ensures.out_after, c.put_number-last.ensures.value) (sets-join a.out.now a.at (decimal (a.n / 10)) (digit (a.n % 10) ∷ [])) })

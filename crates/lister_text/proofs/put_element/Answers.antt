@@ -11,13 +11,10 @@ use Rattle.lister_text.proofs.put_element.Goals as goal
 
 pub put_rest-requires : goal.put_rest-requires
 put_rest-requires c =
-    let put-number = c.put_number-at in
     let n = c.args.number in
-    omega (arith, put-number.ensures.0, put-number.auto.0, decimal-short 9 n (omega arith))
+    omega (arith, c.put_number-at.ensures.value, c.put_number-at.auto.out, decimal-short 9 n (omega arith))
 
 pub returns : goal.returns
 returns c =
     let a = c.args in
-    let number = c.put_number-at.ensures in
-    let rest = c.put_rest.ensures in
-    written (decimal a.number) (a.first ∷ a.past ∷ a.kind ∷ []) a.out.now _ _ _ _ (number.0 ∙ zero-add _) number.1 rest.0 rest.1
+    written (decimal a.number) (a.first ∷ a.past ∷ a.kind ∷ []) a.out.now _ _ _ _ (c.put_number-at.ensures.value ∙ zero-add _) c.put_number-at.ensures.out_after c.put_rest.ensures.value c.put_rest.ensures.out_after

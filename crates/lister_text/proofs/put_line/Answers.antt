@@ -6,6 +6,4 @@ use Rattle.lister_text.proofs.put_line.Goals as goal
 pub returns : goal.returns
 returns c =
     let a = c.args in
-    let word = c.put_word-at.ensures in
-    let rest = c.put_rest.ensures in
-    written a.word.now a.numbers.now a.out.now _ _ _ _ word.0 word.1 rest.0 rest.1
+    written a.word.now a.numbers.now a.out.now _ _ _ _ c.put_word-at.ensures.value c.put_word-at.ensures.out_after c.put_rest.ensures.value c.put_rest.ensures.out_after

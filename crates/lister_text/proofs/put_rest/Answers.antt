@@ -18,19 +18,17 @@ put_number-here-requires c = simp length-set (omega arith)
 
 pub loop-i-preserved : goal.loop-i-preserved
 loop-i-preserved c =
-    let put-number = c.put_number-here in
     let l = c.loop-i in
     let a = c.args in
     let numbers = a.numbers.now in
-    let put = put-number.ensures in
     let within : l.i < length numbers = c.loop-i-test.true in
     let fits = c.shared_slice_known-in-loop-i-1.given l.i in
     let short = decimal-short 19 (get_or numbers l.i 0) (omega (arith, fits)) in (
       omega arith,
-      omega (arith, put.0, short),
-      put-number.auto.0 ∙ simp length-set l.invariant.2,
-      rw put.0 (rest-length numbers l.i within l.here ∙ l.invariant.3),
-      rw (put.1, put.0) (rest-stores numbers l.i within l.out l.here ∙ l.invariant.4),
+      omega (arith, c.put_number-here.ensures.value, short),
+      c.put_number-here.auto.out ∙ simp length-set l.invariant.2,
+      rw c.put_number-here.ensures.value (rest-length numbers l.i within l.here ∙ l.invariant.3),
+      rw (c.put_number-here.ensures.out_after, c.put_number-here.ensures.value) (rest-stores numbers l.i within l.out l.here ∙ l.invariant.4),
     )
 
 pub shape_of-out : goal.shape_of-out
@@ -40,4 +38,4 @@ pub returns : goal.returns
 returns c =
     let l = c.loop-i in
     let end = rest_end c.args.numbers.now l.i c.loop-i-test.false in
-    ((rw end at l.invariant.3, omega arith), rw end at l.invariant.4)
+    record { value = (rw end at l.invariant.3, omega arith); out_after = rw end at l.invariant.4 }

@@ -25,4 +25,4 @@ pub returns : goal.returns
 returns c =
     let l = c.loop-i in
     let word = c.args.word.now in
-    (omega arith, rw (drop_of_length-le word c.loop-i-test.false) at l.invariant.2)
+    record { value = omega arith; out_after = rw (drop_of_length-le word c.loop-i-test.false) at l.invariant.2 }

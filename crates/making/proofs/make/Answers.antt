@@ -57,22 +57,20 @@ pub overflow_cast-result : goal.overflow_cast-result
 overflow_cast-result c =
     let refused-by = c.refused_by-refused in
     let measure = c.measure-size in
-    let put-letter = c.put_letter-length in
     let buffer = c.args.buffer.now in
     let numbers = c.args.numbers.now in
     let out = c.args.out.now in
     let fits = make-fits buffer numbers out refused-by.result refused-by.ensures c.if-refused-ne0.false in
     let within = make-within buffer numbers out fits measure.result measure.ensures (omega arith) in
-    omega (arith, within, make-length buffer numbers out fits (omega (arith, within)) put-letter.result put-letter.new.1.1.0 put-letter.ensures)
+    omega (arith, within, make-length buffer numbers out fits (omega (arith, within)) c.put_letter-length.result c.put_letter-length.new.out c.put_letter-length.ensures)
 
 pub returns : goal.returns
 returns c =
     let refused-by = c.refused_by-refused in
     let measure = c.measure-size in
-    let put-letter = c.put_letter-length in
     let buffer = c.args.buffer.now in
     let numbers = c.args.numbers.now in
     let out = c.args.out.now in
     let fits = make-fits buffer numbers out refused-by.result refused-by.ensures c.if-refused-ne0.false in
     let within = make-within buffer numbers out fits measure.result measure.ensures (omega arith) in
-    make-written buffer numbers out fits (omega (arith, within)) (omega (arith, within)) put-letter.result put-letter.new.1.1.0 put-letter.ensures
+    make-written buffer numbers out fits (omega (arith, within)) (omega (arith, within)) c.put_letter-length.result c.put_letter-length.new.out c.put_letter-length.ensures

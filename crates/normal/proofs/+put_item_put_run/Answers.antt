@@ -116,11 +116,10 @@ put_run-put_item-pos-requires t c =
     let u = met-item t (goal.at.put_run-put_item-pos-requires t c).In-Item in
     let n = next t (goal.at.put_run-put_item-pos-requires t c).After-measure_item-m in
     let m = c.measure_item-m in
-    let p = c.put_header-past in
     let r = c.requires in
     let size = length-append (type_field c.in-Item.h.code) (length_octets m.result.size) in (
       omega (arith, r.0),
-      (u.inside, m.ensures, omega (arith, n.2, p.ensures.to, p.auto.0, m.ensures.measures.size, size, length-length m.result.size)),
+      (u.inside, m.ensures, omega (arith, n.2, c.put_header-past.ensures.to, c.put_header-past.auto.out, m.ensures.measures.size, size, length-length m.result.size)),
     )
 
 pub put_run-loop-h-smaller : goal.put_run-loop-h-smaller

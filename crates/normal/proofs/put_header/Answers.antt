@@ -13,8 +13,7 @@ use Rattle.normal.proofs.put_header.Goals as goal
 
 pub put_length-requires : goal.put_length-requires
 put_length-requires c =
-    let f = c.put_field-past in
-    omega (arith, f.ensures.to, f.auto.0, c.requires.2)
+    omega (arith, c.put_field-past.ensures.to, c.put_field-past.auto.out, c.requires.2)
 
 pub shape_of-out : goal.shape_of-out
 shape_of-out c = c.put_length.auto.out ∙ c.put_field-past.auto.out

@@ -21,10 +21,7 @@ pub look-logical-requires : goal.look-logical-requires
 look-logical-requires c = (c.requires.0, (c.requires.1.0, omega arith))
 
 pub take_row-requires : goal.take_row-requires
-take_row-requires c = (
-  (c.requires.0, omega arith),
-  (c.loop-k.invariant.bounds, (c.look-layout.ensures, c.look-logical.ensures)),
-)
+take_row-requires c = record { k_lt_n = (c.requires.0, omega arith); bounds = c.loop-k.invariant.bounds; own_at = (c.look-layout.ensures, c.look-logical.ensures) }
 
 pub returns-in-Stops : goal.returns-in-Stops
 returns-in-Stops c =

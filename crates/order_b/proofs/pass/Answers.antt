@@ -20,7 +20,7 @@ pub loop-j-init : goal.loop-j-init
 loop-j-init c = let some-rows = c.requires.1.1 in (omega arith, omega arith, λ elements ready aside. refl)
 
 pub step_b-requires : goal.step_b-requires
-step_b-requires c = (c.requires.0, (c.requires.1.0, c.loop-j-test.true))
+step_b-requires c = record { letter_rows = c.requires.0; filed = c.requires.1.0; j_lt_n = c.loop-j-test.true }
 
 pub returns-in-Stops : goal.returns-in-Stops
 returns-in-Stops c =

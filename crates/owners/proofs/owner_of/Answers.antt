@@ -67,7 +67,7 @@ returns-then-cut-name c =
 pub carrier-requires : goal.carrier-requires
 carrier-requires c =
     let cut = c.last_space-cut.ensures in
-    (c.requires.0.1.holds.identifiers, (c.requires.1.0, (cut.after, omega (arith, cut.before, (within (goal.at.carrier-requires c).After-bounds_at-name).1))))
+    record { bounded = c.requires.0.1.holds.identifiers; filed = c.requires.1.0; first_le_past = (cut.after, omega (arith, cut.before, (within (goal.at.carrier-requires c).After-bounds_at-name).1)) }
 
 -- the last space stands before the name's end, and that in the stream
 strict : (a b : ℕ) → a ≤ b → (a ≡ b → ⊥) → a < b
@@ -117,13 +117,7 @@ pub owner_by-requires : goal.owner_by-requires
 owner_by-requires c =
     let has = has-row (goal.at.owner_by-requires c).In-At in
     let name = name-is (goal.at.owner_by-requires c).After-bounds_at-name in
-    (
-      omega (arith, has.below, c.requires.0.1.holds.identifiers.in_table),
-      (
-        meetable (rows_tell c.requires.0.1) c.in-At.row has.below,
-        rw name (omega (arith, cut-before (goal.at.owner_by-requires c).After-carrier), inside (goal.at.owner_by-requires c).After-carrier),
-      ),
-    )
+    record { scratch_width_in_bounds = omega (arith, has.below, c.requires.0.1.holds.identifiers.in_table); meetable = meetable (rows_tell c.requires.0.1) c.in-At.row has.below; first_le_past = rw name (omega (arith, cut-before (goal.at.owner_by-requires c).After-carrier), inside (goal.at.owner_by-requires c).After-carrier) }
 
 pub returns-in-Nothing : goal.returns-in-Nothing
 returns-in-Nothing c =

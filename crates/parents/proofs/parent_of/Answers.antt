@@ -39,7 +39,7 @@ carrier-requires c =
     let past = c.wide-past.ensures in
     let last = c.last_space-cut.ensures in
     let inside = c.requires.0.1.holds.identifiers.inside j c.requires.1.1.0 in
-    (c.requires.0.1.holds.identifiers, (c.requires.1.0, (last.after, omega (arith, last.before))))
+    record { bounded = c.requires.0.1.holds.identifiers; filed = c.requires.1.0; first_le_past = (last.after, omega (arith, last.before)) }
 
 pub own_side-requires : goal.own_side-requires
 own_side-requires c =

@@ -93,8 +93,7 @@ loop-code-smaller-then-code-eq1 t c = (meeting t (goal.at.loop-code-smaller-then
 
 pub loop-code-preserved-then-code-eq1 : goal.loop-code-preserved-then-code-eq1
 loop-code-preserved-then-code-eq1 t c =
-    let put = c.put_joined-done in
-    more-put c.loop-code.invariant (inner-gives t (goal.at.loop-code-preserved-then-code-eq1 t c).Then-code-eq1) (inner-fits t (goal.at.loop-code-preserved-then-code-eq1 t c).Then-code-eq1) put.result _ put.ensures.0 put.ensures.1
+    more-put c.loop-code.invariant (inner-gives t (goal.at.loop-code-preserved-then-code-eq1 t c).Then-code-eq1) (inner-fits t (goal.at.loop-code-preserved-then-code-eq1 t c).Then-code-eq1) c.put_joined-done.result _ c.put_joined-done.ensures.value c.put_joined-done.ensures.out_after
 
 pub slice_bounds-copy-count : goal.slice_bounds-copy-count
 slice_bounds-copy-count t c = (meeting t (goal.at.slice_bounds-copy-count t c).In-Item).value_order
@@ -126,6 +125,5 @@ loop-code-smaller t c = (meeting t (goal.at.loop-code-smaller t c).In-Item).less
 pub loop-code-preserved : goal.loop-code-preserved
 loop-code-preserved t c =
     let l = c.loop-code in
-    let copy = c.copy-done in
-    let put = copied _ _ (part_from l.out l.done) _ copy.result (value t (goal.at.loop-code-preserved t c).Else-code-eq1) copy.ensures.0 copy.ensures.1 in
-    more-put l.invariant (value-gives t (goal.at.loop-code-preserved t c).Else-code-eq1) (value-fits t (goal.at.loop-code-preserved t c).Else-code-eq1) copy.result _ put.0 put.1
+    let put = copied _ _ (part_from l.out l.done) _ c.copy-done.result (value t (goal.at.loop-code-preserved t c).Else-code-eq1) c.copy-done.ensures.count c.copy-done.ensures.out_after in
+    more-put l.invariant (value-gives t (goal.at.loop-code-preserved t c).Else-code-eq1) (value-fits t (goal.at.loop-code-preserved t c).Else-code-eq1) c.copy-done.result _ put.0 put.1

@@ -12,8 +12,7 @@ returns-then-checked-ne0 c =
 pub count_pages-count-requires : goal.count_pages-count-requires
 count_pages-count-requires c =
     let list = c.args.list.now in
-    let check = c.check-checked in
-    countable check.ensures list c.if-checked-ne0.false check.auto.1.1.0
+    countable c.check-checked.ensures list c.if-checked-ne0.false c.check-checked.auto.table
 
 pub returns-then-list-count : goal.returns-then-list-count
 returns-then-list-count c =
@@ -24,15 +23,13 @@ returns-then-list-count c =
 pub put_pages-requires : goal.put_pages-requires
 put_pages-requires c =
     let list = c.args.list.now in
-    let check = c.check-checked in
-    ready check.ensures list c.if-checked-ne0.false c.count_pages-count.ensures.0
-    c.if-list-count.false check.auto.1.1.0
+    ready c.check-checked.ensures list c.if-checked-ne0.false c.count_pages-count.ensures.0
+    c.if-list-count.false c.check-checked.auto.table
 
 pub overflow_cast-result : goal.overflow_cast-result
 overflow_cast-result c =
     let list = c.args.list.now in
-    let check = c.check-checked in
-    let few = countable check.ensures list c.if-checked-ne0.false check.auto.1.1.0 in
+    let few = countable c.check-checked.ensures list c.if-checked-ne0.false c.check-checked.auto.table in
     omega (arith, few, c.count_pages-count.ensures.1)
 
 pub returns : goal.returns

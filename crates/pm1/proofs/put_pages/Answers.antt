@@ -51,7 +51,6 @@ loop-inner-smaller c = (meeting (goal.at.loop-inner-smaller c).In-Item).less
 
 pub loop-inner-preserved : goal.loop-inner-preserved
 loop-inner-preserved c =
-    let put-element = c.put_element-count in
     let l = c.loop-inner in
     going_more c.requires l.invariant
-    (meeting (goal.at.loop-inner-preserved c).In-Item) put-element.auto.1.1.1.1.0 put-element.ensures
+    (meeting (goal.at.loop-inner-preserved c).In-Item) c.put_element-count.auto.list c.put_element-count.ensures

@@ -68,11 +68,8 @@ array-read-is-again c = omega (arith, c.tag_of.ensures.1)
 
 pub is_again-requires : goal.is_again-requires
 is_again-requires c =
-    (
-      (below PLACE‹c.before.before›, enough PLACE‹c.before.before›, inside PLACE‹c.before.before›),
-      λ z. unmarked-apart (stream PLACE‹c.before.before›) (numbers PLACE‹c.before.before›) (count PLACE‹c.before.before›) (own PLACE‹c.before.before› + 1) c.loop-k.marks (done-marked PLACE‹c.before.before›)
-          (bounded_at (stream PLACE‹c.before.before›) (numbers PLACE‹c.before.before›) (own PLACE‹c.before.before›)) (ap (λ (t : ℕ). get_or c.loop-k.marks t 0) (sym (tag_is (goal.at.is_again-requires c).After-tag_of-tag)) ∙ z),
-    )
+    record { k_lt_count = (below PLACE‹c.before.before›, enough PLACE‹c.before.before›, inside PLACE‹c.before.before›); bounds_value = λ z. unmarked-apart (stream PLACE‹c.before.before›) (numbers PLACE‹c.before.before›) (count PLACE‹c.before.before›) (own PLACE‹c.before.before› + 1) c.loop-k.marks (done-marked PLACE‹c.before.before›)
+          (bounded_at (stream PLACE‹c.before.before›) (numbers PLACE‹c.before.before›) (own PLACE‹c.before.before›)) (ap (λ (t : ℕ). get_or c.loop-k.marks t 0) (sym (tag_is (goal.at.is_again-requires c).After-tag_of-tag)) ∙ z) }
 
 pub returns-then-is_again : goal.returns-then-is_again
 returns-then-is_again c =

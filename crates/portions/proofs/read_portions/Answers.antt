@@ -66,10 +66,9 @@ pub loop-code-preserved : goal.loop-code-preserved
 loop-code-preserved c =
     let p = c.requires in
     let l = c.loop-code in
-    let k = c.keep_bounds in
     let enough : 2 * most_portions ≤ length l.bounds = omega (arith, l.invariant.0, p.2) in (
-      k.auto.0 ∙ l.invariant.0,
+      c.keep_bounds.auto.bounds ∙ l.invariant.0,
       rw c.is_misspelt-misspelt.ensures
           (one-read l.invariant.1 (met (goal.at.loop-code-preserved c).In-Item-2)
-          c.if-code-ne-PORTION.false k.new.0 enough k.ensures),
+          c.if-code-ne-PORTION.false c.keep_bounds.new.bounds enough c.keep_bounds.ensures),
     )

@@ -23,7 +23,4 @@ returns-then-not-is_listed c =
 
 pub list_portions-requires : goal.list_portions-requires
 list_portions-requires c =
-    (
-      c.requires.0,
-      (c.requires.1.0, ((c.requires.1.1.0, sym c.is_listed.ensures ∙ c.if-not-is_listed.false), c.requires.1.1.1)),
-    )
+    record { letter_rows = c.requires.0; filed = c.requires.1.0; element_lt_n = (c.requires.1.1.0, sym c.is_listed.ensures ∙ c.if-not-is_listed.false); room = c.requires.1.1.1 }

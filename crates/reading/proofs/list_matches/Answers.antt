@@ -13,7 +13,7 @@ pub list_side-requires : goal.list_side-requires
 list_side-requires c =
     let filed = subst (λ (index : List ℕ). Filed c.args.s.now c.args.rows.now identifier_column index c.args.n)
     (sym c.identifiers.ensures) c.requires.1.0.identifiers in
-    (c.requires.0, (filed, c.requires.1.1))
+    record { letter_rows = c.requires.0; filed = filed; n_in_bounds = c.requires.1.1 }
 
 pub list_side-requires-in-Logical : goal.list_side-requires-in-Logical
 list_side-requires-in-Logical c =

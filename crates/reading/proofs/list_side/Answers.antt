@@ -16,9 +16,8 @@ list_element-count-requires c =
 
 pub loop-element-preserved : goal.loop-element-preserved
 loop-element-preserved c =
-    let list-element = c.list_element-count in
-    turning-more c.loop-element.invariant c.loop-element-test.true list-element.ensures
-    list-element.auto.1.1.1.1.1.1.0
+    turning-more c.loop-element.invariant c.loop-element-test.true c.list_element-count.ensures
+    c.list_element-count.auto.flat
 
 pub shape_of-flat : goal.shape_of-flat
 shape_of-flat c = c.loop-element.invariant.kept

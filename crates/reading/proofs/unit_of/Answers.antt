@@ -10,18 +10,9 @@ find-requires c =
     let a = c.args in
     let name = c.requires.1.1.1.0 in
     let portion = c.requires.1.1.1.1 in
-    let whole = hash-joined (bytes_in a.s.now a.name) (bytes_in a.s.now a.portion) refl c.requires.1.1.0.0 c.hash_over-whole.ensures.0 in (
-      c.requires.0,
-      (
-        c.requires.1.0,
-        (
-          record {
+    let whole = hash-joined (bytes_in a.s.now a.name) (bytes_in a.s.now a.portion) refl c.requires.1.1.0.0 c.hash_over-whole.ensures.0 in record { bounded = c.requires.0; filed = c.requires.1.0; asked_within = record {
             first_order = name.order;
             first_inside = name.inside;
             second_order = portion.order;
             second_inside = portion.inside;
-          },
-          whole,
-        ),
-      ),
-    )
+          }; hashed_value = whole }

@@ -20,7 +20,7 @@ pub few-requires : goal.few-requires
 few-requires c =
     let w = sym c.walk.ensures
     ∙ c.in-Ended.is in
-    (walked_whole _ _ _ w, (c.is_few.ensures c.if-is_few.true, c.requires))
+    record { stream_value = walked_whole _ _ _ w; stream_bound = c.is_few.ensures c.if-is_few.true; roomy = c.requires }
 
 pub overflow_cast-count-in-Ended : goal.overflow_cast-count-in-Ended
 overflow_cast-count-in-Ended c =
@@ -31,7 +31,7 @@ pub many-requires : goal.many-requires
 many-requires c =
     let w = sym c.walk.ensures
     ∙ c.in-Ended.is in
-    (walked_whole _ _ _ w, c.requires)
+    record { stream_value = walked_whole _ _ _ w; roomy = c.requires }
 
 pub overflow_cast-number : goal.overflow_cast-number
 overflow_cast-number c =

@@ -90,9 +90,8 @@ loop-code-smaller-then-code-eq1 t c = (meeting t (goal.at.loop-code-smaller-then
 pub loop-code-preserved-then-code-eq1 : goal.loop-code-preserved-then-code-eq1
 loop-code-preserved-then-code-eq1 t c =
     let l = c.loop-code in
-    let put = c.put_places-done in
     let room = inner-fits t (goal.at.loop-code-preserved-then-code-eq1 t c).Then-code-eq1 in
-    more-put l.invariant (inner-gives t (goal.at.loop-code-preserved-then-code-eq1 t c).Then-code-eq1) put.result _ put.ensures.0 (omega (arith, put.ensures.0)) put.ensures.1
+    more-put l.invariant (inner-gives t (goal.at.loop-code-preserved-then-code-eq1 t c).Then-code-eq1) c.put_places-done.result _ c.put_places-done.ensures.value (omega (arith, c.put_places-done.ensures.value)) c.put_places-done.ensures.list_after
 
 pub overflow_cast-first : goal.overflow_cast-first
 overflow_cast-first t c =

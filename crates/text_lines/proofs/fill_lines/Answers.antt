@@ -21,9 +21,8 @@ pub loop-k-preserved : goal.loop-k-preserved
 loop-k-preserved c =
     let a = c.args in
     let l = c.loop-k in
-    let put = c.put_line in
     let below = c.loop-k-test.true in
-    (omega arith, put.auto.0 ∙ l.invariant.1, left_step a.numbers.now a.count l.k l.first l.lines _ below put.ensures ∙ l.invariant.2)
+    (omega arith, c.put_line.auto.lines ∙ l.invariant.1, left_step a.numbers.now a.count l.k l.first l.lines _ below c.put_line.ensures ∙ l.invariant.2)
 
 pub shape_of-lines : goal.shape_of-lines
 shape_of-lines c = c.loop-k.invariant.1

@@ -27,7 +27,7 @@ returns-then-count-row c =
 pub fill-requires : goal.fill-requires
 fill-requires c =
     let l = accepted-judged c.requires.0.ended c.requires.1.0 in
-    ((c.args.edition, c.requires.1.0), (c.requires.1.1.0, (l.few, omega arith)))
+    record { letter_rows = (c.args.edition, c.requires.1.0); filed = c.requires.1.1.0; count_le_most_elements = (l.few, omega arith) }
 
 pub count_children-found-requires : goal.count_children-found-requires
 count_children-found-requires c =
@@ -54,10 +54,7 @@ returns-then-room-found c =
 pub put_children-requires : goal.put_children-requires
 put_children-requires c =
     let l = accepted-judged c.requires.0.ended c.requires.1.0 in
-    let counted = c.count_children-found.ensures in (
-      (l.few, omega (arith, c.fill.auto.table)),
-      omega (arith, counted, c.if-room-found.false, c.requires.1.1.1),
-    )
+    let counted = c.count_children-found.ensures in record { count_le_most_elements = (l.few, omega (arith, c.fill.auto.table)); count_in_bounds = omega (arith, counted, c.if-room-found.false, c.requires.1.1.1) }
 
 pub overflow_cast-result : goal.overflow_cast-result
 overflow_cast-result c =

@@ -19,8 +19,6 @@ copy-length-requires c =
 
 pub returns : goal.returns
 returns c =
-    let copy_step = c.copy-length in
-    let put = copy_step.ensures in
     let part = part_slice c.args.first c.args.past c.args.stream.now c.requires.0 in
-    let copy = copied _ _ c.args.out.now _ copy_step.result part put.0 put.1 in
+    let copy = copied _ _ c.args.out.now _ c.copy-length.result part c.copy-length.ensures.count c.copy-length.ensures.out_after in
     copies-all _ c.args.out.now (omega (arith, length-slice c.args.first c.args.past c.args.stream.now c.requires.1)) copy.0 copy.1

@@ -11,5 +11,4 @@ returns-then-out-joined_length c =
 pub returns : goal.returns
 returns c =
     let out = c.args.out.now in
-    let put = c.put_joined-length.ensures in
-    copies-all _ out (omega (arith, put.0)) put.0 put.1
+    copies-all _ out (omega (arith, c.put_joined-length.ensures.value)) c.put_joined-length.ensures.value c.put_joined-length.ensures.out_after

@@ -8,7 +8,7 @@ use Rattle.answers.proofs.content.fetch_judged.Goals as goal
 pub content_at-requires : goal.content_at-requires
 content_at-requires c =
     let l = accepted-judged c.requires.0.ended c.requires.1 in
-    (stream-fine c.args.stream.now _ _ c.requires.0.ended, (omega (arith, l.few), (c.args.count, c.requires.1, omega arith)))
+    record { fine = stream-fine c.args.stream.now _ _ c.requires.0.ended; element_bound = (omega (arith, l.few), (c.args.count, c.requires.1, omega arith)) }
 
 pub returns-then-element-count : goal.returns-then-element-count
 returns-then-element-count c =

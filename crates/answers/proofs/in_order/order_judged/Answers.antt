@@ -6,7 +6,7 @@ use Rattle.answers.proofs.Placing.{none_found, fault-found}
 use Rattle.answers.proofs.in_order.order_judged.Goals as goal
 
 pub fault_in-requires : goal.fault_in-requires
-fault_in-requires c = ((c.args.edition, c.requires.1.0), c.requires.1.1)
+fault_in-requires c = record { letter_rows = (c.args.edition, c.requires.1.0); filed = c.requires.1.1 }
 
 pub out_of_order-requires : goal.out_of_order-requires
 out_of_order-requires c =

@@ -20,19 +20,10 @@ pub finish-requires : goal.finish-requires
 finish-requires c =
     let x = c.args in
     let l = accepted-judged c.requires.0.ended c.requires.1.0 in
-    let found = c.find_matches-listed.ensures in (
-      c.requires.0,
-      (
-        c.requires.1.0,
-        (
-          subst (λ (index : List ℕ). Filed x.stream.now x.rows.now identifier_column index x.count) (sym c.identifiers-names.ensures)
-              c.requires.1.1.0.identifiers,
-          λ finished.
+    let found = c.find_matches-listed.ensures in record { accepts = c.requires.0; letter_rows = c.requires.1.0; filed = subst (λ (index : List ℕ). Filed x.stream.now x.rows.now identifier_column index x.count) (sym c.identifiers-names.ensures)
+              c.requires.1.1.0.identifiers; count_bound = λ finished.
               let rows = finished-rows x.edition x.side x.stream.now x.table.now x.room refl found l.judged finished in
-              omega (arith, l.held.holds.counted),
-        ),
-      ),
-    )
+              omega (arith, l.held.holds.counted) }
 
 pub returns : goal.returns
 returns c =

@@ -31,7 +31,7 @@ put_sources-requires c =
     let lists = c.list_matches-lines.ensures c.args.edition l.held in
     let fine = stream-fine c.args.stream.now walk.at walk.headers walk.ended in
     let room = c.if-list-total.false in
-    ((fine, l.held, l.within_limit), (all_listed l c.args.side lists, omega (arith, room, c.count_sources-total.ensures)))
+    record { fine = (fine, l.held, l.within_limit); lines_listed = all_listed l c.args.side lists; lines_in_bounds = omega (arith, room, c.count_sources-total.ensures) }
 
 pub overflow_cast-result : goal.overflow_cast-result
 overflow_cast-result c =

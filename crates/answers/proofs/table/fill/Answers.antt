@@ -9,16 +9,12 @@ loop-j-init c = let a = c.args in filling-all a.s.now a.rows.now a.count a.table
 
 pub put_row-requires : goal.put_row-requires
 put_row-requires c =
-    (
-      c.requires.0,
-      (c.requires.1.0, (c.loop-j-test.true, c.requires.1.1.0, omega (arith, c.requires.1.1.1, c.loop-j.invariant.kept))),
-    )
+    record { letter_rows = c.requires.0; filed = c.requires.1.0; j_lt_count = (c.loop-j-test.true, c.requires.1.1.0, omega (arith, c.requires.1.1.1, c.loop-j.invariant.kept)) }
 
 pub loop-j-preserved : goal.loop-j-preserved
 loop-j-preserved c =
-    let put-row = c.put_row in
-    filling-more c.loop-j.invariant c.loop-j-test.true put-row.ensures
-    put-row.auto.1.1.1.1.1.0
+    filling-more c.loop-j.invariant c.loop-j-test.true c.put_row.ensures
+    c.put_row.auto.table
 
 pub shape_of-table : goal.shape_of-table
 shape_of-table c = c.loop-j.invariant.kept

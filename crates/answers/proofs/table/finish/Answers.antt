@@ -14,7 +14,7 @@ pub fill-requires : goal.fill-requires
 fill-requires c =
     let l = accepted-judged c.requires.0.ended c.requires.1.0 in
     let enough = c.requires.1.1.1 (sym c.is_finishing.ensures ∙ c.if-not-is_finishing.false) in
-    ((c.args.edition, c.requires.1.0), (c.requires.1.1.0, (l.few, omega (arith, enough))))
+    record { letter_rows = (c.args.edition, c.requires.1.0); filed = c.requires.1.1.0; count_le_most_elements = (l.few, omega (arith, enough)) }
 
 pub returns : goal.returns
 returns c =

@@ -45,23 +45,19 @@ put_joined-requires c =
 
 pub returns-in-Content : goal.returns-in-Content
 returns-in-Content c =
-    let copy_step = c.copy in
     let a = c.args in
     let f = subst (FindsContent a.edition a.stream.now a.unit) c.in-Content.is
     c.fetch_judged.ensures in
-    let put = copy_step.ensures in
     let part = part_slice _ _ a.stream.now f.fetches.stands.order in
-    let copy = copied _ _ a.out.now _ copy_step.result part put.0 put.1 in
-    as-text _ _ a.out.now _ copy_step.result (ap (λ (x : Fetched). x.part) f.joins) copy.0 copy.1
+    let copy = copied _ _ a.out.now _ c.copy.result part c.copy.ensures.count c.copy.ensures.out_after in
+    as-text _ _ a.out.now _ c.copy.result (ap (λ (x : Fetched). x.part) f.joins) copy.0 copy.1
 
 pub returns-in-Pieces : goal.returns-in-Pieces
 returns-in-Pieces c =
-    let put-joined = c.put_joined in
     let a = c.args in
     let f = subst (FindsContent a.edition a.stream.now a.unit) c.in-Pieces.is
     c.fetch_judged.ensures in
-    let put = put-joined.ensures in
-    as-text _ _ a.out.now _ put-joined.result (ap (λ (x : Fetched). x.part) f.joins) put.0 put.1
+    as-text _ _ a.out.now _ c.put_joined.result (ap (λ (x : Fetched). x.part) f.joins) c.put_joined.ensures.value c.put_joined.ensures.out_after
 
 pub returns-in-NoUnit : goal.returns-in-NoUnit
 returns-in-NoUnit c =

@@ -118,10 +118,9 @@ loop-k-preserved c =
     let l = c.loop-k in
     let below = c.loop-k-test.true in
     let same = ap (λ (u : ℕ). length (text_in a.edition a.stream.now u)) wide.ensures in
-    let put = c.put_text-done in
-    let octets = ap (λ (u : ℕ). text_in a.edition a.stream.now u ++ drop put.result (part_from l.out l.done)) wide.ensures in
-    more-put (text_in a.edition a.stream.now) a.numbers.now a.lines a.out.now l.invariant below c.requires.1.1.1 put.result _
-    (put.ensures.0 ∙ same) (put.ensures.1 ∙ octets)
+    let octets = ap (λ (u : ℕ). text_in a.edition a.stream.now u ++ drop c.put_text-done.result (part_from l.out l.done)) wide.ensures in
+    more-put (text_in a.edition a.stream.now) a.numbers.now a.lines a.out.now l.invariant below c.requires.1.1.1 c.put_text-done.result _
+    (c.put_text-done.ensures.value ∙ same) (c.put_text-done.ensures.out_after ∙ octets)
 
 pub shape_of-numbers : goal.shape_of-numbers
 shape_of-numbers c = c.loop-k.invariant.long

@@ -24,12 +24,11 @@ pub measure-needed-requires : goal.measure-needed-requires
 measure-needed-requires c =
     let x = c.args in
     let l = accepted-judged c.requires.0.ended c.requires.1.0 in
-    let find = c.find_matches-listed in
-    let few = listing x.edition x.side x.stream.now x.table.now x.room x.out.now refl find.ensures l
+    let few = listing x.edition x.side x.stream.now x.table.now x.room x.out.now refl c.find_matches-listed.ensures l
     (stream-fine x.stream.now _ _ c.requires.0.ended) (omega (
       arith,
       c.requires.1.1.1,
-      find.auto.1.1.1.1.1.1.1.1.0,
+      c.find_matches-listed.auto.flat,
     )) c.wide-found.ensures in
     (c.requires.0, (c.requires.1.0, few))
 
@@ -37,12 +36,11 @@ pub answer-shown-requires : goal.answer-shown-requires
 answer-shown-requires c =
     let x = c.args in
     let l = accepted-judged c.requires.0.ended c.requires.1.0 in
-    let find = c.find_matches-listed in
-    let few = listing x.edition x.side x.stream.now x.table.now x.room x.out.now refl find.ensures l
+    let few = listing x.edition x.side x.stream.now x.table.now x.room x.out.now refl c.find_matches-listed.ensures l
     (stream-fine x.stream.now _ _ c.requires.0.ended) (omega (
       arith,
       c.requires.1.1.1,
-      find.auto.1.1.1.1.1.1.1.1.0,
+      c.find_matches-listed.auto.flat,
     )) c.wide-found.ensures in
     omega (arith, c.measure-needed.ensures, few.short)
 
@@ -50,55 +48,43 @@ pub finish-requires : goal.finish-requires
 finish-requires c =
     let x = c.args in
     let l = accepted-judged c.requires.0.ended c.requires.1.0 in
-    let find = c.find_matches-listed in (
-      c.requires.0,
-      (
-        c.requires.1.0,
-        (
-          subst (λ (index : List ℕ). Filed x.stream.now x.rows.now identifier_column index x.count) (sym c.identifiers-names.ensures)
-              c.requires.1.1.0.identifiers,
-          λ finished.
+    let find = c.find_matches-listed in record { accepts = c.requires.0; letter_rows = c.requires.1.0; filed = subst (λ (index : List ℕ). Filed x.stream.now x.rows.now identifier_column index x.count) (sym c.identifiers-names.ensures)
+              c.requires.1.1.0.identifiers; count_bound = λ finished.
               let rows = finished-rows x.edition x.side x.stream.now x.table.now x.room refl find.ensures l.judged
               (finished-list find.result c.measure-needed.result (length x.out.now) c.answer-shown.ensures finished) in
-              omega (arith, l.held.holds.counted),
-        ),
-      ),
-    )
+              omega (arith, l.held.holds.counted) }
 
 pub put_texts-requires : goal.put_texts-requires
 put_texts-requires c =
     let x = c.args in
     let l = accepted-judged c.requires.0.ended c.requires.1.0 in
-    let find = c.find_matches-listed in
     let ends = subst (Ends _ _ (length x.out.now)) (sym c.answer-shown.ensures)
     (reading-ends _ _ (length x.out.now)) in
-    let put = puts x.edition x.side x.stream.now x.table.now x.room x.out.now refl find.ensures l
+    let put = puts x.edition x.side x.stream.now x.table.now x.room x.out.now refl c.find_matches-listed.ensures l
     (stream-fine x.stream.now _ _ c.requires.0.ended) (omega (
       arith,
       c.requires.1.1.1,
-      find.auto.1.1.1.1.1.1.1.1.0,
+      c.find_matches-listed.auto.flat,
     )) c.wide-found.ensures
     c.measure-needed.ensures ends c.wide-lines.ensures in
-    (c.requires.0, (c.requires.1.0, (put.0, put.1)))
+    record { accepts = c.requires.0; letter_rows = c.requires.1.0; listing = put.0; lines_in_bounds = put.1 }
 
 pub returns : goal.returns
 returns c =
     let x = c.args in
     let l = accepted-judged c.requires.0.ended c.requires.1.0 in
-    let find = c.find_matches-listed in
     let all = c.wide-found.ensures in
     let size = c.measure-needed.ensures in
     let told = c.answer-shown.ensures in
     let ends = subst (Ends _ _ (length x.out.now)) (sym told) (reading-ends _ _ (length x.out.now)) in
     let lines = c.wide-lines.ensures in
-    let put = c.put_texts in
-    let few = puts x.edition x.side x.stream.now x.table.now x.room x.out.now refl find.ensures l
+    let few = puts x.edition x.side x.stream.now x.table.now x.room x.out.now refl c.find_matches-listed.ensures l
     (stream-fine x.stream.now _ _ c.requires.0.ended) (omega (
       arith,
       c.requires.1.1.1,
-      find.auto.1.1.1.1.1.1.1.1.0,
+      c.find_matches-listed.auto.flat,
     )) all size ends lines in
-    shows x.edition x.side x.stream.now x.table.now x.room x.out.now refl find.ensures all size (told
-    ∙ answer_is x.edition x.side x.stream.now x.table.now x.room x.out.now refl find.ensures all size)
+    shows x.edition x.side x.stream.now x.table.now x.room x.out.now refl c.find_matches-listed.ensures all size (told
+    ∙ answer_is x.edition x.side x.stream.now x.table.now x.room x.out.now refl c.find_matches-listed.ensures all size)
     c.finish.ensures ends lines few.0.room
-    put.auto.1.1.1.1.0 put.ensures
+    c.put_texts.auto.out c.put_texts.ensures

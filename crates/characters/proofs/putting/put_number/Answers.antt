@@ -17,17 +17,14 @@ put_point-a-requires c =
 pub put_point-b-requires : goal.put_point-b-requires
 put_point-b-requires c =
     let o = c.args.octet in
-    let p = c.put_point-a in
     let e = ap (λ v. length (utf8 v)) c.hex.ensures in
-    omega (arith, number-long o (omega arith), bracket-long.0, p.ensures.0, p.auto.0, e, digit-long (o / 16) (omega arith))
+    omega (arith, number-long o (omega arith), bracket-long.0, c.put_point-a.ensures.value, c.put_point-a.auto.out, e, digit-long (o / 16) (omega arith))
 
 pub put_point-c-requires : goal.put_point-c-requires
 put_point-c-requires c =
     let o = c.args.octet in
-    let one = c.put_point-a in
     let high = c.hex.ensures in
     let long = ap (λ v. length (utf8 v)) high in
-    let two = c.put_point-b in
     let low = c.hex-2.ensures in
     let long2 = ap (λ v. length (utf8 v)) low in
     omega (
@@ -35,12 +32,12 @@ put_point-c-requires c =
       number-long o (omega arith),
       bracket-long.0,
       bracket-long.1,
-      one.ensures.0,
-      one.auto.0,
+      c.put_point-a.ensures.value,
+      c.put_point-a.auto.out,
       long,
       digit-long (o / 16) (omega arith),
-      two.ensures.0,
-      two.auto.0,
+      c.put_point-b.ensures.value,
+      c.put_point-b.auto.out,
       long2,
       digit-long (o % 16) (omega arith),
     )
@@ -48,59 +45,49 @@ put_point-c-requires c =
 pub put_point-requires : goal.put_point-requires
 put_point-requires c =
     let o = c.args.octet in
-    let one = c.put_point-a in
     let high = c.hex.ensures in
     let long = ap (λ v. length (utf8 v)) high in
-    let two = c.put_point-b in
     let low = c.hex-2.ensures in
     let long2 = ap (λ v. length (utf8 v)) low in
-    let three = c.put_point-c in
     omega (
       arith,
       number-long o (omega arith),
       bracket-long.0,
       bracket-long.1,
-      one.ensures.0,
-      one.auto.0,
+      c.put_point-a.ensures.value,
+      c.put_point-a.auto.out,
       long,
       digit-long (o / 16) (omega arith),
-      two.ensures.0,
-      two.auto.0,
+      c.put_point-b.ensures.value,
+      c.put_point-b.auto.out,
       long2,
       digit-long (o % 16) (omega arith),
-      three.ensures.0,
-      three.auto.0,
+      c.put_point-c.ensures.value,
+      c.put_point-c.auto.out,
     )
 
 pub returns : goal.returns
 returns c =
     let o = c.args.octet in
-    let one = c.put_point-a in
     let high = c.hex.ensures in
     let long = ap (λ v. length (utf8 v)) high in
-    let two = c.put_point-b in
     let low = c.hex-2.ensures in
     let long2 = ap (λ v. length (utf8 v)) low in
-    let three = c.put_point-c in
-    let four = c.put_point.ensures in
-    let a = c.args in (
-      four.0 ∙ omega (
+    let a = c.args in record { value = c.put_point.ensures.value ∙ omega (
         arith,
         number-long o (omega arith),
         bracket-long.0,
         bracket-long.1,
-        one.ensures.0,
-        one.auto.0,
+        c.put_point-a.ensures.value,
+        c.put_point-a.auto.out,
         long,
         digit-long (o / 16) (omega arith),
-        two.ensures.0,
-        two.auto.0,
+        c.put_point-b.ensures.value,
+        c.put_point-b.auto.out,
         long2,
         digit-long (o % 16) (omega arith),
-        three.ensures.0,
-        three.auto.0,
-      ),
-      rw (four.1, three.ensures.1, two.ensures.1, one.ensures.1, high, low, number-octets o)
+        c.put_point-c.ensures.value,
+        c.put_point-c.auto.out,
+      ); out_after = rw (c.put_point.ensures.out_after, c.put_point-c.ensures.out_after, c.put_point-b.ensures.out_after, c.put_point-a.ensures.out_after, high, low, number-octets o)
           (join-four a.out.now a.at _ _ _ (utf8 0x27E6) (utf8 (hex_digit (o / 16))) (utf8 (hex_digit (o % 16))) (utf8 0x27E7)
-          one.ensures.0 (two.ensures.0 ∙ ap (λ v. one.result + length (utf8 v)) high) (three.ensures.0 ∙ ap (λ v. two.result + length (utf8 v)) low)),
-    )
+          c.put_point-a.ensures.value (c.put_point-b.ensures.value ∙ ap (λ v. c.put_point-a.result + length (utf8 v)) high) (c.put_point-c.ensures.value ∙ ap (λ v. c.put_point-b.result + length (utf8 v)) low)) }

@@ -11,7 +11,7 @@ pub bounds-out-at : goal.bounds-out-at
 bounds-out-at c = omega (arith, one-long c.args.p c.if-p-lt128.true)
 
 pub returns-then-p-lt128 : goal.returns-then-p-lt128
-returns-then-p-lt128 c = rw (utf8-one c.args.p c.if-p-lt128.true) (refl, refl)
+returns-then-p-lt128 c = rw (utf8-one c.args.p c.if-p-lt128.true) (record { value = refl; out_after = refl })
 
 pub bounds-out-at-then-p-lt2048 : goal.bounds-out-at-then-p-lt2048
 bounds-out-at-then-p-lt2048 c = omega (arith, two-long c.args.p c.if-p-lt128.false c.if-p-lt2048.true)
@@ -22,7 +22,7 @@ bounds-out-at-then-p-lt2048-2 c = simp length-set (omega (arith, two-long c.args
 pub returns-then-p-lt2048 : goal.returns-then-p-lt2048
 returns-then-p-lt2048 c =
     let a = c.args in
-    rw (utf8-two a.p c.if-p-lt128.false c.if-p-lt2048.true) (refl, two-stores a.out.now a.at _ _)
+    rw (utf8-two a.p c.if-p-lt128.false c.if-p-lt2048.true) (record { value = refl; out_after = two-stores a.out.now a.at _ _ })
 
 pub bounds-out-at-2 : goal.bounds-out-at-2
 bounds-out-at-2 c = omega (arith, three-long c.args.p c.if-p-lt2048.false (omega arith))
@@ -37,4 +37,4 @@ pub returns : goal.returns
 returns c =
     let a = c.args in
     let small : a.p < 0x10000 = omega arith in
-    rw (utf8-three a.p c.if-p-lt2048.false small) (refl, three-stores a.out.now a.at _ _ _)
+    rw (utf8-three a.p c.if-p-lt2048.false small) (record { value = refl; out_after = three-stores a.out.now a.at _ _ _ })

@@ -13,14 +13,9 @@ put_point-n-requires c = omega (arith, length-append (utf8 c.args.p) (utf8 c.arg
 pub put_point-requires : goal.put_point-requires
 put_point-requires c =
     let a = c.args in
-    let put = c.put_point-n in
-    omega (arith, length-append (utf8 a.p) (utf8 a.q), put.ensures.0, put.auto.0)
+    omega (arith, length-append (utf8 a.p) (utf8 a.q), c.put_point-n.ensures.value, c.put_point-n.auto.out)
 
 pub returns : goal.returns
 returns c =
     let a = c.args in
-    let one = c.put_point-n.ensures in
-    let two = c.put_point.ensures in (
-      two.0 ∙ omega (arith, one.0, length-append (utf8 a.p) (utf8 a.q)),
-      rw (two.1, one.1) (join a.out.now a.at _ (utf8 a.p) (utf8 a.q) one.0),
-    )
+    record { value = c.put_point.ensures.value ∙ omega (arith, c.put_point-n.ensures.value, length-append (utf8 a.p) (utf8 a.q)); out_after = rw (c.put_point.ensures.out_after, c.put_point-n.ensures.out_after) (join a.out.now a.at _ (utf8 a.p) (utf8 a.q) c.put_point-n.ensures.value) }

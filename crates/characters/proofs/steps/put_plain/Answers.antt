@@ -16,7 +16,7 @@ returns-then-not-is_plain c =
     let xs = c.args.octets.now in
     let within : l.end < length xs = omega arith in
     let no = front-stops xs l.end within (sym c.is_plain.ensures ∙ c.if-not-is_plain.true) in
-    (omega (arith, l.invariant.2, ap length no), ap (sets l.out l.place) (sym no) ∙ l.invariant.5)
+    record { value = omega (arith, l.invariant.2, ap length no); out_after = ap (sets l.out l.place) (sym no) ∙ l.invariant.5 }
 
 pub bounds-out-place : goal.bounds-out-place
 bounds-out-place c =
@@ -45,4 +45,4 @@ returns c =
     let l = c.loop-end in
     let xs = c.args.octets.now in
     let no = front_ends xs l.end c.loop-end-test.false in
-    (omega (arith, l.invariant.2, ap length no), ap (sets l.out l.place) (sym no) ∙ l.invariant.5)
+    record { value = omega (arith, l.invariant.2, ap length no); out_after = ap (sets l.out l.place) (sym no) ∙ l.invariant.5 }

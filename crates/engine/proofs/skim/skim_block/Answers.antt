@@ -68,8 +68,7 @@ settled-s-requires c =
     let l = c.loop-s in
     let seat = seat_of b block c.args.from in
     let p = l.invariant.reads c.loop-s-test.true in
-    let k = c.skim_one-k in
-    comes seat l.s l.ends block p k.result k.new.0 k.ensures
+    comes seat l.s l.ends block p c.skim_one-k.result c.skim_one-k.new.ends c.skim_one-k.ensures
 
 pub loop-s-smaller : goal.loop-s-smaller
 loop-s-smaller c =
@@ -78,8 +77,7 @@ loop-s-smaller c =
     let l = c.loop-s in
     let seat = seat_of b block c.args.from in
     let p = l.invariant.reads c.loop-s-test.true in
-    let k = c.skim_one-k in
-    let t = turned seat l.s l.ends block p k.result k.new.0 k.ensures c.settled-s.result c.settled-s.ensures in
+    let t = turned seat l.s l.ends block p c.skim_one-k.result c.skim_one-k.new.ends c.skim_one-k.ensures c.settled-s.result c.settled-s.ensures in
     omega (arith, t.further, p.eight)
 
 pub loop-s-preserved : goal.loop-s-preserved
@@ -89,9 +87,8 @@ loop-s-preserved c =
     let l = c.loop-s in
     let seat = seat_of b block c.args.from in
     let p = l.invariant.reads c.loop-s-test.true in
-    let k = c.skim_one-k in
-    let t = turned seat l.s l.ends block p k.result k.new.0 k.ensures c.settled-s.result c.settled-s.ensures in
-    goes b block c.args.from seat l.ends l.s l.invariant p k.new.0 c.settled-s.result t
+    let t = turned seat l.s l.ends block p c.skim_one-k.result c.skim_one-k.new.ends c.skim_one-k.ensures c.settled-s.result c.settled-s.ensures in
+    goes b block c.args.from seat l.ends l.s l.invariant p c.skim_one-k.new.ends c.settled-s.result t
 
 pub left-requires : goal.left-requires
 left-requires c =

@@ -27,16 +27,7 @@ insert-requires c =
     let room = c.requires.1.1.1 in
     let half = first-half c.args.index.now c.half_of-half.ensures in
     let w = identifier-written c.requires.0.2 room.0 known.0 c.put_row.ensures (identifier_index c.args.index.now)
-    c.requires.1.0.identifiers in (
-      w.bounded,
-      (
-        subst (λ (index : List ℕ). Filed c.args.s.now c.put_row.new.rows identifier_column index c.args.n) (sym half) w.filed,
-        (
-          subst (λ (index : List ℕ). c.args.n + 1 < length (links_of index)) (sym half) room.1.identifiers,
-          (omega (arith, room.2), ap (λ (h : Hashes). h.identifier) known.1 ∙ ap hash (sym w.value)),
-        ),
-      ),
-    )
+    c.requires.1.0.identifiers in record { bounded = w.bounded; filed = subst (λ (index : List ℕ). Filed c.args.s.now c.put_row.new.rows identifier_column index c.args.n) (sym half) w.filed; n_in_bounds = subst (λ (index : List ℕ). c.args.n + 1 < length (links_of index)) (sym half) room.1.identifiers; n_bound = omega (arith, room.2); hashed_value = ap (λ (h : Hashes). h.identifier) known.1 ∙ ap hash (sym w.value) }
 
 pub insert-requires-2 : goal.insert-requires-2
 insert-requires-2 c =
@@ -44,22 +35,9 @@ insert-requires-2 c =
     let room = c.requires.1.1.1 in
     let half = second-left c.args.index.now c.half_of-half.ensures c.insert.new.index c.insert.ensures.index_len_unchanged in
     let w = logical-written c.requires.0.2 room.0 known.0 c.put_row.ensures (logical_index c.args.index.now)
-    c.requires.1.0.logicals in (
-      w.bounded,
-      (
-        subst (λ (index : List ℕ). Filed c.args.s.now c.put_row.new.rows logical_column index c.args.n) (sym half) w.filed,
-        (
-          subst (λ (index : List ℕ). c.args.n + 1 < length (links_of index)) (sym half) room.1.logicals,
-          (omega (arith, room.2), ap (λ (h : Hashes). h.logical) known.1 ∙ ap hash (sym w.value)),
-        ),
-      ),
-    )
+    c.requires.1.0.logicals in record { bounded = w.bounded; filed = subst (λ (index : List ℕ). Filed c.args.s.now c.put_row.new.rows logical_column index c.args.n) (sym half) w.filed; n_in_bounds = subst (λ (index : List ℕ). c.args.n + 1 < length (links_of index)) (sym half) room.1.logicals; n_bound = omega (arith, room.2); hashed_value = ap (λ (h : Hashes). h.logical) known.1 ∙ ap hash (sym w.value) }
 
 pub returns : goal.returns
 returns c =
-    let first = c.insert in
-    let second = c.insert-2 in (
-      λ table done e holds says. holds_more holds c.requires.1.1.1.0 c.requires.1.1.0.0 c.put_row.ensures e says,
-      both-filed c.args.index.now c.half_of-half.ensures first.new.1.1.0 first.ensures.1 second.new.1.1.0
-          second.ensures.1 first.ensures.0 second.ensures.0,
-    )
+    record { grows = λ table done e holds says. holds_more holds c.requires.1.1.1.0 c.requires.1.1.0.0 c.put_row.ensures e says; both_filed_2 = both-filed c.args.index.now c.half_of-half.ensures c.insert.new.index c.insert.ensures.index_len_unchanged c.insert-2.new.index
+          c.insert-2.ensures.index_len_unchanged c.insert.ensures.filed_2 c.insert-2.ensures.filed_2 }

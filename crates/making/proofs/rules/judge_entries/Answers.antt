@@ -92,17 +92,11 @@ keep-requires c =
     let lies = subst (EntryLies buffer) c.entry_at.ensures p.lies in
     let hashed = p.hash_is ∙ ap (λ (x : Entry). hash (bytes_in buffer x.identifier))
     c.entry_at.ensures in
-    let below : l.k < length numbers / entry_width = omega arith in (
-      (j.keeps.bounded, j.keeps.filed),
-      (
-        (
+    let below : l.k < length numbers / entry_width = omega arith in record { bounded = (j.keeps.bounded, j.keeps.filed); scratch_width_in_bounds = (
           omega (arith, c.requires.rows_fit l.k below p.few, l.invariant.2),
           omega (arith, c.requires.links_fit l.k below p.few, links-alike c.args.index.now l.index l.invariant.3),
           p.few,
-        ),
-        (lies.identifier.order, lies.identifier.inside, hashed),
-      ),
-    )
+        ); first_le_past = (lies.identifier.order, lies.identifier.inside, hashed) }
 
 pub overflow_add-k : goal.overflow_add-k
 overflow_add-k c = omega (
@@ -115,7 +109,6 @@ loop-k-preserved c =
     let entry_at = c.entry_at in
     let rule = c.rule-ruled in
     let if1 = c.if-ruled-ne0 in
-    let keep = c.keep in
     let buffer = c.args.buffer.now in
     let numbers = c.args.numbers.now in
     let l = c.loop-k in
@@ -129,9 +122,9 @@ loop-k-preserved c =
         arith,
         c.loop-k-test.true,
       ),
-      judging-more j (sym if1.false ∙ number) (keep.ensures j.done (entry_at numbers l.k) j.keeps refl refl),
-      keep.auto.1.0 ∙ l.invariant.2,
-      keep.auto.1.1.0 ∙ l.invariant.3,
+      judging-more j (sym if1.false ∙ number) (c.keep.ensures j.done (entry_at numbers l.k) j.keeps refl refl),
+      c.keep.auto.index ∙ l.invariant.2,
+      c.keep.auto.index ∙ l.invariant.3,
     )
 
 pub shape_of-rows : goal.shape_of-rows

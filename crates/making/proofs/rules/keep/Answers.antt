@@ -21,13 +21,7 @@ insert-requires c =
     let first = c.args.first in
     let past = c.args.past in
     let long = c.requires.1.0.0 in
-    let bounded = put-bounded rows n first past long buffer c.requires.1.1.0 c.requires.1.1.1 c.requires.0.0 in (
-      bounded,
-      (
-        put-filed rows n first past long buffer c.args.index.now c.requires.0.1,
-        (c.requires.1.0.1, (omega arith, c.requires.1.1.2 ∙ ap hash (sym (put-value rows n first past long buffer)))),
-      ),
-    )
+    let bounded = put-bounded rows n first past long buffer c.requires.1.1.0 c.requires.1.1.1 c.requires.0.0 in record { bounded = bounded; filed = put-filed rows n first past long buffer c.args.index.now c.requires.0.1; n_in_bounds = c.requires.1.0.1; n_bound = omega arith; hashed_value = c.requires.1.1.2 ∙ ap hash (sym (put-value rows n first past long buffer)) }
 
 pub returns : goal.returns
 returns c =

@@ -52,7 +52,7 @@ is_used-requires c =
     let buffer = c.args.buffer.now in
     let entry = c.args.entry in
     let i = sym parts-lie.ensures ∙ c.if-not-parts_lie.false in
-    (c.requires, (identifier-lies buffer entry i, c.hash_over-hashed.ensures.0))
+    record { bounded = c.requires; part_lies = (identifier-lies buffer entry i, c.hash_over-hashed.ensures.0) }
 
 pub returns-then-is_used : goal.returns-then-is_used
 returns-then-is_used c =

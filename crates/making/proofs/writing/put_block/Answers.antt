@@ -12,8 +12,6 @@ use Rattle.making.proofs.writing.put_block.Goals as goal
 
 pub put_four-listed-requires : goal.put_four-listed-requires
 put_four-listed-requires c =
-    let put_front = c.put_front-fronted in
-    let put-part = c.put_part-named in
     let buffer = c.args.buffer.now in
     let entry = c.args.entry in
     let lies = c.requires.0 in
@@ -22,10 +20,10 @@ put_four-listed-requires c =
       arith,
       lies.short,
       c.requires.1,
-      put_front.ensures.to,
-      put_front.auto.0,
-      put-part.ensures.to,
-      put-part.auto.1.1.0,
+      c.put_front-fronted.ensures.to,
+      c.put_front-fronted.auto.out,
+      c.put_part-named.ensures.to,
+      c.put_part-named.auto.out,
       i,
       c.type_size.ensures,
       c.size_of-portion.ensures,
@@ -33,9 +31,6 @@ put_four-listed-requires c =
 
 pub put_part-requires : goal.put_part-requires
 put_part-requires c =
-    let put_front = c.put_front-fronted in
-    let put-part = c.put_part-named in
-    let put_four = c.put_four-listed in
     let buffer = c.args.buffer.now in
     let entry = c.args.entry in
     let lies = c.requires.0 in
@@ -45,15 +40,15 @@ put_part-requires c =
         arith,
         lies.short,
         c.requires.1,
-        put_front.ensures.to,
-        put_front.auto.0,
-        put-part.ensures.to,
-        put-part.auto.1.1.0,
+        c.put_front-fronted.ensures.to,
+        c.put_front-fronted.auto.out,
+        c.put_part-named.ensures.to,
+        c.put_part-named.auto.out,
         i,
         c.type_size.ensures,
         c.size_of-portion.ensures,
-        put_four.ensures.to,
-        put_four.auto.0,
+        c.put_four-listed.ensures.to,
+        c.put_four-listed.auto.out,
       ),
     )
 
@@ -61,12 +56,11 @@ pub returns : goal.returns
 returns c =
     let type_size = c.type_size in
     let size-of2 = c.size_of-portion in
-    let put-part2 = c.put_part in
     let buffer = c.args.buffer.now in
     let entry = c.args.entry in
     let lies = c.requires.0 in
     let e = type_size.ensures ∙ sym (part-size buffer entry.identifier lies.identifier) in
     let f = size-of2.ensures ∙ sym (part-size buffer entry.portion lies.portion) in
-    subst (λ (xs : List ℕ). PutsOctets c.args.out.now c.args.at xs put-part2.result put-part2.new.1.1.0)
+    subst (λ (xs : List ℕ). PutsOctets c.args.out.now c.args.at xs c.put_part.result c.put_part.new.out)
     (block-by (said_by buffer entry) type_size.result size-of2.result e f)
-    (puts_then c.put_front-fronted.ensures (puts_then c.put_part-named.ensures (puts_then c.put_four-listed.ensures put-part2.ensures)))
+    (puts_then c.put_front-fronted.ensures (puts_then c.put_part-named.ensures (puts_then c.put_four-listed.ensures c.put_part.ensures)))

@@ -40,10 +40,10 @@ loop-k-preserved c =
     let a = c.args in
     let l = c.loop-k in
     let entry_at = c.entry_at in
-    let put-entry = c.put_entry-at in (
+    (
       omega arith,
-      put-entry.auto.1.1.0 ∙ l.invariant.1,
-      written_next a.buffer.now a.numbers.now l.k entry_at.result entry_at.ensures l.invariant.2 put-entry.ensures,
+      c.put_entry-at.auto.out ∙ l.invariant.1,
+      written_next a.buffer.now a.numbers.now l.k entry_at.result entry_at.ensures l.invariant.2 c.put_entry-at.ensures,
     )
 
 pub shape_of-out : goal.shape_of-out

@@ -12,14 +12,12 @@ use Rattle.making.proofs.writing.put_entry.Goals as goal
 
 pub put_unit-requires : goal.put_unit-requires
 put_unit-requires c =
-    let put-block = c.put_block-past in
     let said = said_by c.args.buffer.now c.args.entry in
     let n = names-size c.args.buffer.now c.args.entry c.requires.0 in
-    (c.requires.0, c.requires.1, omega (arith, c.requires.2, put-block.ensures.to, put-block.auto.1.1.0, block_size said, n))
+    (c.requires.0, c.requires.1, omega (arith, c.requires.2, c.put_block-past.ensures.to, c.put_block-past.auto.out, block_size said, n))
 
 pub returns : goal.returns
 returns c =
-    let put-unit = c.put_unit in
-    subst (λ (xs : List ℕ). PutsOctets c.args.out.now c.args.at xs put-unit.result put-unit.new.1.1.0)
+    subst (λ (xs : List ℕ). PutsOctets c.args.out.now c.args.at xs c.put_unit.result c.put_unit.new.out)
     (entry-pieces (said_by c.args.buffer.now c.args.entry))
-    (puts_then c.put_block-past.ensures put-unit.ensures)
+    (puts_then c.put_block-past.ensures c.put_unit.ensures)

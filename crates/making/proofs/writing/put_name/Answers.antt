@@ -9,34 +9,28 @@ use Rattle.making.proofs.writing.put_name.Goals as goal
 
 pub bounds-out-named : goal.bounds-out-named
 bounds-out-named c =
-    let put_four = c.put_four-fronted in
-    let put-part = c.put_part-named in
     let buffer = c.args.buffer.now in
     let entry = c.args.entry in
     let lies = c.requires.0 in
     let i = part-size buffer entry.identifier lies.identifier in
-    omega (arith, c.requires.1, c.requires.2, put_four.ensures.to, put_four.auto.0, put-part.ensures.to, put-part.auto.1.1.0, i)
+    omega (arith, c.requires.1, c.requires.2, c.put_four-fronted.ensures.to, c.put_four-fronted.auto.out, c.put_part-named.ensures.to, c.put_part-named.auto.out, i)
 
 pub overflow_add-named : goal.overflow_add-named
 overflow_add-named c =
-    let put_four = c.put_four-fronted in
-    let put-part = c.put_part-named in
     let buffer = c.args.buffer.now in
     let entry = c.args.entry in
     let lies = c.requires.0 in
     let i = part-size buffer entry.identifier lies.identifier in
-    omega (arith, c.requires.1, c.requires.2, put_four.ensures.to, put_four.auto.0, put-part.ensures.to, put-part.auto.1.1.0, i)
+    omega (arith, c.requires.1, c.requires.2, c.put_four-fronted.ensures.to, c.put_four-fronted.auto.out, c.put_part-named.ensures.to, c.put_part-named.auto.out, i)
 
 pub put_part-requires : goal.put_part-requires
 put_part-requires c =
-    let put_four = c.put_four-fronted in
-    let put-part = c.put_part-named in
     let buffer = c.args.buffer.now in
     let entry = c.args.entry in
     let lies = c.requires.0 in
     let i = part-size buffer entry.identifier lies.identifier in (
       lies.portion,
-      simp length-set (omega (arith, c.requires.1, c.requires.2, put_four.ensures.to, put_four.auto.0, put-part.ensures.to, put-part.auto.1.1.0, i)),
+      simp length-set (omega (arith, c.requires.1, c.requires.2, c.put_four-fronted.ensures.to, c.put_four-fronted.auto.out, c.put_part-named.ensures.to, c.put_part-named.auto.out, i)),
     )
 
 pub shape_of-out : goal.shape_of-out

@@ -38,7 +38,6 @@ put_name-named-requires c =
     let size-of2 = c.size_of-2 in
     let size-of3 = c.size_of-text in
     let unit_size = c.unit_size in
-    let put-header = c.put_header-headed in
     let buffer = c.args.buffer.now in
     let entry = c.args.entry in
     let lies = c.requires.0 in
@@ -48,7 +47,7 @@ put_name-named-requires c =
     let v : further_octets unit_size.result ≡ further_octets (unit_size_by (names_of entry) (text_of entry)) = ap further_octets u in
     let few = further-le (text_of entry) in
     let h = length-length unit_size.result in
-    (lies, n, omega (arith, c.requires.2, put-header.ensures.to, put-header.auto.0))
+    (lies, n, omega (arith, c.requires.2, c.put_header-headed.ensures.to, c.put_header-headed.auto.out))
 
 pub put_header-held-requires : goal.put_header-held-requires
 put_header-held-requires c =
@@ -56,8 +55,6 @@ put_header-held-requires c =
     let size-of2 = c.size_of-2 in
     let size-of3 = c.size_of-text in
     let unit_size = c.unit_size in
-    let put-header = c.put_header-headed in
-    let put-name = c.put_name-named in
     let buffer = c.args.buffer.now in
     let entry = c.args.entry in
     let lies = c.requires.0 in
@@ -72,7 +69,7 @@ put_header-held-requires c =
     let l = length-append (bytes_in buffer entry.identifier) (space_byte ∷ bytes_in buffer entry.portion) in
     let t : further_octets size-of3.result ≡ further_octets (text_of entry) = ap further_octets size-of3.ensures in (
       omega (arith, c.requires.1, size-of3.ensures),
-      omega (arith, c.requires.2, size-of3.ensures, put-header.ensures.to, put-header.auto.0, put-name.ensures.to, put-name.auto.1.1.0),
+      omega (arith, c.requires.2, size-of3.ensures, c.put_header-headed.ensures.to, c.put_header-headed.auto.out, c.put_name-named.ensures.to, c.put_name-named.auto.out),
     )
 
 pub put_part-requires : goal.put_part-requires
@@ -81,9 +78,6 @@ put_part-requires c =
     let size-of2 = c.size_of-2 in
     let size-of3 = c.size_of-text in
     let unit_size = c.unit_size in
-    let put-header = c.put_header-headed in
-    let put-name = c.put_name-named in
-    let put-header2 = c.put_header-held in
     let buffer = c.args.buffer.now in
     let entry = c.args.entry in
     let lies = c.requires.0 in
@@ -103,12 +97,12 @@ put_part-requires c =
         arith,
         c.requires.2,
         size-of3.ensures,
-        put-header.ensures.to,
-        put-header.auto.0,
-        put-name.ensures.to,
-        put-name.auto.1.1.0,
-        put-header2.ensures.to,
-        put-header2.auto.0,
+        c.put_header-headed.ensures.to,
+        c.put_header-headed.auto.out,
+        c.put_name-named.ensures.to,
+        c.put_name-named.auto.out,
+        c.put_header-held.ensures.to,
+        c.put_header-held.auto.out,
       ),
     )
 
@@ -118,7 +112,6 @@ returns c =
     let size-of2 = c.size_of-2 in
     let size-of3 = c.size_of-text in
     let unit_size = c.unit_size in
-    let put-part = c.put_part in
     let buffer = c.args.buffer.now in
     let entry = c.args.entry in
     let lies = c.requires.0 in
@@ -130,6 +123,6 @@ returns c =
     let names = names-size buffer entry lies in
     let text = text-size buffer entry lies in
     let w = u ∙ ap (λ (k : ℕ). unit_size_by k (text_of entry)) (sym names) ∙ ap (unit_size_by (name_size said)) (sym text) in
-    subst (λ (xs : List ℕ). PutsOctets c.args.out.now c.args.at xs put-part.result put-part.new.1.1.0)
+    subst (λ (xs : List ℕ). PutsOctets c.args.out.now c.args.at xs c.put_part.result c.put_part.new.out)
     (unit-by said unit_size.result (type_size.result + size-of2.result) size-of3.result w (n ∙ sym names) (size-of3.ensures ∙ sym text))
-    (puts_then c.put_header-headed.ensures (puts_then c.put_name-named.ensures (puts_then c.put_header-held.ensures put-part.ensures)))
+    (puts_then c.put_header-headed.ensures (puts_then c.put_name-named.ensures (puts_then c.put_header-held.ensures c.put_part.ensures)))

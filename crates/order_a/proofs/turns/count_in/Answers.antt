@@ -11,10 +11,7 @@ pub kind_at-requires : goal.kind_at-requires
 kind_at-requires c = row_inside c.requires.0.1 c.args.j c.requires.1
 
 pub portions_of-requires : goal.portions_of-requires
-portions_of-requires c = (
-  row_inside c.requires.0.1 c.args.j c.requires.1,
-  meetable (rows_tell c.requires.0.1) c.args.j c.requires.1,
-)
+portions_of-requires c = record { scratch_width_in_bounds = row_inside c.requires.0.1 c.args.j c.requires.1; meetable = meetable (rows_tell c.requires.0.1) c.args.j c.requires.1 }
 
 pub returns-then-kind_at-kind : goal.returns-then-kind_at-kind
 unfolding counts_in

@@ -37,7 +37,7 @@ has-requires c =
     let b = start.pre.0 in
     let j = c.loop-link.link - 1 in
     let l : j < start.args.n = omega (arith, c.loop-link.invariant.within) in
-    (b.in-row, (omega (arith, b.in_table), (b.ordered j l, (b.inside j l, start.pre.1.1.0))))
+    record { column_bound = b.in-row; scratch_width_in_bounds = omega (arith, b.in_table); j_bound = b.ordered j l; j_in_bounds = b.inside j l; asked_within = start.pre.1.1.0 }
 
 pub returns-then-has : goal.returns-then-has
 returns-then-has c =

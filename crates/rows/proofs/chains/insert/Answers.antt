@@ -14,8 +14,7 @@ links_begin-links-requires c = some_links c.args.index.now c.requires.1.0.some_b
 pub bucket_of-b-requires : goal.bucket_of-b-requires
 bucket_of-b-requires c =
     let a = c.args in
-    let p = c.requires in
-    bucket-asked a.index.now (value_at a.s.now a.rows.now a.column a.n) c.links_begin-links.ensures.0 p.1.0 p.1.1.1.1
+    bucket-asked a.index.now (value_at a.s.now a.rows.now a.column a.n) c.links_begin-links.ensures.0 c.requires.1.0 c.requires.1.1.1.1
 
 pub bounds-index-links : goal.bounds-index-links
 bounds-index-links c =
@@ -35,4 +34,4 @@ returns-then-rows-at c =
 pub returns-else-rows-at : goal.returns-else-rows-at
 returns-else-rows-at c =
     let p = c.requires.1 in
-    (skipped p.0 p.1.0 (λ l. absurd (omega (arith, l, c.if-rows-at.false))), (refl, links-none _ _ _ _))
+    record { indexed_2 = skipped p.0 p.1.0 (λ l. absurd (omega (arith, l, c.if-rows-at.false))); index_len_unchanged = refl; links = links-none _ _ _ _ }

@@ -34,14 +34,13 @@ chained_of-from-requires c = omega (arith, (filed (goal.at.chained_of-from-requi
 
 pub find_later-requires : goal.find_later-requires
 find_later-requires c =
-    let p = c.requires in (p.0, (in-order-from (filed (goal.at.find_later-requires c).After-next-1) c.chained_of-from.ensures, p.1.1.0))
+    record { bounded = c.requires.0; ordered = in-order-from (filed (goal.at.find_later-requires c).After-next-1) c.chained_of-from.ensures; asked_within = c.requires.1.1.0 }
 
 pub find-requires : goal.find-requires
 find-requires c =
     let chained-of = c.chained_of-from in
-    let p = c.requires in
     let o = in-order-from (filed (goal.at.find-requires c).After-next-1) chained-of.ensures in
-    (bounded-front o.begins p.0, (by-hash-from (filed (goal.at.find-requires c).After-next-1) chained-of.ensures, (p.1.1.0, p.1.1.1)))
+    record { bounded = bounded-front o.begins c.requires.0; indexed = by-hash-from (filed (goal.at.find-requires c).After-next-1) chained-of.ensures; asked_within = c.requires.1.1.0; hashed_value = c.requires.1.1.1 }
 
 pub returns-in-At : goal.returns-in-At
 returns-in-At c =

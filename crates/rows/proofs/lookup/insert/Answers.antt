@@ -22,9 +22,8 @@ bounds-index-last c = omega (arith, c.requires.1.1.0, links-size c.args.index.no
 pub returns-then-rows-at : goal.returns-then-rows-at
 returns-then-rows-at c =
     let a = c.args in
-    let p = c.requires in
-    let some : 0 < length (links_of a.index.now) = omega (arith, p.1.1.0) in
-    (filed-absent p.1.0 (mark-last a.index.now some) p.1.1.0 c.if-index-last-ne0.false (λ l. absurd (omega (arith, l, c.if-rows-at.true))), refl)
+    let some : 0 < length (links_of a.index.now) = omega (arith, c.requires.1.1.0) in
+    record { filed_2 = filed-absent c.requires.1.0 (mark-last a.index.now some) c.requires.1.1.0 c.if-index-last-ne0.false (λ l. absurd (omega (arith, l, c.if-rows-at.true))); index_len_unchanged = refl }
 
 pub links_begin-requires : goal.links_begin-requires
 links_begin-requires c = some_links c.args.index.now c.requires.1.0.by_hash.some_buckets
@@ -32,28 +31,21 @@ links_begin-requires c = some_links c.args.index.now c.requires.1.0.by_hash.some
 pub bucket_of-requires : goal.bucket_of-requires
 bucket_of-requires c =
     let a = c.args in
-    let p = c.requires in
-    bucket-asked a.index.now (value_at a.s.now a.rows.now a.column a.n) c.links_begin.ensures.0 p.1.0.by_hash p.1.1.1.1
+    bucket-asked a.index.now (value_at a.s.now a.rows.now a.column a.n) c.links_begin.ensures.0 c.requires.1.0.by_hash c.requires.1.1.1.1
 
 pub insert-requires : goal.insert-requires
 insert-requires c =
     let a = c.args in
-    let p = c.requires in
-    let some : 0 < length (links_of a.index.now) = omega (arith, p.1.1.0) in
-    (p.0, (by-hash-all p.1.0 (mark-last a.index.now some) c.if-index-last-ne0.false, (omega (arith, p.1.1.0), (p.1.1.1.0, p.1.1.1.1))))
+    let some : 0 < length (links_of a.index.now) = omega (arith, c.requires.1.1.0) in
+    record { bounded = c.requires.0; indexed = by-hash-all c.requires.1.0 (mark-last a.index.now some) c.if-index-last-ne0.false; n_in_bounds = omega (arith, c.requires.1.1.0); n_bound = c.requires.1.1.1.0; hashed_value = c.requires.1.1.1.1 }
 
 pub returns-then-index-bucket_of-eq0 : goal.returns-then-index-bucket_of-eq0
 returns-then-index-bucket_of-eq0 c =
     let a = c.args in
-    let p = c.requires in
-    let e = c.insert.ensures in
     let b = c.bucket_of in
     let is = c.links_begin.ensures.0 in
-    let some : 0 < length (links_of a.index.now) = omega (arith, p.1.1.0) in
+    let some : 0 < length (links_of a.index.now) = omega (arith, c.requires.1.1.0) in
     let none : get_or (heads_of a.index.now) b.result 0 ≡ 0 = sym (head_at a.index.now is b.result b.ensures.1) ∙ c.if-index-bucket_of-eq0.true in
     let few : AtMost (links_of a.index.now) 7 (get_or (heads_of a.index.now) b.result 0) =
-    subst (AtMost (links_of a.index.now) 7) (sym none) (none-at-most (links_of a.index.now) 7) in (
-      filed-grown a.index.now c.insert.new.index p.1.0 a.hashed (mark-last a.index.now some) p.1.1.0 c.if-index-last-ne0.false
-          e.0 e.1.0 e.1.1 is b.ensures.0 b.ensures.1 few,
-      e.1.0,
-    )
+    subst (AtMost (links_of a.index.now) 7) (sym none) (none-at-most (links_of a.index.now) 7) in record { filed_2 = filed-grown a.index.now c.insert.new.index c.requires.1.0 a.hashed (mark-last a.index.now some) c.requires.1.1.0 c.if-index-last-ne0.false
+          c.insert.ensures.indexed_2 c.insert.ensures.index_len_unchanged c.insert.ensures.links is b.ensures.0 b.ensures.1 few; index_len_unchanged = c.insert.ensures.index_len_unchanged }

@@ -32,59 +32,43 @@ bounds-index-last c = omega (arith, c.requires.1.1.0, links-size c.args.index.no
 pub put_in_order-requires : goal.put_in_order-requires
 put_in_order-requires c =
     let a = c.args in
-    let p = c.requires in
-    let part = links-part a.index.now c.links_begin-links.ensures.0 in (
-      p.0,
-      (
-        subst (λ (l : List ℕ). Ordered a.s.now a.rows.now a.column l (c.wide16-mark.result - 1) a.n) (sym part)
-            (in-order-some p.1.0 (marks (goal.at.put_in_order-requires c).After-wide16-mark) c.if-mark-ne0.true),
-        (subst (λ (l : List ℕ). a.n < length l) (sym part) (omega (arith, p.1.1.0)), omega (arith, p.1.1.1.0)),
-      ),
-    )
+    let part = links-part a.index.now c.links_begin-links.ensures.0 in record { bounded = c.requires.0; ordered = subst (λ (l : List ℕ). Ordered a.s.now a.rows.now a.column l (c.wide16-mark.result - 1) a.n) (sym part)
+            (in-order-some c.requires.1.0 (marks (goal.at.put_in_order-requires c).After-wide16-mark) c.if-mark-ne0.true); n_in_bounds = (subst (λ (l : List ℕ). a.n < length l) (sym part) (omega (arith, c.requires.1.1.0)), omega (arith, c.requires.1.1.1.0)) }
 
 pub returns-then-mark-ne0 : goal.returns-then-mark-ne0
 returns-then-mark-ne0 c =
     let a = c.args in
-    let p = c.requires in
-    let e = c.put_in_order.ensures in
-    filed-back a.index.now p.1.0 c.links_begin-links.ensures.0 (marks (goal.at.returns-then-mark-ne0 c).After-wide16-mark) p.1.1.0 c.if-mark-ne0.true
-    c.put_in_order.new.next e.0 e.1
+    filed-back a.index.now c.requires.1.0 c.links_begin-links.ensures.0 (marks (goal.at.returns-then-mark-ne0 c).After-wide16-mark) c.requires.1.1.0 c.if-mark-ne0.true
+    c.put_in_order.new.next c.put_in_order.ensures.ordered_2 c.put_in_order.ensures.around
 
 pub bucket_of-requires : goal.bucket_of-requires
 bucket_of-requires c =
     let a = c.args in
-    let p = c.requires in
-    bucket-asked a.index.now (value_at a.s.now a.rows.now a.column a.n) c.links_begin-links.ensures.0 p.1.0.by_hash
-    p.1.1.1.1
+    bucket-asked a.index.now (value_at a.s.now a.rows.now a.column a.n) c.links_begin-links.ensures.0 c.requires.1.0.by_hash
+    c.requires.1.1.1.1
 
 pub has_room-requires : goal.has_room-requires
 has_room-requires c =
     let a = c.args in
-    let p = c.requires in (
+    (
       record {
         s = a.s.now;
         rows = a.rows.now;
         column = a.column;
-        indexed = by-hash-all p.1.0 (marks (goal.at.has_room-requires c).After-wide16-mark) c.if-mark-ne0.false;
+        indexed = by-hash-all c.requires.1.0 (marks (goal.at.has_room-requires c).After-wide16-mark) c.if-mark-ne0.false;
       },
       omega (arith, c.bucket_of.ensures.1, c.links_begin-links.ensures.0),
     )
 
 pub insert-requires : goal.insert-requires
 insert-requires c =
-    let p = c.requires in
-    (p.0, (by-hash-all p.1.0 (marks (goal.at.insert-requires c).After-wide16-mark) c.if-mark-ne0.false, (omega (arith, p.1.1.0), (p.1.1.1.0, p.1.1.1.1))))
+    record { bounded = c.requires.0; indexed = by-hash-all c.requires.1.0 (marks (goal.at.insert-requires c).After-wide16-mark) c.if-mark-ne0.false; n_in_bounds = omega (arith, c.requires.1.1.0); n_bound = c.requires.1.1.1.0; hashed_value = c.requires.1.1.1.1 }
 
 pub returns-then-has_room : goal.returns-then-has_room
 returns-then-has_room c =
     let a = c.args in
-    let p = c.requires in
-    let e = c.insert.ensures in
-    let b = c.bucket_of.ensures in (
-      filed-grown a.index.now c.insert.new.index p.1.0 a.hashed (marks (goal.at.returns-then-has_room c).After-wide16-mark) p.1.1.0 c.if-mark-ne0.false e.0 e.1.0 e.1.1
-          c.links_begin-links.ensures.0 b.0 b.1 (c.has_room.ensures c.if-has_room.true),
-      e.1.0,
-    )
+    let b = c.bucket_of.ensures in record { filed_2 = filed-grown a.index.now c.insert.new.index c.requires.1.0 a.hashed (marks (goal.at.returns-then-has_room c).After-wide16-mark) c.requires.1.1.0 c.if-mark-ne0.false c.insert.ensures.indexed_2 c.insert.ensures.index_len_unchanged c.insert.ensures.links
+          c.links_begin-links.ensures.0 b.0 b.1 (c.has_room.ensures c.if-has_room.true); index_len_unchanged = c.insert.ensures.index_len_unchanged }
 
 pub bounds-index-links : goal.bounds-index-links
 bounds-index-links c =
@@ -97,5 +81,4 @@ bounds-index-last-2 c =
 pub returns : goal.returns
 returns c =
     let a = c.args in
-    let p = c.requires in
-    filed-marked a.index.now p.1.0 c.links_begin-links.ensures.0 (marks (goal.at.returns c).After-wide16-mark) p.1.1.0 c.if-mark-ne0.false
+    filed-marked a.index.now c.requires.1.0 c.links_begin-links.ensures.0 (marks (goal.at.returns c).After-wide16-mark) c.requires.1.1.0 c.if-mark-ne0.false

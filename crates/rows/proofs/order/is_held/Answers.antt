@@ -29,8 +29,8 @@ returns-then-space_of-space c =
 pub is_spelt-requires : goal.is_spelt-requires
 is_spelt-requires c =
     let wide322 = c.wide32-past in
-    let p = c.requires in (
-      p.1.1.1.1,
+    (
+      c.requires.1.1.1.1,
       omega (arith, wide322.ensures, c.wide32-first.ensures),
       omega (arith, wide322.ensures),
     )

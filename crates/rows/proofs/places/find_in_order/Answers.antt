@@ -7,35 +7,32 @@ use Rattle.rows.proofs.places.find_in_order.Goals as goal
 
 pub returns-then-p-from : goal.returns-then-p-from
 returns-then-p-from c =
-    let p = c.requires in none_before p.0 p.1.0 c.place-p.ensures c.if-p-from.true
+    none_before c.requires.0 c.requires.1.0 c.place-p.ensures c.if-p-from.true
 
 pub is_held-requires : goal.is_held-requires
 is_held-requires c =
-    let p = c.requires in
-    let b = p.0 in
+    let b = c.requires.0 in
     let j = c.wide16-j.result in
     let l : c.wide16-j.result < c.args.n = omega (
       arith,
       c.wide16-j.ensures,
-      last-below b p.1.0 c.place-p.ensures c.if-p-from.false,
+      last-below b c.requires.1.0 c.place-p.ensures c.if-p-from.false,
     ) in
-    (b.in-row, (omega (arith, b.in_table), (b.ordered j l, (b.inside j l, p.1.1))))
+    record { column_bound = b.in-row; scratch_width_in_bounds = omega (arith, b.in_table); j_bound = b.ordered j l; j_in_bounds = b.inside j l; asked_within = c.requires.1.1 }
 
 pub returns-then-is_held : goal.returns-then-is_held
 returns-then-is_held c =
     let if1 = c.if-p-from in
     let wide16 = c.wide16-j in
-    let p = c.requires in
     let w = c.place-p.ensures in
     let l : wide16.result < c.args.n = omega (
       arith,
       wide16.ensures,
-      last-below p.0 p.1.0 w if1.false,
+      last-below c.requires.0 c.requires.1.0 w if1.false,
     ) in
-    last_found p.0 p.1.0 w if1.false wide16.ensures (held-true c.is_held.ensures l c.if-is_held.true)
+    last_found c.requires.0 c.requires.1.0 w if1.false wide16.ensures (held-true c.is_held.ensures l c.if-is_held.true)
 
 pub returns : goal.returns
 returns c =
-    let p = c.requires in
-    none_found p.0 p.1.0 c.place-p.ensures c.if-p-from.false
+    none_found c.requires.0 c.requires.1.0 c.place-p.ensures c.if-p-from.false
     c.wide16-j.ensures (held-false c.is_held.ensures c.if-is_held.false)

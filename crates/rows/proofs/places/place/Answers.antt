@@ -38,7 +38,7 @@ pub is_before-requires : goal.is_before-requires
 is_before-requires c =
     let b = c.requires.0 in
     let l : c.wide16.result < c.args.n = omega (arith, c.wide16.ensures, row_below (goal.at.is_before-requires c).After-shared_slice_known-in-loop-low-1) in
-    (b.in-row, (omega (arith, b.in_table), (b.ordered c.wide16.result l, (b.inside c.wide16.result l, c.requires.1.1))))
+    record { column_bound = b.in-row; scratch_width_in_bounds = omega (arith, b.in_table); j_bound = b.ordered c.wide16.result l; j_in_bounds = b.inside c.wide16.result l; asked_within = c.requires.1.1 }
 
 pub loop-low-preserved-then-is_before : goal.loop-low-preserved-then-is_before
 loop-low-preserved-then-is_before c =

@@ -45,4 +45,4 @@ returns c =
     place.result place.result =
     subst (λ (x : List ℕ). Between a.s.now a.rows.now a.column a.next.now a.from a.n x place.result place.result) key
     place.ensures in
-    (ordered-more c.requires.1.0 c.requires.1.1.0 w shift.ensures, put-around c.requires.1.0 c.requires.1.1.0 w shift.ensures)
+    record { ordered_2 = ordered-more c.requires.1.0 c.requires.1.1.0 w shift.ensures; around = put-around c.requires.1.0 c.requires.1.1.0 w shift.ensures }

@@ -13,33 +13,29 @@ pub judge_stream-requires : goal.judge_stream-requires
 judge_stream-requires c =
     let l = lent c.args.stream.now 49152 24578 12289 _ refl (omega arith) (omega (arith, many-links)) (omega arith) (omega (arith, many-links))
     (omega (arith, many-links)) in
-    (walked-fine c.args.stream.now _ _ c.requires.0, l)
+    record { fine = walked-fine c.args.stream.now _ _ c.requires.0; lent = l }
 
 pub overflow_cast-number : goal.overflow_cast-number
 overflow_cast-number c =
-    let j = c.judge_stream in
-    let given = subst (GivesVerdict c.args.edition c.args.stream.now j.new.1.1.0 j.new.1.1.1.0) c.in-Refused.is j.ensures in
+    let given = subst (GivesVerdict c.args.edition c.args.stream.now c.judge_stream.new.rows c.judge_stream.new.index) c.in-Refused.is c.judge_stream.ensures in
     let r = refused-stopped c.requires.0 given in
     omega arith
 
 pub overflow_cast-place : goal.overflow_cast-place
 overflow_cast-place c =
-    let j = c.judge_stream in
-    let given = subst (GivesVerdict c.args.edition c.args.stream.now j.new.1.1.0 j.new.1.1.1.0) c.in-Refused.is j.ensures in
+    let given = subst (GivesVerdict c.args.edition c.args.stream.now c.judge_stream.new.rows c.judge_stream.new.index) c.in-Refused.is c.judge_stream.ensures in
     let r = refused-stopped c.requires.0 given in
     omega arith
 
 pub work-requires : goal.work-requires
 work-requires c =
-    let j = c.judge_stream in
-    let held = subst (GivesVerdict c.args.edition c.args.stream.now j.new.1.1.0 j.new.1.1.1.0)
-    c.in-Accepted.is j.ensures in
-    (c.requires.0, (held.0, (held.1, c.requires.1)))
+    let held = subst (GivesVerdict c.args.edition c.args.stream.now c.judge_stream.new.rows c.judge_stream.new.index)
+    c.in-Accepted.is c.judge_stream.ensures in
+    record { s_value = c.requires.0; letter_rows = held.0; both_filed = held.1; roomy = c.requires.1 }
 
 pub returns-in-Refused : goal.returns-in-Refused
 returns-in-Refused c =
-    let j = c.judge_stream in
-    let given = subst (GivesVerdict c.args.edition c.args.stream.now j.new.1.1.0 j.new.1.1.1.0) c.in-Refused.is j.ensures in
+    let given = subst (GivesVerdict c.args.edition c.args.stream.now c.judge_stream.new.rows c.judge_stream.new.index) c.in-Refused.is c.judge_stream.ensures in
     let r = refused-stopped c.requires.0 given in
     as-asked refl c.tell_refused.ensures
     (leaves-refused c.args.edition c.args.stream.now c.args.table.now c.args.flat.now c.args.out.now

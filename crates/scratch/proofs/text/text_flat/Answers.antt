@@ -25,7 +25,7 @@ few-requires c =
     let s = c.args.stream.now in
     let few = subst (λ (o : Outcome). rows_after o s ≤ length c.args.numbers.now / 4) c.in-Ended.is c.requires.enough in
     let room : 4 * rows_needed s ≤ length c.args.numbers.now = omega arith in
-    (walked_whole _ _ _ (c.requires.outcome ∙ c.in-Ended.is), (omega arith, room))
+    record { stream_value = walked_whole _ _ _ (c.requires.outcome ∙ c.in-Ended.is); stream_bound = omega arith; roomy = room }
 
 pub returns-then-numbers-le-FEW : goal.returns-then-numbers-le-FEW
 returns-then-numbers-le-FEW c = text-told c.text_read_of.ensures c.few.ensures
@@ -40,7 +40,7 @@ many-requires c =
     let s = c.args.stream.now in
     let few = subst (λ (o : Outcome). rows_after o s ≤ length c.args.numbers.now / 4) c.in-Ended.is c.requires.enough in
     let room : 4 * rows_needed s ≤ length c.args.numbers.now = omega arith in
-    (walked_whole _ _ _ (c.requires.outcome ∙ c.in-Ended.is), room)
+    record { stream_value = walked_whole _ _ _ (c.requires.outcome ∙ c.in-Ended.is); roomy = room }
 
 pub overflow_cast-result : goal.overflow_cast-result
 overflow_cast-result c =

@@ -69,17 +69,16 @@ pub loop-k-preserved : goal.loop-k-preserved
 loop-k-preserved c =
     let a = c.args in
     let l = c.loop-k in
-    let put = c.put_unit-done in
     let unit = c.wide-unit in
     let places = places_in a.edition a.s.now in
     let left = numbers_left places a.numbers.now a.lines in
     let listed = left-numbers places a.numbers.now a.lines l.k c.loop-k-test.true in
     let next = subst (λ (u : ℕ). left l.k ≡ place_numbers l.k (places u) ++ left (l.k + 1)) (sym unit.ensures) listed in
     let own = place_numbers l.k (places unit.result) in
-    let size : put.result ≡ length own = ◌∙◌ {b = 3 * length (places unit.result)} put.ensures.0
+    let size : c.put_unit-done.result ≡ length own = ◌∙◌ {b = 3 * length (places unit.result)} c.put_unit-done.ensures.value
     (sym (numbers-length l.k (places unit.result))) in
-    let fits : l.done + put.result ≤ length l.list = omega (arith, unit-fits (goal.at.loop-k-preserved c).After-wide-unit, put.ensures.0) in
-    (omega arith, more-filled l.invariant.1 own (left (l.k + 1)) next put.result size fits _ put.ensures.1)
+    let fits : l.done + c.put_unit-done.result ≤ length l.list = omega (arith, unit-fits (goal.at.loop-k-preserved c).After-wide-unit, c.put_unit-done.ensures.value) in
+    (omega arith, more-filled l.invariant.1 own (left (l.k + 1)) next c.put_unit-done.result size fits _ c.put_unit-done.ensures.list_after)
 
 pub shape_of-list : goal.shape_of-list
 shape_of-list c = c.loop-k.invariant.1.kept

@@ -17,16 +17,14 @@ put_piece-requires c =
 pub put_places-requires : goal.put_places-requires
 put_places-requires c =
     let s = c.args.s.now in
-    ((subst (HeldHere s) c.in-Pieces.is c.requires.0.0, c.requires.0.1), omega (arith, ap (λ (held : Held). length (held_places s held)) c.in-Pieces.is, c.requires.1))
+    record { fine = (subst (HeldHere s) c.in-Pieces.is c.requires.0.0, c.requires.0.1); r_in_bounds = omega (arith, ap (λ (held : Held). length (held_places s held)) c.in-Pieces.is, c.requires.1) }
 
 pub returns-in-Part : goal.returns-in-Part
 returns-in-Part c =
     let a = c.args in
-    let put = c.put_piece in
-    puts-same a.line put.result _ _ _ _ (ap (held_places a.s.now) c.in-Part.is) (put.ensures.0, put.ensures.1)
+    puts-same a.line c.put_piece.result _ _ _ _ (ap (held_places a.s.now) c.in-Part.is) (record { value = c.put_piece.ensures.value; list_after = c.put_piece.ensures.list_after })
 
 pub returns-in-Pieces : goal.returns-in-Pieces
 returns-in-Pieces c =
     let a = c.args in
-    let put = c.put_places in
-    puts-same a.line put.result _ _ _ _ (ap (held_places a.s.now) c.in-Pieces.is) (put.ensures.0, put.ensures.1)
+    puts-same a.line c.put_places.result _ _ _ _ (ap (held_places a.s.now) c.in-Pieces.is) (record { value = c.put_places.ensures.value; list_after = c.put_places.ensures.list_after })

@@ -13,11 +13,10 @@ put_source-requires c =
 pub returns-then-first-past : goal.returns-then-first-past
 returns-then-first-past c =
     let a = c.args in
-    let put = c.put_source in
     let one = one_place a.first a.past c.if-first-past.true in
     let room = ap length one in
-    puts-same a.line 3 _ _ a.list.now put.new.0 one
-    (puts_one a.line a.first a.past a.list.now put.new.0 (omega (arith, c.requires.1)) put.ensures)
+    puts-same a.line 3 _ _ a.list.now c.put_source.new.list one
+    (puts_one a.line a.first a.past a.list.now c.put_source.new.list (omega (arith, c.requires.1)) c.put_source.ensures)
 
 pub returns : goal.returns
 returns c =

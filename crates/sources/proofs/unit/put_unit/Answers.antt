@@ -10,13 +10,12 @@ use Rattle.sources.proofs.unit.put_unit.Goals as goal
 pub put_held-requires : goal.put_held-requires
 put_held-requires c =
     let held = c.content_of.ensures in
-    ((unit-here held, c.requires.0.2), omega (arith, ap length (unit-places held), c.requires.1))
+    record { held_here = (unit-here held, c.requires.0.2); held_in_bounds = omega (arith, ap length (unit-places held), c.requires.1) }
 
 pub returns-then-unit-count : goal.returns-then-unit-count
 returns-then-unit-count c =
     let a = c.args in
-    let put = c.put_held in
-    puts-same a.line put.result _ _ _ _ (sym (unit-places c.content_of.ensures)) (put.ensures.0, put.ensures.1)
+    puts-same a.line c.put_held.result _ _ _ _ (sym (unit-places c.content_of.ensures)) (record { value = c.put_held.ensures.value; list_after = c.put_held.ensures.list_after })
 
 pub returns : goal.returns
 returns c =
