@@ -49,7 +49,7 @@ seen-is : (c : After-see-seen) →
     c.see-seen.result
 seen-is c =
     let a = c.args in
-    sees-shape c.requires.1.1.0
+    sees-shape c.requires.fine.0
     (shape_by a.edition a.item.code) a.item.first a.item.past
     (subst (λ (x : Slots). SeesSlots a.s.now x a.item.inner a.item.first a.item.past c.see-seen.new.bounds
     c.see-seen.result) c.shape_of-shape.ensures c.see-seen.ensures)
@@ -79,7 +79,7 @@ returns-then-number-ne0 c =
 
 pub see-seen-requires : goal.see-seen-requires
 see-seen-requires c =
-    let fits = c.requires.1.1 in (
+    let fits = c.requires.fine in (
       fits.0,
       subst WellMade (sym c.shape_of-shape.ensures) (made (shape_by c.args.edition c.args.item.code)),
       fits.1,
@@ -101,7 +101,7 @@ returns-then-seen-ne0 c =
 pub has_double-requires : goal.has_double-requires
 has_double-requires c =
     let seen = seen-is (goal.at.has_double-requires c).After-see-seen in
-    let passes = seen.passes c.if-seen-ne0.false in record { done_rows = c.requires.0; both_filed = c.requires.1.0; row_placed = (seen.placed, c.hashes_of-hashes.ensures); count_in_bounds = (omega (arith, passes.few, c.see-seen.auto.bounds, c.requires.1.1), passes.inside) }
+    let passes = seen.passes c.if-seen-ne0.false in record { done_rows = c.requires.done_rows; both_filed = c.requires.both_filed; row_placed = (seen.placed, c.hashes_of-hashes.ensures); count_in_bounds = (omega (arith, passes.few, c.see-seen.auto.bounds, c.requires.fine), passes.inside) }
 
 pub returns-then-has_double : goal.returns-then-has_double
 returns-then-has_double c =

@@ -43,7 +43,7 @@ pub loop-code-init : goal.loop-code-init
 loop-code-init c =
     let a = c.args in (
       subst (Judging a.edition a.s.now a.rows.now a.index.now 0) (sym c.whole_stream-cur.ensures)
-          (judging-none a.edition a.s.now a.rows.now a.index.now a.bounds.now c.requires.1 c.requires.0.0),
+          (judging-none a.edition a.s.now a.rows.now a.index.now a.bounds.now c.requires.lent c.requires.fine.0),
       refl,
       refl,
       refl,
@@ -64,10 +64,10 @@ judge_element-requires c =
     let l = c.loop-code in
     let m = meeting (goal.at.judge_element-requires c).In-Item in record { done_rows = (l.invariant.0.table, l.invariant.0.done, l.invariant.0.holds); both_filed = l.invariant.0.filed; fine = (
           m.inner_fine,
-          c.requires.0.1,
+          c.requires.fine.1,
           omega (arith, m.starts, m.value_order, m.value_before),
           omega (arith, m.rest_fine.order, m.rest_fine.inside),
-          omega (arith, c.requires.1.portions, l.invariant.3),
+          omega (arith, c.requires.lent.portions, l.invariant.3),
         ) }
 
 pub returns-in-Fails : goal.returns-in-Fails
@@ -78,13 +78,14 @@ returns-in-Fails c =
 
 pub add_row-requires : goal.add_row-requires
 add_row-requires c =
+    let here = (goal.at.add_row-requires c).In-Item in
     let l = c.loop-code in
     let w = passing (goal.at.add_row-requires c).In-Passes in
-    let some = needed l.invariant.0 (meeting (goal.at.add_row-requires c).In-Item) w in
-    let lent = c.requires.1 in record { done_rows = (l.invariant.0.table, l.invariant.0.done, l.invariant.0.holds); both_filed = l.invariant.0.filed; row_placed = (w.placed, w.hashed, c.requires.0.1); scratch_width_in_bounds = (
+    let some = needed l.invariant.0 (meeting here) w in
+    let lent = c.requires.lent in record { done_rows = (l.invariant.0.table, l.invariant.0.done, l.invariant.0.holds); both_filed = l.invariant.0.filed; row_placed = (w.placed, w.hashed, c.requires.fine.1); scratch_width_in_bounds = (
             omega (arith, some, lent.rows, l.invariant.1),
             links-enough c.args.index.now _ l.invariant.2 (fewer-links (omega (arith, some)) lent.links),
-            few l.invariant.0 (meeting (goal.at.add_row-requires c).In-Item) w,
+            few l.invariant.0 (meeting here) w,
           ) }
 
 pub overflow_add-n : goal.overflow_add-n

@@ -15,10 +15,10 @@ pub returns-then-n-eq0 : goal.returns-then-n-eq0
 returns-then-n-eq0 c = none-fault elements (ready.counted ∙ c.if-n-eq0.true)
 
 pub first_step-requires : goal.first_step-requires
-first_step-requires c = record { letter_rows = c.requires.0; filed = c.requires.1; n_nonzero = positive _ c.if-n-eq0.false }
+first_step-requires c = record { letter_rows = c.requires.letter_rows; filed = c.requires.filed; n_nonzero = positive _ c.if-n-eq0.false }
 
 pub pass-requires : goal.pass-requires
-pass-requires c = record { letter_rows = c.requires.0; filed = c.requires.1; n_nonzero = positive _ c.if-n-eq0.false }
+pass-requires c = record { letter_rows = c.requires.letter_rows; filed = c.requires.filed; n_nonzero = positive _ c.if-n-eq0.false }
 
 pub returns-in-Stops : goal.returns-in-Stops
 returns-in-Stops c =

@@ -17,10 +17,10 @@ use Rattle.order_b.proofs.Passing.{pass_from, pass-stops, pass-goes, pass-ends}
 use Rattle.order_b.proofs.pass.Goals as goal
 
 pub loop-j-init : goal.loop-j-init
-loop-j-init c = let some-rows = c.requires.1.1 in (omega arith, omega arith, λ elements ready aside. refl)
+loop-j-init c = let some-rows = c.requires.n_nonzero in (omega arith, omega arith, λ elements ready aside. refl)
 
 pub step_b-requires : goal.step_b-requires
-step_b-requires c = record { letter_rows = c.requires.0; filed = c.requires.1.0; j_lt_n = c.loop-j-test.true }
+step_b-requires c = record { letter_rows = c.requires.letter_rows; filed = c.requires.filed; j_lt_n = c.loop-j-test.true }
 
 pub returns-in-Stops : goal.returns-in-Stops
 returns-in-Stops c =
@@ -31,7 +31,7 @@ returns-in-Stops c =
     ∙ c.step_b.ensures elements ready aside))
 
 pub overflow_add-j : goal.overflow_add-j
-overflow_add-j c = let known = c.requires.0 in omega (
+overflow_add-j c = let known = c.requires.letter_rows in omega (
   arith,
   c.loop-j-test.true,
   few-rows known.1,

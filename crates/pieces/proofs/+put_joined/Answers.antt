@@ -93,7 +93,8 @@ loop-code-smaller-then-code-eq1 t c = (meeting t (goal.at.loop-code-smaller-then
 
 pub loop-code-preserved-then-code-eq1 : goal.loop-code-preserved-then-code-eq1
 loop-code-preserved-then-code-eq1 t c =
-    more-put c.loop-code.invariant (inner-gives t (goal.at.loop-code-preserved-then-code-eq1 t c).Then-code-eq1) (inner-fits t (goal.at.loop-code-preserved-then-code-eq1 t c).Then-code-eq1) c.put_joined-done.result _ c.put_joined-done.ensures.value c.put_joined-done.ensures.out_after
+    let here = (goal.at.loop-code-preserved-then-code-eq1 t c).Then-code-eq1 in
+    more-put c.loop-code.invariant (inner-gives t here) (inner-fits t here) c.put_joined-done.result _ c.put_joined-done.ensures.value c.put_joined-done.ensures.out_after
 
 pub slice_bounds-copy-count : goal.slice_bounds-copy-count
 slice_bounds-copy-count t c = (meeting t (goal.at.slice_bounds-copy-count t c).In-Item).value_order
@@ -112,18 +113,21 @@ slice_bounds-copy-start-else-code-eq1 t c = c.loop-code.invariant.within
 
 pub copy-done-requires : goal.copy-done-requires
 copy-done-requires t c =
+    let here = (goal.at.copy-done-requires t c).Else-code-eq1 in
     let l = c.loop-code in
-    omega (arith, value-fits t (goal.at.copy-done-requires t c).Else-code-eq1, ap length (value t (goal.at.copy-done-requires t c).Else-code-eq1), part_length l.out l.done)
+    omega (arith, value-fits t here, ap length (value t here), part_length l.out l.done)
 
 pub overflow_add-done-else-code-eq1 : goal.overflow_add-done-else-code-eq1
 overflow_add-done-else-code-eq1 t c =
-    omega (arith, value-fits t (goal.at.overflow_add-done-else-code-eq1 t c).Else-code-eq1, ap length (value t (goal.at.overflow_add-done-else-code-eq1 t c).Else-code-eq1), c.copy-done.ensures.count)
+    let here = (goal.at.overflow_add-done-else-code-eq1 t c).Else-code-eq1 in
+    omega (arith, value-fits t here, ap length (value t here), c.copy-done.ensures.count)
 
 pub loop-code-smaller : goal.loop-code-smaller
 loop-code-smaller t c = (meeting t (goal.at.loop-code-smaller t c).In-Item).less
 
 pub loop-code-preserved : goal.loop-code-preserved
 loop-code-preserved t c =
+    let here = (goal.at.loop-code-preserved t c).Else-code-eq1 in
     let l = c.loop-code in
-    let put = copied _ _ (part_from l.out l.done) _ c.copy-done.result (value t (goal.at.loop-code-preserved t c).Else-code-eq1) c.copy-done.ensures.count c.copy-done.ensures.out_after in
-    more-put l.invariant (value-gives t (goal.at.loop-code-preserved t c).Else-code-eq1) (value-fits t (goal.at.loop-code-preserved t c).Else-code-eq1) c.copy-done.result _ put.0 put.1
+    let put = copied _ _ (part_from l.out l.done) _ c.copy-done.result (value t here) c.copy-done.ensures.count c.copy-done.ensures.out_after in
+    more-put l.invariant (value-gives t here) (value-fits t here) c.copy-done.result _ put.0 put.1

@@ -43,11 +43,11 @@ finds c =
 -- the identifier lies in the stream
 name-placed : (c : After-bounds_at-name) → Placed c.args.s.now c.bounds_at-name.result
 name-placed c =
-    rw c.bounds_at-name.ensures (span-placed c.requires.0.1.holds.identifiers c.requires.1.1.0.0)
+    rw c.bounds_at-name.ensures (span-placed c.requires.letter_rows.1.holds.identifiers c.requires.element_lt_n.0)
 
 pub bounds_at-name-requires : goal.bounds_at-name-requires
 bounds_at-name-requires c =
-    (omega arith, omega (arith, c.requires.1.1.0.0, c.requires.0.1.holds.identifiers.in_table))
+    (omega arith, omega (arith, c.requires.element_lt_n.0, c.requires.letter_rows.1.holds.identifiers.in_table))
 
 pub hash_over-requires : goal.hash_over-requires
 hash_over-requires c = let placed = name-placed (goal.at.hash_over-requires c).After-bounds_at-name in (placed.order, placed.inside, omega arith)
@@ -57,12 +57,12 @@ hash_space-hashed-requires c = c.hash_over.ensures.1
 
 pub portions_at-left-requires : goal.portions_at-left-requires
 portions_at-left-requires c =
-    omega (arith, c.requires.1.1.0.0, c.requires.0.1.holds.identifiers.in_table)
+    omega (arith, c.requires.element_lt_n.0, c.requires.letter_rows.1.holds.identifiers.in_table)
 
 pub loop-first-init : goal.loop-first-init
 loop-first-init c =
-    rw c.portions_at-left.ensures (listing-all (rows_tell c.requires.0.1) c.requires.1.1.0.0 c.requires.1.1.0.1
-    c.args.flat.now c.args.count c.requires.1.1.1)
+    rw c.portions_at-left.ensures (listing-all (rows_tell c.requires.letter_rows.1) c.requires.element_lt_n.0 c.requires.element_lt_n.1
+    c.args.flat.now c.args.count c.requires.room)
 
 pub meet-requires : goal.meet-requires
 meet-requires c = c.loop-first.invariant.fine
@@ -81,22 +81,13 @@ unit_of-found-requires c =
     let start = entry PLACE‹c.before.before.before.before.before› in
     let hashed = c.hash_over.ensures in
     let spaced = c.hash_space-hashed.ensures in
-    let met = meeting (goal.at.unit_of-found-requires c).In-Item in (
-      rw c.column_of-column.ensures (bounded-on start.pre.0.1 start.args.side),
-      (
-        rw c.column_of-column.ensures start.pre.1.0,
-        (
-          (rw (← hashed.0) spaced.0, spaced.1),
-          (
+    let met = meeting (goal.at.unit_of-found-requires c).In-Item in record { bounded = rw c.column_of-column.ensures (bounded-on start.pre.0.1 start.args.side); filed = rw c.column_of-column.ensures start.pre.1.0; hashed_value = (rw (← hashed.0) spaced.0, spaced.1); placed = (
             name-placed (goal.at.unit_of-found-requires c).After-bounds_at-name,
             record {
               order = met.value_order;
               inside = met.value_inside;
             },
-          ),
-        ),
-      ),
-    )
+          ) }
 
 pub put_found-total-requires : goal.put_found-total-requires
 put_found-total-requires c =
@@ -104,14 +95,11 @@ put_found-total-requires c =
     let known = rows_tell start.pre.0.1 in
     let met = meeting (goal.at.put_found-total-requires c).In-Item in
     let found = c.unit_of-found.result in
-    let one = finds (goal.at.put_found-total-requires c).After-unit_of-found in (
-      room-for-one known start.pre.1.1.0.0 start.pre.1.1.0.1 c.loop-first.invariant met found one,
-      (
+    let one = finds (goal.at.put_found-total-requires c).After-unit_of-found in record { found_in_bounds = room-for-one known start.pre.1.1.0.0 start.pre.1.1.0.1 c.loop-first.invariant met found one; element_bound = (
         small-element known start.pre.1.1.0.0 start.pre.1.1.0.1 c.loop-first.invariant met found one,
         omega (arith, small-place known start.pre.1.1.0.0 start.pre.1.1.0.1 c.loop-first.invariant met found one),
         found-small known start.pre.1.1.0.0 start.pre.1.1.0.1 c.loop-first.invariant met found one,
-      ),
-    )
+      ) }
 
 pub overflow_add-place : goal.overflow_add-place
 overflow_add-place c =

@@ -26,18 +26,18 @@ rest_at at limit room = record { at = at; limit = limit; marked = true; room = r
 pub end_of_item-end_of_marked-requires : goal.end_of_item-end_of_marked-requires
 end_of_item-end_of_marked-requires t c =
     let a = c.args in
-    let known = c.requires.1 in
+    let known = c.requires.code_value in
     (omega arith, (known.0.1, known.0.2, subst Whole (marked-run a.room a.s.now a.h known.1.0 c.if-h.true) known.1.1))
 
 pub end_of_item-returns-then-h : goal.end_of_item-returns-then-h
 end_of_item-returns-then-h t c =
     let a = c.args in
-    marked-run a.room a.s.now a.h c.requires.1.1.0 c.if-h.true ∙ c.end_of_marked.ensures
+    marked-run a.room a.s.now a.h c.requires.code_value.1.0 c.if-h.true ∙ c.end_of_marked.ensures
 
 pub end_of_item-returns : goal.end_of_item-returns
 end_of_item-returns t c =
     let a = c.args in
-    let known = c.requires.1 in
+    let known = c.requires.code_value in
     definite-value a.room a.s.now a.h known.1.0 c.if-h.false known.0.1 known.1.1
 
 -- what stands at `at`, where x was read

@@ -34,14 +34,14 @@ copy-requires c =
     let f = subst (FindsContent a.edition a.stream.now a.unit) c.in-Content.is
     c.fetch_judged.ensures in
     let part = part_slice _ _ a.stream.now f.fetches.stands.order in
-    omega (arith, ap length part, ap (λ (x : Fetched). length x.part) f.joins, c.requires.1.1)
+    omega (arith, ap length part, ap (λ (x : Fetched). length x.part) f.joins, c.requires.unit_in_bounds)
 
 pub put_joined-requires : goal.put_joined-requires
 put_joined-requires c =
     let a = c.args in
     let f = subst (FindsContent a.edition a.stream.now a.unit) c.in-Pieces.is
     c.fetch_judged.ensures in
-    (f.known, omega (arith, ap (λ (x : Fetched). length x.part) f.joins, c.requires.1.1))
+    (f.known, omega (arith, ap (λ (x : Fetched). length x.part) f.joins, c.requires.unit_in_bounds))
 
 pub returns-in-Content : goal.returns-in-Content
 returns-in-Content c =

@@ -16,12 +16,12 @@ own start = row_at start.requires.1.1 start.args.j start.requires.1.2
 -- the run that is met is the rest of the stream from where the row begins
 from_row : (c : After-whole_stream-whole) → let whole = c.whole_stream-whole.result in
     record { at = c.wide-at.result; limit = whole.limit; marked = whole.marked; room = whole.room }
-    ≡ rest_from c.args.edition c.requires.0 c.args.j (own PLACE‹c.before.before.before.before.before›).row (own PLACE‹c.before.before.before.before.before›).stands
+    ≡ rest_from c.args.edition c.requires.fine c.args.j (own PLACE‹c.before.before.before.before.before›).row (own PLACE‹c.before.before.before.before.before›).stands
 from_row c =
     rw (c.wide-at.ensures ∙ (own PLACE‹c.before.before.before.before.before›).first, c.whole_stream-whole.ensures)
 
 -- an item is met there
-meeting : (c : In-Item) → Meeting c.args.s.now (rest_from c.args.edition c.requires.0 c.args.j (own PLACE‹c.before.before.before.before.before.before.before.before.before›).row (own PLACE‹c.before.before.before.before.before.before.before.before.before›).stands)
+meeting : (c : In-Item) → Meeting c.args.s.now (rest_from c.args.edition c.requires.fine c.args.j (own PLACE‹c.before.before.before.before.before.before.before.before.before›).row (own PLACE‹c.before.before.before.before.before.before.before.before.before›).stands)
     c.in-Item.code c.in-Item.first c.in-Item.past c.in-Item.inner c.in-Item.rest
 meeting c =
     let s = c.args.s.now in
@@ -30,17 +30,17 @@ meeting c =
 
 pub meet-requires : goal.meet-requires
 meet-requires c =
-    subst (Fine c.args.s.now) (sym (from_row (goal.at.meet-requires c).After-whole_stream-whole)) (rest_fine c.args.edition c.requires.0 c.args.j (own PLACE‹c.before.before.before.before.before›).row
+    subst (Fine c.args.s.now) (sym (from_row (goal.at.meet-requires c).After-whole_stream-whole)) (rest_fine c.args.edition c.requires.fine c.args.j (own PLACE‹c.before.before.before.before.before›).row
     (own PLACE‹c.before.before.before.before.before›).stands)
 
 pub returns-in-End : goal.returns-in-End
 returns-in-End c =
     let s = c.args.s.now in
     let none-met = met s _ c.meet.ensures c.in-End.is in
-    absurd (rest_some c.args.edition c.requires.0 c.args.j (own PLACE‹c.before.before.before.before.before.before.before.before›).row (own PLACE‹c.before.before.before.before.before.before.before.before›).stands
+    absurd (rest_some c.args.edition c.requires.fine c.args.j (own PLACE‹c.before.before.before.before.before.before.before.before›).row (own PLACE‹c.before.before.before.before.before.before.before.before›).stands
     (ap (items_of s) (sym (from_row (goal.at.returns-in-End c).After-whole_stream-whole)) ∙ none-met))
 
 pub returns-in-Item : goal.returns-in-Item
 returns-in-Item c =
-    element-at c.args.edition c.requires.0 c.args.j (own PLACE‹c.before.before.before.before.before.before.before.before.before›).row (own PLACE‹c.before.before.before.before.before.before.before.before.before›).stands _ (meeting (goal.at.returns-in-Item c).In-Item)
+    element-at c.args.edition c.requires.fine c.args.j (own PLACE‹c.before.before.before.before.before.before.before.before.before›).row (own PLACE‹c.before.before.before.before.before.before.before.before.before›).stands _ (meeting (goal.at.returns-in-Item c).In-Item)
     (c.wide-at.ensures ∙ (own PLACE‹c.before.before.before.before.before.before.before.before.before›).first) refl

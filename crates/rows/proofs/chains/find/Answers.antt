@@ -19,8 +19,8 @@ pub bucket_of-requires : goal.bucket_of-requires
 bucket_of-requires c =
     let bytes = spelling c.args.s.now c.args.asked in
     let low : hash bytes < hashes = hash-below 0 bytes (omega arith) in
-    let indexed = c.requires.1.0 in
-    (indexed.some_buckets, indexed.few_buckets, omega (arith, c.requires.1.1.1))
+    let indexed = c.requires.indexed in
+    (indexed.some_buckets, indexed.few_buckets, omega (arith, c.requires.hashed_value))
 
 pub bounds-head-bucket_of : goal.bounds-head-bucket_of
 bounds-head-bucket_of c = omega (arith, c.bucket_of.ensures.1)
@@ -29,7 +29,7 @@ pub loop-link-init : goal.loop-link-init
 loop-link-init c =
     let b = c.bucket_of.ensures in
     rw c.wide16-link.ensures
-    (passed_first c.requires.1.0 (b.0 ∙ ap (bucket (length c.args.head.now)) c.requires.1.1.1) b.1)
+    (passed_first c.requires.indexed (b.0 ∙ ap (bucket (length c.args.head.now)) c.requires.hashed_value) b.1)
 
 pub has-requires : goal.has-requires
 has-requires c =

@@ -15,7 +15,7 @@ returns-then-own-space c =
 
 pub is_asked-requires : goal.is_asked-requires
 is_asked-requires c = (
-  c.requires.1.1.1.1,
+  c.requires.asked_within,
   omega (arith, c.wide32-past.ensures, c.wide32-first.ensures),
   omega (arith, c.wide32-past.ensures),
 )

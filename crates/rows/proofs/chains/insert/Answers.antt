@@ -9,16 +9,16 @@ use borrow.Author.Rules.{rules}
 use Rattle.rows.proofs.chains.insert.Goals as goal
 
 pub links_begin-links-requires : goal.links_begin-links-requires
-links_begin-links-requires c = some_links c.args.index.now c.requires.1.0.some_buckets
+links_begin-links-requires c = some_links c.args.index.now c.requires.indexed.some_buckets
 
 pub bucket_of-b-requires : goal.bucket_of-b-requires
 bucket_of-b-requires c =
     let a = c.args in
-    bucket-asked a.index.now (value_at a.s.now a.rows.now a.column a.n) c.links_begin-links.ensures.0 c.requires.1.0 c.requires.1.1.1.1
+    bucket-asked a.index.now (value_at a.s.now a.rows.now a.column a.n) c.links_begin-links.ensures.0 c.requires.indexed c.requires.hashed_value
 
 pub bounds-index-links : goal.bounds-index-links
 bounds-index-links c =
-    omega (arith, c.links_begin-links.ensures.0, c.requires.1.1.0, links-size c.args.index.now)
+    omega (arith, c.links_begin-links.ensures.0, c.requires.n_in_bounds, links-size c.args.index.now)
 
 pub bounds-index-b-then-rows-at : goal.bounds-index-b-then-rows-at
 bounds-index-b-then-rows-at c =

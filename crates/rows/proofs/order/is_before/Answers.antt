@@ -20,7 +20,7 @@ returns-then-own-space c =
 
 pub is_asked_less-requires : goal.is_asked_less-requires
 is_asked_less-requires c = (
-  c.requires.1.1.1.1,
+  c.requires.asked_within,
   omega (arith, c.wide32-past.ensures, c.wide32-first.ensures),
   omega (arith, c.wide32-past.ensures),
 )

@@ -30,7 +30,7 @@ pub is_spelt-requires : goal.is_spelt-requires
 is_spelt-requires c =
     let wide322 = c.wide32-past in
     (
-      c.requires.1.1.1.1,
+      c.requires.asked_within,
       omega (arith, wide322.ensures, c.wide32-first.ensures),
       omega (arith, wide322.ensures),
     )
