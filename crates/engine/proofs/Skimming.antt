@@ -96,6 +96,9 @@ module _ (seat : Seat) (s : Skim) (ends block : List ℕ) (p : Reads seat ends s
       let stops = stop_is seat.base seat.from g.bound (omega arith) in
       let to = further-on seat.base seat.from s.i g.start from (omega arith) in
       let by = further-on seat.base seat.from s.i g.bound from (omega arith) in
+      let inner : List Open = record { bound = place_of seat g.bound; marked = g.marked } ∷ os in
+      let counted : arrive (here + w.size) (suc s.headers) inner (place_of seat g.start) ≡ arrive (here + w.size) (s.headers + 1) inner (place_of seat g.start) =
+      ap (λ (k : ℕ). arrive (here + w.size) k inner (place_of seat g.start)) (sym (add-one s.headers)) in
       record {
         size = w.size;
         some = w.some;
@@ -107,7 +110,7 @@ module _ (seat : Seat) (s : Skim) (ends block : List ℕ) (p : Reads seat ends s
         near = omega arith;
         kept = length-set ends s.level e;
         run = λ _ _. record { stop = rw more stops; marked = rw more; limit = rw more (bounded g l) };
-        state = w.state ∙ rw (q, to, by, more, add-one s.headers);
+        state = w.state ∙ rw (q, to, by, more) (ap (λ (x : Standing). record { total = seat.total; taken = here + w.size; standing = x }) counted);
       }
 
   -- an item that leaves nothing open

@@ -1,6 +1,7 @@
 // The block engine: a letter that arrives block by block, and is not held. Its state is a struct by value with the ends of the open items;
 // it keeps nothing else. Any caller may ask, with any state: what the crate `blocks` defines is what is answered.
 #![tactic(auto)]
+
 ghost use Rattle.std.specs.Prelude.{◌≡◌, true, ◌+◌, ◌≤◌, length};
 ghost use Rattle.blocks.specs.Engine.{feed};
 ghost use Rattle.blocks.specs.Blocks.{start};

@@ -1,5 +1,6 @@
 // X.209 at one position: what reading there yields, a header, a closing mark or a refusal by one of 2 to 8.
 #![tactic(auto)]
+
 ghost use Rattle.std.specs.Prelude.{◌≡◌, true, false, ◌+◌, ◌<◌, ◌≤◌, ◌^◌, min, length, take, drop};
 ghost use Rattle.headers.specs.Head.{number_bits, form_allowed, type_field, misfits, big_endian, definite_at, indefinite_at, long_at, length_at, closing_at};
 ghost use Rattle.headers.specs.Head.{head_at};

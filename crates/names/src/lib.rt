@@ -1,5 +1,6 @@
 // Identifiers and portion numbers: how they are spelt, when two are the same, and the hash of their bytes.
 #![tactic(auto)]
+
 ghost use Rattle.std.specs.Prelude.{◌≡◌, [], ◌∷◌, ◌+◌, ◌-◌, ◌<◌, ◌≤◌, length};
 ghost use Rattle.std.proofs.Math.Seq.{slice};
 ghost use Rattle.names.specs.Names.{space_byte, is_digit, is_identifier, is_portion, same};

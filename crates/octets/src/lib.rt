@@ -1,5 +1,6 @@
 // X.209 on a slice: the walk of a stream, refusals 1 to 8 with the header count.
 #![tactic(auto)]
+
 ghost use Rattle.std.specs.Prelude.{◌≡◌, ◌<◌, ◌≤◌, length};
 ghost use Rattle.octets.specs.Walk.{run, answer, walk_of};
 ghost use Rattle.octets.specs.Further.{one_of};

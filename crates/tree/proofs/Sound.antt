@@ -72,12 +72,12 @@ module _ (s : List ℕ) (room at limit : ℕ) (marked : Bool) (f : limit ≤ len
         subst (λ (to : ℕ). Past s limit to next marked) (sym (item-length s at type r.len value rest start bound r.past k)) p,
       )
 
-  -- a constructed item whose run is coded, and then what follows it
-  branch-coded : (m : Bool) → ReadFrom s at limit room (header m)
-      → constructed code ≡ true → (next : ℕ) (inside : Tree) → Coded s (room - 1) start bound m inside (ends next)
-      → (after : Tree) (e : End) → Coded s room next limit marked after e → Coded s room at limit marked (branch (type_field code) inside after) e
-  branch-coded m r q next inside i after (stops n place) c = tt
-  branch-coded false r q next inside (value, cv, hv, (x, y)) after (ends to) (rest, cr, hr, p) =
+  -- a constructed item whose run is coded, and then what follows it: one with a length, and one that ends by a closing mark
+  definite-coded : ReadFrom s at limit room (header false)
+      → constructed code ≡ true → (next : ℕ) (inside : Tree) → Coded s (room - 1) start bound false inside (ends next)
+      → (after : Tree) (to : ℕ) → Coded s room next limit marked after (ends to)
+      → Coded s room at limit marked (branch (type_field code) inside after) (ends to)
+  definite-coded r q next inside (value, cv, hv, (x, y)) after to (rest, cr, hr, p) =
       let (n, w, l, m) = r.sized in
       let e : n ≡ length value = omega arith in
       let k : next ≡ start + length value = omega arith in
@@ -88,7 +88,12 @@ module _ (s : List ℕ) (room at limit : ℕ) (marked : Bool) (f : limit ≤ len
         item-here s at type r.len value rest start next r.past k r.here hv hr,
         subst (λ (j : ℕ). Past s limit j to marked) (sym (item-length s at type r.len value rest start next r.past k)) p,
       )
-  branch-coded true r q next inside (value, cv, hv, (x, mark)) after (ends to) (rest, cr, hr, p) =
+
+  marked-coded : ReadFrom s at limit room (header true)
+      → constructed code ≡ true → (next : ℕ) (inside : Tree) → Coded s (room - 1) start bound true inside (ends next)
+      → (after : Tree) (to : ℕ) → Coded s room next limit marked after (ends to)
+      → Coded s room at limit marked (branch (type_field code) inside after) (ends to)
+  marked-coded r q next inside (value, cv, hv, (x, mark)) after to (rest, cr, hr, p) =
       let w = r.sized.0 in
       let type = type_field code in
       let open-length : List ℕ = 0x80 ∷ [] in
@@ -103,6 +108,13 @@ module _ (s : List ℕ) (room at limit : ℕ) (marked : Bool) (f : limit ≤ len
         item-here s at type open-length value (0 ∷ 0 ∷ rest) start stop past refl here hv rest-here,
         subst (λ (j : ℕ). Past s limit j to marked) (sym len) p,
       )
+
+  branch-coded : (m : Bool) → ReadFrom s at limit room (header m)
+      → constructed code ≡ true → (next : ℕ) (inside : Tree) → Coded s (room - 1) start bound m inside (ends next)
+      → (after : Tree) (e : End) → Coded s room next limit marked after e → Coded s room at limit marked (branch (type_field code) inside after) e
+  branch-coded m r q next inside i after (stops n place) c = tt
+  branch-coded false r q next inside i after (ends to) c = definite-coded r q next inside i after to c
+  branch-coded true r q next inside i after (ends to) c = marked-coded r q next inside i after to c
 
 -- what the header of an item was read from
 pub read-from : (s : List ℕ) (at limit room : ℕ) (marked : Bool) → at < limit → limit ≤ length s → (h : Header)

@@ -1,13 +1,12 @@
 -- `fed`: what is left to take of the block stays the same, turn by turn, and at its end is nothing.
 use mathlib.Core.Path.{◌≡◌, refl, ap, sym, ◌∙◌}
 use mathlib.Core.List.{[]}
-use Prim.Native.Nat.{ℕ, ◌+◌, ◌-◌, ◌≤◌}
+use Prim.Native.Nat.{ℕ}
 use native.Mathlib.Omega.{arith}
 use lib.ListN.{length, drop}
 use lib.Seq.{drop-length}
 use Rattle.blocks.specs.Engine.{feed}
 use Rattle.engine.specs.Stored.{state_of}
-use Rattle.engine.specs.Skimming.{FineIfReading}
 use Rattle.engine.proofs.fed.Goals as goal
 
 pub skim_block-first-requires : goal.skim_block-first-requires

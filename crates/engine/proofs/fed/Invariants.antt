@@ -1,10 +1,7 @@
 -- `fed`: what is left to take of the block stays the same, turn by turn, and at its end is nothing.
-use mathlib.Core.Path.{◌≡◌, refl, ap, sym, ◌∙◌}
-use mathlib.Core.List.{[]}
-use Prim.Native.Nat.{ℕ, ◌+◌, ◌-◌, ◌≤◌}
-use native.Mathlib.Omega.{arith}
+use mathlib.Core.Path.{◌≡◌}
+use Prim.Native.Nat.{◌+◌, ◌-◌, ◌≤◌}
 use lib.ListN.{length, drop}
-use lib.Seq.{drop-length}
 use Rattle.blocks.specs.Engine.{feed}
 use Rattle.engine.specs.Stored.{state_of}
 use Rattle.engine.specs.Skimming.{FineIfReading}

@@ -1,7 +1,6 @@
 -- `is_sound`: its tests are those of `sound`.
 use native.Mathlib.Omega.{arith}
 use borrow.Author.Tests.{eq-eqb, ne_eqb, le-leb, lt-leb}
-use borrow.Author.Rules.{rules}
 use Rattle.engine.proofs.is_sound.Goals as goal
 
 pub returns-then-b-gt-LAST_FINDING : goal.returns-then-b-gt-LAST_FINDING

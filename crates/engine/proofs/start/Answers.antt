@@ -1,6 +1,5 @@
 -- `start`: nothing has come, and the number told is the state's finding.
 use Rattle.engine.proofs.Questions.{starts}
-use borrow.Author.Rules.{rules}
 use Rattle.engine.proofs.start.Goals as goal
 
 pub returns : goal.returns

@@ -2,10 +2,8 @@
 use mathlib.Core.Path.{◌≡◌, sym, ◌∙◌}
 use mathlib.Core.Bool.{true}
 use native.Mathlib.Omega.{arith}
-use borrow.Author.Tests.{not-true, not-false}
 use Rattle.engine.specs.Stored.{sound}
 use Rattle.engine.proofs.Questions.{sound-is, takes-unsound, takes-past, takes-fits}
-use borrow.Author.Rules.{rules}
 use Rattle.engine.proofs.take.Goals as goal
 
 pub returns-then-not-is_sound : goal.returns-then-not-is_sound

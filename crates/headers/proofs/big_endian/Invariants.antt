@@ -1,12 +1,9 @@
 -- `big_endian` meets its contract: after i turns n is the number of the first i octets. That an octet is below 256 is known of `other` too, the
 -- octet as far from the end: so a program that reads them the other way round is refused at the order alone.
-use mathlib.Core.Path.{◌≡◌, refl, ap, sym, ◌∙◌, subst}
-use Prim.Native.Nat.{ℕ, ◌+◌, ◌-◌, ◌^◌, ◌≤◌, ◌<◌}
-use borrow.Author.Rules.{rules}
-use native.Mathlib.Omega.{arith}
+use mathlib.Core.Path.{◌≡◌}
+use Prim.Native.Nat.{◌-◌, ◌^◌, ◌≤◌, ◌<◌}
 use lib.ListN.{take, drop}
-use Rattle.headers.specs.Head.{big_endian, big_endian_from}
-use Rattle.headers.proofs.Lengths.{be-more, be-grows, be-small, shift_is}
+use Rattle.headers.specs.Head.{big_endian}
 use Rattle.headers.proofs.big_endian.Given as goal
 
 abbrev pub invariant-loop-i : goal.invariant-loop-i

@@ -1,5 +1,4 @@
 -- `octets::closing` meets its contract: at each return the tests that led there say which case of `closing_at` holds.
-use borrow.Author.Rules.{rules}
 use borrow.Author.Tests.{le-ltb, lt-ltb, eq-eqb, ne_eqb}
 use Rattle.headers.specs.Head.{closing_at}
 use Rattle.headers.proofs.closing_at.Goals as goal

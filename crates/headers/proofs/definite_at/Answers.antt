@@ -1,7 +1,6 @@
 -- `headers::definite_at` meets its contract: the tests that led to each return say which case of `definite_at` holds.
 use Prim.Native.Nat.{◌+◌, ◌≤◌, ◌<◌}
 use mathlib.Core.Path.{◌∙◌, sym}
-use borrow.Author.Rules.{rules}
 use borrow.Author.Tests.{le-leb, lt-leb}
 use native.Mathlib.Omega.{arith}
 use Rattle.headers.specs.Head.{definite_at}

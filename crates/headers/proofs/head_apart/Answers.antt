@@ -1,6 +1,5 @@
 -- `headers::head_apart` meets its contract: a usual item passes each test of `head_at`, and `read_head` answers for the rest.
 use Prim.Native.Nat.{◌+◌, ◌≤◌}
-use borrow.Author.Rules.{rules}
 use borrow.Author.Tests.{lt-ltb, le-leb, ne_eqb}
 use native.Mathlib.Omega.{arith}
 use Rattle.headers.specs.Head.{octet_at, definite_at, by_first, length_at, item_at, head_at}

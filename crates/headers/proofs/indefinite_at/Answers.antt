@@ -1,5 +1,4 @@
 -- `headers::indefinite_at` meets its contract: its test is that of `indefinite_at`.
-use borrow.Author.Rules.{rules}
 use borrow.Author.Tests.{eq-eqb, ne_eqb}
 use Rattle.headers.specs.Head.{indefinite_at}
 use Rattle.headers.proofs.indefinite_at.Goals as goal

@@ -1,7 +1,6 @@
 -- `octets::is_usual` meets its contract: each octet that it lets through has its law in `Usual`.
 use mathlib.Core.Bool.{false≢true}
 use native.Mathlib.Omega.{arith}
-use borrow.Author.Rules.{rules}
 use Rattle.headers.proofs.Usual.{good-integer, good-null, good-string, good-sequence, good-other}
 use Rattle.headers.proofs.is_usual.Goals as goal
 

@@ -1,5 +1,4 @@
 -- `headers::length_at` meets its contract: each arm of the match on the first length octet is a case of `by_first`.
-use borrow.Author.Rules.{rules}
 use borrow.Author.Tests.{lt-ltb, le-ltb, ne_eqb}
 use Rattle.headers.specs.Head.{length_at, by_first}
 use Rattle.headers.proofs.length_at.Goals as goal

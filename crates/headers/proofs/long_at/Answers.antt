@@ -1,6 +1,5 @@
 -- `headers::long_at` meets its contract: its test is that of `long_at`, turned round so that nothing overflows.
 use Prim.Native.Nat.{◌+◌, ◌≤◌, ◌<◌}
-use borrow.Author.Rules.{rules}
 use borrow.Author.Tests.{le-leb, lt-leb}
 use native.Mathlib.Omega.{arith}
 use Rattle.headers.specs.Head.{long_at}

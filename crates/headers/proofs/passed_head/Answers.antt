@@ -1,9 +1,7 @@
 -- `headers::passed_head` meets its contract: what is not refused is what the octets say, and `read_head` answers for the rest.
 use mathlib.Core.Path.{◌≡◌, sym, ◌∙◌}
-use mathlib.Core.List.{List}
-use Prim.Native.Nat.{ℕ, ◌+◌, ◌<◌}
+use Prim.Native.Nat.{◌+◌, ◌<◌}
 use native.Mathlib.Omega.{arith}
-use borrow.Author.Rules.{rules}
 use borrow.Author.Tests.{ne_eqb}
 use Rattle.headers.specs.Head.{number_bits, octet_at, by_first, head_at}
 use Rattle.headers.specs.Passed.{Passed}

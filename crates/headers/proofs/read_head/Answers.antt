@@ -1,7 +1,6 @@
 -- `headers::read_head` meets its contract: the tests that led to each return say which case of `head_at` holds.
 use mathlib.Core.Path.{◌∙◌, sym, subst}
 use native.Mathlib.Omega.{arith}
-use borrow.Author.Rules.{rules}
 use borrow.Author.Tests.{eq-eqb, ne_eqb}
 use Rattle.headers.specs.Head.{octet_at, head_at, item_at}
 use Rattle.headers.proofs.Lies.{FieldEnds, field-ends}

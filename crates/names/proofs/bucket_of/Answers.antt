@@ -1,6 +1,5 @@
 -- `names::bucket_of` meets its contract: the same mask.
 use mathlib.Core.Path.{refl}
-use borrow.Author.Rules.{rules}
 use Rattle.names.specs.Hash.{bucket}
 use Rattle.names.proofs.Hashing.{bucket-below}
 use Rattle.names.proofs.bucket_of.Goals as goal

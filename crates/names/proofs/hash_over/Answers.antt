@@ -1,9 +1,8 @@
 -- `names::hash_over` meets its contract: the hash so far, after what is left, is the hash of the whole.
 use mathlib.Core.Path.{◌≡◌, refl, sym, ◌∙◌}
-use Prim.Native.Nat.{◌-◌, ◌<◌, ◌≤◌}
 use native.Mathlib.Omega.{arith}
-use lib.Seq.{slice, slice_empty}
-use Rattle.names.specs.Hash.{hashes, hash_from}
+use lib.Seq.{slice_empty}
+use Rattle.names.specs.Hash.{hash_from}
 use Rattle.names.proofs.Hashing.{hash-more}
 use Rattle.names.proofs.hash_over.Goals as goal
 

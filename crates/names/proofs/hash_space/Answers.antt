@@ -1,6 +1,5 @@
 -- `names::hash_space` meets its contract: one step with the space.
 use Rattle.names.specs.Hash.{hash_from}
-use borrow.Author.Rules.{rules}
 use Rattle.names.proofs.hash_space.Goals as goal
 
 pub returns : goal.returns

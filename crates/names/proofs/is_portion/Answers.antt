@@ -1,10 +1,8 @@
 -- `names::is_portion` meets its contract. The loop's invariant: the whole is a portion number exactly if what is left are digits.
 use mathlib.Core.Path.{◌≡◌, sym, ◌∙◌}
 use mathlib.Core.Bool.{◌&&◌}
-use Prim.Native.Nat.{◌+◌, ◌-◌, ◌≤◌}
+use Prim.Native.Nat.{◌+◌}
 use native.Mathlib.Omega.{arith}
-use borrow.Author.Rules.{rules}
-use borrow.Author.Tests.{not-true, not-false}
 use lib.ListN.{get_or}
 use lib.Seq.{slice, slice_empty}
 use Rattle.names.specs.Names.{is_digit, all_digits, is_portion}

@@ -4,7 +4,6 @@ use Prim.Native.Nat.{◌+◌, ◌-◌}
 use native.Mathlib.Omega.{arith}
 use lib.Seq.{slice, length-slice}
 use Rattle.names.proofs.Same.{same-lengths}
-use borrow.Author.Rules.{rules}
 use Rattle.names.proofs.is_same.Goals as goal
 
 pub returns-then-past-first : goal.returns-then-past-first

@@ -1,14 +1,8 @@
 -- `names::stands_at` meets its contract. The loop's invariant: the whole is the same on both sides exactly if what is left is.
-use mathlib.Core.Path.{◌≡◌, refl, sym, ◌∙◌}
-use mathlib.Core.Bool.{◌&&◌}
+use mathlib.Core.Path.{◌≡◌}
 use Prim.Native.Nat.{◌+◌, ◌-◌, ◌≤◌}
-use native.Mathlib.Omega.{arith}
-use borrow.Author.Tests.{eq-eqb, ne_eqb}
-use lib.Dec.{eqb}
-use lib.ListN.{get_or}
-use lib.Seq.{slice, slice_empty}
+use lib.Seq.{slice}
 use Rattle.names.specs.Names.{same}
-use Rattle.names.proofs.Same.{same_more}
 use Rattle.names.proofs.stands_at.Given as goal
 
 abbrev pub invariant-loop-i : goal.invariant-loop-i

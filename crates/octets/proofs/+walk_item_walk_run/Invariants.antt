@@ -1,22 +1,10 @@
 -- The proof of the cycle of calls {walk_item, walk_run}. `walk_run` at room calls `walk_item` at the same room, and that calls `walk_run` at
 -- room - 1, so `walk_item`'s measure lies between: 2 room + 1 for `walk_run`, 2 room for `walk_item`.
 -- The invariant of the loop: the answer of the run from its start is the answer of the run from `at`, with the items counted so far.
-use mathlib.Core.Path.{◌≡◌, sym, ◌∙◌, ap}
-use mathlib.Core.Bool.{Bool, true, false}
-use Prim.Native.Nat.{ℕ, ◌+◌, ◌-◌, ◌<◌, ◌≤◌}
-use native.Mathlib.Nat.{add-zero}
-use native.Mathlib.Omega.{arith}
-use borrow.Author.Rules.{rules}
-use borrow.Author.Tests.{eq-eqb, ne_eqb}
-use Rattle.headers.specs.declared.Head.{Head}
-use Rattle.headers.specs.declared.Head.TheVariants.{Item, ClosingMark, Refusal}
-use Rattle.octets.specs.declared.Outcome.{Outcome}
-use Rattle.octets.specs.declared.Outcome.TheVariants.{Ended, Refused}
-use Rattle.headers.specs.Head.{head_at}
+use mathlib.Core.Path.{◌≡◌}
+use Prim.Native.Nat.{◌+◌, ◌-◌, ◌≤◌}
 use Rattle.octets.specs.Walk.{run, answer}
 use Rattle.octets.specs.Further.{plus}
-use Rattle.octets.specs.Values.{value_of}
-use Rattle.octets.proofs.Turns.{plus-plus, plus-zero, closes, refuses, passes, breaks, unclosed, closed, header_ok, mark-ok, passed_ok, broken-ok}
 use Rattle.octets.proofs.+walk_item_walk_run.Given as goal
 
 abbrev pub decreases-walk_item : goal.decreases-walk_item

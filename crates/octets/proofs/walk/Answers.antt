@@ -1,5 +1,4 @@
 -- `octets::walk` meets its contract: refusal 1, and then the run of the whole stream.
-use borrow.Author.Rules.{rules}
 use borrow.Author.Tests.{le-leb, lt-leb}
 use Rattle.octets.specs.Walk.{walk_of}
 use Rattle.octets.proofs.walk.Goals as goal

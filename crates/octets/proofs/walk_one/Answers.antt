@@ -2,7 +2,6 @@
 use mathlib.Core.Path.{sym, ◌∙◌}
 use mathlib.Core.Bool.{false}
 use native.Mathlib.Omega.{arith}
-use borrow.Author.Rules.{rules}
 use Rattle.octets.proofs.Turns.{header_ok, passed_ok, broken-ok}
 use Rattle.octets.proofs.Ones.{one-ends, one-closes, one-refuses, one_passes, one-breaks}
 use Rattle.octets.proofs.walk_one.Goals as goal

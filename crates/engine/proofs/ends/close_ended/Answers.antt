@@ -1,11 +1,10 @@
 -- `close_ended`: each turn closes the innermost open item, as `settle` does.
 use mathlib.Core.Path.{◌≡◌, refl, ap, ◌∙◌}
-use Prim.Native.Nat.{ℕ, ◌≤◌}
+use Prim.Native.Nat.{ℕ}
 use native.Mathlib.Omega.{arith}
 use Rattle.blocks.specs.Engine.{settle}
 use Rattle.engine.specs.Stored.{opens_of}
 use Rattle.engine.proofs.Stores.{settle-going, settle-unclosed, settle-ended}
-use borrow.Author.Rules.{rules}
 use Rattle.engine.proofs.ends.close_ended.Goals as goal
 
 pub loop-n-init : goal.loop-n-init

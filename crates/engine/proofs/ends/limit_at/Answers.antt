@@ -2,7 +2,6 @@
 use mathlib.Core.Path.{◌∙◌}
 use native.Mathlib.Omega.{arith}
 use Rattle.engine.proofs.Stores.{innermost}
-use borrow.Author.Rules.{rules}
 use Rattle.engine.proofs.ends.limit_at.Goals as goal
 
 pub returns : goal.returns

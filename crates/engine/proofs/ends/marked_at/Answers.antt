@@ -1,7 +1,6 @@
 -- `marked_at`: the innermost open item is the last that is stored.
 use native.Mathlib.Omega.{arith}
 use Rattle.engine.proofs.Stores.{innermost}
-use borrow.Author.Rules.{rules}
 use Rattle.engine.proofs.ends.marked_at.Goals as goal
 
 pub returns : goal.returns

@@ -6,7 +6,6 @@ use native.Mathlib.Omega.{arith}
 use borrow.Author.Tests.{eq-eqb, ne_eqb}
 use Rattle.engine.specs.Stored.{opens_of}
 use Rattle.engine.specs.Skimming.{opens}
-use borrow.Author.Rules.{rules}
 use Rattle.engine.proofs.header.arrived.Goals as goal
 
 pub returns-then-b : goal.returns-then-b

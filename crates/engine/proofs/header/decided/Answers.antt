@@ -1,13 +1,15 @@
 -- `decided`: each arm is a case of `decide`.
-use mathlib.Core.Path.{◌≡◌, ◌∙◌}
+use mathlib.Core.Path.{◌≡◌, ap, ◌∙◌}
 use mathlib.Core.Bool.{true, false}
-use Prim.Native.Nat.{◌+◌, ◌-◌, ◌/◌, ◌%◌, ◌<◌}
+use mathlib.Core.List.{◌∷◌}
+use Prim.Native.Nat.{ℕ, ◌+◌, ◌-◌, ◌/◌, ◌%◌, ◌<◌}
 use native.Mathlib.Omega.{arith}
 use native.Mathlib.Numerals.{add-one}
 use borrow.Author.Tests.{eq-eqb, ne_eqb}
 use Rattle.headers.specs.Head.{constructed}
+use Rattle.blocks.specs.Engine.{Open, arrive}
+use Rattle.engine.specs.Skimming.{opens, with_standing}
 use Rattle.engine.proofs.Stores.{innermost, item-fits, mark-fits, refusal-numbered}
-use borrow.Author.Rules.{rules}
 use Rattle.engine.proofs.header.decided.Goals as goal
 
 pub overflow_add-at : goal.overflow_add-at
@@ -30,7 +32,9 @@ returns-then-h-eq1 c =
     let b = c.args.b in
     let w = c.open_item.ensures in
     let q : constructed c.in-Item.h.code ≡ true = eq-eqb (c.in-Item.h.code / 32 % 2) 1 (omega arith) in
-    (w.state ∙ rw (c.in-Item.is, q, add-one b.headers), w.depth, w.kept, omega (arith, w.headers))
+    let o : Open = record { bound = b.at + c.in-Item.h.bound; marked = c.in-Item.h.marked } in
+    let n = ap (λ (k : ℕ). with_standing b (arrive b.taken k (o ∷ opens b) (b.at + c.in-Item.h.start))) (add-one b.headers) in
+    (w.state ∙ rw (c.in-Item.is, q) n, w.depth, w.kept, omega (arith, w.headers))
 
 pub overflow_add-b-in-Item : goal.overflow_add-b-in-Item
 overflow_add-b-in-Item c =

@@ -3,7 +3,6 @@ use mathlib.Core.Path.{sym}
 use native.Mathlib.Omega.{arith}
 use lib.ListN.{take}
 use Rattle.engine.proofs.Stores.{field-one, field-two, field-three}
-use borrow.Author.Rules.{rules}
 use Rattle.engine.proofs.header.field_size_of.Goals as goal
 
 pub returns-then-octet_of-ne31 : goal.returns-then-octet_of-ne31

@@ -4,29 +4,27 @@ use mathlib.Core.Bool.{true, false}
 use Prim.Native.Nat.{◌+◌, ◌-◌}
 use native.Mathlib.Omega.{arith}
 use lib.ListN.{length, set, take, length-set, length-map}
-use borrow.Author.Tests.{not-true, not-false}
 use Rattle.headers.specs.Head.{head_at}
 use Rattle.blocks.specs.Engine.{limit_of, marked_of, whole}
 use Rattle.engine.specs.Skimming.{opens, with_standing}
 use Rattle.engine.proofs.Stores.{lying, numbered, part-octet, whole-octet}
-use borrow.Author.Rules.{rules}
 use Rattle.engine.proofs.header.header_octet.Goals as goal
 
 pub is_whole-requires : goal.is_whole-requires
 is_whole-requires c =
-    let b = c.args.t1 in
+    let b = c.args.b in
     let x = c.args.octet in
     let have = c.wide-n.ensures in
-    let eight : length b.begun ≡ 8 = omega (arith, c.well-formed, length-map b.begun (λ v. v)) in
+    let eight : length b.begun ≡ 8 = omega (arith, c.well_formed, length-map b.begun (λ v. v)) in
     let same = length-set b.begun b.have x in
     rw have (omega arith, omega arith)
 
 pub returns-then-not-is_whole : goal.returns-then-not-is_whole
 returns-then-not-is_whole c =
-    let b = c.args.t1 in
+    let b = c.args.b in
     let x = c.args.octet in
     let have = c.wide-n.ensures in
-    let eight : length b.begun ≡ 8 = omega (arith, c.well-formed, length-map b.begun (λ v. v)) in
+    let eight : length b.begun ≡ 8 = omega (arith, c.well_formed, length-map b.begun (λ v. v)) in
     let same = length-set b.begun b.have x in
     let w = c.is_whole.ensures in
     let left = c.without-left in
@@ -39,19 +37,19 @@ returns-then-not-is_whole c =
 
 pub read_head-head-requires : goal.read_head-head-requires
 read_head-head-requires c =
-    let b = c.args.t1 in
+    let b = c.args.b in
     let x = c.args.octet in
     let have = c.wide-n.ensures in
-    let eight : length b.begun ≡ 8 = omega (arith, c.well-formed, length-map b.begun (λ v. v)) in
+    let eight : length b.begun ≡ 8 = omega (arith, c.well_formed, length-map b.begun (λ v. v)) in
     let same = length-set b.begun b.have x in
     rw have (omega arith, omega arith)
 
 pub decided-requires : goal.decided-requires
 decided-requires c =
-    let b = c.args.t1 in
+    let b = c.args.b in
     let x = c.args.octet in
     let have = c.wide-n.ensures in
-    let eight : length b.begun ≡ 8 = omega (arith, c.well-formed, length-map b.begun (λ v. v)) in
+    let eight : length b.begun ≡ 8 = omega (arith, c.well_formed, length-map b.begun (λ v. v)) in
     let same = length-set b.begun b.have x in
     let l = c.limit_at-limit in
     let left = c.without-left in
@@ -70,10 +68,10 @@ decided-requires c =
 pub returns : goal.returns
 returns c =
     let is_whole = c.is_whole in
-    let b = c.args.t1 in
+    let b = c.args.b in
     let x = c.args.octet in
     let have = c.wide-n.ensures in
-    let eight : length b.begun ≡ 8 = omega (arith, c.well-formed, length-map b.begun (λ v. v)) in
+    let eight : length b.begun ≡ 8 = omega (arith, c.well_formed, length-map b.begun (λ v. v)) in
     let same = length-set b.begun b.have x in
     let w = is_whole.ensures in
     let left = c.without-left in

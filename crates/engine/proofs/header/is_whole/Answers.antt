@@ -2,7 +2,6 @@
 use native.Mathlib.Omega.{arith}
 use borrow.Author.Tests.{leb-false}
 use Rattle.engine.proofs.Stores.{whole_is}
-use borrow.Author.Rules.{rules}
 use Rattle.engine.proofs.header.is_whole.Goals as goal
 
 pub returns-then-left-w : goal.returns-then-left-w

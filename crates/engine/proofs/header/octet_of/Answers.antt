@@ -2,7 +2,6 @@
 use mathlib.Core.Path.{sym}
 use native.Mathlib.Omega.{arith}
 use Rattle.engine.proofs.Stores.{octet-kept, octet-missing}
-use borrow.Author.Rules.{rules}
 use Rattle.engine.proofs.header.octet_of.Goals as goal
 
 pub returns-then-have-i : goal.returns-then-have-i

@@ -4,20 +4,13 @@ use Prim.Native.Nat.{◌<◌}
 use native.Mathlib.Omega.{arith}
 use lib.ListN.{length, length-map}
 use Rattle.engine.proofs.Stores.{pushed}
-use borrow.Author.Rules.{rules}
 use Rattle.engine.proofs.header.open_item.Goals as goal
 
--- src/lib.rt:124:17
--- src/lib.rt:124:5
--- src/lib.rt:124:5
--- src/lib.rt:125:15
--- src/lib.rt:127:5
--- src/lib.rt:119:1
 pub returns : goal.returns
 returns c =
     let a = c.args in
-    let b = a.t1 in
-    let n : length b.ends ≡ 16 = omega (arith, c.well-formed, length-map b.ends (λ v. v)) in
+    let b = a.b in
+    let n : length b.ends ≡ 16 = omega (arith, c.well_formed, length-map b.ends (λ v. v)) in
     let l : b.level < length b.ends = omega arith in
     let w = c.arrived.ensures in
     record {

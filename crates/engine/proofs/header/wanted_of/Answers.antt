@@ -4,7 +4,6 @@ use native.Mathlib.Omega.{arith}
 use lib.ListN.{take}
 use Rattle.blocks.specs.Engine.{further}
 use Rattle.engine.proofs.Stores.{wanted-is}
-use borrow.Author.Rules.{rules}
 use Rattle.engine.proofs.header.wanted_of.Goals as goal
 
 pub overflow_add-result : goal.overflow_add-result

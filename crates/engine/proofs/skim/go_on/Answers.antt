@@ -1,7 +1,6 @@
 -- `go_on`: the run inside so many open items.
 use mathlib.Core.Path.{refl, sym, subst}
 use Rattle.engine.specs.Skimming.{GoesOn}
-use borrow.Author.Rules.{rules}
 use Rattle.engine.proofs.skim.go_on.Goals as goal
 
 pub returns : goal.returns

@@ -1,5 +1,4 @@
 -- `left`: the block is taken up to the next header, or to its end.
-use borrow.Author.Rules.{rules}
 use Rattle.engine.proofs.skim.left.Goals as goal
 
 pub returns : goal.returns

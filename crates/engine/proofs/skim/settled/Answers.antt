@@ -4,7 +4,6 @@ use Prim.Native.Nat.{◌≤◌}
 use native.Mathlib.Omega.{arith}
 use Rattle.engine.specs.Skimming.{Settles}
 use Rattle.engine.proofs.Skimming.{settles-inside, settles-found, settles-past, settles-unclosed, settles_on}
-use borrow.Author.Rules.{rules}
 use Rattle.engine.proofs.skim.settled.Goals as goal
 
 pub returns-then-s : goal.returns-then-s

@@ -1,11 +1,8 @@
 -- `skim_block`: each turn of the loop takes one header (`turned`), and what is left to take of the block is the same.
 use mathlib.Core.Path.{◌≡◌}
-use Prim.Native.Nat.{◌-◌}
 use native.Mathlib.Omega.{arith}
 use lib.ListN.{length, length-map}
-use borrow.Author.Tests.{not-false}
-use Rattle.engine.proofs.Skimming.{Skimming, seat_of, none-turn, begins, comes, turned, goes, ends-turn}
-use borrow.Author.Rules.{rules}
+use Rattle.engine.proofs.Skimming.{seat_of, none-turn, begins, comes, turned, goes, ends-turn}
 use Rattle.engine.proofs.skim.skim_block.Goals as goal
 
 pub returns-then-not-is_ready : goal.returns-then-not-is_ready
@@ -33,7 +30,7 @@ loop-s-init c =
     let block = c.args.block.now in
     let r = is-ready.ensures c.if-not-is_ready.false in
     let g = c.go_on-s in
-    let sixteen : length b.ends ≡ 16 = omega (arith, c.well-formed, length-map b.ends (λ v. v)) in
+    let sixteen : length b.ends ≡ 16 = omega (arith, c.well_formed, length-map b.ends (λ v. v)) in
     begins b block c.args.from c.requires.0 r.0 r.1 r.2 c.requires.1 c.requires.2 c.requires.3 g.result sixteen g.ensures
     (omega (arith, c.if-s-from.false))
 

@@ -1,11 +1,7 @@
 -- `skim_block`: each turn of the loop takes one header (`turned`), and what is left to take of the block is the same.
-use mathlib.Core.Path.{◌≡◌}
 use Prim.Native.Nat.{◌-◌}
-use native.Mathlib.Omega.{arith}
-use lib.ListN.{length, length-map}
-use borrow.Author.Tests.{not-false}
-use Rattle.engine.proofs.Skimming.{Skimming, seat_of, none-turn, begins, comes, turned, goes, ends-turn}
-use borrow.Author.Rules.{rules}
+use lib.ListN.{length}
+use Rattle.engine.proofs.Skimming.{Skimming}
 use Rattle.engine.proofs.skim.skim_block.Given as goal
 
 abbrev pub invariant-loop-s : goal.invariant-loop-s

@@ -10,7 +10,6 @@ use Rattle.headers.specs.Head.{constructed}
 use Rattle.engine.specs.declared.skim.Skim.{Skim}
 use Rattle.engine.specs.Skimming.{Skims}
 use Rattle.engine.proofs.Skimming.{looked, bounded, skims-open, skims-past, skims-empty, skims-mark, skims-refused}
-use borrow.Author.Rules.{rules}
 use Rattle.engine.proofs.skim.skim_one.Goals as goal
 
 pub returns-then-h-ne1 : goal.returns-then-h-ne1

@@ -4,7 +4,6 @@ use Prim.Native.Nat.{◌+◌}
 use native.Mathlib.Omega.{arith}
 use Rattle.blocks.specs.Engine.{State}
 use Rattle.engine.proofs.Turning.{header-step}
-use borrow.Author.Rules.{rules}
 use Rattle.engine.proofs.turn.header_turn.Goals as goal
 
 pub returns : goal.returns

@@ -3,7 +3,6 @@ use mathlib.Core.Path.{◌≡◌, ap, ◌∙◌}
 use Prim.Native.Nat.{◌+◌, ◌-◌, ◌<◌}
 use native.Mathlib.Omega.{arith}
 use Rattle.blocks.specs.Engine.{State}
-use borrow.Author.Rules.{rules}
 use Rattle.engine.proofs.turn.passed.Goals as goal
 
 pub returns : goal.returns

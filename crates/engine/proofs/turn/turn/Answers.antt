@@ -2,7 +2,6 @@
 use mathlib.Core.Path.{◌≡◌}
 use native.Mathlib.Omega.{arith}
 use Rattle.engine.proofs.Turning.{counted-turn, passed-turn, header-turned}
-use borrow.Author.Rules.{rules}
 use Rattle.engine.proofs.turn.turn.Goals as goal
 
 pub returns-then-b-ne0 : goal.returns-then-b-ne0

@@ -1,6 +1,5 @@
 -- `headers::types::field_at` meets its contract: its tests are those of `field_at`.
 use mathlib.Core.Path.{◌∙◌, sym}
-use borrow.Author.Rules.{rules}
 use borrow.Author.Tests.{eq-eqb, ne_eqb}
 use Rattle.headers.proofs.types.field_at.Goals as goal
 

@@ -1,4 +1,3 @@
-use borrow.Author.Rules.{rules}
 use borrow.Author.Tests.{lt-ltb, le-ltb}
 use Rattle.headers.specs.Head.{form_allowed}
 use Rattle.headers.proofs.types.form_allowed.Goals as goal

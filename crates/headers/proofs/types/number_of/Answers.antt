@@ -1,7 +1,6 @@
 -- `headers::types::number_of` meets its contract: its tests are those of `number_of`, and a shift by 7 is the product with 128.
 use mathlib.Core.Path.{◌≡◌, ap, ◌∙◌}
 use Prim.Native.Nat.{ℕ, ◌+◌, ◌*◌, ◌/◌, ◌%◌, ◌^◌}
-use borrow.Author.Rules.{rules}
 use native.Mathlib.Omega.{arith}
 use borrow.Author.Tests.{eq-eqb, ne_eqb, lt-ltb, le-ltb}
 use Rattle.headers.proofs.types.number_of.Goals as goal

@@ -1,5 +1,4 @@
 -- `headers::types::third_field` meets its contract: its tests are those of `by_third`.
-use borrow.Author.Rules.{rules}
 use borrow.Author.Tests.{lt-ltb, le-ltb}
 use Rattle.headers.proofs.types.third_field.Goals as goal
 
