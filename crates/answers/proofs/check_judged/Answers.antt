@@ -9,24 +9,24 @@ use Rattle.answers.proofs.check_judged.Goals as goal
 
 pub returns-then-table-count : goal.returns-then-table-count
 returns-then-table-count c =
-    let l = accepted-judged c.requires.0 c.requires.1.0 in
+    let l = accepted-judged c.requires.stream_value c.requires.letter_rows in
     let r = checks_16 c.args.edition c.args.stream.now c.args.table.now c.args.headers l.held.elements l.judged
     (omega (arith, l.held.holds.counted)) in
     record { answered = c.refused_check.ensures ∙ r.answered; tabled = r.tabled }
 
 pub fill-requires : goal.fill-requires
 fill-requires c =
-    let l = accepted-judged c.requires.0 c.requires.1.0 in
-    record { letter_rows = (c.args.edition, c.requires.1.0); filed = c.requires.1.1; count_le_most_elements = (l.few, omega arith) }
+    let l = accepted-judged c.requires.stream_value c.requires.letter_rows in
+    record { letter_rows = (c.args.edition, c.requires.letter_rows); filed = c.requires.filed; count_le_most_elements = (l.few, omega arith) }
 
 pub overflow_cast-result : goal.overflow_cast-result
 overflow_cast-result c =
-    let l = accepted-judged c.requires.0 c.requires.1.0 in
+    let l = accepted-judged c.requires.stream_value c.requires.letter_rows in
     omega (arith, l.few)
 
 pub returns : goal.returns
 returns c =
-    let l = accepted-judged c.requires.0 c.requires.1.0 in
+    let l = accepted-judged c.requires.stream_value c.requires.letter_rows in
     let table = c.args.table.now in
     let r = checks-letter c.args.edition c.args.stream.now table c.args.headers _ l.held.elements l.judged
     l.held.holds.counted (omega arith) in

@@ -21,43 +21,43 @@ names-filed : (c : After-identifiers-names) →
 names-filed c =
     let a = c.args in
     subst (λ (index : List ℕ). Filed a.s.now a.rows.now identifier_column index a.count) (sym c.identifiers-names.ensures)
-    c.requires.1.1.0.identifiers
+    c.requires.both_filed.identifiers
 
 pub check_judged-r-requires : goal.check_judged-r-requires
-check_judged-r-requires c = (c.requires.0, (c.requires.1.0, names-filed (goal.at.check_judged-r-requires c).After-identifiers-names))
+check_judged-r-requires c = record { stream_value = c.requires.s_value; letter_rows = c.requires.letter_rows; filed = names-filed (goal.at.check_judged-r-requires c).After-identifiers-names }
 
 pub list_judged-r-requires : goal.list_judged-r-requires
 list_judged-r-requires c =
     let room = subst (λ (q : Question). Roomy q c.args.s.now (length c.args.flat.now))
-    c.in-List.is c.requires.1.1.1 in
-    (accepts-walked c.requires.0, (c.requires.1.0, (c.requires.1.1.0, room)))
+    c.in-List.is c.requires.roomy in
+    record { accepts = accepts-walked c.requires.s_value; letter_rows = c.requires.letter_rows; both_filed = c.requires.both_filed; stream_in_bounds = room }
 
 pub children_judged-r-requires : goal.children_judged-r-requires
 children_judged-r-requires c =
     let room = subst (λ (q : Question). Roomy q c.args.s.now (length c.args.flat.now))
-    c.in-Children.is c.requires.1.1.1 in
-    (accepts-walked c.requires.0, (c.requires.1.0, (names-filed (goal.at.children_judged-r-requires c).After-identifiers-names, room)))
+    c.in-Children.is c.requires.roomy in
+    record { accepts = accepts-walked c.requires.s_value; letter_rows = c.requires.letter_rows; filed = names-filed (goal.at.children_judged-r-requires c).After-identifiers-names; room_in_bounds = room }
 
 pub order_judged-r-requires : goal.order_judged-r-requires
 order_judged-r-requires c =
-    ((c.args.headers, c.requires.0), (c.requires.1.0, names-filed (goal.at.order_judged-r-requires c).After-identifiers-names))
+    record { by_index = (c.args.headers, c.requires.s_value); letter_rows = c.requires.letter_rows; filed = names-filed (goal.at.order_judged-r-requires c).After-identifiers-names }
 
 pub text_judged-r-requires : goal.text_judged-r-requires
 text_judged-r-requires c =
     let room = subst (λ (q : Question). Roomy q c.args.s.now (length c.args.flat.now))
-    c.in-Text.is c.requires.1.1.1 in
-    (accepts-walked c.requires.0, (c.requires.1.0, (c.requires.1.1.0, room)))
+    c.in-Text.is c.requires.roomy in
+    record { accepts = accepts-walked c.requires.s_value; letter_rows = c.requires.letter_rows; both_filed = c.requires.both_filed; stream_in_bounds = room }
 
 pub sources_judged-r-requires : goal.sources_judged-r-requires
 sources_judged-r-requires c =
     let room = subst (λ (q : Question). Roomy q c.args.s.now (length c.args.flat.now))
-    c.in-Sources.is c.requires.1.1.1 in
-    (accepts-walked c.requires.0, (c.requires.1.0, (c.requires.1.1.0, room)))
+    c.in-Sources.is c.requires.roomy in
+    record { accepts = accepts-walked c.requires.s_value; letter_rows = c.requires.letter_rows; both_filed = c.requires.both_filed; stream_in_bounds = room }
 
 pub returns-in-Rules : goal.returns-in-Rules
 returns-in-Rules c =
     let s = c.args.s.now in
-    let l = accepted-judged c.requires.0 c.requires.1.0 in
+    let l = accepted-judged c.requires.s_value c.requires.letter_rows in
     as-asked c.in-Rules.is c.tell.ensures
     (leaves-rules c.args.edition s c.args.table.now c.args.flat.now c.args.out.now (sym (ruled-letter c.args.edition s l.judged)))
 

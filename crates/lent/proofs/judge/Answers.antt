@@ -13,14 +13,13 @@ use Rattle.lent.proofs.judge.Goals.{In-Refused}
 pub judge_stream-requires : goal.judge_stream-requires
 judge_stream-requires c =
     let s = c.args.stream.now in
-    let w = c.requires.0.2 in
-    record { fine = (stream-fine s _ _ w, stream-within s _ _ w); lent = cleared s _ _ c.requires.1.0 (c.clear.ensures.index_len_unchanged ∙ c.requires.1.1) c.clear.ensures.empty }
+    record { fine = (stream-fine s _ _ c.requires.by_index.2, stream-within s _ _ c.requires.by_index.2); lent = cleared s _ _ c.requires.stream_in_bounds.0 (c.clear.ensures.index_len_unchanged ∙ c.requires.stream_in_bounds.1) c.clear.ensures.empty }
 
 -- what rules 9 to 15 refuse
 refusing : (c : In-Refused) →
-    Refusing c.args.edition c.args.stream.now c.in-Refused.number c.in-Refused.place c.requires.0.1
+    Refusing c.args.edition c.args.stream.now c.in-Refused.number c.in-Refused.place c.requires.by_index.1
 refusing c =
-    refused-stopped c.requires.0.2
+    refused-stopped c.requires.by_index.2
     (subst (GivesVerdict c.args.edition c.args.stream.now c.judge_stream.new.rows c.judge_stream.new.index) c.in-Refused.is c.judge_stream.ensures)
 
 pub overflow_cast-result : goal.overflow_cast-result
@@ -33,7 +32,7 @@ pub returns-in-Accepted : goal.returns-in-Accepted
 returns-in-Accepted c =
     let s = c.args.stream.now in
     let held = subst (GivesVerdict c.args.edition s c.judge_stream.new.rows c.judge_stream.new.index) c.in-Accepted.is c.judge_stream.ensures in
-    sym (ruled-letter c.args.edition s (accepted-judged c.requires.0.2 held.0).judged)
+    sym (ruled-letter c.args.edition s (accepted-judged c.requires.by_index.2 held.0).judged)
 
 pub returns-in-Refused : goal.returns-in-Refused
 returns-in-Refused c =

@@ -66,7 +66,8 @@ room c = omega (arith, c.if-rows-needed.false, c.rows_needed-needed.ensures)
 
 pub judge-requires : goal.judge-requires
 judge-requires c =
-    record { by_index = (_, _, walked (goal.at.judge-requires c).In-Ended); stream_in_bounds = (room (goal.at.judge-requires c).After-judge-arg-in-Ended-1, index-long (goal.at.judge-requires c).After-judge-arg-in-Ended-1 ∙ ap (λ (n : ℕ). 6 * n + 2) (size_is (goal.at.judge-requires c).After-size_for)) }
+    let here = (goal.at.judge-requires c).After-judge-arg-in-Ended-1 in
+    record { by_index = (_, _, walked (goal.at.judge-requires c).In-Ended); stream_in_bounds = (room here, index-long here ∙ ap (λ (n : ℕ). 6 * n + 2) (size_is (goal.at.judge-requires c).After-size_for)) }
 
 pub returns-in-Refused : goal.returns-in-Refused
 returns-in-Refused c =

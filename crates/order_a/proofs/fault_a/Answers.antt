@@ -18,4 +18,4 @@ returns-then-kind_at-ne-PROFILE c =
 
 pub pass-requires : goal.pass-requires
 pass-requires c =
-    record { letter_rows = c.requires.0; filed = c.requires.1; n_nonzero = (omega arith, sym c.kind_at.ensures ∙ c.if-kind_at-ne-PROFILE.false) }
+    record { letter_rows = c.requires.letter_rows; filed = c.requires.filed; n_nonzero = (omega arith, sym c.kind_at.ensures ∙ c.if-kind_at-ne-PROFILE.false) }

@@ -9,19 +9,19 @@ use Rattle.order_a.proofs.Stepping.{Walking, walking-first, walking-more, walkin
 use Rattle.order_a.proofs.pass.Goals as goal
 
 pub loop-k-init : goal.loop-k-init
-loop-k-init c = rw c.first_walk-w.ensures (walking-first c.requires.1.1.0 c.requires.1.1.1)
+loop-k-init c = rw c.first_walk-w.ensures (walking-first c.requires.n_nonzero.0 c.requires.n_nonzero.1)
 
 pub overflow_add-k : goal.overflow_add-k
-overflow_add-k c = omega (arith, few-rows c.requires.0.1)
+overflow_add-k c = omega (arith, few-rows c.requires.letter_rows.1)
 
 pub look-layout-requires : goal.look-layout-requires
-look-layout-requires c = (c.requires.0, (c.requires.1.0, omega arith))
+look-layout-requires c = record { letter_rows = c.requires.letter_rows; filed = c.requires.filed; u_lt_n = omega arith }
 
 pub look-logical-requires : goal.look-logical-requires
-look-logical-requires c = (c.requires.0, (c.requires.1.0, omega arith))
+look-logical-requires c = record { letter_rows = c.requires.letter_rows; filed = c.requires.filed; u_lt_n = omega arith }
 
 pub take_row-requires : goal.take_row-requires
-take_row-requires c = record { k_lt_n = (c.requires.0, omega arith); bounds = c.loop-k.invariant.bounds; own_at = (c.look-layout.ensures, c.look-logical.ensures) }
+take_row-requires c = record { k_lt_n = (c.requires.letter_rows, omega arith); bounds = c.loop-k.invariant.bounds; own_at = (c.look-layout.ensures, c.look-logical.ensures) }
 
 pub returns-in-Stops : goal.returns-in-Stops
 returns-in-Stops c =

@@ -8,33 +8,33 @@ use Rattle.order_b.proofs.Seeing.{first-not, first-cannot, first_goes}
 use Rattle.order_b.proofs.first_step.Goals as goal
 
 pub kind_at-kind-requires : goal.kind_at-kind-requires
-kind_at-kind-requires c = omega (arith, c.requires.1.1, c.requires.0.1.holds.identifiers.in_table)
+kind_at-kind-requires c = omega (arith, c.requires.n_nonzero, c.requires.letter_rows.1.holds.identifiers.in_table)
 
 pub returns-then-kind-ne-PROFILE : goal.returns-then-kind-ne-PROFILE
-returns-then-kind-ne-PROFILE c = first-not ready 0 c.requires.1.1
+returns-then-kind-ne-PROFILE c elements ready aside = first-not ready 0 c.requires.n_nonzero
     c.kind_at-kind.result c.kind_at-kind.ensures c.if-kind-ne-PROFILE.true
 
 pub portions_of-left-requires : goal.portions_of-left-requires
 portions_of-left-requires c =
-    (omega (arith, c.requires.1.1, c.requires.0.1.holds.identifiers.in_table), meetable (rows_tell c.requires.0.1) 0 c.requires.1.1)
+    record { scratch_width_in_bounds = omega (arith, c.requires.n_nonzero, c.requires.letter_rows.1.holds.identifiers.in_table); meetable = meetable (rows_tell c.requires.letter_rows.1) 0 c.requires.n_nonzero }
 
 pub can_come-requires : goal.can_come-requires
 can_come-requires c = omega (
   arith,
-  c.requires.1.1,
-  c.requires.0.1.holds.identifiers.in_table,
+  c.requires.n_nonzero,
+  c.requires.letter_rows.1.holds.identifiers.in_table,
 )
 
 pub returns-then-not-can_come : goal.returns-then-not-can_come
-returns-then-not-can_come c =
+returns-then-not-can_come c elements ready aside =
     let lists = c.portions_of-left in
     let can = c.can_come in
-    first-cannot ready 0 c.requires.1.1 c.kind_at-kind.result lists.result can.result c.kind_at-kind.ensures lists.ensures can.ensures
+    first-cannot ready 0 c.requires.n_nonzero c.kind_at-kind.result lists.result can.result c.kind_at-kind.ensures lists.ensures can.ensures
     c.if-kind-ne-PROFILE.false c.if-not-can_come.true
 
 pub returns : goal.returns
-returns c =
+returns c elements ready aside =
     let lists = c.portions_of-left in
     let can = c.can_come in
-    first_goes ready 0 c.requires.1.1 c.kind_at-kind.result lists.result can.result c.kind_at-kind.ensures lists.ensures can.ensures
+    first_goes ready 0 c.requires.n_nonzero c.kind_at-kind.result lists.result can.result c.kind_at-kind.ensures lists.ensures can.ensures
     c.rank_of.result c.rank_of.ensures c.if-kind-ne-PROFILE.false c.if-not-can_come.false

@@ -10,41 +10,38 @@ use Rattle.order_b.proofs.Seeing.{head-not, head-cannot, head-goes}
 use Rattle.order_b.proofs.head_step.Goals as goal
 
 pub kind_at-kind-requires : goal.kind_at-kind-requires
-kind_at-kind-requires c = omega (arith, c.requires.1.1, c.requires.0.1.holds.identifiers.in_table)
+kind_at-kind-requires c = omega (arith, c.requires.j_lt_n, c.requires.letter_rows.1.holds.identifiers.in_table)
 
 pub returns-then-not-may_follow : goal.returns-then-not-may_follow
-returns-then-not-may_follow c =
-    head-not ready c.args.j c.requires.1.1 (state_of c.args.state) c.kind_at-kind.result c.kind_at-kind.ensures
+returns-then-not-may_follow c elements ready aside =
+    head-not ready c.args.j c.requires.j_lt_n (state_of c.args.state) c.kind_at-kind.result c.kind_at-kind.ensures
     (sym c.may_follow.ensures ∙ c.if-not-may_follow.true)
 
 pub portions_of-left-requires : goal.portions_of-left-requires
 portions_of-left-requires c =
-    (
-      omega (arith, c.requires.1.1, c.requires.0.1.holds.identifiers.in_table),
-      meetable (rows_tell c.requires.0.1) c.args.j c.requires.1.1,
-    )
+    record { scratch_width_in_bounds = omega (arith, c.requires.j_lt_n, c.requires.letter_rows.1.holds.identifiers.in_table); meetable = meetable (rows_tell c.requires.letter_rows.1) c.args.j c.requires.j_lt_n }
 
 pub can_come-requires : goal.can_come-requires
 can_come-requires c = omega (
   arith,
-  c.requires.1.1,
-  c.requires.0.1.holds.identifiers.in_table,
+  c.requires.j_lt_n,
+  c.requires.letter_rows.1.holds.identifiers.in_table,
 )
 
 pub returns-then-not-can_come : goal.returns-then-not-can_come
-returns-then-not-can_come c =
+returns-then-not-can_come c elements ready aside =
     let lists = c.portions_of-left in
     let can = c.can_come in
-    head-cannot ready c.args.j c.requires.1.1 c.kind_at-kind.result lists.result can.result c.kind_at-kind.ensures
+    head-cannot ready c.args.j c.requires.j_lt_n c.kind_at-kind.result lists.result can.result c.kind_at-kind.ensures
     lists.ensures can.ensures
     (state_of c.args.state) (sym c.may_follow.ensures
     ∙ c.if-not-may_follow.false) c.if-not-can_come.true
 
 pub returns : goal.returns
-returns c =
+returns c elements ready aside =
     let lists = c.portions_of-left in
     let can = c.can_come in
-    head-goes ready c.args.j c.requires.1.1 c.kind_at-kind.result lists.result can.result c.kind_at-kind.ensures
+    head-goes ready c.args.j c.requires.j_lt_n c.kind_at-kind.result lists.result can.result c.kind_at-kind.ensures
     lists.ensures can.ensures
     (state_of c.args.state) (sym c.may_follow.ensures
     ∙ c.if-not-may_follow.false)

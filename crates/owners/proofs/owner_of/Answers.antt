@@ -23,18 +23,18 @@ use Rattle.owners.proofs.owner_of.Goals as goal
 use Rattle.owners.proofs.owner_of.Goals.{After-bounds_at-name, After-last_space-cut, After-carrier, In-At}
 
 pub kind_at-requires : goal.kind_at-requires
-kind_at-requires c = omega (arith, c.requires.1.1, c.requires.0.1.holds.identifiers.in_table)
+kind_at-requires c = omega (arith, c.requires.u_lt_n, c.requires.letter_rows.1.holds.identifiers.in_table)
 
 pub returns-then-kind_at-ne-TEXT_UNIT : goal.returns-then-kind_at-ne-TEXT_UNIT
-returns-then-kind_at-ne-TEXT_UNIT c =
+returns-then-kind_at-ne-TEXT_UNIT c elements ready =
     let a = c.args in
     no-unit ready a.side a.u (λ k. c.if-kind_at-ne-TEXT_UNIT.true (c.kind_at.ensures ∙ k))
 
 pub bounds_at-name-requires : goal.bounds_at-name-requires
 bounds_at-name-requires c =
     (
-      rw c.column_of.ensures (bounded-on c.requires.0.1 c.args.side).in-row,
-      omega (arith, c.requires.1.1, c.requires.0.1.holds.identifiers.in_table),
+      rw c.column_of.ensures (bounded-on c.requires.letter_rows.1 c.args.side).in-row,
+      omega (arith, c.requires.u_lt_n, c.requires.letter_rows.1.holds.identifiers.in_table),
     )
 
 -- the unit's name of the side
@@ -47,8 +47,8 @@ name-is c = let a = c.args in c.bounds_at-name.ensures
 within : (c : After-bounds_at-name) → let a = c.args in
     (c.bounds_at-name.result.first ≤ c.bounds_at-name.result.past) × (c.bounds_at-name.result.past ≤ length a.s.now)
 within c =
-    let b = bounded-on c.requires.0.1 c.args.side in
-    rw (name-is c) (b.ordered c.args.u c.requires.1.1, b.inside c.args.u c.requires.1.1)
+    let b = bounded-on c.requires.letter_rows.1 c.args.side in
+    rw (name-is c) (b.ordered c.args.u c.requires.u_lt_n, b.inside c.args.u c.requires.u_lt_n)
 
 pub last_space-cut-requires : goal.last_space-cut-requires
 last_space-cut-requires c = within (goal.at.last_space-cut-requires c).After-bounds_at-name
@@ -60,14 +60,14 @@ last c = let a = c.args in subst
     (λ (v : Span). LastSpace a.s.now v.first v.past c.last_space-cut.result) (name-is (goal.at.After-last_space-cut c).After-bounds_at-name) c.last_space-cut.ensures
 
 pub returns-then-cut-name : goal.returns-then-cut-name
-returns-then-cut-name c =
+returns-then-cut-name c elements ready =
     let a = c.args in
     one-group ready a.side a.u (last (goal.at.returns-then-cut-name c).After-last_space-cut) (c.if-cut-name.true ∙ ap (λ (v : Span). v.past) (name-is (goal.at.returns-then-cut-name c).After-bounds_at-name))
 
 pub carrier-requires : goal.carrier-requires
 carrier-requires c =
     let cut = c.last_space-cut.ensures in
-    record { bounded = c.requires.0.1.holds.identifiers; filed = c.requires.1.0; first_le_past = (cut.after, omega (arith, cut.before, (within (goal.at.carrier-requires c).After-bounds_at-name).1)) }
+    record { bounded = c.requires.letter_rows.1.holds.identifiers; filed = c.requires.filed; first_le_past = (cut.after, omega (arith, cut.before, (within (goal.at.carrier-requires c).After-bounds_at-name).1)) }
 
 -- the last space stands before the name's end, and that in the stream
 strict : (a b : ℕ) → a ≤ b → (a ≡ b → ⊥) → a < b
@@ -84,7 +84,7 @@ inside : (c : After-carrier)
     → let a = c.args in past_at a.rows.now
     (column_of a.side) a.u ≤ length a.s.now
 inside c = (bounded-on
-    c.requires.0.1 c.args.side).inside c.args.u c.requires.1.1
+    c.requires.letter_rows.1 c.args.side).inside c.args.u c.requires.u_lt_n
 
 -- who carries what stands before it
 finds : (c : After-carrier) → let a = c.args in
@@ -101,7 +101,9 @@ found_at : (s rows : List ℕ) (n : ℕ) (bytes : List ℕ) (found : RowFound) (
 found_at s rows n bytes found row f e = (subst (FindsRow s rows identifier_column n object_space bytes) e f).0
 
 pub overflow_add-cut : goal.overflow_add-cut
-overflow_add-cut c = omega (arith, cut-before (goal.at.overflow_add-cut c).After-carrier, inside (goal.at.overflow_add-cut c).After-carrier)
+overflow_add-cut c =
+    let here = (goal.at.overflow_add-cut c).After-carrier in
+    omega (arith, cut-before here, inside here)
 
 has-row : (c : In-At)
     → let a = c.args in
@@ -115,21 +117,24 @@ has-row c =
 
 pub owner_by-requires : goal.owner_by-requires
 owner_by-requires c =
+    let here = (goal.at.owner_by-requires c).After-carrier in
     let has = has-row (goal.at.owner_by-requires c).In-At in
     let name = name-is (goal.at.owner_by-requires c).After-bounds_at-name in
-    record { scratch_width_in_bounds = omega (arith, has.below, c.requires.0.1.holds.identifiers.in_table); meetable = meetable (rows_tell c.requires.0.1) c.in-At.row has.below; first_le_past = rw name (omega (arith, cut-before (goal.at.owner_by-requires c).After-carrier), inside (goal.at.owner_by-requires c).After-carrier) }
+    record { scratch_width_in_bounds = omega (arith, has.below, c.requires.letter_rows.1.holds.identifiers.in_table); meetable = meetable (rows_tell c.requires.letter_rows.1) c.in-At.row has.below; first_le_past = rw name (omega (arith, cut-before here), inside here) }
 
 pub returns-in-Nothing : goal.returns-in-Nothing
-returns-in-Nothing c =
+returns-in-Nothing c elements ready =
+    let here = (goal.at.returns-in-Nothing c).After-carrier in
     let a = c.args in
-    no-carrier ready a.side a.u (last (goal.at.returns-in-Nothing c).After-last_space-cut) (cut-before (goal.at.returns-in-Nothing c).After-carrier) (inside (goal.at.returns-in-Nothing c).After-carrier)
-    (subst (FindsRow a.s.now a.rows.now identifier_column a.n object_space _) c.in-Nothing.is (finds (goal.at.returns-in-Nothing c).After-carrier))
+    no-carrier ready a.side a.u (last (goal.at.returns-in-Nothing c).After-last_space-cut) (cut-before here) (inside here)
+    (subst (FindsRow a.s.now a.rows.now identifier_column a.n object_space _) c.in-Nothing.is (finds here))
 
 pub returns-in-At : goal.returns-in-At
-returns-in-At c =
+returns-in-At c elements ready =
+    let here = (goal.at.returns-in-At c).After-carrier in
     let a = c.args in
     let unit = sym c.kind_at.ensures
     ∙ c.if-kind_at-ne-TEXT_UNIT.false in
-    let by = by-carrier ready a.side a.u (last (goal.at.returns-in-At c).After-last_space-cut) (cut-before (goal.at.returns-in-At c).After-carrier) (inside (goal.at.returns-in-At c).After-carrier) c.in-At.row
-    (has-row (goal.at.returns-in-At c).In-At) unit c.requires.1.1 in
+    let by = by-carrier ready a.side a.u (last (goal.at.returns-in-At c).After-last_space-cut) (cut-before here) (inside here) c.in-At.row
+    (has-row (goal.at.returns-in-At c).In-At) unit c.requires.u_lt_n in
     subst (OwnerIs a.side elements a.u) (sym (rw (name-is (goal.at.returns-in-At c).After-bounds_at-name) PLACE‹c.before.before.before.before› c.owner_by.ensures)) by

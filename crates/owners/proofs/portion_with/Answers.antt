@@ -20,7 +20,7 @@ meeting c = subst (Meets c.args.s.now
     c.loop-from.left) c.in-Item.is c.meet.ensures
 
 pub loop-from-init : goal.loop-from-init
-loop-from-init c = rw c.portions_at-left.ensures (left-all c.requires.1.0, refl)
+loop-from-init c = rw c.portions_at-left.ensures (left-all c.requires.meetable, refl)
 
 pub meet-requires : goal.meet-requires
 meet-requires c = c.loop-from.invariant.0.fine
@@ -35,8 +35,7 @@ returns-in-End c =
 pub is_same-requires : goal.is_same-requires
 is_same-requires c =
     let m = meeting (goal.at.is_same-requires c).In-Item in
-    let within = c.requires.1.1 in
-    (m.value_order, m.value_inside, within.0, within.1)
+    (m.value_order, m.value_inside, c.requires.first_le_past.0, c.requires.first_le_past.1)
 
 pub returns-then-is_same : goal.returns-then-is_same
 returns-then-is_same c =
@@ -50,7 +49,7 @@ overflow_add-portion c =
     let l = c.loop-from in
     omega (
       arith,
-      left-small l.invariant.0 (meeting (goal.at.overflow_add-portion c).In-Item) c.requires.1.0,
+      left-small l.invariant.0 (meeting (goal.at.overflow_add-portion c).In-Item) c.requires.meetable,
     )
 
 pub loop-from-smaller : goal.loop-from-smaller

@@ -16,7 +16,7 @@ meeting c = subst (Meets c.args.s.now
     c.loop-rest.left) c.in-Item.is c.meet.ensures
 
 pub loop-rest-init : goal.loop-rest-init
-loop-rest-init c = rw c.portions_at-left.ensures (left-all c.requires.1)
+loop-rest-init c = rw c.portions_at-left.ensures (left-all c.requires.meetable)
 
 pub meet-requires : goal.meet-requires
 meet-requires c = c.loop-rest.invariant.fine
@@ -30,7 +30,7 @@ returns-in-End c =
 pub overflow_add-count : goal.overflow_add-count
 overflow_add-count c = omega (
   arith,
-  left-small c.loop-rest.invariant (meeting (goal.at.overflow_add-count c).In-Item) c.requires.1,
+  left-small c.loop-rest.invariant (meeting (goal.at.overflow_add-count c).In-Item) c.requires.meetable,
 )
 
 pub loop-rest-smaller : goal.loop-rest-smaller

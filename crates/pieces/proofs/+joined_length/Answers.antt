@@ -1,14 +1,12 @@
 -- `pieces::joined_length` meets its contract. The loop's invariant: the octets of the run are those counted and those of what is left
 -- of it. The function ends, for each call has fewer levels left.
-use mathlib.Core.Path.{◌≡◌, refl, ap, ◌∙◌}
-use Prim.Native.Nat.{ℕ, ◌+◌, ◌-◌, ◌<◌}
+use mathlib.Core.Path.{refl, ap, ◌∙◌}
+use Prim.Native.Nat.{ℕ}
 use native.Mathlib.Omega.{arith}
-use borrow.Author.Rules.{rules}
 use borrow.Author.Tests.{eq-eqb, ne_eqb}
 use lib.ListN.{length}
-use Rattle.runs.specs.Runs.{tree_in, Fine, Meeting}
+use Rattle.runs.specs.Runs.{Meeting}
 use Rattle.contents.proofs.Firsts.{met}
-use Rattle.pieces.specs.Pieces.{joined}
 use Rattle.pieces.proofs.Levels.{level-less}
 use Rattle.pieces.proofs.Joined.{gives-length, piece-gives, pieces-give, value-length, joined-none, joined-fits}
 use Rattle.pieces.proofs.+joined_length.Goals as goal
@@ -23,7 +21,7 @@ meeting t c =
     c.meet.ensures c.in-Item.is
 
 pub loop-code-init : goal.loop-code-init
-loop-code-init t c = (c.requires.1, refl, omega arith)
+loop-code-init t c = (c.requires, refl, omega arith)
 
 pub meet-requires : goal.meet-requires
 meet-requires t c = c.loop-code.invariant.0
@@ -44,7 +42,7 @@ overflow_add-n t c =
     let l = c.loop-code in
     omega (
       arith,
-      joined-fits c.requires.1,
+      joined-fits c.requires,
       gives-length g,
       c.joined_length-n.ensures,
       l.invariant.2,
@@ -67,7 +65,7 @@ overflow_add-n-else-code-eq1 t c =
     let m = meeting t (goal.at.overflow_add-n-else-code-eq1 t c).In-Item in
     let g = piece-gives m (ne_eqb _ _ c.if-code-eq1.false) in
     let l = c.loop-code in
-    omega (arith, joined-fits c.requires.1, gives-length g, value-length m, l.invariant.2)
+    omega (arith, joined-fits c.requires, gives-length g, value-length m, l.invariant.2)
 
 pub loop-code-smaller : goal.loop-code-smaller
 loop-code-smaller t c = (meeting t (goal.at.loop-code-smaller t c).In-Item).less

@@ -19,7 +19,7 @@ put_page-requires c =
     let a = c.args in
     let is : is_page (kind_at a.table.now a.element) (object_at a.table.now a.element) ≡ true =
     sym c.is_page.ensures ∙ c.if-not-is_page.false in
-    (room-one a.count _ _ _ is c.requires.1, omega arith, omega arith)
+    (room-one a.count _ _ _ is c.requires.inner_in_bounds, omega arith, omega arith)
 
 pub returns : goal.returns
 returns c =

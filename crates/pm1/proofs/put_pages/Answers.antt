@@ -35,7 +35,7 @@ pub put_element-count-requires : goal.put_element-count-requires
 put_element-count-requires c =
     let l = c.loop-inner in
     let m = meeting (goal.at.put_element-count-requires c).In-Item in
-    ((m.inner_fine, element-low c.requires l.invariant m, element-row c.requires l.invariant m), record-room c.requires l.invariant m)
+    record { fine = (m.inner_fine, element-low c.requires l.invariant m, element-row c.requires l.invariant m); inner_in_bounds = record-room c.requires l.invariant m }
 
 pub overflow_add-element : goal.overflow_add-element
 overflow_add-element c =

@@ -12,42 +12,41 @@ use Rattle.portions.specs.Tags.{tag}
 use Rattle.portions.proofs.Pairs.{inside-more, repeats-more, repeats-none}
 use Rattle.portions.proofs.Tags.{Marked, none-marked, unmarked-apart, inside-from, repeats-before, marked_more}
 use Rattle.portions.proofs.has_repeats.Goals as goal
-use Rattle.portions.proofs.has_repeats.Goals.{After-tag_of-tag}
+use Rattle.portions.proofs.has_repeats.Goals.{In-loop-k, After-tag_of-tag}
 
 -- what is known of the value that is looked at, the last that is not done
-module _ (c : tie.In-loop invariant-loop decreases-loop) where
-  abbrev stream : List ℕ
-  stream = c.before.before.before.before.args.s.now
+abbrev stream : (c : In-loop-k) → List ℕ
+stream c = c.args.s.now
 
-abbrev numbers : List ℕ
-numbers = c.before.before.before.before.args.bounds.now
+abbrev numbers : (c : In-loop-k) → List ℕ
+numbers c = c.args.bounds.now
 
-abbrev count : ℕ
-count = c.before.before.before.before.args.count
+abbrev count : (c : In-loop-k) → ℕ
+count c = c.args.count
 
-abbrev own : ℕ
-own = c.before.loop.k - 1
+abbrev own : (c : In-loop-k) → ℕ
+own c = c.loop-k.k - 1
 
-below : own < count
-below = omega (arith, c.before.loop.invariant.0, c.loop-test.true)
+below : (c : In-loop-k) → (own c) < (count c)
+below c = omega (arith, c.loop-k.invariant.0, c.loop-k-test.true)
 
-enough : 2 * count ≤ length numbers
-enough = c.before.before.before.before.requires.0
+enough : (c : In-loop-k) → 2 * (count c) ≤ length (numbers c)
+enough c = c.requires.0
 
-inside : Inside stream (slice (2 * own) (2 * count) numbers)
-inside = inside-from stream numbers count enough c.before.before.before.before.requires.1 own (omega (arith, below))
+inside : (c : In-loop-k) → Inside (stream c) (slice (2 * (own c)) (2 * (count c)) (numbers c))
+inside c = inside-from (stream c) (numbers c) (count c) (enough c) c.requires.1 (own c) (omega (arith, (below c)))
 
-done-is : c.before.loop.k ≡ own + 1
-done-is = omega (arith, c.loop-test.true)
+done-is : (c : In-loop-k) → c.loop-k.k ≡ (own c) + 1
+done-is c = omega (arith, c.loop-k-test.true)
 
-done-marked : Marked stream numbers count (own + 1) c.before.loop.marks
-done-marked = subst (λ (k : ℕ). Marked stream numbers count k c.before.loop.marks) done-is c.before.loop.invariant.3
+done-marked : (c : In-loop-k) → Marked (stream c) (numbers c) (count c) ((own c) + 1) c.loop-k.marks
+done-marked c = subst (λ (k : ℕ). Marked (stream c) (numbers c) (count c) k c.loop-k.marks) (done-is c) c.loop-k.invariant.3
 
-done-apart : repeats (bounded stream (slice (2 * (own + 1)) (2 * count) numbers)) ≡ false
-done-apart = ap (λ (k : ℕ). repeats (bounded stream (slice (2 * k) (2 * count) numbers))) (sym done-is) ∙ c.before.loop.invariant.2
+done-apart : (c : In-loop-k) → repeats (bounded (stream c) (slice (2 * ((own c) + 1)) (2 * (count c)) (numbers c))) ≡ false
+done-apart c = ap (λ (k : ℕ). repeats (bounded (stream c) (slice (2 * k) (2 * (count c)) (numbers c)))) (sym (done-is c)) ∙ c.loop-k.invariant.2
 
 -- the tag that was computed
-tag_is : (c : After-tag_of-tag) → c.tag_of-tag.result ≡ tag (bounded_at (stream PLACE‹c.before.before›) (numbers PLACE‹c.before.before›) (own PLACE‹c.before.before›))
+tag_is : (c : After-tag_of-tag) → c.tag_of-tag.result ≡ tag (bounded_at (stream (goal.at.After-tag_of-tag c).In-loop-k) (numbers (goal.at.After-tag_of-tag c).In-loop-k) (own (goal.at.After-tag_of-tag c).In-loop-k))
 tag_is c = c.tag_of-tag.ensures.0 ∙ rw c.bounds_of.ensures
 
 pub loop-k-init : goal.loop-k-init
@@ -56,42 +55,51 @@ loop-k-init c =
     (omega arith, refl, repeats-none a.s.now a.bounds.now a.count, none-marked a.s.now a.bounds.now a.count (replicate 64 0))
 
 pub bounds_of-requires : goal.bounds_of-requires
-bounds_of-requires c = omega (arith, below c, enough c)
+bounds_of-requires c =
+    let here = (goal.at.bounds_of-requires c).In-loop-k in
+    omega (arith, below here, enough here)
 
 pub tag_of-tag-requires : goal.tag_of-tag-requires
 tag_of-tag-requires c =
-    let known = inside-more (stream PLACE‹c.before›) (numbers PLACE‹c.before›) (own PLACE‹c.before›) (count PLACE‹c.before›) (below PLACE‹c.before›) (enough PLACE‹c.before›) (inside PLACE‹c.before›) in
+    let here = (goal.at.tag_of-tag-requires c).In-loop-k in
+    let known = inside-more (stream here) (numbers here) (own here) (count here) (below here) (enough here) (inside here) in
     rw c.bounds_of.ensures (known.0, known.1)
 
-array-read-is-again : tie.Need-array-read-is-preserved invariant-loop decreases-loop
-array-read-is-again c = omega (arith, c.tag_of.ensures.1)
+pub bounds-marks-tag : goal.bounds-marks-tag
+bounds-marks-tag c = omega (arith, c.tag_of-tag.ensures.1)
 
 pub is_again-requires : goal.is_again-requires
 is_again-requires c =
-    record { k_lt_count = (below PLACE‹c.before.before›, enough PLACE‹c.before.before›, inside PLACE‹c.before.before›); bounds_value = λ z. unmarked-apart (stream PLACE‹c.before.before›) (numbers PLACE‹c.before.before›) (count PLACE‹c.before.before›) (own PLACE‹c.before.before› + 1) c.loop-k.marks (done-marked PLACE‹c.before.before›)
-          (bounded_at (stream PLACE‹c.before.before›) (numbers PLACE‹c.before.before›) (own PLACE‹c.before.before›)) (ap (λ (t : ℕ). get_or c.loop-k.marks t 0) (sym (tag_is (goal.at.is_again-requires c).After-tag_of-tag)) ∙ z) }
+    let here = (goal.at.is_again-requires c).In-loop-k in
+    record {
+      k_lt_count = (below here, enough here, inside here);
+      bounds_value = λ z. unmarked-apart (stream here) (numbers here) (count here) (own here + 1) c.loop-k.marks (done-marked here)
+          (bounded_at (stream here) (numbers here) (own here)) (ap (λ (t : ℕ). get_or c.loop-k.marks t 0) (sym (tag_is (goal.at.is_again-requires c).After-tag_of-tag)) ∙ z);
+    }
 
 pub returns-then-is_again : goal.returns-then-is_again
 returns-then-is_again c =
+    let here = (goal.at.returns-then-is_again c).In-loop-k in
     let again = sym c.is_again.ensures ∙ c.if-is_again.true in
-    sym (repeats-before (stream PLACE‹c.before.before.before.before›) (numbers PLACE‹c.before.before.before.before›) (count PLACE‹c.before.before.before.before›) (enough PLACE‹c.before.before.before.before›) (own PLACE‹c.before.before.before.before›) (omega (arith, below PLACE‹c.before.before.before.before›))
-    (repeats-more (stream PLACE‹c.before.before.before.before›) (numbers PLACE‹c.before.before.before.before›) (own PLACE‹c.before.before.before.before›) (count PLACE‹c.before.before.before.before›) (below PLACE‹c.before.before.before.before›) (enough PLACE‹c.before.before.before.before›) ∙ rw again))
+    sym (repeats-before (stream here) (numbers here) (count here) (enough here) (own here) (omega (arith, below here))
+    (repeats-more (stream here) (numbers here) (own here) (count here) (below here) (enough here) ∙ rw again))
 
 pub bounds-marks-tag-in-loop-k : goal.bounds-marks-tag-in-loop-k
 bounds-marks-tag-in-loop-k c = omega (arith, c.tag_of-tag.ensures.1)
 
 pub loop-k-preserved : goal.loop-k-preserved
 loop-k-preserved c =
+    let here = (goal.at.loop-k-preserved c).In-loop-k in
     let marks = c.loop-k.marks in
     let apart = sym c.is_again.ensures ∙ c.if-is_again.false in
     let same_length : length marks ≡ 64 = c.loop-k.invariant.1 in
     let t = tag_is (goal.at.loop-k-preserved c).After-tag_of-tag in
-    let small : tag (bounded_at (stream PLACE‹c.before.before.before.before›) (numbers PLACE‹c.before.before.before.before›) (own PLACE‹c.before.before.before.before›)) < length marks = omega (arith, c.tag_of-tag.ensures.1, t, same_length) in (
-      omega (arith, below PLACE‹c.before.before.before.before›),
+    let small : tag (bounded_at (stream here) (numbers here) (own here)) < length marks = omega (arith, c.tag_of-tag.ensures.1, t, same_length) in (
+      omega (arith, below here),
       length-set marks c.tag_of-tag.result 1 ∙ same_length,
-      repeats-more (stream PLACE‹c.before.before.before.before›) (numbers PLACE‹c.before.before.before.before›) (own PLACE‹c.before.before.before.before›) (count PLACE‹c.before.before.before.before›) (below PLACE‹c.before.before.before.before›) (enough PLACE‹c.before.before.before.before›) ∙ rw (apart, done-apart PLACE‹c.before.before.before.before›),
-      subst (λ (n : ℕ). Marked (stream PLACE‹c.before.before.before.before›) (numbers PLACE‹c.before.before.before.before›) (count PLACE‹c.before.before.before.before›) (own PLACE‹c.before.before.before.before›) (set marks n 1)) (sym t)
-          (marked_more (stream PLACE‹c.before.before.before.before›) (numbers PLACE‹c.before.before.before.before›) (count PLACE‹c.before.before.before.before›) (enough PLACE‹c.before.before.before.before›) (own PLACE‹c.before.before.before.before›) (below PLACE‹c.before.before.before.before›) marks (done-marked PLACE‹c.before.before.before.before›) small),
+      repeats-more (stream here) (numbers here) (own here) (count here) (below here) (enough here) ∙ rw (apart, done-apart here),
+      subst (λ (n : ℕ). Marked (stream here) (numbers here) (count here) (own here) (set marks n 1)) (sym t)
+          (marked_more (stream here) (numbers here) (count here) (enough here) (own here) (below here) marks (done-marked here) small),
     )
 
 pub returns : goal.returns

@@ -7,12 +7,12 @@ use Rattle.reading.proofs.list_side.Goals as goal
 pub loop-element-init : goal.loop-element-init
 loop-element-init c =
     let a = c.args in
-    turning-all a.side a.s.now a.rows.now a.n a.flat.now c.requires.1.1
+    turning-all a.side a.s.now a.rows.now a.n a.flat.now c.requires.n_in_bounds
 
 pub list_element-count-requires : goal.list_element-count-requires
 list_element-count-requires c =
     let less = c.loop-element-test.true in
-    (c.requires.0, (c.requires.1.0, (less, room-for-element c.loop-element.invariant less)))
+    record { letter_rows = c.requires.letter_rows; filed = c.requires.filed; element_lt_n = less; room = room-for-element c.loop-element.invariant less }
 
 pub loop-element-preserved : goal.loop-element-preserved
 loop-element-preserved c =

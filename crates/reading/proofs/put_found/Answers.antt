@@ -9,7 +9,7 @@ use Rattle.reading.proofs.put_found.Goals as goal
 pub put_record-requires : goal.put_record-requires
 put_record-requires c =
     let a = c.args in
-    record { k_in_bounds = omega (arith, c.requires.0, ap length (found-one a.element a.portion a.found c.in-At.unit c.in-At.is)); element_bound = (c.requires.1.0, c.requires.1.1, found_below 4294967296 a.found c.in-At.unit c.in-At.is c.requires.1.2) }
+    record { k_in_bounds = omega (arith, c.requires.found_in_bounds, ap length (found-one a.element a.portion a.found c.in-At.unit c.in-At.is)); element_bound = (c.requires.element_bound.0, c.requires.element_bound.1, found_below 4294967296 a.found c.in-At.unit c.in-At.is c.requires.element_bound.2) }
 
 pub returns-in-At : goal.returns-in-At
 returns-in-At c =

@@ -4,7 +4,6 @@ use mathlib.Core.Bool.{true}
 use mathlib.Core.List.{List}
 use Prim.Native.Nat.{ℕ, ◌<◌}
 use native.Mathlib.Omega.{arith}
-use borrow.Author.Rules.{rules}
 use borrow.Author.Tests.{ne_eqb}
 use lib.Dec.{eqb}
 use Rattle.octets.specs.Walk.{Items, no_items}
@@ -30,9 +29,10 @@ returns-then-at-limit c =
 
 pub passed_head-requires : goal.passed_head-requires
 passed_head-requires c =
+    let here = (goal.at.passed_head-requires c).Else-at-limit in
     let a = c.args in
     let fine = c.requires in
-    (before-limit (goal.at.passed_head-requires c).Else-at-limit, fine.inside, passed a.s.now a.r fine (before-limit (goal.at.passed_head-requires c).Else-at-limit))
+    (before-limit here, fine.inside, passed a.s.now a.r fine (before-limit here))
 
 pub returns-in-Item : goal.returns-in-Item
 returns-in-Item c =

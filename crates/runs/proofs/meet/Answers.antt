@@ -5,7 +5,6 @@ use mathlib.Core.Bool.{Bool, true, false}
 use mathlib.Core.List.{List}
 use Prim.Native.Nat.{ℕ, ◌-◌, ◌<◌}
 use native.Mathlib.Omega.{arith}
-use borrow.Author.Rules.{rules}
 use Rattle.headers.specs.declared.Header.{Header}
 use Rattle.headers.specs.declared.Head.TheVariants.{Item}
 use Rattle.headers.specs.Head.{octet_at, head_at}
@@ -15,28 +14,28 @@ use Rattle.runs.specs.declared.Run.{Run}
 use Rattle.runs.specs.Runs.{Fine}
 use Rattle.runs.proofs.Meetings.{passed, lies, definite-ends, marked-value, marked-inside, marked-whole, marked-end, meets}
 use Rattle.runs.proofs.meet.Goals as goal
+use Rattle.runs.proofs.meet.Goals.{In-Item}
 
-module _ (c : lts.After-h) where
-  abbrev stream : List ℕ
-  stream = c.before.before.before.before.before.args.s.now
+abbrev stream : (c : In-Item) → List ℕ
+stream c = c.args.s.now
 
-abbrev its_run : Run
-its_run = c.before.before.before.before.before.args.r
+abbrev its_run : (c : In-Item) → Run
+its_run c = c.args.r
 
-abbrev header : Header
-header = c.h.given.0.0
+abbrev header : (c : In-Item) → Header
+header c = c.in-Item.h
 
-its-fine : Fine stream its_run
-its-fine = c.before.before.before.before.before.requires
+its-fine : (c : In-Item) → Fine (stream c) (its_run c)
+its-fine c = c.requires
 
-before-limit : its_run.at < its_run.limit
-before-limit = omega (arith, its-fine.order)
+before-limit : (c : In-Item) → (its_run c).at < (its_run c).limit
+before-limit c = omega (arith, (its-fine c).order)
 
-read : head_at stream its_run.at its_run.limit its_run.marked its_run.room ≡ Item header
-read = sym c.before.before.passed-head.ensures ∙ c.h.given.1
+read : (c : In-Item) → head_at (stream c) (its_run c).at (its_run c).limit (its_run c).marked (its_run c).room ≡ Item (header c)
+read c = sym c.passed_head.ensures ∙ c.in-Item.is
 
-octet_small : octet_at stream its_run.at < 256
-octet_small = omega (arith, c.before.before.before.before.shared-slice-known.given its_run.at)
+octet_small : (c : In-Item) → octet_at (stream c) (its_run c).at < 256
+octet_small c = omega (arith, c.shared_slice_known-1.given (its_run c).at)
 
 pub returns-then-at-limit : goal.returns-then-at-limit
 returns-then-at-limit c =
@@ -54,35 +53,40 @@ passed_head-requires c =
 
 pub overflow_sub-below : goal.overflow_sub-below
 overflow_sub-below c =
-    let o = lies (stream PLACE‹c.before.before›) (its_run PLACE‹c.before.before›) (its-fine PLACE‹c.before.before›) (before-limit PLACE‹c.before.before›) (header PLACE‹c.before.before›) (read PLACE‹c.before.before›) in
+    let here = (goal.at.overflow_sub-below c).In-Item in
+    let o = lies (stream here) (its_run here) (its-fine here) (before-limit here) (header here) (read here) in
     omega (arith, o.deep)
 
 pub end_of_marked-next-requires : goal.end_of_marked-next-requires
 end_of_marked-next-requires c =
-    let o = lies (stream PLACE‹c.before.before›) (its_run PLACE‹c.before.before›) (its-fine PLACE‹c.before.before›) (before-limit PLACE‹c.before.before›) (header PLACE‹c.before.before›) (read PLACE‹c.before.before›) in (
+    let here = (goal.at.end_of_marked-next-requires c).In-Item in
+    let o = lies (stream here) (its_run here) (its-fine here) (before-limit here) (header here) (read here) in (
       o.order,
-      omega (arith, o.within, (its-fine PLACE‹c.before.before›).inside),
-      marked-whole (stream PLACE‹c.before.before›) (its_run PLACE‹c.before.before›) (its-fine PLACE‹c.before.before›) (before-limit PLACE‹c.before.before›) (header PLACE‹c.before.before›) (read PLACE‹c.before.before›) c.if-h.true,
+      omega (arith, o.within, (its-fine here).inside),
+      marked-whole (stream here) (its_run here) (its-fine here) (before-limit here) (header here) (read here) c.if-h.true,
     )
 
 pub overflow_sub-result : goal.overflow_sub-result
 overflow_sub-result c =
+    let here = (goal.at.overflow_sub-result c).In-Item in
     let m = c.if-h.true in
-    let v = marked-value (stream PLACE‹c.before.before.before›) (its_run PLACE‹c.before.before.before›) (its-fine PLACE‹c.before.before.before›) (before-limit PLACE‹c.before.before.before›) (header PLACE‹c.before.before.before›) (read PLACE‹c.before.before.before›) m ∙ c.end_of_marked-next.ensures in
-    let two = marked-end (stream PLACE‹c.before.before.before›) (its_run PLACE‹c.before.before.before›) (its-fine PLACE‹c.before.before.before›) (before-limit PLACE‹c.before.before.before›) (header PLACE‹c.before.before.before›) (read PLACE‹c.before.before.before›) c.end_of_marked-next.result v m in
+    let v = marked-value (stream here) (its_run here) (its-fine here) (before-limit here) (header here) (read here) m ∙ c.end_of_marked-next.ensures in
+    let two = marked-end (stream here) (its_run here) (its-fine here) (before-limit here) (header here) (read here) c.end_of_marked-next.result v m in
     omega (arith, two)
 
 pub returns-then-h : goal.returns-then-h
 returns-then-h c =
-    let m : (header PLACE‹c.before.before.before›).marked ≡ true = c.if-h.true in
-    let v = marked-value (stream PLACE‹c.before.before.before›) (its_run PLACE‹c.before.before.before›) (its-fine PLACE‹c.before.before.before›) (before-limit PLACE‹c.before.before.before›) (header PLACE‹c.before.before.before›) (read PLACE‹c.before.before.before›) m ∙ c.end_of_marked-next.ensures in
-    meets (stream PLACE‹c.before.before.before›) (its_run PLACE‹c.before.before.before›) (its-fine PLACE‹c.before.before.before›) (before-limit PLACE‹c.before.before.before›) (header PLACE‹c.before.before.before›) (read PLACE‹c.before.before.before›) c.end_of_marked-next.result v (octet_small PLACE‹c.before.before.before›)
+    let here = (goal.at.returns-then-h c).In-Item in
+    let m : (header here).marked ≡ true = c.if-h.true in
+    let v = marked-value (stream here) (its_run here) (its-fine here) (before-limit here) (header here) (read here) m ∙ c.end_of_marked-next.ensures in
+    meets (stream here) (its_run here) (its-fine here) (before-limit here) (header here) (read here) c.end_of_marked-next.result v (octet_small here)
     (c.end_of_marked-next.result - 2) (sym (ap (λ (b : Bool). past_of b c.end_of_marked-next.result) m)) _
-    (marked-inside (stream PLACE‹c.before.before.before›) (its_run PLACE‹c.before.before.before›) (its-fine PLACE‹c.before.before.before›) (before-limit PLACE‹c.before.before.before›) (header PLACE‹c.before.before.before›) (read PLACE‹c.before.before.before›) m)
+    (marked-inside (stream here) (its_run here) (its-fine here) (before-limit here) (header here) (read here) m)
 
 pub inside_of-requires : goal.inside_of-requires
 inside_of-requires c =
-    let o = lies (stream PLACE‹c.before.before›) (its_run PLACE‹c.before.before›) (its-fine PLACE‹c.before.before›) (before-limit PLACE‹c.before.before›) (header PLACE‹c.before.before›) (read PLACE‹c.before.before›) in
+    let here = (goal.at.inside_of-requires c).In-Item in
+    let o = lies (stream here) (its_run here) (its-fine here) (before-limit here) (header here) (read here) in
     (o.deep, o.mark)
 
 pub returns-in-ClosingMark : goal.returns-in-ClosingMark
@@ -102,7 +106,8 @@ returns-in-Refusal c =
 
 pub returns-else-h : goal.returns-else-h
 returns-else-h c =
-    let m : (header PLACE‹c.before.before.before›).marked ≡ false = c.if-h.false in
-    let v = definite-ends (stream PLACE‹c.before.before.before›) (its_run PLACE‹c.before.before.before›) (its-fine PLACE‹c.before.before.before›) (before-limit PLACE‹c.before.before.before›) (header PLACE‹c.before.before.before›) (read PLACE‹c.before.before.before›) m in
-    meets (stream PLACE‹c.before.before.before›) (its_run PLACE‹c.before.before.before›) (its-fine PLACE‹c.before.before.before›) (before-limit PLACE‹c.before.before.before›) (header PLACE‹c.before.before.before›) (read PLACE‹c.before.before.before›) (header PLACE‹c.before.before.before›).bound v (octet_small PLACE‹c.before.before.before›)
-    (header PLACE‹c.before.before.before›).bound (sym (ap (λ (b : Bool). past_of b (header PLACE‹c.before.before.before›).bound) m)) c.inside_of.result c.inside_of.ensures
+    let here = (goal.at.returns-else-h c).In-Item in
+    let m : (header here).marked ≡ false = c.if-h.false in
+    let v = definite-ends (stream here) (its_run here) (its-fine here) (before-limit here) (header here) (read here) m in
+    meets (stream here) (its_run here) (its-fine here) (before-limit here) (header here) (read here) (header here).bound v (octet_small here)
+    (header here).bound (sym (ap (λ (b : Bool). past_of b (header here).bound) m)) c.inside_of.result c.inside_of.ensures

@@ -41,17 +41,17 @@ inner-fits : (t : ℕ) (c : Then-code-eq1 t) →
     let l = c.loop-code in
     l.done + 3 * length (places_of (items_of s c.in-Item.inner)) ≤ length l.list
 inner-fits t c =
-    fits c.loop-code.invariant (inner-gives t c) c.requires.1.1
+    fits c.loop-code.invariant (inner-gives t c) c.requires.r_in_bounds
 
 piece-fits : (t : ℕ) (c : Then-first-past t) →
     let l = c.loop-code in
     l.done + 3 ≤ length l.list
 piece-fits t c =
     fits c.loop-code.invariant (piece-here t c)
-    c.requires.1.1
+    c.requires.r_in_bounds
 
 pub loop-code-init : goal.loop-code-init
-loop-code-init t c = none-put c.requires.1.0.0
+loop-code-init t c = none-put c.requires.fine.0
 
 pub meet-requires : goal.meet-requires
 meet-requires t c = c.loop-code.invariant.fine
@@ -63,7 +63,8 @@ pub returns-in-End : goal.returns-in-End
 returns-in-End t c =
     let s = c.args.s.now in
     let l = c.loop-code in
-    all-put l.invariant (met s l.cur c.meet.ensures c.in-End.is)
+    let told = all-put l.invariant (met s l.cur c.meet.ensures c.in-End.is) in
+    record { value = told.0; list_after = told.1 }
 
 pub offset_bounds-list-done : goal.offset_bounds-list-done
 offset_bounds-list-done t c = omega (arith, c.loop-code.invariant.filling.within)
@@ -78,8 +79,7 @@ pub put_places-done-requires : goal.put_places-done-requires
 put_places-done-requires t c =
     let m = meeting t (goal.at.put_places-done-requires t c).In-Item in
     let l = c.loop-code in
-    let small = c.requires.1.0.1 in
-    (omega (arith, level-less m), ((m.inner_fine, small), omega (arith, inner-fits t (goal.at.put_places-done-requires t c).Then-code-eq1, part_length l.list l.done)))
+    (omega (arith, level-less m), ((m.inner_fine, c.requires.fine.1), omega (arith, inner-fits t (goal.at.put_places-done-requires t c).Then-code-eq1, part_length l.list l.done)))
 
 pub overflow_add-done : goal.overflow_add-done
 overflow_add-done t c = omega (arith, inner-fits t (goal.at.overflow_add-done t c).Then-code-eq1, c.put_places-done.ensures.value)
@@ -89,19 +89,20 @@ loop-code-smaller-then-code-eq1 t c = (meeting t (goal.at.loop-code-smaller-then
 
 pub loop-code-preserved-then-code-eq1 : goal.loop-code-preserved-then-code-eq1
 loop-code-preserved-then-code-eq1 t c =
+    let here = (goal.at.loop-code-preserved-then-code-eq1 t c).Then-code-eq1 in
     let l = c.loop-code in
-    let room = inner-fits t (goal.at.loop-code-preserved-then-code-eq1 t c).Then-code-eq1 in
-    more-put l.invariant (inner-gives t (goal.at.loop-code-preserved-then-code-eq1 t c).Then-code-eq1) c.put_places-done.result _ c.put_places-done.ensures.value (omega (arith, c.put_places-done.ensures.value)) c.put_places-done.ensures.list_after
+    let room = inner-fits t here in
+    more-put l.invariant (inner-gives t here) c.put_places-done.result _ c.put_places-done.ensures.value (omega (arith, c.put_places-done.ensures.value)) c.put_places-done.ensures.list_after
 
 pub overflow_cast-first : goal.overflow_cast-first
 overflow_cast-first t c =
     let m = meeting t (goal.at.overflow_cast-first t c).In-Item in
-    omega (arith, m.value_order, m.value_inside, c.requires.1.0.1)
+    omega (arith, m.value_order, m.value_inside, c.requires.fine.1)
 
 pub overflow_cast-past : goal.overflow_cast-past
 overflow_cast-past t c =
     let m = meeting t (goal.at.overflow_cast-past t c).In-Item in
-    omega (arith, m.value_inside, c.requires.1.0.1)
+    omega (arith, m.value_inside, c.requires.fine.1)
 
 pub put_source-requires : goal.put_source-requires
 put_source-requires t c = omega (arith, piece-fits t (goal.at.put_source-requires t c).Then-first-past)
@@ -114,8 +115,9 @@ loop-code-smaller-then-first-past t c = (meeting t (goal.at.loop-code-smaller-th
 
 pub loop-code-preserved-then-first-past : goal.loop-code-preserved-then-first-past
 loop-code-preserved-then-first-past t c =
+    let here = (goal.at.loop-code-preserved-then-first-past t c).Then-first-past in
     let l = c.loop-code in
-    one-put l.invariant (piece-here t (goal.at.loop-code-preserved-then-first-past t c).Then-first-past) (piece-fits t (goal.at.loop-code-preserved-then-first-past t c).Then-first-past) _ c.put_source.ensures
+    one-put l.invariant (piece-here t here) (piece-fits t here) _ c.put_source.ensures
 
 pub loop-code-smaller : goal.loop-code-smaller
 loop-code-smaller t c = (meeting t (goal.at.loop-code-smaller t c).In-Item).less

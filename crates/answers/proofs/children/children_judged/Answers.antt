@@ -14,34 +14,34 @@ use Rattle.answers.proofs.children.children_judged.Goals as goal
 
 pub returns-then-table-count : goal.returns-then-table-count
 returns-then-table-count c =
-    let l = accepted-judged c.requires.0.ended c.requires.1.0 in
+    let l = accepted-judged c.requires.accepts.ended c.requires.letter_rows in
     renamed c.refuse.ensures refl refl (relates-16 c.args.edition c.args.stream.now c.args.table.now c.args.row
     c.args.room c.args.list.now _ _ l.held.elements l.judged l.held.holds.counted (omega arith))
 
 pub returns-then-count-row : goal.returns-then-count-row
 returns-then-count-row c =
-    let l = accepted-judged c.requires.0.ended c.requires.1.0 in
+    let l = accepted-judged c.requires.accepts.ended c.requires.letter_rows in
     renamed c.refuse-then-count-row.ensures refl refl (relates-20 c.args.edition c.args.stream.now c.args.table.now c.args.row
     c.args.room c.args.list.now _ _ l.held.elements l.judged l.held.holds.counted (omega arith) c.if-count-row.true)
 
 pub fill-requires : goal.fill-requires
 fill-requires c =
-    let l = accepted-judged c.requires.0.ended c.requires.1.0 in
-    record { letter_rows = (c.args.edition, c.requires.1.0); filed = c.requires.1.1.0; count_le_most_elements = (l.few, omega arith) }
+    let l = accepted-judged c.requires.accepts.ended c.requires.letter_rows in
+    record { letter_rows = (c.args.edition, c.requires.letter_rows); filed = c.requires.filed; count_le_most_elements = (l.few, omega arith) }
 
 pub count_children-found-requires : goal.count_children-found-requires
 count_children-found-requires c =
-    let l = accepted-judged c.requires.0.ended c.requires.1.0 in
+    let l = accepted-judged c.requires.accepts.ended c.requires.letter_rows in
     (l.few, omega (arith, c.fill.auto.table))
 
 pub refuse-requires-then-room-found : goal.refuse-requires-then-room-found
 refuse-requires-then-room-found c =
-    let l = accepted-judged c.requires.0.ended c.requires.1.0 in
+    let l = accepted-judged c.requires.accepts.ended c.requires.letter_rows in
     l.few
 
 pub returns-then-room-found : goal.returns-then-room-found
 returns-then-room-found c =
-    let l = accepted-judged c.requires.0.ended c.requires.1.0 in
+    let l = accepted-judged c.requires.accepts.ended c.requires.letter_rows in
     let below : c.args.row < c.args.count = omega (arith, c.if-count-row.false) in
     let low : c.args.row < no_parent = omega (arith, l.few) in
     let fills = c.fill.ensures in
@@ -53,17 +53,17 @@ returns-then-room-found c =
 
 pub put_children-requires : goal.put_children-requires
 put_children-requires c =
-    let l = accepted-judged c.requires.0.ended c.requires.1.0 in
-    let counted = c.count_children-found.ensures in record { count_le_most_elements = (l.few, omega (arith, c.fill.auto.table)); count_in_bounds = omega (arith, counted, c.if-room-found.false, c.requires.1.1.1) }
+    let l = accepted-judged c.requires.accepts.ended c.requires.letter_rows in
+    let counted = c.count_children-found.ensures in record { count_le_most_elements = (l.few, omega (arith, c.fill.auto.table)); count_in_bounds = omega (arith, counted, c.if-room-found.false, c.requires.room_in_bounds) }
 
 pub overflow_cast-result : goal.overflow_cast-result
 overflow_cast-result c =
-    let l = accepted-judged c.requires.0.ended c.requires.1.0 in
+    let l = accepted-judged c.requires.accepts.ended c.requires.letter_rows in
     omega (arith, l.few)
 
 pub overflow_cast-result-2 : goal.overflow_cast-result-2
 overflow_cast-result-2 c =
-    let l = accepted-judged c.requires.0.ended c.requires.1.0 in
+    let l = accepted-judged c.requires.accepts.ended c.requires.letter_rows in
     let low : c.args.row < no_parent = omega (
       arith,
       l.few,
@@ -76,7 +76,7 @@ overflow_cast-result-2 c =
 
 pub returns : goal.returns
 returns c =
-    let l = accepted-judged c.requires.0.ended c.requires.1.0 in
+    let l = accepted-judged c.requires.accepts.ended c.requires.letter_rows in
     let below : c.args.row < c.args.count = omega (
       arith,
       c.if-count-row.false,

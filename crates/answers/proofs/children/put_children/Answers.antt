@@ -9,7 +9,7 @@ use Rattle.answers.proofs.children.put_children.Goals as goal
 pub loop-j-init : goal.loop-j-init
 loop-j-init c =
     let a = c.args in
-    putting-all a.table.now a.count a.row a.list.now c.requires.1
+    putting-all a.table.now a.count a.row a.list.now c.requires.count_in_bounds
 
 pub bounds-list-found : goal.bounds-list-found
 bounds-list-found c =
@@ -27,4 +27,4 @@ pub shape_of-list : goal.shape_of-list
 shape_of-list c = c.loop-j.invariant.kept
 
 pub returns : goal.returns
-returns c = putting-none c.loop-j.invariant c.loop-j-test.false c.requires.1
+returns c = putting-none c.loop-j.invariant c.loop-j-test.false c.requires.count_in_bounds

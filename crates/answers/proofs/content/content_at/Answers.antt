@@ -9,7 +9,7 @@ pub returns-then-rows-element-ne-TEXT_UNIT : goal.returns-then-rows-element-ne-T
 returns-then-rows-element-ne-TEXT_UNIT c = other_kind c.if-rows-element-ne-TEXT_UNIT.true
 
 pub content_of-requires : goal.content_of-requires
-content_of-requires c = record { fine = c.requires.0; by_index = c.requires.1.1 }
+content_of-requires c = record { fine = c.requires.fine; by_index = c.requires.element_bound.1 }
 
 pub returns-in-Part : goal.returns-in-Part
 returns-in-Part c =

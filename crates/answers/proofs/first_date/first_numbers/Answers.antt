@@ -54,10 +54,11 @@ date_in_first-requires c = (
 
 pub returns-in-Refused : goal.returns-in-Refused
 returns-in-Refused c =
+    let here = (goal.at.returns-in-Refused c).In-Refused in
     let a = c.args in
-    let k = small (goal.at.returns-in-Refused c).In-Refused in
+    let k = small here in
     subst (FirstTells a.edition a.stream.now) (sym c.refused_date-in-Refused.ensures)
-    (first-faulty a.edition a.stream.now c.if-stream-gt-STREAM_LIMIT.false _ _ (faulty (goal.at.returns-in-Refused c).In-Refused)
+    (first-faulty a.edition a.stream.now c.if-stream-gt-STREAM_LIMIT.false _ _ (faulty here)
     (λ z. omega (arith, k.0)))
 
 pub returns-in-Item : goal.returns-in-Item

@@ -6,19 +6,19 @@ use Rattle.answers.proofs.Placing.{none_found, fault-found}
 use Rattle.answers.proofs.in_order.order_judged.Goals as goal
 
 pub fault_in-requires : goal.fault_in-requires
-fault_in-requires c = record { letter_rows = (c.args.edition, c.requires.1.0); filed = c.requires.1.1 }
+fault_in-requires c = record { letter_rows = (c.args.edition, c.requires.letter_rows); filed = c.requires.filed }
 
 pub out_of_order-requires : goal.out_of_order-requires
 out_of_order-requires c =
-    (c.requires.1.0.holds.identifiers.in_table, stream-within c.args.stream.now _ c.requires.0.0 c.requires.0.1)
+    (c.requires.letter_rows.holds.identifiers.in_table, stream-within c.args.stream.now _ c.requires.by_index.0 c.requires.by_index.1)
 
 pub returns-in-Nowhere : goal.returns-in-Nowhere
 returns-in-Nowhere c =
     let fault-in = c.fault_in in
-    none_found c.requires.1.0 c.requires.0.1 c.args.class fault-in.result fault-in.ensures c.in-Nowhere.is
+    none_found c.requires.letter_rows c.requires.by_index.1 c.args.class fault-in.result fault-in.ensures c.in-Nowhere.is
 
 pub returns-in-At : goal.returns-in-At
 returns-in-At c =
     let fault-in = c.fault_in in
     c.out_of_order.ensures
-    ∙ fault-found c.requires.1.0 c.requires.0.1 c.args.class fault-in.result c.in-At.element fault-in.ensures c.in-At.is
+    ∙ fault-found c.requires.letter_rows c.requires.by_index.1 c.args.class fault-in.result c.in-At.element fault-in.ensures c.in-At.is

@@ -11,17 +11,14 @@ use Rattle.answers.proofs.Listing.{finished-rows, lists-finished}
 use Rattle.answers.proofs.list.list_judged.Goals as goal
 
 pub find_matches-listed-requires : goal.find_matches-listed-requires
-find_matches-listed-requires c = (
-  c.requires.0,
-  (c.requires.1.0, (c.requires.1.1.0, c.requires.1.1.1)),
-)
+find_matches-listed-requires c = record { accepts = c.requires.accepts; letter_rows = c.requires.letter_rows; both_filed = c.requires.both_filed; stream_in_bounds = c.requires.stream_in_bounds }
 
 pub finish-requires : goal.finish-requires
 finish-requires c =
     let x = c.args in
-    let l = accepted-judged c.requires.0.ended c.requires.1.0 in
-    let found = c.find_matches-listed.ensures in record { accepts = c.requires.0; letter_rows = c.requires.1.0; filed = subst (λ (index : List ℕ). Filed x.stream.now x.rows.now identifier_column index x.count) (sym c.identifiers-names.ensures)
-              c.requires.1.1.0.identifiers; count_bound = λ finished.
+    let l = accepted-judged c.requires.accepts.ended c.requires.letter_rows in
+    let found = c.find_matches-listed.ensures in record { accepts = c.requires.accepts; letter_rows = c.requires.letter_rows; filed = subst (λ (index : List ℕ). Filed x.stream.now x.rows.now identifier_column index x.count) (sym c.identifiers-names.ensures)
+              c.requires.both_filed.identifiers; count_bound = λ finished.
               let rows = finished-rows x.edition x.side x.stream.now x.table.now x.room refl found l.judged finished in
               omega (arith, l.held.holds.counted) }
 

@@ -9,7 +9,7 @@ loop-j-init c = let a = c.args in filling-all a.s.now a.rows.now a.count a.table
 
 pub put_row-requires : goal.put_row-requires
 put_row-requires c =
-    record { letter_rows = c.requires.0; filed = c.requires.1.0; j_lt_count = (c.loop-j-test.true, c.requires.1.1.0, omega (arith, c.requires.1.1.1, c.loop-j.invariant.kept)) }
+    record { letter_rows = c.requires.letter_rows; filed = c.requires.filed; j_lt_count = (c.loop-j-test.true, c.requires.count_le_most_elements.0, omega (arith, c.requires.count_le_most_elements.1, c.loop-j.invariant.kept)) }
 
 pub loop-j-preserved : goal.loop-j-preserved
 loop-j-preserved c =
@@ -20,4 +20,4 @@ pub shape_of-table : goal.shape_of-table
 shape_of-table c = c.loop-j.invariant.kept
 
 pub returns : goal.returns
-returns c = filling-none c.loop-j.invariant c.loop-j-test.false c.requires.1.1.1
+returns c = filling-none c.loop-j.invariant c.loop-j-test.false c.requires.count_le_most_elements.1

@@ -12,12 +12,12 @@ returns-then-not-is_finishing c = rw (sym c.is_finishing.ensures ∙ c.if-not-is
 
 pub fill-requires : goal.fill-requires
 fill-requires c =
-    let l = accepted-judged c.requires.0.ended c.requires.1.0 in
-    let enough = c.requires.1.1.1 (sym c.is_finishing.ensures ∙ c.if-not-is_finishing.false) in
-    record { letter_rows = (c.args.edition, c.requires.1.0); filed = c.requires.1.1.0; count_le_most_elements = (l.few, omega (arith, enough)) }
+    let l = accepted-judged c.requires.accepts.ended c.requires.letter_rows in
+    let enough = c.requires.count_bound (sym c.is_finishing.ensures ∙ c.if-not-is_finishing.false) in
+    record { letter_rows = (c.args.edition, c.requires.letter_rows); filed = c.requires.filed; count_le_most_elements = (l.few, omega (arith, enough)) }
 
 pub returns : goal.returns
 returns c =
-    let l = accepted-judged c.requires.0.ended c.requires.1.0 in
+    let l = accepted-judged c.requires.accepts.ended c.requires.letter_rows in
     let filled = table_filled l.held l.judged c.args.table.now _ c.fill.ensures in
     filled ∙ rw (sym c.is_finishing.ensures ∙ c.if-not-is_finishing.false)

@@ -16,14 +16,14 @@ use borrow.Author.Rules.{rules}
 use Rattle.answers.proofs.table.put_row.Goals as goal
 
 pub returns : goal.returns
-returns c =
+returns c edition letter row there =
     let a = c.args in
     let j = a.j in
-    let own = scratch-slice letter j row c.requires.1.1.0 there in
+    let own = scratch-slice letter j row c.requires.j_lt_count.0 there in
     let part = part_slice (j * scratch_width) (j * scratch_width + scratch_width) a.rows.now (omega arith) in
     let put = c.copy_numbers.ensures ∙ ap (λ (l : List ℕ). paste a.table.now (j * table_width) l scratch_width) (part ∙ own) in
     let above = c.parent_of-parent.ensures.is letter.elements (rows_tell letter) in
     ap (λ (l : List ℕ). set l (j * table_width + scratch_width) c.parent_of-parent.result) put
     ∙ ap (λ (p : ℕ). set (paste a.table.now (j * table_width) (cells row) scratch_width) (j * table_width + scratch_width) p) above
     ∙ put-behind a.table.now (j * table_width) (cells row) (row_or_none (parent letter.elements j)) refl
-    (omega (arith, c.requires.1.1.0, c.requires.1.1.2))
+    (omega (arith, c.requires.j_lt_count.0, c.requires.j_lt_count.2))

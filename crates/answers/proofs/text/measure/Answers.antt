@@ -18,7 +18,7 @@ loop-k-init c =
     (omega arith, omega (arith, e))
 
 pub text_length-total-requires : goal.text_length-total-requires
-text_length-total-requires c = (c.requires.0, c.requires.1.0)
+text_length-total-requires c = record { accepts = c.requires.accepts; letter_rows = c.requires.letter_rows }
 
 pub overflow_add-total : goal.overflow_add-total
 overflow_add-total c =
@@ -26,7 +26,7 @@ overflow_add-total c =
     let l = c.loop-k in
     let own = c.text_length-total.ensures ∙ ap (λ (u : ℕ). length (text_in a.edition a.stream.now u)) c.wide-unit.ensures in
     let left = size-left (text_in a.edition a.stream.now) a.numbers.now l.k a.lines c.loop-k-test.true in
-    omega (arith, own, left, l.invariant.1, c.requires.1.1.short)
+    omega (arith, own, left, l.invariant.1, c.requires.listing.short)
 
 pub loop-k-preserved : goal.loop-k-preserved
 loop-k-preserved c =

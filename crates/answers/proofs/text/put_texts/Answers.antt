@@ -18,21 +18,21 @@ bounds-numbers-k c =
     let a = c.args in
     let l = c.loop-k in
     let below = c.loop-k-test.true in
-    omega (arith, below, l.invariant.long, c.requires.1.1.0.room)
+    omega (arith, below, l.invariant.long, c.requires.listing.room)
 
 pub slice_bounds-put_text-count : goal.slice_bounds-put_text-count
 slice_bounds-put_text-count c =
     let a = c.args in
     let l = c.loop-k in
     let below = c.loop-k-test.true in
-    omega (arith, l.invariant.all, l.invariant.wide, c.requires.1.1.1)
+    omega (arith, l.invariant.all, l.invariant.wide, c.requires.lines_in_bounds)
 
 pub slice_bounds-put_text-start : goal.slice_bounds-put_text-start
 slice_bounds-put_text-start c =
     let a = c.args in
     let l = c.loop-k in
     let below = c.loop-k-test.true in
-    let h : l.done ≤ length l.out = omega (arith, l.invariant.all, l.invariant.wide, c.requires.1.1.1) in
+    let h : l.done ≤ length l.out = omega (arith, l.invariant.all, l.invariant.wide, c.requires.lines_in_bounds) in
     h
 
 pub put_text-done-requires : goal.put_text-done-requires
@@ -40,18 +40,12 @@ put_text-done-requires c =
     let a = c.args in
     let l = c.loop-k in
     let below = c.loop-k-test.true in
-    let same = ap (λ (u : ℕ). length (text_in a.edition a.stream.now u)) c.wide-unit.ensures in (
-      c.requires.0,
-      (
-        c.requires.1.0,
-        omega (
+    let same = ap (λ (u : ℕ). length (text_in a.edition a.stream.now u)) c.wide-unit.ensures in record { accepts = c.requires.accepts; letter_rows = c.requires.letter_rows; unit_in_bounds = omega (
           arith,
           same,
-          room-left (text_in a.edition a.stream.now) a.numbers.now a.lines a.out.now l.invariant below c.requires.1.1.1,
+          room-left (text_in a.edition a.stream.now) a.numbers.now a.lines a.out.now l.invariant below c.requires.lines_in_bounds,
           part_length l.out l.done,
-        ),
-      ),
-    )
+        ) }
 
 pub overflow_add-done : goal.overflow_add-done
 overflow_add-done c =
@@ -65,7 +59,7 @@ overflow_add-done c =
       own,
       same,
       end-within (text_in a.edition a.stream.now) a.numbers.now a.lines a.out.now l.invariant below,
-      c.requires.1.1.0.short,
+      c.requires.listing.short,
     )
 
 pub overflow_cast-numbers : goal.overflow_cast-numbers
@@ -80,7 +74,7 @@ overflow_cast-numbers c =
       own,
       same,
       end-within (text_in a.edition a.stream.now) a.numbers.now a.lines a.out.now l.invariant below,
-      c.requires.1.1.0.short,
+      c.requires.listing.short,
     )
 
 pub overflow_mul-numbers : goal.overflow_mul-numbers
@@ -88,28 +82,28 @@ overflow_mul-numbers c =
     let a = c.args in
     let l = c.loop-k in
     let below = c.loop-k-test.true in
-    omega (arith, below, c.requires.1.1.0.few)
+    omega (arith, below, c.requires.listing.few)
 
 pub overflow_add-numbers : goal.overflow_add-numbers
 overflow_add-numbers c =
     let a = c.args in
     let l = c.loop-k in
     let below = c.loop-k-test.true in
-    omega (arith, below, c.requires.1.1.0.few)
+    omega (arith, below, c.requires.listing.few)
 
 pub offset_bounds-numbers-lines : goal.offset_bounds-numbers-lines
 offset_bounds-numbers-lines c =
     let a = c.args in
     let l = c.loop-k in
     let below = c.loop-k-test.true in
-    omega (arith, below, c.requires.1.1.0.few)
+    omega (arith, below, c.requires.listing.few)
 
 pub bounds-numbers-lines : goal.bounds-numbers-lines
 bounds-numbers-lines c =
     let a = c.args in
     let l = c.loop-k in
     let below = c.loop-k-test.true in
-    omega (arith, below, l.invariant.long, c.requires.1.1.0.room)
+    omega (arith, below, l.invariant.long, c.requires.listing.room)
 
 pub loop-k-preserved : goal.loop-k-preserved
 loop-k-preserved c =
@@ -119,7 +113,7 @@ loop-k-preserved c =
     let below = c.loop-k-test.true in
     let same = ap (λ (u : ℕ). length (text_in a.edition a.stream.now u)) wide.ensures in
     let octets = ap (λ (u : ℕ). text_in a.edition a.stream.now u ++ drop c.put_text-done.result (part_from l.out l.done)) wide.ensures in
-    more-put (text_in a.edition a.stream.now) a.numbers.now a.lines a.out.now l.invariant below c.requires.1.1.1 c.put_text-done.result _
+    more-put (text_in a.edition a.stream.now) a.numbers.now a.lines a.out.now l.invariant below c.requires.lines_in_bounds c.put_text-done.result _
     (c.put_text-done.ensures.value ∙ same) (c.put_text-done.ensures.out_after ∙ octets)
 
 pub shape_of-numbers : goal.shape_of-numbers

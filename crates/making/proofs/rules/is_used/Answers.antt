@@ -12,12 +12,12 @@ use Rattle.making.proofs.rules.is_used.Goals as goal
 
 pub find-requires : goal.find-requires
 find-requires c =
-    let lies = c.requires.1.0 in record { bounded = c.requires.0.0; filed = c.requires.0.1; asked_within = record {
+    let lies = c.requires.part_lies.0 in record { bounded = c.requires.bounded.0; filed = c.requires.bounded.1; asked_within = record {
             first_order = lies.order;
             first_inside = lies.inside;
             second_order = omega arith;
             second_inside = omega arith;
-          }; hashed_value = c.requires.1.1 }
+          }; hashed_value = c.requires.part_lies.1 }
 
 pub returns-in-At : goal.returns-in-At
 returns-in-At c =

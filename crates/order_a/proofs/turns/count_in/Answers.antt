@@ -8,10 +8,10 @@ use Rattle.owners.proofs.Telling.{meetable}
 use Rattle.order_a.proofs.turns.count_in.Goals as goal
 
 pub kind_at-requires : goal.kind_at-requires
-kind_at-requires c = row_inside c.requires.0.1 c.args.j c.requires.1
+kind_at-requires c = row_inside c.requires.letter_rows.1 c.args.j c.requires.j_lt_n
 
 pub portions_of-requires : goal.portions_of-requires
-portions_of-requires c = record { scratch_width_in_bounds = row_inside c.requires.0.1 c.args.j c.requires.1; meetable = meetable (rows_tell c.requires.0.1) c.args.j c.requires.1 }
+portions_of-requires c = record { scratch_width_in_bounds = row_inside c.requires.letter_rows.1 c.args.j c.requires.j_lt_n; meetable = meetable (rows_tell c.requires.letter_rows.1) c.args.j c.requires.j_lt_n }
 
 pub returns-then-kind_at-kind : goal.returns-then-kind_at-kind
 unfolding counts_in

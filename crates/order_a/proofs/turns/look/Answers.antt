@@ -10,9 +10,9 @@ use Rattle.order_a.proofs.turns.look.Goals as goal
 
 pub own_of-requires : goal.own_of-requires
 own_of-requires c =
-    let known = rows_tell c.requires.0.1 in (
-      row_inside known c.args.side c.args.u c.requires.1.1 c.owner_of-owner.result (c.owner_of-owner.ensures _ known),
-      c.requires.0.1.holds.identifiers.in_table,
+    let known = rows_tell c.requires.letter_rows.1 in (
+      row_inside known c.args.side c.args.u c.requires.u_lt_n c.owner_of-owner.result (c.owner_of-owner.ensures _ known),
+      c.requires.letter_rows.1.holds.identifiers.in_table,
     )
 
 pub returns : goal.returns
@@ -20,6 +20,6 @@ returns c =
     let a = c.args in
     record {
       is = λ elements ready. subst (OwnIs a.side elements a.n a.u) (sym c.own_of.ensures)
-          (own_is ready a.side a.u c.requires.1.1 c.owner_of-owner.result (c.owner_of-owner.ensures elements ready));
+          (own_is ready a.side a.u c.requires.u_lt_n c.owner_of-owner.result (c.owner_of-owner.ensures elements ready));
       in_rows = subst (λ (o : Own). o.row ≤ a.u) (sym c.own_of.ensures) (row_low a.rows.now a.n a.u c.owner_of-owner.result);
     }

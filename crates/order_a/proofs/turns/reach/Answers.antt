@@ -9,33 +9,33 @@ use Rattle.order_a.proofs.turns.reach.Goals as goal
 pub loop-at-init : goal.loop-at-init
 loop-at-init c = let a = c.args in (
   omega arith,
-  c.requires.1.0,
-  counted_none a.s.now a.rows.now a.n a.kind a.row a.base c.requires.1.2,
+  c.requires.row_le_to.0,
+  counted_none a.s.now a.rows.now a.n a.kind a.row a.base c.requires.row_le_to.2,
 )
 
 pub count_in-total-requires : goal.count_in-total-requires
-count_in-total-requires c = (c.requires.0, omega (arith, c.requires.1.1))
+count_in-total-requires c = record { letter_rows = c.requires.letter_rows; j_lt_n = omega (arith, c.requires.row_le_to.1) }
 
 pub overflow_add-total : goal.overflow_add-total
 overflow_add-total c =
     let at = c.loop-at in
-    let l : at.at < c.args.n = omega (arith, c.requires.1.1) in
+    let l : at.at < c.args.n = omega (arith, c.requires.row_le_to.1) in
     omega (
       arith,
       at.invariant.2.small,
-      counts-few (rows_tell c.requires.0.1) c.args.kind at.at l,
+      counts-few (rows_tell c.requires.letter_rows.1) c.args.kind at.at l,
       c.count_in-total.ensures,
-      few-rows c.requires.0.1,
+      few-rows c.requires.letter_rows.1,
     )
 
 pub overflow_add-at : goal.overflow_add-at
-overflow_add-at c = omega (arith, few-rows c.requires.0.1, c.requires.1.1)
+overflow_add-at c = omega (arith, few-rows c.requires.letter_rows.1, c.requires.row_le_to.1)
 
 pub loop-at-preserved : goal.loop-at-preserved
 loop-at-preserved c =
     let at = c.loop-at in
-    let l : at.at < c.args.n = omega (arith, c.requires.1.1) in
-    (omega arith, omega arith, rw c.count_in-total.ensures (counted-more at.invariant.2 (rows_tell c.requires.0.1) l))
+    let l : at.at < c.args.n = omega (arith, c.requires.row_le_to.1) in
+    (omega arith, omega arith, rw c.count_in-total.ensures (counted-more at.invariant.2 (rows_tell c.requires.letter_rows.1) l))
 
 pub returns : goal.returns
 returns c = let at = c.loop-at in counted-all at.invariant.2 (omega arith)

@@ -6,7 +6,6 @@ use borrow.Author.Tests.{eq-eqb, ne_eqb}
 use lib.Dec.{eqb}
 use Rattle.rows.specs.Columns.{kind_at}
 use Rattle.rows.specs.Rows.{name_space_of}
-use borrow.Author.Rules.{rules}
 use Rattle.rows.proofs.chains.has.Goals as goal
 
 pub returns-then-own-space : goal.returns-then-own-space
@@ -15,7 +14,7 @@ returns-then-own-space c =
 
 pub is_asked-requires : goal.is_asked-requires
 is_asked-requires c = (
-  c.requires.1.1.1.1,
+  c.requires.asked_within,
   omega (arith, c.wide32-past.ensures, c.wide32-first.ensures),
   omega (arith, c.wide32-past.ensures),
 )

@@ -9,7 +9,6 @@ use Rattle.rows.specs.Lookup.{FindsFrom, FiledIn}
 use Rattle.rows.proofs.Finding.{finds-more}
 use Rattle.rows.proofs.Filing.{bounded-front, by-hash-from, in-order-from}
 use Rattle.rows.proofs.Parts.{some_links, heads-count, to-parts}
-use borrow.Author.Rules.{rules}
 use Rattle.rows.proofs.lookup.find_any.Goals as goal
 use Rattle.rows.proofs.lookup.find_any.Goals.{After-next-1}
 
@@ -21,10 +20,10 @@ filed : (c : After-next-1) →
 filed c =
     let a = c.args in
     to-parts a.index.now c.links_begin-links.ensures.0 (λ (h l : List ℕ). FiledIn a.s.now a.rows.now a.column h l a.n)
-    c.requires.1.0
+    c.requires.filed
 
 pub links_begin-links-requires : goal.links_begin-links-requires
-links_begin-links-requires c = some_links c.args.index.now c.requires.1.0.by_hash.some_buckets
+links_begin-links-requires c = some_links c.args.index.now c.requires.filed.by_hash.some_buckets
 
 pub slice_bounds-head-end : goal.slice_bounds-head-end
 slice_bounds-head-end c = heads-count c.args.index.now c.links_begin-links.ensures.0
@@ -34,13 +33,14 @@ chained_of-from-requires c = omega (arith, (filed (goal.at.chained_of-from-requi
 
 pub find_later-requires : goal.find_later-requires
 find_later-requires c =
-    record { bounded = c.requires.0; ordered = in-order-from (filed (goal.at.find_later-requires c).After-next-1) c.chained_of-from.ensures; asked_within = c.requires.1.1.0 }
+    record { bounded = c.requires.bounded; ordered = in-order-from (filed (goal.at.find_later-requires c).After-next-1) c.chained_of-from.ensures; asked_within = c.requires.asked_within }
 
 pub find-requires : goal.find-requires
 find-requires c =
+    let here = (goal.at.find-requires c).After-next-1 in
     let chained-of = c.chained_of-from in
-    let o = in-order-from (filed (goal.at.find-requires c).After-next-1) chained-of.ensures in
-    record { bounded = bounded-front o.begins c.requires.0; indexed = by-hash-from (filed (goal.at.find-requires c).After-next-1) chained-of.ensures; asked_within = c.requires.1.1.0; hashed_value = c.requires.1.1.1 }
+    let o = in-order-from (filed here) chained-of.ensures in
+    record { bounded = bounded-front o.begins c.requires.bounded; indexed = by-hash-from (filed here) chained-of.ensures; asked_within = c.requires.asked_within; hashed_value = c.requires.hashed_value }
 
 pub returns-in-At : goal.returns-in-At
 returns-in-At c =

@@ -7,7 +7,6 @@ use lib.Dec.{eqb}
 use Rattle.rows.specs.Rows.{name_space_of}
 use Rattle.rows.specs.Columns.{kind_at}
 use Rattle.rows.specs.Order.{less}
-use borrow.Author.Rules.{rules}
 use Rattle.rows.proofs.order.is_before.Goals as goal
 
 pub returns-then-own-space : goal.returns-then-own-space
@@ -20,7 +19,7 @@ returns-then-own-space c =
 
 pub is_asked_less-requires : goal.is_asked_less-requires
 is_asked_less-requires c = (
-  c.requires.1.1.1.1,
+  c.requires.asked_within,
   omega (arith, c.wide32-past.ensures, c.wide32-first.ensures),
   omega (arith, c.wide32-past.ensures),
 )

@@ -9,25 +9,21 @@ use Rattle.rows.specs.Columns.{kind_at}
 use Rattle.rows.specs.Lookup.{key_at, Between}
 use Rattle.rows.proofs.Sorted.{ordered-more, put-around}
 use Rattle.rows.proofs.Filing.{bounded-front}
-use borrow.Author.Rules.{rules}
 use Rattle.rows.proofs.places.put_in_order.Goals as goal
 
 pub place-p-requires : goal.place-p-requires
 place-p-requires c =
-    let b = c.requires.0 in
-    let own = b.ordered c.args.n (omega arith) in
-    let inner = b.inside c.args.n (omega arith) in (
-      bounded-front (omega arith) b,
-      (
-        c.requires.1.0,
-        record {
-          first_order = omega (arith, own, c.wide32-first.ensures, c.wide32-past.ensures);
-          first_inside = omega (arith, inner, c.wide32-past.ensures);
-          second_order = omega arith;
-          second_inside = omega arith;
-        },
-      ),
-    )
+    let own = c.requires.bounded.ordered c.args.n (omega arith) in
+    let inner = c.requires.bounded.inside c.args.n (omega arith) in record {
+      bounded = bounded-front (omega arith) c.requires.bounded;
+      ordered = c.requires.ordered;
+      asked_within = record {
+        first_order = omega (arith, own, c.wide32-first.ensures, c.wide32-past.ensures);
+        first_inside = omega (arith, inner, c.wide32-past.ensures);
+        second_order = omega arith;
+        second_inside = omega arith;
+      };
+    }
 
 pub returns : goal.returns
 returns c =
@@ -45,4 +41,4 @@ returns c =
     place.result place.result =
     subst (λ (x : List ℕ). Between a.s.now a.rows.now a.column a.next.now a.from a.n x place.result place.result) key
     place.ensures in
-    record { ordered_2 = ordered-more c.requires.1.0 c.requires.1.1.0 w shift.ensures; around = put-around c.requires.1.0 c.requires.1.1.0 w shift.ensures }
+    record { ordered_2 = ordered-more c.requires.ordered c.requires.n_in_bounds.0 w shift.ensures; around = put-around c.requires.ordered c.requires.n_in_bounds.0 w shift.ensures }

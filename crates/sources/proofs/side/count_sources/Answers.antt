@@ -30,28 +30,30 @@ all_short : (c : After-count_unit-total) →
 all_short c =
     let a = c.args in
     let all = ap length (left-all (places_in a.edition a.s.now) a.numbers.now a.lines) in
-    omega (arith, c.requires.1.short, c.loop-k.invariant.1)
+    omega (arith, c.requires.lines_listed.short, c.loop-k.invariant.1)
 
 pub loop-k-init : goal.loop-k-init
 loop-k-init c = (omega arith, omega arith)
 
 pub overflow_mul-k : goal.overflow_mul-k
-overflow_mul-k c = omega (arith, c.requires.1.room)
+overflow_mul-k c = omega (arith, c.requires.lines_listed.room)
 
 pub overflow_add-k : goal.overflow_add-k
-overflow_add-k c = omega (arith, c.requires.1.room)
+overflow_add-k c = omega (arith, c.requires.lines_listed.room)
 
 pub offset_bounds-numbers-k : goal.offset_bounds-numbers-k
-offset_bounds-numbers-k c = omega (arith, c.requires.1.room)
+offset_bounds-numbers-k c = omega (arith, c.requires.lines_listed.room)
 
 pub bounds-numbers-k : goal.bounds-numbers-k
-bounds-numbers-k c = omega (arith, c.requires.1.room)
+bounds-numbers-k c = omega (arith, c.requires.lines_listed.room)
 
 pub count_unit-total-requires : goal.count_unit-total-requires
-count_unit-total-requires c = c.requires.0
+count_unit-total-requires c = c.requires.fine
 
 pub overflow_add-total : goal.overflow_add-total
-overflow_add-total c = omega (arith, turn (goal.at.overflow_add-total c).After-count_unit-total, all_short (goal.at.overflow_add-total c).After-count_unit-total)
+overflow_add-total c =
+    let here = (goal.at.overflow_add-total c).After-count_unit-total in
+    omega (arith, turn here, all_short here)
 
 pub loop-k-preserved : goal.loop-k-preserved
 loop-k-preserved c = (omega arith, omega (arith, turn (goal.at.loop-k-preserved c).After-count_unit-total, c.loop-k.invariant.1))

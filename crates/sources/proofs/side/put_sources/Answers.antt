@@ -27,26 +27,26 @@ unit-fits c =
     let left = sources_left places a.numbers.now a.lines in
     let all = ap length (left-all places a.numbers.now a.lines) in
     let unit = ap (λ (u : ℕ). length (places u)) c.wide-unit.ensures in
-    let room = room-left l.invariant.1 (omega (arith, source-length (left 0), c.requires.1.1)) in
+    let room = room-left l.invariant.1 (omega (arith, source-length (left 0), c.requires.lines_in_bounds)) in
     omega (arith, source-length (left l.k), left-length places a.numbers.now a.lines l.k c.loop-k-test.true)
 
 pub loop-k-init : goal.loop-k-init
 loop-k-init c = (omega arith, none_filled)
 
 pub overflow_mul-k : goal.overflow_mul-k
-overflow_mul-k c = omega (arith, c.requires.1.0.room)
+overflow_mul-k c = omega (arith, c.requires.lines_listed.room)
 
 pub overflow_add-k : goal.overflow_add-k
-overflow_add-k c = omega (arith, c.requires.1.0.room)
+overflow_add-k c = omega (arith, c.requires.lines_listed.room)
 
 pub offset_bounds-numbers-k : goal.offset_bounds-numbers-k
-offset_bounds-numbers-k c = omega (arith, c.requires.1.0.room)
+offset_bounds-numbers-k c = omega (arith, c.requires.lines_listed.room)
 
 pub bounds-numbers-k : goal.bounds-numbers-k
-bounds-numbers-k c = omega (arith, c.requires.1.0.room)
+bounds-numbers-k c = omega (arith, c.requires.lines_listed.room)
 
 pub overflow_cast-k : goal.overflow_cast-k
-overflow_cast-k c = omega (arith, c.requires.1.0.few)
+overflow_cast-k c = omega (arith, c.requires.lines_listed.few)
 
 pub offset_bounds-list-done : goal.offset_bounds-list-done
 offset_bounds-list-done c = omega (arith, c.loop-k.invariant.1.within)
@@ -60,7 +60,7 @@ slice_bounds-put_unit-start c = c.loop-k.invariant.1.within
 pub put_unit-done-requires : goal.put_unit-done-requires
 put_unit-done-requires c =
     let l = c.loop-k in
-    (c.requires.0, omega (arith, unit-fits (goal.at.put_unit-done-requires c).After-wide-unit, part_length l.list l.done))
+    record { fine = c.requires.fine; unit_in_bounds = omega (arith, unit-fits (goal.at.put_unit-done-requires c).After-wide-unit, part_length l.list l.done) }
 
 pub overflow_add-done : goal.overflow_add-done
 overflow_add-done c = omega (arith, unit-fits (goal.at.overflow_add-done c).After-wide-unit, c.put_unit-done.ensures.value)

@@ -11,13 +11,13 @@ use Rattle.sources.proofs.unit.put_held.Goals as goal
 pub put_piece-requires : goal.put_piece-requires
 put_piece-requires c =
     let s = c.args.s.now in
-    let here = subst (HeldHere s) c.in-Part.is c.requires.0.0 in
-    (omega (arith, here, c.requires.0.1), omega (arith, ap (λ (held : Held). length (held_places s held)) c.in-Part.is, c.requires.1))
+    let here = subst (HeldHere s) c.in-Part.is c.requires.held_here.0 in
+    (omega (arith, here, c.requires.held_here.1), omega (arith, ap (λ (held : Held). length (held_places s held)) c.in-Part.is, c.requires.held_in_bounds))
 
 pub put_places-requires : goal.put_places-requires
 put_places-requires c =
     let s = c.args.s.now in
-    record { fine = (subst (HeldHere s) c.in-Pieces.is c.requires.0.0, c.requires.0.1); r_in_bounds = omega (arith, ap (λ (held : Held). length (held_places s held)) c.in-Pieces.is, c.requires.1) }
+    record { fine = (subst (HeldHere s) c.in-Pieces.is c.requires.held_here.0, c.requires.held_here.1); r_in_bounds = omega (arith, ap (λ (held : Held). length (held_places s held)) c.in-Pieces.is, c.requires.held_in_bounds) }
 
 pub returns-in-Part : goal.returns-in-Part
 returns-in-Part c =

@@ -10,7 +10,7 @@ use Rattle.sources.proofs.unit.put_unit.Goals as goal
 pub put_held-requires : goal.put_held-requires
 put_held-requires c =
     let held = c.content_of.ensures in
-    record { held_here = (unit-here held, c.requires.0.2); held_in_bounds = omega (arith, ap length (unit-places held), c.requires.1) }
+    record { held_here = (unit-here held, c.requires.fine.2); held_in_bounds = omega (arith, ap length (unit-places held), c.requires.unit_in_bounds) }
 
 pub returns-then-unit-count : goal.returns-then-unit-count
 returns-then-unit-count c =
@@ -20,4 +20,5 @@ returns-then-unit-count c =
 pub returns : goal.returns
 returns c =
     let a = c.args in
-    puts-same a.line 0 _ _ _ _ (no-unit-places c.requires.0.1 a.unit c.if-unit-count.false) (puts_none a.line a.list.now)
+    let told = puts-same a.line 0 _ _ _ _ (no-unit-places c.requires.fine.1 a.unit c.if-unit-count.false) (puts_none a.line a.list.now) in
+    record { value = told.0; list_after = told.1 }
