@@ -1,6 +1,7 @@
 // The octets of a letter's text, in one of three sets of characters, as UTF-8. Every octet is shown: as its character, as a part of a character of two
 // octets, or by its number.
 #![tactic(auto)]
+
 ghost use Rattle.std.specs.Prelude.{◌≡◌, ◌≤◌, length};
 ghost use Rattle.std.proofs.lemmas.List.Edits.{sets};
 ghost use Rattle.characters.specs.Sets.{set_of};

@@ -5,7 +5,7 @@ use Rattle.lister_hex.specs.Lines.{TextMeaning, stream, unreadable}
 
 -- "Hex lister, whole input"
 abbrev pub input : String
-input = "A000\n_a211020104310_c41053120302032_a103120130\n_a30_f310940073120302032203004024869\n"
+input = "A000\nA211020104310C41053120302032A103120130\nA30F310940073120302032203004024869\n"
 
 -- its stream: three elements, from 0, 2 and 21 to 38
 abbrev pub input_stream : List ℕ
@@ -26,8 +26,8 @@ examples =
     ∷ ("09AF\n", stream (0x09 ∷ 0xAF ∷ []))
     ∷ ("A0\na0\n", unreadable 2)
     ∷ ("A\n0\n", unreadable 1)
-    ∷ ("A0\n_a", unreadable 2)
+    ∷ ("A0\nA", unreadable 2)
     ∷ ("A0\r\n", unreadable 1)
     ∷ ("A0 00\n", unreadable 1)
-    ∷ ("A0\n\n_g0\n_g0\n", unreadable 3)
+    ∷ ("A0\n\nG0\nG0\n", unreadable 3)
     ∷ []

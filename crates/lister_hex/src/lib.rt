@@ -3,6 +3,7 @@
 // A text can be longer than any buffer, so it comes in blocks: `start`, then `feed` for each block, then `finish`.
 // No function here requires anything of its caller, whatever the state and the bytes are.
 #![tactic(auto)]
+
 ghost use Rattle.std.specs.Prelude.{◌≡◌, ◌+◌, min, take};
 ghost use Rattle.lister_hex.specs.Lines.{digit_value};
 ghost use Rattle.lister_hex.specs.Blocks.{last_line, standing, started, first, second, fed, finished};

@@ -3,6 +3,7 @@
 // Each public function writes one line, with its newline, at the front of a lent array and tells its length.
 // None requires anything of its caller: every line fits.
 #![tactic(auto)]
+
 ghost use Rattle.std.specs.Prelude.{◌≡◌, ◌+◌, ◌*◌, ◌≤◌, ◌<◌, length};
 ghost use Rattle.std.proofs.lemmas.List.Edits.{sets};
 ghost use Rattle.lister_text.specs.Decimal.{decimal};

@@ -1,5 +1,6 @@
 // The two numbers of a page, and what they are to PM1: X.209 integers, and the verdict on them by T.502's table 10.
 #![tactic(auto)]
+
 ghost use Rattle.std.specs.Prelude.{◌≡◌, [], ◌∷◌, ◌≤◌, ◌^◌};
 ghost use Rattle.measures.specs.Integers.{is_integer, integer_of};
 ghost use Rattle.measures.specs.Verdicts.{pair, not_over, within, essential_pairs, non_essential_pairs, verdict_of_sizes, under_one, verdict_of_two};

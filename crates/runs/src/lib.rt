@@ -1,5 +1,6 @@
 // A run of items as a value: what is met at its start. Every pass after the walk goes through `meet`, but the normal form's writer.
 #![tactic(auto)]
+
 ghost use Rattle.std.specs.Prelude.{◌≡◌, true, ◌<◌, ◌≤◌, eqb, length};
 ghost use Rattle.headers.specs.Head.{constructed};
 ghost use Rattle.octets.specs.Walk.{ends, run};

@@ -1,11 +1,10 @@
 -- `characters::measure` meets its contract: the sizes from the start on are what is counted and those from here on.
-use Prim.Native.Nat.{◌+◌, ◌-◌, ◌≤◌, ◌<◌}
-use native.Mathlib.Nat.{zero-add}
+use Prim.Native.Nat.{◌≤◌, ◌<◌}
 use native.Mathlib.Omega.{arith}
-use mathlib.Core.Path.{◌≡◌, ap}
-use lib.ListN.{length, drop}
+use mathlib.Core.Path.{ap}
+use lib.ListN.{length}
 use borrow.Author.Tests.{lt-leb}
-use Rattle.characters.specs.Signs.{signs, utf8_of, numbers_in}
+use Rattle.characters.specs.Signs.{signs, utf8_of}
 use Rattle.characters.proofs.Next.{text-end, numbers-end}
 use Rattle.characters.proofs.Going.{goes, size-left}
 use Rattle.characters.proofs.Answers.{measured-fits}

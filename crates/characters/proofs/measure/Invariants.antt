@@ -1,14 +1,8 @@
 -- `characters::measure` meets its contract: the sizes from the start on are what is counted and those from here on.
-use Prim.Native.Nat.{◌+◌, ◌-◌, ◌≤◌, ◌<◌}
-use native.Mathlib.Nat.{zero-add}
-use native.Mathlib.Omega.{arith}
-use mathlib.Core.Path.{◌≡◌, ap}
+use Prim.Native.Nat.{◌+◌, ◌-◌, ◌≤◌}
+use mathlib.Core.Path.{◌≡◌}
 use lib.ListN.{length, drop}
-use borrow.Author.Tests.{lt-leb}
 use Rattle.characters.specs.Signs.{signs, utf8_of, numbers_in}
-use Rattle.characters.proofs.Next.{text-end, numbers-end}
-use Rattle.characters.proofs.Going.{goes, size-left}
-use Rattle.characters.proofs.Answers.{measured-fits}
 use Rattle.characters.proofs.measure.Given as goal
 
 abbrev pub invariant-loop-at : goal.invariant-loop-at

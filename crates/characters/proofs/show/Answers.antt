@@ -8,7 +8,6 @@ use Rattle.characters.specs.Signs.{signs, utf8_of, numbers_in}
 use Rattle.characters.proofs.Rules.{right_pair, pair-table}
 use Rattle.characters.proofs.Going.{few-all}
 use Rattle.characters.proofs.Answers.{fits-means, not-fits, room_most, fitting, refusing}
-use borrow.Author.Rules.{rules}
 use Rattle.characters.proofs.show.Goals as goal
 
 pub measure-size-requires : goal.measure-size-requires

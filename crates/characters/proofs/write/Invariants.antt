@@ -1,15 +1,9 @@
 -- `characters::write` meets its contract: what is written from the start on is what is written and that from here on.
-use Prim.Native.Nat.{◌+◌, ◌-◌, ◌≤◌, ◌<◌}
-use native.Mathlib.Nat.{zero-add}
-use native.Mathlib.Omega.{arith}
-use mathlib.Core.Path.{◌≡◌, refl, sym, ap, ◌∙◌}
+use Prim.Native.Nat.{◌+◌, ◌-◌, ◌≤◌}
+use mathlib.Core.Path.{◌≡◌}
 use lib.ListN.{length, drop}
 use lib.Seq.{sets}
 use Rattle.characters.specs.Signs.{signs, utf8_of}
-use Rattle.characters.specs.Steps.{step_at, step_text}
-use Rattle.characters.proofs.Utf8.{join}
-use Rattle.characters.proofs.Next.{text-end}
-use Rattle.characters.proofs.Going.{goes, size-left}
 use Rattle.characters.proofs.write.Given as goal
 
 abbrev pub invariant-loop-at : goal.invariant-loop-at

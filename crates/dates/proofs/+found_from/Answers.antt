@@ -19,7 +19,7 @@ meeting t c =
     c.meet.ensures c.in-Item.is
 
 pub loop-had-init : goal.loop-had-init
-loop-had-init t c = let a = c.args in (c.requires.1, at_start a.s.now a.level a.r)
+loop-had-init t c = let a = c.args in (c.requires, at_start a.s.now a.level a.r)
 
 pub meet-requires : goal.meet-requires
 meet-requires t c = c.loop-had.invariant.0

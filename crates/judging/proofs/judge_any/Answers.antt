@@ -18,16 +18,16 @@ use Rattle.judging.specs.Done.{DoneRows}
 use Rattle.judging.specs.Judges.{early_refusal, shape_by, element_by}
 use Rattle.judging.proofs.Steps.{refused-early, refused-later, refused-last}
 use Rattle.judging.proofs.judge_any.Goals as goal
-use Rattle.judging.proofs.judge_any.Goals.{After-early-number, Else-number-ne0, After-see-seen, Else-seen-ne0, After-has_double}
+use Rattle.judging.proofs.judge_any.Goals.{Start, After-early-number, Else-number-ne0, After-see-seen, Else-seen-ne0, After-has_double}
 
 -- the elements that are done, and their rows
-abbrev Done : tie.Start → List Row → List Element → Type 0
+abbrev Done : (c : Start) → List Row → List Element → Type 0
 Done c table done =
     DoneRows c.args.s.now c.args.rows.now c.args.n table done
 
 -- rules 9 to 11
 early-is : (c : After-early-number) (table : List Row) (done : List Element)
-    → Done PLACE‹c.before.before.before.before.before.before› table done →
+    → Done (goal.at.After-early-number c).Start table done →
     let a = c.args in
     c.early-number.result ≡ early_refusal (length done) a.item.code (shape_by a.edition a.item.code).octet
 early-is c table done holds =
@@ -37,7 +37,7 @@ early-is c table done holds =
     ∙ ap (λ (n : ℕ). early_refusal n a.item.code (shape_by a.edition a.item.code).octet) (sym holds.counted)
 
 early-passed : (c : Else-number-ne0) (table : List Row) (done : List Element)
-    → Done PLACE‹c.before.before.before.before.before.before.before› table done →
+    → Done (goal.at.Else-number-ne0 c).Start table done →
     let a = c.args in
     early_refusal (length done) a.item.code (shape_by a.edition a.item.code).octet ≡ 0
 early-passed c table done holds = sym (early-is (goal.at.Else-number-ne0 c).After-early-number table done holds) ∙ c.if-number-ne0.false
@@ -61,7 +61,7 @@ later-passed c = sym (seen-is (goal.at.Else-seen-ne0 c).After-see-seen).refusal 
 
 -- rule 15
 double-is : (c : After-has_double) (table : List Row) (done : List Element)
-    → Done PLACE‹c.before.before.before.before.before.before.before.before.before.before.before.before.before.before.before.before.before› table done →
+    → Done (goal.at.After-has_double c).Start table done →
     let a = c.args in
     c.has_double.result ≡ twice done (element_by a.edition a.item.code (tree_in a.s.now a.item.inner))
 double-is c table done holds =

@@ -7,11 +7,9 @@ use borrow.Author.Rules.{rules}
 use Rattle.runs.specs.Runs.{items_of, whole_stream, tops, Fine, Meeting}
 use Rattle.runs.specs.declared.Run.{Run}
 use Rattle.contents.proofs.Firsts.{met}
+use Rattle.lent.proofs.rows_needed.Invariants.{tops_in}
 use Rattle.lent.proofs.rows_needed.Goals as goal
 use Rattle.lent.proofs.rows_needed.Goals.{In-Item, After-whole_stream-cur}
-
-abbrev tops_in : List ℕ → Run → ℕ
-tops_in s r = tops (items_of s r)
 
 meeting : (c : In-Item) →
     Meeting c.args.s.now c.loop-rest.cur

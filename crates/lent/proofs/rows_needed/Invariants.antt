@@ -9,6 +9,9 @@ use Rattle.runs.specs.declared.Run.{Run}
 use Rattle.contents.proofs.Firsts.{met}
 use Rattle.lent.proofs.rows_needed.Given as goal
 
+abbrev pub tops_in : List ℕ → Run → ℕ
+tops_in s r = tops (items_of s r)
+
 abbrev pub invariant-loop-rest : goal.invariant-loop-rest
 invariant-loop-rest l = Fine l.s l.cur × (l.n ≤ 4096) × (tops_in l.s l.initial.cur ≡ l.n + tops_in l.s l.cur)
 

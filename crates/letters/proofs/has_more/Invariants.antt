@@ -11,6 +11,9 @@ use Rattle.runs.specs.declared.Run.{Run}
 use Rattle.contents.proofs.Firsts.{met}
 use Rattle.letters.proofs.has_more.Given as goal
 
+abbrev pub tops_in : List ℕ → Run → ℕ
+tops_in s r = tops (items_of s r)
+
 abbrev pub invariant-loop-rest : goal.invariant-loop-rest
 invariant-loop-rest l = Fine l.s l.cur × (tops_in l.s l.initial.cur + l.left ≡ l.most + tops_in l.s l.cur)
 

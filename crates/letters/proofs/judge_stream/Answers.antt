@@ -22,21 +22,20 @@ meeting : (c : In-Item) →
 meeting c = met c.args.s.now
     c.loop-code.cur c.meet.ensures c.in-Item.is
 
-abbrev item : tie.After-known-told invariant-loop decreases-loop → PlacedItem
+abbrev item : (c : In-Item) → PlacedItem
 item c =
-    let g = c.before.code.given.0 in
-    record { code = g.0; first = c.before.before.before.before.loop.cur.at; past = g.1.1.1.1.0.at; inner = g.1.1.1.0 }
+    record { code = c.in-Item.code; first = c.loop-code.cur.at; past = c.in-Item.rest.at; inner = c.in-Item.inner }
 
 -- and judged
 judged : (c : After-judge_element) (y : Judgement) → c.judge_element.result ≡ y
-    → Judges c.args.edition c.args.s.now c.loop-code.invariant.0.done (item PLACE‹c.before.before.before.before›) y
+    → Judges c.args.edition c.args.s.now c.loop-code.invariant.0.done (item (goal.at.After-judge_element c).In-Item) y
 judged c y e =
     let state = c.loop-code.invariant.0 in
-    subst (Judges c.args.edition c.args.s.now state.done (item PLACE‹c.before.before.before.before›)) e (c.judge_element.ensures state.table state.done state.holds)
+    subst (Judges c.args.edition c.args.s.now state.done (item (goal.at.After-judge_element c).In-Item)) e (c.judge_element.ensures state.table state.done state.holds)
 
 -- and passed
 passing : (c : In-Passes) →
-    Passing c.args.edition c.args.s.now c.loop-code.invariant.0.done (item PLACE‹c.before.before.before.before.before.before.before.before.before›) c.in-Passes.row c.in-Passes.hashes
+    Passing c.args.edition c.args.s.now c.loop-code.invariant.0.done (item (goal.at.In-Passes c).In-Item) c.in-Passes.row c.in-Passes.hashes
 passing c = judged (goal.at.In-Passes c).After-judge_element _ c.in-Passes.is
 
 pub loop-code-init : goal.loop-code-init

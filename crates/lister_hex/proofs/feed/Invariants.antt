@@ -1,11 +1,9 @@
 -- `lister_hex::feed` meets its contract. The loop's invariant: feeding what is left of the block from here is feeding the whole block from the start.
 -- The measure is what is left.
-use native.Mathlib.Omega.{arith}
-use Prim.Native.Nat.{◌≤◌, ◌<◌, ◌-◌}
-use mathlib.Core.Path.{◌≡◌, refl, sym, ◌∙◌}
+use Prim.Native.Nat.{◌≤◌, ◌-◌}
+use mathlib.Core.Path.{◌≡◌}
 use lib.ListN.{length, drop}
 use Rattle.lister_hex.specs.Blocks.{fed, standing}
-use Rattle.lister_hex.proofs.Blocks.{fed-next, fed-end}
 use Rattle.lister_hex.proofs.feed.Given as goal
 
 abbrev pub invariant-loop-i : goal.invariant-loop-i

@@ -1,5 +1,4 @@
 -- `lister_hex::finish` meets its contract: it is the definition, case by case.
-use borrow.Author.Rules.{rules}
 use Rattle.lister_hex.proofs.finish.Goals as goal
 
 pub returns-in-Pairs : goal.returns-in-Pairs

@@ -1,5 +1,4 @@
 -- `lister_hex::front` meets its contract: a part that would reach past the slice is all of it.
-use borrow.Author.Rules.{rules}
 use native.Mathlib.Nat.{le_of_lt}
 use mathlib.Core.Path.{sym}
 use lib.Seq.{take_all, length-take-le}

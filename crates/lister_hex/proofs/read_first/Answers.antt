@@ -1,5 +1,4 @@
 -- `lister_hex::read_first` meets its contract: its test is that of the definition.
-use borrow.Author.Rules.{rules}
 use borrow.Author.Tests.{eq-eqb, ne_eqb}
 use Rattle.lister_hex.proofs.read_first.Goals as goal
 

@@ -1,7 +1,6 @@
 -- `lister_hex::read_second` meets its contract: each return stands behind the tests that pick its case in the definition.
 use Prim.Native.Nat.{◌≤◌, ◌<◌}
 use native.Mathlib.Omega.{arith}
-use borrow.Author.Rules.{rules}
 use borrow.Author.Tests.{lt-ltb, le-ltb}
 use Rattle.lister_hex.specs.Lines.{input_limit}
 use Rattle.lister_hex.proofs.read_second.Goals as goal

@@ -1,5 +1,4 @@
 -- `lister_hex::step` meets its contract: it is the definition, case by case.
-use borrow.Author.Rules.{rules}
 use Rattle.lister_hex.specs.Blocks.{on_byte}
 use Rattle.lister_hex.proofs.step.Goals as goal
 

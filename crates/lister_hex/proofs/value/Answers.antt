@@ -1,5 +1,4 @@
 -- `lister_hex::value` meets its contract: each arm's tests are those of the definition.
-use borrow.Author.Rules.{rules}
 use borrow.Author.Tests.{le-leb, lt-leb}
 use native.Mathlib.Omega.{arith}
 use Rattle.lister_hex.specs.Lines.{digit_value}

@@ -6,7 +6,6 @@ use mathlib.Core.List.{[], ◌∷◌}
 use Rattle.lister_text.specs.Decimal.{decimal}
 use Rattle.lister_text.proofs.Decimal.{decimal-short}
 use Rattle.lister_text.proofs.Stores.{written}
-use borrow.Author.Rules.{rules}
 use Rattle.lister_text.proofs.put_element.Goals as goal
 
 pub put_rest-requires : goal.put_rest-requires

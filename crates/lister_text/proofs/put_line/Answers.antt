@@ -1,6 +1,5 @@
 -- `lister_text::put_line` meets its contract: the word and the rest are stored one after the other.
 use Rattle.lister_text.proofs.Stores.{written}
-use borrow.Author.Rules.{rules}
 use Rattle.lister_text.proofs.put_line.Goals as goal
 
 pub returns : goal.returns

@@ -1,11 +1,9 @@
 -- `lister_text::put_rest` meets its contract. The loop's invariant: storing what is left of the line from here is storing the whole rest of it from
 -- the start, and there is room for it. The measure is how many numbers are left.
-use Prim.Native.Nat.{◌+◌, ◌*◌, ◌-◌, ◌≤◌, ◌<◌}
+use Prim.Native.Nat.{◌<◌}
 use native.Mathlib.Omega.{arith}
-use mathlib.Core.Path.{◌≡◌, refl, ◌∙◌}
-use lib.ListN.{length, length-set, drop, get_or}
-use lib.Seq.{sets}
-use Rattle.lister_text.specs.Lines.{rest}
+use mathlib.Core.Path.{refl, ◌∙◌}
+use lib.ListN.{length, length-set, get_or}
 use Rattle.lister_text.proofs.Decimal.{decimal-short}
 use Rattle.lister_text.proofs.Stores.{rest-length, rest-stores, rest_end}
 use Rattle.lister_text.proofs.put_rest.Goals as goal

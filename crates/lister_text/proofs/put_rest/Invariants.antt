@@ -1,13 +1,10 @@
 -- `lister_text::put_rest` meets its contract. The loop's invariant: storing what is left of the line from here is storing the whole rest of it from
 -- the start, and there is room for it. The measure is how many numbers are left.
 use Prim.Native.Nat.{◌+◌, ◌*◌, ◌-◌, ◌≤◌, ◌<◌}
-use native.Mathlib.Omega.{arith}
-use mathlib.Core.Path.{◌≡◌, refl, ◌∙◌}
-use lib.ListN.{length, length-set, drop, get_or}
+use mathlib.Core.Path.{◌≡◌}
+use lib.ListN.{length, drop}
 use lib.Seq.{sets}
 use Rattle.lister_text.specs.Lines.{rest}
-use Rattle.lister_text.proofs.Decimal.{decimal-short}
-use Rattle.lister_text.proofs.Stores.{rest-length, rest-stores, rest_end}
 use Rattle.lister_text.proofs.put_rest.Given as goal
 
 abbrev pub invariant-loop-i : goal.invariant-loop-i

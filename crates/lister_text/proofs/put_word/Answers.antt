@@ -1,10 +1,9 @@
 -- `lister_text::put_word` meets its contract. The loop's invariant: storing what is left of the word from here is storing the whole word from the
 -- start. The measure is what is left.
-use Prim.Native.Nat.{◌≤◌, ◌<◌, ◌-◌}
+use Prim.Native.Nat.{◌<◌}
 use native.Mathlib.Omega.{arith}
-use mathlib.Core.Path.{◌≡◌, refl, sym, ◌∙◌}
-use lib.ListN.{length, length-set, drop, drop_of_length-le}
-use lib.Seq.{sets}
+use mathlib.Core.Path.{refl, sym, ◌∙◌}
+use lib.ListN.{length, length-set, drop_of_length-le}
 use Rattle.lister_text.proofs.Stores.{sets-next}
 use Rattle.lister_text.proofs.put_word.Goals as goal
 

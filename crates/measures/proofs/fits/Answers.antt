@@ -2,7 +2,6 @@
 use mathlib.Core.Path.{sym, ◌∙◌}
 use Rattle.measures.specs.Verdicts.{within}
 use Rattle.measures.proofs.Tables.{stands, turns}
-use borrow.Author.Rules.{rules}
 use Rattle.measures.proofs.fits.Goals as goal
 
 pub returns-then-is_not_over : goal.returns-then-is_not_over

@@ -3,14 +3,12 @@ use mathlib.Core.Path.{◌≡◌, sym, ap, ◌∙◌}
 use mathlib.Core.Bool.{true}
 use mathlib.Core.List.{List}
 use native.Mathlib.Omega.{arith}
-use borrow.Author.Tests.{not-true, not-false}
 use Prim.Native.Nat.{ℕ}
 use lib.ListN.{length, take, drop}
 use lib.Seq.{take-length}
 use Rattle.headers.specs.Head.{big_endian}
 use Rattle.measures.specs.Integers.{is_integer}
 use Rattle.measures.proofs.Octets.{octets-bounded, no-integer, not-under, under-zero}
-use borrow.Author.Rules.{rules}
 use Rattle.measures.proofs.integer_of.Goals as goal
 
 -- all octets are those of the whole

@@ -5,7 +5,6 @@ use Rattle.measures.specs.Integers.{nine_bits}
 use Rattle.measures.proofs.Octets.{no_octets, too_many, one-octet, all-zeros, not_zeros}
 use lib.ListN.{length, get_or}
 use Prim.Native.Nat.{◌≤◌}
-use borrow.Author.Rules.{rules}
 use Rattle.measures.proofs.is_integer.Goals as goal
 
 pub returns-then-n-eq0 : goal.returns-then-n-eq0

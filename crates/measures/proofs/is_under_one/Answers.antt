@@ -1,5 +1,4 @@
 -- `measures::is_under_one` meets its contract.
-use borrow.Author.Rules.{rules}
 use Rattle.measures.proofs.is_under_one.Goals as goal
 
 pub returns : goal.returns

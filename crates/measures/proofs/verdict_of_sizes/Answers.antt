@@ -1,7 +1,6 @@
 -- `measures::verdict_of_sizes` meets its contract, by its two tests.
 use mathlib.Core.Path.{sym, ◌∙◌}
 use Rattle.measures.specs.Verdicts.{verdict_of_sizes}
-use borrow.Author.Rules.{rules}
 use Rattle.measures.proofs.verdict_of_sizes.Goals as goal
 
 pub returns-then-is_essential : goal.returns-then-is_essential

@@ -2,7 +2,6 @@
 use mathlib.Core.Path.{sym, ◌∙◌}
 use borrow.Author.Tests.{not-true, not-false}
 use Rattle.measures.specs.Verdicts.{verdict_of_two}
-use borrow.Author.Rules.{rules}
 use Rattle.measures.proofs.verdict_of_two.Goals as goal
 
 pub returns-then-not-h : goal.returns-then-not-h

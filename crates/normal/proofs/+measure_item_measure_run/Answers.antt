@@ -1,9 +1,8 @@
 -- The proof of the cycle of calls {measure_item, measure_run}, which ends as `walk_item` and `walk_run` do: 2 room + 1 for `measure_run`,
 -- 2 room for `measure_item`. The invariant of the loop is `Counted`.
 use mathlib.Core.Path.{◌≡◌, ap, sym, ◌∙◌}
-use Prim.Native.Nat.{ℕ, ◌+◌, ◌-◌, ◌*◌, ◌<◌, ◌≤◌}
+use Prim.Native.Nat.{ℕ, ◌+◌, ◌*◌, ◌≤◌}
 use native.Mathlib.Omega.{arith}
-use borrow.Author.Rules.{rules}
 use borrow.Author.Tests.{eq-eqb, ne_eqb}
 use lib.ListN.{length}
 use Rattle.normal.specs.declared.Ahead.{Ahead}
@@ -11,14 +10,14 @@ use Rattle.normal.specs.declared.Ahead.TheVariants.{Item as Inner, Last}
 use Rattle.normal.specs.Normal.{Octets}
 use Rattle.normal.specs.Passes.{header_size}
 use Rattle.normal.proofs.Passes.{Turn, Meets, meets, turned, value-run-ends}
-use Rattle.normal.proofs.Measuring.{plain-measured, run-measured, Counted, none-counted, all-counted, bounded, item-counted}
+use Rattle.normal.proofs.Measuring.{plain-measured, run-measured, none-counted, all-counted, bounded, item-counted}
 use Rattle.normal.proofs.+measure_item_measure_run.Goals as goal
 use Rattle.normal.proofs.+measure_item_measure_run.Goals.{measure_run-After-meet, measure_run-In-Item, measure_run-After-measure_item-m}
 
 pub measure_item-measure_run-requires : goal.measure_item-measure_run-requires
 measure_item-measure_run-requires t c =
     let a = c.args in
-    (omega arith, value-run-ends a.room a.s.now a.h c.requires.1 (eq-eqb _ _ c.if-code-eq1.true))
+    (omega arith, value-run-ends a.room a.s.now a.h c.requires (eq-eqb _ _ c.if-code-eq1.true))
 
 pub measure_item-returns-then-code-eq1 : goal.measure_item-returns-then-code-eq1
 measure_item-returns-then-code-eq1 t c =
@@ -28,7 +27,7 @@ measure_item-returns-then-code-eq1 t c =
 pub measure_item-returns-else-code-eq1 : goal.measure_item-returns-else-code-eq1
 measure_item-returns-else-code-eq1 t c =
     let a = c.args in
-    plain-measured a.room a.s.now a.h c.requires.1 (ne_eqb _ _ c.if-code-eq1.false)
+    plain-measured a.room a.s.now a.h c.requires (ne_eqb _ _ c.if-code-eq1.false)
 
 -- what was met at `at`
 met : (t : ℕ) (c : measure_run-After-meet t) (x : Ahead) → c.meet.result ≡ x →
@@ -47,7 +46,7 @@ met-item t c = met t (goal.at.measure_run-In-Item t c).After-meet (Inner c.in-It
 pub measure_run-loop-h-init : goal.measure_run-loop-h-init
 measure_run-loop-h-init t c =
     let a = c.args in
-    none-counted a.room a.s.now a.from a.limit a.marked c.requires.1
+    none-counted a.room a.s.now a.from a.limit a.marked c.requires
 
 pub measure_run-meet-requires : goal.measure_run-meet-requires
 measure_run-meet-requires t c = c.loop-h.invariant.left
@@ -68,7 +67,7 @@ next t c =
     let u = met-item t (goal.at.measure_run-After-measure_item-m t c).In-Item in
     let k = turned a.room a.s.now l.at a.limit a.marked c.in-Item.h u m.result m.ensures in
     let b = bounded a.room a.s.now a.from a.limit a.marked l.at l.size l.shortest l.invariant c.in-Item.h u m.result m.ensures
-    c.requires.1 in
+    c.requires in
     (k.0, k.1, b)
 
 pub measure_run-header_size-head-requires : goal.measure_run-header_size-head-requires

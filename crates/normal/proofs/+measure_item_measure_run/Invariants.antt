@@ -1,17 +1,7 @@
 -- The proof of the cycle of calls {measure_item, measure_run}, which ends as `walk_item` and `walk_run` do: 2 room + 1 for `measure_run`,
 -- 2 room for `measure_item`. The invariant of the loop is `Counted`.
-use mathlib.Core.Path.{◌≡◌, ap, sym, ◌∙◌}
-use Prim.Native.Nat.{ℕ, ◌+◌, ◌-◌, ◌*◌, ◌<◌, ◌≤◌}
-use native.Mathlib.Omega.{arith}
-use borrow.Author.Rules.{rules}
-use borrow.Author.Tests.{eq-eqb, ne_eqb}
-use lib.ListN.{length}
-use Rattle.normal.specs.declared.Ahead.{Ahead}
-use Rattle.normal.specs.declared.Ahead.TheVariants.{Item as Inner, Last}
-use Rattle.normal.specs.Normal.{Octets}
-use Rattle.normal.specs.Passes.{header_size}
-use Rattle.normal.proofs.Passes.{Turn, Meets, meets, turned, value-run-ends}
-use Rattle.normal.proofs.Measuring.{plain-measured, run-measured, Counted, none-counted, all-counted, bounded, item-counted}
+use Prim.Native.Nat.{◌+◌, ◌-◌}
+use Rattle.normal.proofs.Measuring.{Counted}
 use Rattle.normal.proofs.+measure_item_measure_run.Given as goal
 
 abbrev pub decreases-measure_item : goal.decreases-measure_item

@@ -1,9 +1,4 @@
 -- `normal::put_digits` meets its contract: the digits above the last are written, and then the last. It ends as k falls.
-use borrow.Author.Rules.{rules}
-use native.Mathlib.Omega.{arith}
-use lib.ListN.{length-set}
-use Rattle.normal.proofs.Lengths.{put-digit, put_none}
-use Prim.Native.Nat.{ℕ, ◌<◌}
 use Rattle.normal.proofs.+put_digits.Given as goal
 
 abbrev pub decreases-put_digits : goal.decreases-put_digits

@@ -1,9 +1,8 @@
 -- The proof of the cycle of calls {put_item, put_run}, which ends as `walk_item` and `walk_run` do: 2 room + 1 for `put_run`, 2 room for
 -- `put_item`. The invariant of the loop is `PutSoFar`.
 use mathlib.Core.Path.{◌≡◌, ap, sym, ◌∙◌}
-use Prim.Native.Nat.{ℕ, ◌+◌, ◌-◌, ◌*◌, ◌<◌, ◌≤◌}
+use Prim.Native.Nat.{ℕ, ◌+◌, ◌*◌, ◌≤◌}
 use native.Mathlib.Omega.{arith}
-use borrow.Author.Rules.{rules}
 use lib.ListN.{length, length-append}
 use lib.Seq.{slice}
 use Rattle.headers.specs.Head.{type_field}
@@ -14,7 +13,7 @@ use Rattle.normal.specs.Passes.{normal_in, header_size}
 use Rattle.normal.proofs.Lengths.{length-length}
 use Rattle.normal.proofs.Own.{octets-field}
 use Rattle.normal.proofs.Passes.{Turn, Meets, meets, turned, value-run, value-run-ends}
-use Rattle.normal.proofs.Putting.{copies, PutSoFar, none-put, all-put, fits, item-put}
+use Rattle.normal.proofs.Putting.{copies, none-put, all-put, fits, item-put}
 use Rattle.normal.proofs.+put_item_put_run.Goals as goal
 use Rattle.normal.proofs.+put_item_put_run.Goals.{put_item-Then-shortest, put_run-After-meet, put_run-In-Item, put_run-After-measure_item-m}
 
@@ -24,7 +23,7 @@ copied : (t : ℕ) (c : put_item-Then-shortest t) →
     (a.h.start + a.m.size ≤ a.h.bound) × (normal_in a.room a.s.now a.h ≡ slice a.h.start (a.h.start + a.m.size) a.s.now)
 copied t c =
     let a = c.args in
-    let p = c.requires.1 in
+    let p = c.requires in
     copies a.room a.s.now a.h p.0 a.m p.1 c.if-shortest.true
 
 pub put_item-overflow_add-start : goal.put_item-overflow_add-start
@@ -33,13 +32,13 @@ put_item-overflow_add-start t c = let k = copied t (goal.at.put_item-overflow_ad
 pub put_item-put_value-requires : goal.put_item-put_value-requires
 put_item-put_value-requires t c =
     let k = copied t (goal.at.put_item-put_value-requires t c).Then-shortest in
-    let p = c.requires.1 in
+    let p = c.requires in
     (omega arith, omega (arith, k.0, p.0.within), omega (arith, p.1.measures.size, p.2))
 
 pub put_item-put_run-requires : goal.put_item-put_run-requires
 put_item-put_run-requires t c =
     let a = c.args in
-    let p = c.requires.1 in
+    let p = c.requires in
     let k = p.1.inner c.if-shortest.false in
     let n = ap length (value-run a.room a.s.now a.h k).1 in
     (omega arith, (value-run-ends a.room a.s.now a.h p.0 k, omega (arith, p.2)))
@@ -56,7 +55,7 @@ put_item-shape_of-out-else-shortest t c = c.put_run.auto.out
 pub put_item-returns-else-shortest : goal.put_item-returns-else-shortest
 put_item-returns-else-shortest t c =
     let a = c.args in
-    let p = c.requires.1 in
+    let p = c.requires in
     rw (value-run a.room a.s.now a.h (p.1.inner c.if-shortest.false)).1 c.put_run.ensures
 
 -- what was met at `at`
@@ -88,13 +87,13 @@ next t c =
     let k = turned a.room a.s.now l.at a.limit a.marked c.in-Item.h u m.result m.ensures in
     let f = fits a.room a.s.now a.from a.limit a.marked a.out.now a.begin l.at l.pos l.out l.invariant c.in-Item.h u
     m.result m.ensures
-    c.requires.1.1 in
+    c.requires.1 in
     (k.0, k.1, f.0, f.1)
 
 pub put_run-loop-h-init : goal.put_run-loop-h-init
 put_run-loop-h-init t c =
     let a = c.args in
-    none-put a.room a.s.now a.from a.limit a.marked a.out.now a.begin c.requires.1.0
+    none-put a.room a.s.now a.from a.limit a.marked a.out.now a.begin c.requires.0
 
 pub put_run-meet-requires : goal.put_run-meet-requires
 put_run-meet-requires t c = c.loop-h.invariant.left
@@ -116,9 +115,8 @@ put_run-put_item-pos-requires t c =
     let u = met-item t (goal.at.put_run-put_item-pos-requires t c).In-Item in
     let n = next t (goal.at.put_run-put_item-pos-requires t c).After-measure_item-m in
     let m = c.measure_item-m in
-    let r = c.requires in
     let size = length-append (type_field c.in-Item.h.code) (length_octets m.result.size) in (
-      omega (arith, r.0),
+      omega arith,
       (u.inside, m.ensures, omega (arith, n.2, c.put_header-past.ensures.to, c.put_header-past.auto.out, m.ensures.measures.size, size, length-length m.result.size)),
     )
 

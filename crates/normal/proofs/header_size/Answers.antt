@@ -1,6 +1,5 @@
 -- `normal::header_size` meets its contract: a type field has at most three octets, and at most four length octets follow the first.
 use native.Mathlib.Omega.{arith}
-use borrow.Author.Rules.{rules}
 use Rattle.headers.proofs.Fields.{field-size}
 use Rattle.normal.proofs.Lengths.{further-le}
 use Rattle.normal.proofs.header_size.Goals as goal

@@ -4,7 +4,6 @@ use Prim.Native.Nat.{suc, ◌+◌}
 use native.Mathlib.Omega.{arith}
 use native.Mathlib.Numerals.{add-one}
 use lib.ListN.{length, length-set}
-use borrow.Author.Rules.{rules}
 use Rattle.headers.proofs.Fields.{field-size}
 use Rattle.normal.proofs.Fields.{one-octet, two-octets, three-octets, two-at-least}
 use Rattle.normal.proofs.put_field.Goals as goal

@@ -5,7 +5,6 @@ use Prim.Native.Nat.{ℕ}
 use native.Mathlib.Omega.{arith}
 use lib.ListN.{length-append}
 use lib.Seq.{sets}
-use borrow.Author.Rules.{rules}
 use Rattle.headers.specs.Head.{type_field}
 use Rattle.normal.specs.Normal.{length_octets}
 use Rattle.laws.proofs.Writes.{sets-append}

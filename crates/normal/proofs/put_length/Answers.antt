@@ -1,6 +1,5 @@
 -- `normal::put_length` meets its contract: the first length octet is written, and then the others.
 use mathlib.Core.Path.{◌≡◌, sym, ◌∙◌}
-use borrow.Author.Rules.{rules}
 use native.Mathlib.Omega.{arith}
 use lib.ListN.{length-set}
 use Rattle.normal.specs.Normal.{further_octets}

@@ -1,12 +1,9 @@
 -- `normal::put_value` meets its contract: what is left to write from `at` on makes of the output what all of it made of the output as it
 -- was.
-use mathlib.Core.Path.{◌≡◌, refl, ap, sym, ◌∙◌}
-use mathlib.Core.List.{[]}
+use mathlib.Core.Path.{◌≡◌}
 use Prim.Native.Nat.{◌+◌, ◌-◌, ◌≤◌}
-use native.Mathlib.Omega.{arith}
-use native.Mathlib.Numerals.{add-one}
-use lib.ListN.{length, length-set}
-use lib.Seq.{sets, slice, slice-cons, slice_empty, length-slice}
+use lib.ListN.{length}
+use lib.Seq.{sets, slice}
 use Rattle.normal.proofs.put_value.Given as goal
 
 abbrev pub invariant-loop-at : goal.invariant-loop-at

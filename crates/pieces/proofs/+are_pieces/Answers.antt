@@ -23,7 +23,7 @@ meeting t c =
     c.meet.ensures c.in-Item.is
 
 pub loop-code-init : goal.loop-code-init
-loop-code-init t c = (c.requires.1.0, refl, refl)
+loop-code-init t c = (c.requires.0, refl, refl)
 
 pub meet-requires : goal.meet-requires
 meet-requires t c = c.loop-code.invariant.0
@@ -38,13 +38,13 @@ returns-in-End t c =
 pub are_pieces-requires : goal.are_pieces-requires
 are_pieces-requires t c =
     let m = meeting t (goal.at.are_pieces-requires t c).In-Item in
-    (omega (arith, level-less m), (m.inner_fine, c.requires.1.1, c.requires.1.2))
+    (omega (arith, level-less m), (m.inner_fine, c.requires.1, c.requires.2))
 
 pub returns-then-not-are_pieces : goal.returns-then-not-are_pieces
 returns-then-not-are_pieces t c =
     let no = sym c.are_pieces.ensures ∙ c.if-not-are_pieces.true in
     let m = meeting t (goal.at.returns-then-not-are_pieces t c).In-Item in
-    let e = only-pieces c.args.piece c.args.pieces m c.requires.1.2 c.if-code-pieces.true false no in
+    let e = only-pieces c.args.piece c.args.pieces m c.requires.2 c.if-code-pieces.true false no in
     sym (c.loop-code.invariant.2 ∙ e)
 
 pub loop-code-smaller-else-not-are_pieces : goal.loop-code-smaller-else-not-are_pieces
@@ -55,7 +55,7 @@ loop-code-preserved-else-not-are_pieces t c =
     let m = meeting t (goal.at.loop-code-preserved-else-not-are_pieces t c).In-Item in
     let l = c.loop-code in
     let yes = sym c.are_pieces.ensures ∙ c.if-not-are_pieces.false in
-    let e = only-pieces c.args.piece c.args.pieces m c.requires.1.2 c.if-code-pieces.true true yes in
+    let e = only-pieces c.args.piece c.args.pieces m c.requires.2 c.if-code-pieces.true true yes in
     (m.rest_fine, m.rest_room ∙ l.invariant.1, l.invariant.2 ∙ e)
 
 pub returns-then-code-piece : goal.returns-then-code-piece
@@ -71,5 +71,5 @@ pub loop-code-preserved : goal.loop-code-preserved
 loop-code-preserved t c =
     let m = meeting t (goal.at.loop-code-preserved t c).In-Item in
     let l = c.loop-code in
-    let e = only-piece c.args.piece c.args.pieces m c.requires.1.1 c.if-code-piece.false in
+    let e = only-piece c.args.piece c.args.pieces m c.requires.1 c.if-code-piece.false in
     (m.rest_fine, m.rest_room ∙ l.invariant.1, l.invariant.2 ∙ e)

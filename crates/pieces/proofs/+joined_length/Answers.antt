@@ -23,7 +23,7 @@ meeting t c =
     c.meet.ensures c.in-Item.is
 
 pub loop-code-init : goal.loop-code-init
-loop-code-init t c = (c.requires.1, refl, omega arith)
+loop-code-init t c = (c.requires, refl, omega arith)
 
 pub meet-requires : goal.meet-requires
 meet-requires t c = c.loop-code.invariant.0
@@ -44,7 +44,7 @@ overflow_add-n t c =
     let l = c.loop-code in
     omega (
       arith,
-      joined-fits c.requires.1,
+      joined-fits c.requires,
       gives-length g,
       c.joined_length-n.ensures,
       l.invariant.2,
@@ -67,7 +67,7 @@ overflow_add-n-else-code-eq1 t c =
     let m = meeting t (goal.at.overflow_add-n-else-code-eq1 t c).In-Item in
     let g = piece-gives m (ne_eqb _ _ c.if-code-eq1.false) in
     let l = c.loop-code in
-    omega (arith, joined-fits c.requires.1, gives-length g, value-length m, l.invariant.2)
+    omega (arith, joined-fits c.requires, gives-length g, value-length m, l.invariant.2)
 
 pub loop-code-smaller : goal.loop-code-smaller
 loop-code-smaller t c = (meeting t (goal.at.loop-code-smaller t c).In-Item).less

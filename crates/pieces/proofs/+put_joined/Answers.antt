@@ -41,14 +41,14 @@ inner-fits : (t : ℕ) (c : Then-code-eq1 t) →
     let l = c.loop-code in
     l.done + length (joined (tree_in s c.in-Item.inner)) ≤ length l.out
 inner-fits t c =
-    fits c.loop-code.invariant (inner-gives t c) c.requires.1.1
+    fits c.loop-code.invariant (inner-gives t c) c.requires.1
 
 value-fits : (t : ℕ) (c : Else-code-eq1 t) →
     let s = c.args.s.now in
     let l = c.loop-code in
     l.done + length (slice c.in-Item.first c.in-Item.past s) ≤ length l.out
 value-fits t c =
-    fits c.loop-code.invariant (value-gives t c) c.requires.1.1
+    fits c.loop-code.invariant (value-gives t c) c.requires.1
 
 -- what is copied of a piece is its value
 value : (t : ℕ) (c : Else-code-eq1 t) →
@@ -59,7 +59,7 @@ value t c =
     part_slice c.in-Item.first c.in-Item.past s (meeting t (goal.at.Else-code-eq1 t c).In-Item).value_order
 
 pub loop-code-init : goal.loop-code-init
-loop-code-init t c = none-put c.requires.1.0
+loop-code-init t c = none-put c.requires.0
 
 pub meet-requires : goal.meet-requires
 meet-requires t c = c.loop-code.invariant.fine

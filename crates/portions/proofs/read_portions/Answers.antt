@@ -8,10 +8,10 @@ use Rattle.runs.specs.Runs.{Meeting, Meets}
 use Rattle.portions.specs.Portions.{most_portions}
 use Rattle.portions.proofs.Reading.{Reads, starts, all_read, other-read, one-read}
 use Rattle.portions.proofs.read_portions.Goals as goal
-use Rattle.portions.proofs.read_portions.Goals.{In-Item-2}
+use Rattle.portions.proofs.read_portions.Goals.{In-Item}
 
 -- the item that was met
-met : (c : In-Item-2) →
+met : (c : In-Item) →
     let s = c.args.s.now in
     Meeting s c.loop-code.left c.in-Item.code c.in-Item.first c.in-Item.past c.in-Item.inner c.in-Item.rest
 met c =
@@ -40,27 +40,27 @@ shape_of-bounds-then-code-ne-PORTION c = c.loop-code.invariant.0
 pub returns-then-code-ne-PORTION : goal.returns-then-code-ne-PORTION
 returns-then-code-ne-PORTION c =
     let l = c.loop-code in
-    other-read l.invariant.1 (met (goal.at.returns-then-code-ne-PORTION c).In-Item-2) c.if-code-ne-PORTION.true
+    other-read l.invariant.1 (met (goal.at.returns-then-code-ne-PORTION c).In-Item) c.if-code-ne-PORTION.true
 
 pub is_misspelt-misspelt-requires : goal.is_misspelt-misspelt-requires
-is_misspelt-misspelt-requires c = let m = met (goal.at.is_misspelt-misspelt-requires c).In-Item-2 in (m.value_order, m.value_inside)
+is_misspelt-misspelt-requires c = let m = met (goal.at.is_misspelt-misspelt-requires c).In-Item in (m.value_order, m.value_inside)
 
 pub keep_bounds-requires : goal.keep_bounds-requires
 keep_bounds-requires c =
-    let m = met (goal.at.keep_bounds-requires c).In-Item-2 in
+    let m = met (goal.at.keep_bounds-requires c).In-Item in
     let p = c.requires in
     let l = c.loop-code in
     (omega (arith, l.invariant.0, p.2), omega (arith, m.value_order, m.value_inside, p.1), omega (arith, m.value_inside, p.1))
 
 pub overflow_add-count : goal.overflow_add-count
 overflow_add-count c =
-    let m = met (goal.at.overflow_add-count c).In-Item-2 in
+    let m = met (goal.at.overflow_add-count c).In-Item in
     let p = c.requires in
     let l = c.loop-code in
     omega (arith, m.less, l.invariant.1.short, p.0.inside, p.1)
 
 pub loop-code-smaller : goal.loop-code-smaller
-loop-code-smaller c = (met (goal.at.loop-code-smaller c).In-Item-2).less
+loop-code-smaller c = (met (goal.at.loop-code-smaller c).In-Item).less
 
 pub loop-code-preserved : goal.loop-code-preserved
 loop-code-preserved c =
@@ -69,6 +69,6 @@ loop-code-preserved c =
     let enough : 2 * most_portions ≤ length l.bounds = omega (arith, l.invariant.0, p.2) in (
       c.keep_bounds.auto.bounds ∙ l.invariant.0,
       rw c.is_misspelt-misspelt.ensures
-          (one-read l.invariant.1 (met (goal.at.loop-code-preserved c).In-Item-2)
+          (one-read l.invariant.1 (met (goal.at.loop-code-preserved c).In-Item)
           c.if-code-ne-PORTION.false c.keep_bounds.new.bounds enough c.keep_bounds.ensures),
     )

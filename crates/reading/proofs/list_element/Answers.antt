@@ -15,7 +15,7 @@ is_listed-requires c =
     omega (arith, c.requires.element_lt_n, c.requires.letter_rows.1.holds.identifiers.in_table)
 
 pub returns-then-not-is_listed : goal.returns-then-not-is_listed
-returns-then-not-is_listed c =
+returns-then-not-is_listed c elements ready =
     let a = c.args in
     let none = unlisted a.side a.s.now a.rows.now a.n a.element c.requires.element_lt_n elements ready
     (sym c.is_listed.ensures ∙ c.if-not-is_listed.true) in

@@ -3,42 +3,33 @@
 -- The invariant of the loop: the run from its start ends as it does from `at`.
 use mathlib.Core.Path.{◌≡◌, refl, sym, ap, subst, ◌∙◌}
 use mathlib.Core.Bool.{true}
-use Prim.Native.Nat.{ℕ, ◌+◌, ◌-◌, ◌<◌}
+use Prim.Native.Nat.{ℕ}
 use native.Mathlib.Omega.{arith}
-use borrow.Author.Rules.{rules}
 use Rattle.headers.specs.declared.Head.{Head}
 use Rattle.headers.specs.declared.Head.TheVariants.{Item, ClosingMark, Refusal}
 use Rattle.headers.specs.Head.{head_at}
 use Rattle.headers.specs.Passed.{Passed}
-use Rattle.octets.specs.Walk.{Walked, run}
+use Rattle.octets.specs.Walk.{Walked}
 use Rattle.octets.proofs.Turns.{at_head, mark-ok}
 use Rattle.tree.specs.Accepts.{Whole}
-use Rattle.runs.specs.declared.Run.{Run}
-use Rattle.runs.specs.Runs.{Fine}
 use Rattle.runs.proofs.Meetings.{definite-value, marked-run, marked-before, passed, lies, value-whole, next-within, rest-fine-after, ends-after}
 use Rattle.runs.proofs.+end_of_item_end_of_marked.Goals as goal
 use Rattle.runs.proofs.+end_of_item_end_of_marked.Goals.{end_of_marked-After-passed_head}
 
--- the rest of a marked run
-abbrev rest_at : (at limit room : ℕ) → Run
-rest_at at limit room = record { at = at; limit = limit; marked = true; room = room }
-
 pub end_of_item-end_of_marked-requires : goal.end_of_item-end_of_marked-requires
 end_of_item-end_of_marked-requires t c =
     let a = c.args in
-    let known = c.requires.code_value in
-    (omega arith, (known.0.1, known.0.2, subst Whole (marked-run a.room a.s.now a.h known.1.0 c.if-h.true) known.1.1))
+    (omega arith, (c.requires.room_nonzero.1, c.requires.room_nonzero.2, subst Whole (marked-run a.room a.s.now a.h c.requires.code_value.0 c.if-h.true) c.requires.code_value.1))
 
 pub end_of_item-returns-then-h : goal.end_of_item-returns-then-h
 end_of_item-returns-then-h t c =
     let a = c.args in
-    marked-run a.room a.s.now a.h c.requires.code_value.1.0 c.if-h.true ∙ c.end_of_marked.ensures
+    marked-run a.room a.s.now a.h c.requires.code_value.0 c.if-h.true ∙ c.end_of_marked.ensures
 
 pub end_of_item-returns : goal.end_of_item-returns
 end_of_item-returns t c =
     let a = c.args in
-    let known = c.requires.code_value in
-    definite-value a.room a.s.now a.h known.1.0 c.if-h.false known.0.1 known.1.1
+    definite-value a.room a.s.now a.h c.requires.code_value.0 c.if-h.false c.requires.room_nonzero.1 c.requires.code_value.1
 
 -- what stands at `at`, where x was read
 read : (t : ℕ) (c : end_of_marked-After-passed_head t) (x : Head) → c.passed_head.result ≡ x →
@@ -47,7 +38,7 @@ read t c x e = sym c.passed_head.ensures ∙ e
 
 pub end_of_marked-loop-h-init : goal.end_of_marked-loop-h-init
 end_of_marked-loop-h-init t c =
-    let known = c.requires.1 in (record { order = known.0; inside = known.1; whole = known.2 }, refl)
+    let known = c.requires in (record { order = known.0; inside = known.1; whole = known.2 }, refl)
 
 pub end_of_marked-passed_head-requires : goal.end_of_marked-passed_head-requires
 end_of_marked-passed_head-requires t c =

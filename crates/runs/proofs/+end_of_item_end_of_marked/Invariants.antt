@@ -1,22 +1,17 @@
 -- The proof of the cycle of calls {end_of_item, end_of_marked}. `end_of_marked` at room calls `end_of_item` at the same room, and that calls
 -- `end_of_marked` at room - 1, so `end_of_item`'s measure lies between: 2 room + 1 for `end_of_marked`, 2 room for `end_of_item`.
 -- The invariant of the loop: the run from its start ends as it does from `at`.
-use mathlib.Core.Path.{◌≡◌, refl, sym, ap, subst, ◌∙◌}
+use mathlib.Core.Path.{◌≡◌}
 use mathlib.Core.Bool.{true}
-use Prim.Native.Nat.{ℕ, ◌+◌, ◌-◌, ◌<◌}
-use native.Mathlib.Omega.{arith}
-use borrow.Author.Rules.{rules}
-use Rattle.headers.specs.declared.Head.{Head}
-use Rattle.headers.specs.declared.Head.TheVariants.{Item, ClosingMark, Refusal}
-use Rattle.headers.specs.Head.{head_at}
-use Rattle.headers.specs.Passed.{Passed}
-use Rattle.octets.specs.Walk.{Walked, run}
-use Rattle.octets.proofs.Turns.{at_head, mark-ok}
-use Rattle.tree.specs.Accepts.{Whole}
+use Prim.Native.Nat.{ℕ, ◌+◌, ◌-◌}
+use Rattle.octets.specs.Walk.{run}
 use Rattle.runs.specs.declared.Run.{Run}
 use Rattle.runs.specs.Runs.{Fine}
-use Rattle.runs.proofs.Meetings.{definite-value, marked-run, marked-before, passed, lies, value-whole, next-within, rest-fine-after, ends-after}
 use Rattle.runs.proofs.+end_of_item_end_of_marked.Given as goal
+
+-- the rest of a marked run
+abbrev pub rest_at : (at limit room : ℕ) → Run
+rest_at at limit room = record { at = at; limit = limit; marked = true; room = room }
 
 abbrev pub decreases-end_of_item : goal.decreases-end_of_item
 decreases-end_of_item l = l.room + l.room

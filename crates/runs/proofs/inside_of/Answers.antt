@@ -1,7 +1,6 @@
 -- `runs::inside_of` meets its contract: the form decides, and a primitive is not marked.
 use mathlib.Core.Path.{◌≡◌, refl, sym, ◌∙◌}
 use mathlib.Core.Bool.{Bool, true, false, false≢true}
-use borrow.Author.Rules.{rules}
 use borrow.Author.Tests.{eq-eqb, ne_eqb}
 use Rattle.runs.proofs.inside_of.Goals as goal
 

@@ -5,7 +5,6 @@ use mathlib.Core.Bool.{Bool, true, false}
 use mathlib.Core.List.{List}
 use Prim.Native.Nat.{ℕ, ◌-◌, ◌<◌}
 use native.Mathlib.Omega.{arith}
-use borrow.Author.Rules.{rules}
 use Rattle.headers.specs.declared.Header.{Header}
 use Rattle.headers.specs.declared.Head.TheVariants.{Item}
 use Rattle.headers.specs.Head.{octet_at, head_at}
@@ -15,27 +14,27 @@ use Rattle.runs.specs.declared.Run.{Run}
 use Rattle.runs.specs.Runs.{Fine}
 use Rattle.runs.proofs.Meetings.{passed, lies, definite-ends, marked-value, marked-inside, marked-whole, marked-end, meets}
 use Rattle.runs.proofs.meet.Goals as goal
-use Rattle.runs.proofs.meet.Goals.{In-Item-2}
+use Rattle.runs.proofs.meet.Goals.{In-Item}
 
-abbrev stream : (c : In-Item-2) → List ℕ
+abbrev stream : (c : In-Item) → List ℕ
 stream c = c.args.s.now
 
-abbrev its_run : (c : In-Item-2) → Run
+abbrev its_run : (c : In-Item) → Run
 its_run c = c.args.r
 
-abbrev header : (c : In-Item-2) → Header
+abbrev header : (c : In-Item) → Header
 header c = c.in-Item.h
 
-its-fine : (c : In-Item-2) → Fine (stream c) (its_run c)
+its-fine : (c : In-Item) → Fine (stream c) (its_run c)
 its-fine c = c.requires
 
-before-limit : (c : In-Item-2) → (its_run c).at < (its_run c).limit
+before-limit : (c : In-Item) → (its_run c).at < (its_run c).limit
 before-limit c = omega (arith, (its-fine c).order)
 
-read : (c : In-Item-2) → head_at (stream c) (its_run c).at (its_run c).limit (its_run c).marked (its_run c).room ≡ Item (header c)
+read : (c : In-Item) → head_at (stream c) (its_run c).at (its_run c).limit (its_run c).marked (its_run c).room ≡ Item (header c)
 read c = sym c.passed_head.ensures ∙ c.in-Item.is
 
-octet_small : (c : In-Item-2) → octet_at (stream c) (its_run c).at < 256
+octet_small : (c : In-Item) → octet_at (stream c) (its_run c).at < 256
 octet_small c = omega (arith, c.shared_slice_known-1.given (its_run c).at)
 
 pub returns-then-at-limit : goal.returns-then-at-limit
@@ -54,13 +53,13 @@ passed_head-requires c =
 
 pub overflow_sub-below : goal.overflow_sub-below
 overflow_sub-below c =
-    let here = (goal.at.overflow_sub-below c).In-Item-2 in
+    let here = (goal.at.overflow_sub-below c).In-Item in
     let o = lies (stream here) (its_run here) (its-fine here) (before-limit here) (header here) (read here) in
     omega (arith, o.deep)
 
 pub end_of_marked-next-requires : goal.end_of_marked-next-requires
 end_of_marked-next-requires c =
-    let here = (goal.at.end_of_marked-next-requires c).In-Item-2 in
+    let here = (goal.at.end_of_marked-next-requires c).In-Item in
     let o = lies (stream here) (its_run here) (its-fine here) (before-limit here) (header here) (read here) in (
       o.order,
       omega (arith, o.within, (its-fine here).inside),
@@ -69,7 +68,7 @@ end_of_marked-next-requires c =
 
 pub overflow_sub-result : goal.overflow_sub-result
 overflow_sub-result c =
-    let here = (goal.at.overflow_sub-result c).In-Item-2 in
+    let here = (goal.at.overflow_sub-result c).In-Item in
     let m = c.if-h.true in
     let v = marked-value (stream here) (its_run here) (its-fine here) (before-limit here) (header here) (read here) m ∙ c.end_of_marked-next.ensures in
     let two = marked-end (stream here) (its_run here) (its-fine here) (before-limit here) (header here) (read here) c.end_of_marked-next.result v m in
@@ -77,7 +76,7 @@ overflow_sub-result c =
 
 pub returns-then-h : goal.returns-then-h
 returns-then-h c =
-    let here = (goal.at.returns-then-h c).In-Item-2 in
+    let here = (goal.at.returns-then-h c).In-Item in
     let m : (header here).marked ≡ true = c.if-h.true in
     let v = marked-value (stream here) (its_run here) (its-fine here) (before-limit here) (header here) (read here) m ∙ c.end_of_marked-next.ensures in
     meets (stream here) (its_run here) (its-fine here) (before-limit here) (header here) (read here) c.end_of_marked-next.result v (octet_small here)
@@ -86,7 +85,7 @@ returns-then-h c =
 
 pub inside_of-requires : goal.inside_of-requires
 inside_of-requires c =
-    let here = (goal.at.inside_of-requires c).In-Item-2 in
+    let here = (goal.at.inside_of-requires c).In-Item in
     let o = lies (stream here) (its_run here) (its-fine here) (before-limit here) (header here) (read here) in
     (o.deep, o.mark)
 
@@ -107,7 +106,7 @@ returns-in-Refusal c =
 
 pub returns-else-h : goal.returns-else-h
 returns-else-h c =
-    let here = (goal.at.returns-else-h c).In-Item-2 in
+    let here = (goal.at.returns-else-h c).In-Item in
     let m : (header here).marked ≡ false = c.if-h.false in
     let v = definite-ends (stream here) (its_run here) (its-fine here) (before-limit here) (header here) (read here) m in
     meets (stream here) (its_run here) (its-fine here) (before-limit here) (header here) (read here) (header here).bound v (octet_small here)

@@ -23,7 +23,7 @@ meeting t c =
     c.meet.ensures c.in-Item.is
 
 pub loop-code-init : goal.loop-code-init
-loop-code-init t c = (c.requires.1, refl, omega arith)
+loop-code-init t c = (c.requires, refl, omega arith)
 
 pub meet-requires : goal.meet-requires
 meet-requires t c = c.loop-code.invariant.0
@@ -42,7 +42,7 @@ pub overflow_add-n : goal.overflow_add-n
 overflow_add-n t c =
     let g = pieces-give (meeting t (goal.at.overflow_add-n t c).In-Item) (eq-eqb _ _ c.if-code-eq1.true) in
     let l = c.loop-code in
-    omega (arith, places-few c.requires.1, gives-length g, c.count_places-n.ensures, l.invariant.2)
+    omega (arith, places-few c.requires, gives-length g, c.count_places-n.ensures, l.invariant.2)
 
 pub loop-code-smaller-then-code-eq1 : goal.loop-code-smaller-then-code-eq1
 loop-code-smaller-then-code-eq1 t c = (meeting t (goal.at.loop-code-smaller-then-code-eq1 t c).In-Item).less
@@ -57,7 +57,7 @@ pub overflow_add-n-then-first-past : goal.overflow_add-n-then-first-past
 overflow_add-n-then-first-past t c =
     let g = piece-gives (meeting t (goal.at.overflow_add-n-then-first-past t c).In-Item) (ne_eqb _ _ c.if-code-eq1.false) c.if-first-past.true in
     let l = c.loop-code in
-    omega (arith, places-few c.requires.1, gives-length g, l.invariant.2)
+    omega (arith, places-few c.requires, gives-length g, l.invariant.2)
 
 pub loop-code-smaller-then-first-past : goal.loop-code-smaller-then-first-past
 loop-code-smaller-then-first-past t c = (meeting t (goal.at.loop-code-smaller-then-first-past t c).In-Item).less

@@ -41,17 +41,17 @@ inner-fits : (t : ℕ) (c : Then-code-eq1 t) →
     let l = c.loop-code in
     l.done + 3 * length (places_of (items_of s c.in-Item.inner)) ≤ length l.list
 inner-fits t c =
-    fits c.loop-code.invariant (inner-gives t c) c.requires.r_in_bounds.1
+    fits c.loop-code.invariant (inner-gives t c) c.requires.r_in_bounds
 
 piece-fits : (t : ℕ) (c : Then-first-past t) →
     let l = c.loop-code in
     l.done + 3 ≤ length l.list
 piece-fits t c =
     fits c.loop-code.invariant (piece-here t c)
-    c.requires.r_in_bounds.1
+    c.requires.r_in_bounds
 
 pub loop-code-init : goal.loop-code-init
-loop-code-init t c = none-put c.requires.r_in_bounds.0.0
+loop-code-init t c = none-put c.requires.fine.0
 
 pub meet-requires : goal.meet-requires
 meet-requires t c = c.loop-code.invariant.fine
@@ -78,7 +78,7 @@ pub put_places-done-requires : goal.put_places-done-requires
 put_places-done-requires t c =
     let m = meeting t (goal.at.put_places-done-requires t c).In-Item in
     let l = c.loop-code in
-    let small = c.requires.r_in_bounds.0.1 in
+    let small = c.requires.fine.1 in
     (omega (arith, level-less m), ((m.inner_fine, small), omega (arith, inner-fits t (goal.at.put_places-done-requires t c).Then-code-eq1, part_length l.list l.done)))
 
 pub overflow_add-done : goal.overflow_add-done
@@ -97,12 +97,12 @@ loop-code-preserved-then-code-eq1 t c =
 pub overflow_cast-first : goal.overflow_cast-first
 overflow_cast-first t c =
     let m = meeting t (goal.at.overflow_cast-first t c).In-Item in
-    omega (arith, m.value_order, m.value_inside, c.requires.r_in_bounds.0.1)
+    omega (arith, m.value_order, m.value_inside, c.requires.fine.1)
 
 pub overflow_cast-past : goal.overflow_cast-past
 overflow_cast-past t c =
     let m = meeting t (goal.at.overflow_cast-past t c).In-Item in
-    omega (arith, m.value_inside, c.requires.r_in_bounds.0.1)
+    omega (arith, m.value_inside, c.requires.fine.1)
 
 pub put_source-requires : goal.put_source-requires
 put_source-requires t c = omega (arith, piece-fits t (goal.at.put_source-requires t c).Then-first-past)

@@ -1,6 +1,5 @@
 -- `characters::putting::hex` meets its contract: the digit by its size.
 use borrow.Author.Tests.{lt-ltb, le-ltb}
-use borrow.Author.Rules.{rules}
 use Rattle.characters.proofs.putting.hex.Goals as goal
 
 pub returns-then-v-lt10 : goal.returns-then-v-lt10

@@ -3,7 +3,6 @@ use native.Mathlib.Omega.{arith}
 use mathlib.Core.Path.{ap}
 use lib.ListN.{length}
 use Rattle.characters.proofs.Utf8.{is-point, is-two, is_number}
-use borrow.Author.Rules.{rules}
 use Rattle.characters.proofs.putting.put.Goals as goal
 
 pub put_point-requires : goal.put_point-requires

@@ -6,7 +6,6 @@ use lib.ListN.{length}
 use Rattle.characters.specs.Utf8.{utf8}
 use Rattle.characters.proofs.Utf8.{join-four, number-octets, bracket-long, digit-long, number-long}
 use Rattle.characters.specs.Signs.{hex_digit}
-use borrow.Author.Rules.{rules}
 use Rattle.characters.proofs.putting.put_number.Goals as goal
 
 pub put_point-a-requires : goal.put_point-a-requires
@@ -73,7 +72,8 @@ returns c =
     let long = ap (λ v. length (utf8 v)) high in
     let low = c.hex-2.ensures in
     let long2 = ap (λ v. length (utf8 v)) low in
-    let a = c.args in record { value = c.put_point.ensures.value ∙ omega (
+    let a = c.args in record {
+      value = c.put_point.ensures.value ∙ omega (
         arith,
         number-long o (omega arith),
         bracket-long.0,
@@ -88,6 +88,8 @@ returns c =
         digit-long (o % 16) (omega arith),
         c.put_point-c.ensures.value,
         c.put_point-c.auto.out,
-      ); out_after = rw (c.put_point.ensures.out_after, c.put_point-c.ensures.out_after, c.put_point-b.ensures.out_after, c.put_point-a.ensures.out_after, high, low, number-octets o)
+      );
+      out_after = rw (c.put_point.ensures.out_after, c.put_point-c.ensures.out_after, c.put_point-b.ensures.out_after, c.put_point-a.ensures.out_after, high, low, number-octets o)
           (join-four a.out.now a.at _ _ _ (utf8 0x27E6) (utf8 (hex_digit (o / 16))) (utf8 (hex_digit (o % 16))) (utf8 0x27E7)
-          c.put_point-a.ensures.value (c.put_point-b.ensures.value ∙ ap (λ v. c.put_point-a.result + length (utf8 v)) high) (c.put_point-c.ensures.value ∙ ap (λ v. c.put_point-b.result + length (utf8 v)) low)) }
+          c.put_point-a.ensures.value (c.put_point-b.ensures.value ∙ ap (λ v. c.put_point-a.result + length (utf8 v)) high) (c.put_point-c.ensures.value ∙ ap (λ v. c.put_point-b.result + length (utf8 v)) low));
+    }

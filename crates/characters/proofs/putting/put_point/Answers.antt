@@ -4,7 +4,6 @@ use native.Mathlib.Omega.{arith}
 use mathlib.Core.Path.{refl}
 use lib.ListN.{length-set}
 use Rattle.characters.proofs.Utf8.{utf8-one, utf8-two, utf8-three, one-long, two-long, three-long, two-stores, three-stores}
-use borrow.Author.Rules.{rules}
 use Rattle.characters.proofs.putting.put_point.Goals as goal
 
 pub bounds-out-at : goal.bounds-out-at

@@ -4,7 +4,6 @@ use mathlib.Core.Path.{◌∙◌}
 use lib.ListN.{length-append}
 use Rattle.characters.specs.Utf8.{utf8}
 use Rattle.characters.proofs.Utf8.{join}
-use borrow.Author.Rules.{rules}
 use Rattle.characters.proofs.putting.put_two.Goals as goal
 
 pub put_point-n-requires : goal.put_point-n-requires

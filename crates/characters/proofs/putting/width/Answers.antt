@@ -3,7 +3,6 @@ use mathlib.Core.Path.{sym, ap, ◌∙◌}
 use lib.ListN.{length, length-append}
 use Rattle.characters.specs.Utf8.{utf8}
 use Rattle.characters.proofs.Utf8.{is-point, is-two, is_number}
-use borrow.Author.Rules.{rules}
 use Rattle.characters.proofs.putting.width.Goals as goal
 
 pub returns-in-One : goal.returns-in-One

@@ -1,7 +1,6 @@
 -- `characters::signs::alone_of` meets its contract: by what the set has.
 use borrow.Author.Tests.{ne_eqb}
 use Rattle.characters.specs.Signs.{alone}
-use borrow.Author.Rules.{rules}
 use Rattle.characters.proofs.signs.alone_of.Goals as goal
 
 pub returns-then-p-eq0 : goal.returns-then-p-eq0

@@ -3,7 +3,6 @@ use mathlib.Core.Path.{◌∙◌}
 use borrow.Author.Tests.{ne_eqb}
 use Rattle.characters.specs.Signs.{first_sign}
 use Rattle.characters.proofs.Rules.{accent-of}
-use borrow.Author.Rules.{rules}
 use Rattle.characters.proofs.signs.first_of.Goals as goal
 
 pub returns-then-is_line_end : goal.returns-then-is_line_end

@@ -4,7 +4,6 @@ use native.Mathlib.Omega.{arith}
 use lib.ListN.{length}
 use borrow.Author.Tests.{lt-ltb, le-ltb}
 use Rattle.characters.specs.Signs.{sign_at}
-use borrow.Author.Rules.{rules}
 use Rattle.characters.proofs.signs.sign_at.Goals as goal
 
 pub returns-then-at-octets : goal.returns-then-at-octets

@@ -1,10 +1,8 @@
 -- `characters::steps::plain_end` meets its contract: the run from a place on is the octet there and the run past it.
-use Prim.Native.Nat.{◌+◌, ◌-◌, ◌≤◌, ◌<◌}
+use Prim.Native.Nat.{◌<◌}
 use native.Mathlib.Omega.{arith}
-use mathlib.Core.Path.{◌≡◌, refl, sym, ap, ◌∙◌}
-use lib.ListN.{length, drop}
-use borrow.Author.Tests.{not-true, not-false}
-use Rattle.characters.specs.Steps.{plain_front}
+use mathlib.Core.Path.{sym, ap, ◌∙◌}
+use lib.ListN.{length}
 use Rattle.characters.proofs.Going.{front-more, front-stops, front_ends}
 use Rattle.characters.proofs.steps.plain_end.Goals as goal
 

@@ -1,13 +1,9 @@
 -- `characters::steps::put_plain` meets its contract: the run from a place on is the octet there and the run past it.
-use Prim.Native.Nat.{◌+◌, ◌-◌, ◌≤◌, ◌<◌}
-use native.Mathlib.Omega.{arith}
-use mathlib.Core.Path.{◌≡◌, refl, sym, ap, ◌∙◌}
-use lib.ListN.{length, drop, length-set}
+use Prim.Native.Nat.{◌+◌, ◌-◌, ◌≤◌}
+use mathlib.Core.Path.{◌≡◌}
+use lib.ListN.{length, drop}
 use lib.Seq.{sets}
-use native.Mathlib.Numerals.{add-one}
-use borrow.Author.Tests.{not-true, not-false}
 use Rattle.characters.specs.Steps.{plain_front}
-use Rattle.characters.proofs.Going.{front-more, front-stops, front_ends}
 use Rattle.characters.proofs.steps.put_plain.Given as goal
 
 -- what is written from the start on is what is written, and then the run from here on

@@ -8,7 +8,6 @@ use Rattle.characters.specs.declared.Sign.{Sign}
 use Rattle.characters.specs.Signs.{octets_of}
 use Rattle.characters.specs.Steps.{step, of_sign}
 use Rattle.characters.proofs.Going.{run-within, run_step, run-text, no_run, sign-step, sign_text}
-use borrow.Author.Rules.{rules}
 use Rattle.characters.proofs.steps.put_step.Goals as goal
 
 pub put_plain-end-requires : goal.put_plain-end-requires

@@ -2,7 +2,6 @@
 use mathlib.Core.Path.{◌≡◌, ap, ◌∙◌}
 use Rattle.characters.specs.Steps.{step, of_sign}
 use Rattle.characters.proofs.Going.{run_step, sign-step}
-use borrow.Author.Rules.{rules}
 use Rattle.characters.proofs.steps.step_at.Goals as goal
 
 pub returns-then-at-end : goal.returns-then-at-end

@@ -1,7 +1,6 @@
 -- `characters::tables::combining_of` meets its contract: the table has the accents.
 use native.Mathlib.Omega.{arith}
 use Rattle.characters.proofs.Rules.{accent-at}
-use borrow.Author.Rules.{rules}
 use Rattle.characters.proofs.tables.combining_of.Goals as goal
 
 pub returns : goal.returns

@@ -3,7 +3,6 @@ use Prim.Native.Nat.{◌+◌, ◌*◌}
 use native.Mathlib.Omega.{arith}
 use mathlib.Core.Path.{sym}
 use Rattle.characters.proofs.Rules.{pair-space, pair-letter, no-accent-below, no-accent-above, no-letter-below, no-letter-above}
-use borrow.Author.Rules.{rules}
 use Rattle.characters.proofs.tables.composed_of.Goals as goal
 
 pub returns-then-a-lt192 : goal.returns-then-a-lt192

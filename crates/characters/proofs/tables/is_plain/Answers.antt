@@ -1,7 +1,6 @@
 -- `characters::tables::is_plain` meets its contract: the dollar is not plain.
 use borrow.Author.Tests.{ne_eqb}
 use Rattle.characters.specs.Sets.{is_plain}
-use borrow.Author.Rules.{rules}
 use Rattle.characters.proofs.tables.is_plain.Goals as goal
 
 pub returns-then-octet-eq36 : goal.returns-then-octet-eq36

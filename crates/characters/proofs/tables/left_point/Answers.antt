@@ -1,6 +1,5 @@
 -- `characters::tables::left_point` meets its contract: the tests are those of the definition.
 use Rattle.characters.specs.Sets.{left_point}
-use borrow.Author.Rules.{rules}
 use Rattle.characters.proofs.tables.left_point.Goals as goal
 
 pub returns-then-is_currency : goal.returns-then-is_currency

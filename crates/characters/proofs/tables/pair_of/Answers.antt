@@ -1,6 +1,5 @@
 -- `characters::tables::pair_of` meets its contract: ISO 8859-1 has none.
 use borrow.Author.Tests.{ne_eqb}
-use borrow.Author.Rules.{rules}
 use Rattle.characters.proofs.tables.pair_of.Goals as goal
 
 pub returns-then-set-eq-LATIN1 : goal.returns-then-set-eq-LATIN1

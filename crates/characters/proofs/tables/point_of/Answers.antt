@@ -1,7 +1,6 @@
 -- `characters::tables::point_of` meets its contract: the halves of a set.
 use borrow.Author.Tests.{le-leb, lt-leb}
 use Rattle.characters.specs.Sets.{point_of}
-use borrow.Author.Rules.{rules}
 use Rattle.characters.proofs.tables.point_of.Goals as goal
 
 pub returns-then-octet-ge160 : goal.returns-then-octet-ge160

@@ -3,7 +3,6 @@ use mathlib.Core.Path.{ap}
 use lib.ListN.{get_or}
 use borrow.Author.Tests.{ne_eqb}
 use Rattle.characters.specs.Sets.{supplement, right_point}
-use borrow.Author.Rules.{rules}
 use Rattle.characters.proofs.tables.right_point.Goals as goal
 
 pub returns-then-set-eq-LATIN1 : goal.returns-then-set-eq-LATIN1

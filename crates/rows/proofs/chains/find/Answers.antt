@@ -10,10 +10,11 @@ use Rattle.names.specs.Hash.{hashes, hash, bucket}
 use Rattle.names.proofs.Hashing.{hash-below}
 use Rattle.rows.proofs.ChainSearch.{Passed, passed_first, passed-more, link-falls, named-true, named-false, found}
 use Rattle.rows.proofs.chains.find.Goals as goal
+use Rattle.rows.proofs.chains.find.Goals.{At-loop-link}
 
 -- what is known at the entry, from the loop's head
-abbrev entry : tie.At-loop invariant-loop decreases-loop → tie.Start invariant-loop decreases-loop
-entry c = c.before.before.before.before.before.before.before.before
+abbrev entry : (c : At-loop-link) → tie.Start invariant-loop decreases-loop
+entry c = PLACE‹c.before.before.before.before.before.before.before.before›
 
 pub bucket_of-requires : goal.bucket_of-requires
 bucket_of-requires c =
@@ -33,7 +34,7 @@ loop-link-init c =
 
 pub has-requires : goal.has-requires
 has-requires c =
-    let start = entry PLACE‹c.before› in
+    let start = entry (goal.at.has-requires c).At-loop-link in
     let b = start.pre.0 in
     let j = c.loop-link.link - 1 in
     let l : j < start.args.n = omega (arith, c.loop-link.invariant.within) in
@@ -47,16 +48,16 @@ returns-then-has c =
 
 pub bounds-next-j : goal.bounds-next-j
 bounds-next-j c =
-    omega (arith, c.loop-link.invariant.within, (entry PLACE‹c.before.before.before.before›).pre.1.0.linked)
+    omega (arith, c.loop-link.invariant.within, (entry (goal.at.bounds-next-j c).At-loop-link).pre.1.0.linked)
 
 pub loop-link-smaller : goal.loop-link-smaller
 loop-link-smaller c =
-    omega (arith, c.wide16-link-in-loop-link.ensures, link-falls (entry PLACE‹c.before.before.before.before.before›).requires.1.0 c.loop-link-test.true c.loop-link.invariant)
+    omega (arith, c.wide16-link-in-loop-link.ensures, link-falls (entry (goal.at.loop-link-smaller c).At-loop-link).requires.1.0 c.loop-link-test.true c.loop-link.invariant)
 
 pub loop-link-preserved : goal.loop-link-preserved
 loop-link-preserved c =
     rw c.wide16-link-in-loop-link.ensures
-    (passed-more (entry PLACE‹c.before.before.before.before.before›).requires.1.0 c.loop-link-test.true c.loop-link.invariant
+    (passed-more (entry (goal.at.loop-link-preserved c).At-loop-link).requires.1.0 c.loop-link-test.true c.loop-link.invariant
     (named-false c.has.ensures c.if-has.false))
 
 pub returns : goal.returns
