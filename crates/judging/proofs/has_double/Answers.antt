@@ -38,20 +38,18 @@ logical-taken c b e =
 
 pub is_taken-requires : goal.is_taken-requires
 is_taken-requires c =
-    let known = c.requires.row_placed in
     let filed = subst (λ (index : List ℕ). Filed c.args.s.now c.args.rows.now identifier_column index c.args.n)
     (sym c.identifiers.ensures) c.requires.both_filed.identifiers in
-    record { bounded = c.requires.done_rows.2.identifiers; filed = filed; placed = (known.0.identifier, ap (λ (h : Hashes). h.identifier) known.1) }
+    record { bounded = c.requires.done_rows.2.identifiers; filed = filed; placed = (c.requires.row_placed.0.identifier, ap (λ (h : Hashes). h.identifier) c.requires.row_placed.1) }
 
 pub returns-then-is_taken : goal.returns-then-is_taken
 returns-then-is_taken c = λ table done e holds says stored. sym (identifier-twice holds says (identifier-taken (goal.at.returns-then-is_taken c).After-is_taken true c.if-is_taken.true))
 
 pub is_taken-requires-2 : goal.is_taken-requires-2
 is_taken-requires-2 c =
-    let known = c.requires.row_placed in
     let filed = subst (λ (index : List ℕ). Filed c.args.s.now c.args.rows.now logical_column index c.args.n)
     (sym c.logicals.ensures) c.requires.both_filed.logicals in
-    record { bounded = c.requires.done_rows.2.logicals; filed = filed; placed = (known.0.logical, ap (λ (h : Hashes). h.logical) known.1) }
+    record { bounded = c.requires.done_rows.2.logicals; filed = filed; placed = (c.requires.row_placed.0.logical, ap (λ (h : Hashes). h.logical) c.requires.row_placed.1) }
 
 pub returns-then-is_taken-2 : goal.returns-then-is_taken-2
 returns-then-is_taken-2 c =

@@ -10,7 +10,7 @@ returns-then-first-past c =
 
 pub find-requires : goal.find-requires
 find-requires c =
-    let placed = c.requires.placed.0 in record { bounded = c.requires.bounded; filed = c.requires.filed; asked_within = record { first_order = placed.order; first_inside = placed.inside; second_order = omega arith; second_inside = omega arith }; hashed_value = c.requires.placed.1 }
+    record { bounded = c.requires.bounded; filed = c.requires.filed; asked_within = record { first_order = c.requires.placed.0.order; first_inside = c.requires.placed.0.inside; second_order = omega arith; second_inside = omega arith }; hashed_value = c.requires.placed.1 }
 
 pub returns-in-At : goal.returns-in-At
 returns-in-At c = found-taken c.find.ensures _ c.in-At.is

@@ -79,13 +79,13 @@ returns-then-number-ne0 c =
 
 pub see-seen-requires : goal.see-seen-requires
 see-seen-requires c =
-    let fits = c.requires.fine in (
-      fits.0,
+    (
+      c.requires.fine.0,
       subst WellMade (sym c.shape_of-shape.ensures) (made (shape_by c.args.edition c.args.item.code)),
-      fits.1,
-      fits.2,
-      fits.3,
-      fits.4,
+      c.requires.fine.1,
+      c.requires.fine.2,
+      c.requires.fine.3,
+      c.requires.fine.4,
     )
 
 pub returns-then-seen-ne0 : goal.returns-then-seen-ne0

@@ -81,9 +81,9 @@ add_row-requires c =
     let l = c.loop-code in
     let w = passing (goal.at.add_row-requires c).In-Passes in
     let some = needed l.invariant.0 (meeting here) w in
-    let lent = c.requires.lent in record { done_rows = (l.invariant.0.table, l.invariant.0.done, l.invariant.0.holds); both_filed = l.invariant.0.filed; row_placed = (w.placed, w.hashed, c.requires.fine.1); scratch_width_in_bounds = (
-            omega (arith, some, lent.rows, l.invariant.1),
-            links-enough c.args.index.now _ l.invariant.2 (fewer-links (omega (arith, some)) lent.links),
+    record { done_rows = (l.invariant.0.table, l.invariant.0.done, l.invariant.0.holds); both_filed = l.invariant.0.filed; row_placed = (w.placed, w.hashed, c.requires.fine.1); scratch_width_in_bounds = (
+            omega (arith, some, c.requires.lent.rows, l.invariant.1),
+            links-enough c.args.index.now _ l.invariant.2 (fewer-links (omega (arith, some)) c.requires.lent.links),
             few l.invariant.0 (meeting here) w,
           ) }
 

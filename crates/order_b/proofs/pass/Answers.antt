@@ -17,7 +17,7 @@ use Rattle.order_b.proofs.Passing.{pass_from, pass-stops, pass-goes, pass-ends}
 use Rattle.order_b.proofs.pass.Goals as goal
 
 pub loop-j-init : goal.loop-j-init
-loop-j-init c = let some-rows = c.requires.n_nonzero in (omega arith, omega arith, λ elements ready aside. refl)
+loop-j-init c = (omega arith, omega arith, λ elements ready aside. refl)
 
 pub step_b-requires : goal.step_b-requires
 step_b-requires c = record { letter_rows = c.requires.letter_rows; filed = c.requires.filed; j_lt_n = c.loop-j-test.true }
@@ -31,10 +31,10 @@ returns-in-Stops c elements ready aside =
     ∙ c.step_b.ensures elements ready aside))
 
 pub overflow_add-j : goal.overflow_add-j
-overflow_add-j c = let known = c.requires.letter_rows in omega (
+overflow_add-j c = omega (
   arith,
   c.loop-j-test.true,
-  few-rows known.1,
+  few-rows c.requires.letter_rows.1,
 )
 
 pub loop-j-smaller : goal.loop-j-smaller

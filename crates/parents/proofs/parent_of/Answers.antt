@@ -18,11 +18,10 @@ returns-then-not-is_parent_kind c =
 
 pub last_space-cut-requires : goal.last_space-cut-requires
 last_space-cut-requires c =
-    let bounded = c.requires.letter_rows.1.holds.identifiers in
     let j = c.args.j in
     let first = c.wide-first.ensures in
     let past = c.wide-past.ensures in
-    (omega (arith, bounded.ordered j c.requires.j_lt_n.0), omega (arith, bounded.inside j c.requires.j_lt_n.0))
+    (omega (arith, c.requires.letter_rows.1.holds.identifiers.ordered j c.requires.j_lt_n.0), omega (arith, c.requires.letter_rows.1.holds.identifiers.inside j c.requires.j_lt_n.0))
 
 pub returns-then-cut-past : goal.returns-then-cut-past
 returns-then-cut-past c =
