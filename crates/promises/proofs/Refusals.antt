@@ -347,7 +347,7 @@ module _ (edition : Edition) where
 
   from-items : (t : Tree) → (t ≡ empty → ⊥) → (j : Judged) → Describes edition (top_items t) j → Tells t j
   from-items t items-there (accepted elements) (e, all) = (e, all, items-there)
-  from-items t items-there (refused number j) at = at_item at
+  from-items t items-there (refused _ _) at = at_item at
 
   from_first : (t : Tree) → Describes edition (top_items t) (judge_from edition [] t)
   from_first t = describes-from edition (top_items t) 0 t refl (λ i other l at. absurd (omega arith))
