@@ -11,7 +11,6 @@ use Rattle.elements.specs.ElementRows.{bytes_in}
 use Rattle.judging.specs.declared.Hashes.{Hashes}
 use Rattle.judging.specs.Judges.{Taken}
 use Rattle.judging.proofs.Clash.{identifier-twice, logical-twice, portions-twice}
-use borrow.Author.Rules.{rules}
 use Rattle.judging.proofs.has_double.Goals as goal
 use Rattle.judging.proofs.has_double.Goals.{After-is_taken, After-is_taken-2}
 
@@ -53,15 +52,13 @@ is_taken-requires-2 c =
 
 pub returns-then-is_taken-2 : goal.returns-then-is_taken-2
 returns-then-is_taken-2 c =
-    let here = (goal.at.returns-then-is_taken-2 c).After-is_taken in
     λ table done e holds says stored.
-    sym (logical-twice holds says (identifier-taken here false c.if-is_taken.false)
-    (logical-taken here-2 true c.if-is_taken-2.true))
+    sym (logical-twice holds says (identifier-taken (goal.at.returns-then-is_taken-2 c).After-is_taken false c.if-is_taken.false)
+    (logical-taken (goal.at.returns-then-is_taken-2 c).After-is_taken-2 true c.if-is_taken-2.true))
 
 pub returns : goal.returns
 returns c =
-    let here = (goal.at.returns c).After-is_taken in
     λ table done e holds says stored.
     c.has_repeats.ensures ∙ ap repeats stored
-    ∙ sym (portions-twice holds says (identifier-taken here false c.if-is_taken.false)
-    (logical-taken here-2 false c.if-is_taken-2.false))
+    ∙ sym (portions-twice holds says (identifier-taken (goal.at.returns c).After-is_taken false c.if-is_taken.false)
+    (logical-taken (goal.at.returns c).After-is_taken-2 false c.if-is_taken-2.false))

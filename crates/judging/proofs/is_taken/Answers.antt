@@ -1,7 +1,6 @@
 -- `judging::is_taken` meets its contract: an empty name is no row's, and any other is looked up.
 use native.Mathlib.Omega.{arith}
 use Rattle.judging.proofs.Clash.{found-taken, nothing-taken, empty-untaken}
-use borrow.Author.Rules.{rules}
 use Rattle.judging.proofs.is_taken.Goals as goal
 
 pub returns-then-first-past : goal.returns-then-first-past

@@ -3,7 +3,6 @@ use mathlib.Core.Path.{◌≡◌, sym, ap, ◌∙◌, subst}
 use mathlib.Core.List.{List}
 use Prim.Native.Nat.{ℕ}
 use native.Mathlib.Omega.{arith}
-use borrow.Author.Rules.{rules}
 use lib.ListN.{length}
 use Rattle.runs.specs.Runs.{tree_in}
 use Rattle.elements.specs.declared.Row.{Row}
@@ -78,15 +77,14 @@ returns-then-number-ne0 c =
     )
 
 pub see-seen-requires : goal.see-seen-requires
-see-seen-requires c =
-    (
-      c.requires.fine.0,
-      subst WellMade (sym c.shape_of-shape.ensures) (made (shape_by c.args.edition c.args.item.code)),
-      c.requires.fine.1,
-      c.requires.fine.2,
-      c.requires.fine.3,
-      c.requires.fine.4,
-    )
+see-seen-requires c = (
+  c.requires.fine.0,
+  subst WellMade (sym c.shape_of-shape.ensures) (made (shape_by c.args.edition c.args.item.code)),
+  c.requires.fine.1,
+  c.requires.fine.2,
+  c.requires.fine.3,
+  c.requires.fine.4,
+)
 
 pub returns-then-seen-ne0 : goal.returns-then-seen-ne0
 returns-then-seen-ne0 c =

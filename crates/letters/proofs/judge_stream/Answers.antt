@@ -1,10 +1,8 @@
 -- `letters::judge_stream` meets its contract: the judge stands between two elements at each turn, and all that is lent keeps its
 -- length.
 use mathlib.Core.Path.{◌≡◌, refl, sym, subst}
-use Prim.Native.Nat.{◌-◌}
 use native.Mathlib.Omega.{arith}
 use borrow.Author.Rules.{rules}
-use lib.ListN.{length}
 use Rattle.runs.specs.Runs.{Meeting}
 use Rattle.judging.specs.declared.PlacedItem.{PlacedItem}
 use Rattle.judging.specs.declared.Judgement.{Judgement}
@@ -61,13 +59,17 @@ returns-in-End c =
 pub judge_element-requires : goal.judge_element-requires
 judge_element-requires c =
     let l = c.loop-code in
-    let m = meeting (goal.at.judge_element-requires c).In-Item in record { done_rows = (l.invariant.0.table, l.invariant.0.done, l.invariant.0.holds); both_filed = l.invariant.0.filed; fine = (
-          m.inner_fine,
-          c.requires.fine.1,
-          omega (arith, m.starts, m.value_order, m.value_before),
-          omega (arith, m.rest_fine.order, m.rest_fine.inside),
-          omega (arith, c.requires.lent.portions, l.invariant.3),
-        ) }
+    let m = meeting (goal.at.judge_element-requires c).In-Item in record {
+      done_rows = (l.invariant.0.table, l.invariant.0.done, l.invariant.0.holds);
+      both_filed = l.invariant.0.filed;
+      fine = (
+        m.inner_fine,
+        c.requires.fine.1,
+        omega (arith, m.starts, m.value_order, m.value_before),
+        omega (arith, m.rest_fine.order, m.rest_fine.inside),
+        omega (arith, c.requires.lent.portions, l.invariant.3),
+      );
+    }
 
 pub returns-in-Fails : goal.returns-in-Fails
 returns-in-Fails c =
@@ -81,11 +83,16 @@ add_row-requires c =
     let l = c.loop-code in
     let w = passing (goal.at.add_row-requires c).In-Passes in
     let some = needed l.invariant.0 (meeting here) w in
-    record { done_rows = (l.invariant.0.table, l.invariant.0.done, l.invariant.0.holds); both_filed = l.invariant.0.filed; row_placed = (w.placed, w.hashed, c.requires.fine.1); scratch_width_in_bounds = (
-            omega (arith, some, c.requires.lent.rows, l.invariant.1),
-            links-enough c.args.index.now _ l.invariant.2 (fewer-links (omega (arith, some)) c.requires.lent.links),
-            few l.invariant.0 (meeting here) w,
-          ) }
+    record {
+      done_rows = (l.invariant.0.table, l.invariant.0.done, l.invariant.0.holds);
+      both_filed = l.invariant.0.filed;
+      row_placed = (w.placed, w.hashed, c.requires.fine.1);
+      scratch_width_in_bounds = (
+        omega (arith, some, c.requires.lent.rows, l.invariant.1),
+        links-enough c.args.index.now _ l.invariant.2 (fewer-links (omega (arith, some)) c.requires.lent.links),
+        few l.invariant.0 (meeting here) w,
+      );
+    }
 
 pub overflow_add-n : goal.overflow_add-n
 overflow_add-n c = omega (

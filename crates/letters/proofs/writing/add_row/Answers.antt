@@ -10,7 +10,6 @@ use Rattle.rows.specs.Index.{links_of, Filed, identifier_index, logical_index}
 use Rattle.rows.proofs.Halves.{first-size, first-half}
 use Rattle.judging.specs.declared.Hashes.{Hashes}
 use Rattle.letters.proofs.Grow.{narrow, identifier-written, logical-written, holds_more, second-left, both-filed}
-use borrow.Author.Rules.{rules}
 use Rattle.letters.proofs.writing.add_row.Goals as goal
 
 pub put_row-requires : goal.put_row-requires
@@ -34,5 +33,8 @@ insert-requires-2 c =
 
 pub returns : goal.returns
 returns c =
-    record { grows = λ table done e holds says. holds_more holds c.requires.scratch_width_in_bounds.0 c.requires.row_placed.0 c.put_row.ensures e says; both_filed_2 = both-filed c.args.index.now c.half_of-half.ensures c.insert.new.index c.insert.ensures.index_len_unchanged c.insert-2.new.index
-          c.insert-2.ensures.index_len_unchanged c.insert.ensures.filed_2 c.insert-2.ensures.filed_2 }
+    record {
+      grows = λ table done e holds says. holds_more holds c.requires.scratch_width_in_bounds.0 c.requires.row_placed.0 c.put_row.ensures e says;
+      both_filed_2 = both-filed c.args.index.now c.half_of-half.ensures c.insert.new.index c.insert.ensures.index_len_unchanged c.insert-2.new.index
+          c.insert-2.ensures.index_len_unchanged c.insert.ensures.filed_2 c.insert-2.ensures.filed_2;
+    }

@@ -12,9 +12,9 @@ use Rattle.making.proofs.rules.is_used.Goals as goal
 
 pub find-requires : goal.find-requires
 find-requires c =
-    record { bounded = c.requires.bounded.0; filed = c.requires.bounded.1; asked_within = record {
-            first_order = c.requires.part_lies.0.order;
-            first_inside = c.requires.part_lies.0.inside;
+    let lies = c.requires.part_lies.0 in record { bounded = c.requires.bounded.0; filed = c.requires.bounded.1; asked_within = record {
+            first_order = lies.order;
+            first_inside = lies.inside;
             second_order = omega arith;
             second_inside = omega arith;
           }; hashed_value = c.requires.part_lies.1 }

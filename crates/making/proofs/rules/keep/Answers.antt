@@ -20,7 +20,8 @@ insert-requires c =
     let n = c.args.n in
     let first = c.args.first in
     let past = c.args.past in
-    let bounded = put-bounded rows n first past c.requires.scratch_width_in_bounds.0 buffer c.requires.first_le_past.0 c.requires.first_le_past.1 c.requires.bounded.0 in record { bounded = bounded; filed = put-filed rows n first past c.requires.scratch_width_in_bounds.0 buffer c.args.index.now c.requires.bounded.1; n_in_bounds = c.requires.scratch_width_in_bounds.1; n_bound = omega arith; hashed_value = c.requires.first_le_past.2 ∙ ap hash (sym (put-value rows n first past c.requires.scratch_width_in_bounds.0 buffer)) }
+    let long = c.requires.scratch_width_in_bounds.0 in
+    let bounded = put-bounded rows n first past long buffer c.requires.first_le_past.0 c.requires.first_le_past.1 c.requires.bounded.0 in record { bounded = bounded; filed = put-filed rows n first past long buffer c.args.index.now c.requires.bounded.1; n_in_bounds = c.requires.scratch_width_in_bounds.1; n_bound = omega arith; hashed_value = c.requires.first_le_past.2 ∙ ap hash (sym (put-value rows n first past long buffer)) }
 
 pub returns : goal.returns
 returns c =
@@ -29,7 +30,8 @@ returns c =
     let n = c.args.n in
     let first = c.args.first in
     let past = c.args.past in
-    let bounded = put-bounded rows n first past c.requires.scratch_width_in_bounds.0 buffer c.requires.first_le_past.0 c.requires.first_le_past.1 c.requires.bounded.0 in
+    let long = c.requires.scratch_width_in_bounds.0 in
+    let bounded = put-bounded rows n first past long buffer c.requires.first_le_past.0 c.requires.first_le_past.1 c.requires.bounded.0 in
     λ done entry keeps e f.
-    keeps-more rows n first past c.requires.scratch_width_in_bounds.0 buffer c.args.index.now done keeps entry e f c.insert.new.index bounded
+    keeps-more rows n first past long buffer c.args.index.now done keeps entry e f c.insert.new.index bounded
     c.insert.ensures.filed_2
