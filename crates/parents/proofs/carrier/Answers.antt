@@ -1,5 +1,4 @@
 -- `parents::carrier` meets its contract: the name is hashed and looked up.
-use borrow.Author.Rules.{rules}
 use Rattle.parents.proofs.carrier.Goals as goal
 
 pub find-requires : goal.find-requires

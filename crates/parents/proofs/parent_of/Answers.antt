@@ -3,11 +3,9 @@ use mathlib.Core.Path.{ap, sym, ◌∙◌, subst}
 use Prim.Native.Nat.{ℕ, ◌≤◌}
 use native.Mathlib.Omega.{arith}
 use lib.Seq.{slice}
-use borrow.Author.Tests.{not-true}
 use Rattle.headers.specs.Head.{is_in}
 use Rattle.parents.specs.Parent.{parent_kinds, no_parent}
 use Rattle.parents.proofs.Finding.{parent-other, parent-one-group, parent-found, found_in, side-small}
-use borrow.Author.Rules.{rules}
 use Rattle.parents.proofs.parent_of.Goals as goal
 
 pub returns-then-not-is_parent_kind : goal.returns-then-not-is_parent_kind

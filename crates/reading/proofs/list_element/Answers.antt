@@ -2,12 +2,10 @@
 use mathlib.Core.Path.{sym, ◌∙◌, subst}
 use mathlib.Core.List.{List}
 use native.Mathlib.Omega.{arith}
-use borrow.Author.Tests.{not-true, not-false}
 use Rattle.reading.specs.declared.Match.{Match}
 use Rattle.reading.specs.Records.{PutsRecords}
 use Rattle.reading.proofs.Putting.{puts_none}
 use Rattle.reading.proofs.Listing.{unlisted}
-use borrow.Author.Rules.{rules}
 use Rattle.reading.proofs.list_element.Goals as goal
 
 pub is_listed-requires : goal.is_listed-requires
