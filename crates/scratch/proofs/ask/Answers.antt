@@ -1,6 +1,5 @@
 -- `scratch::ask` meets its contract: what the walk refuses is refused, and what it passes is put in a frame that is large enough.
 use mathlib.Core.Path.{refl, sym, ◌∙◌}
-use borrow.Author.Rules.{rules}
 use native.Mathlib.Omega.{arith}
 use Rattle.answers.proofs.Small.{walk-small, headers-small}
 use Rattle.letters.proofs.Letters.{refused-walk}

@@ -5,7 +5,6 @@ use mathlib.Core.Bool.{Bool, true, false, cond}
 use mathlib.Core.List.{List}
 use Prim.Native.Nat.{ℕ, ◌≤◌}
 use native.Mathlib.Omega.{arith}
-use borrow.Author.Rules.{rules}
 use Rattle.octets.specs.declared.Outcome.{Outcome}
 use Rattle.letters.specs.Lent.{rows_needed}
 use Rattle.answers.specs.Asking.{Sized}

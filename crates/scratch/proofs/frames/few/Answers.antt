@@ -1,7 +1,6 @@
 -- `scratch::frames::few` meets its contract: the arrays are what the judge asks for, what it refuses is refused, and of a letter the question's
 -- work is done.
 use mathlib.Core.Path.{refl, subst}
-use borrow.Author.Rules.{rules}
 use native.Mathlib.Omega.{arith}
 use Rattle.letters.specs.Scratch.{GivesVerdict}
 use Rattle.answers.proofs.Judging.{refused-stopped}

@@ -2,7 +2,6 @@
 -- the numbers have room for matches.
 use mathlib.Core.Path.{◌∙◌, subst}
 use Prim.Native.Nat.{◌*◌, ◌/◌, ◌≤◌}
-use borrow.Author.Rules.{rules}
 use native.Mathlib.Omega.{arith}
 use lib.ListN.{length}
 use Rattle.octets.specs.declared.Outcome.{Outcome}

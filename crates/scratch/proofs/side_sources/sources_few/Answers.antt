@@ -1,5 +1,4 @@
 -- `scratch::side_sources::sources_few` meets its contract: 1,536 numbers are enough for the matches of 512 elements.
-use borrow.Author.Rules.{rules}
 use native.Mathlib.Omega.{arith}
 use Rattle.scratch.proofs.Arrays.{sized-matches}
 use Rattle.scratch.proofs.side_sources.sources_few.Goals as goal

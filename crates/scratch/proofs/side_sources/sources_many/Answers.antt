@@ -1,5 +1,4 @@
 -- `scratch::side_sources::sources_many` meets its contract: 12,288 numbers are enough for the matches of 4,096 elements.
-use borrow.Author.Rules.{rules}
 use native.Mathlib.Omega.{arith}
 use Rattle.scratch.proofs.Arrays.{sized-matches}
 use Rattle.scratch.proofs.side_sources.sources_many.Goals as goal

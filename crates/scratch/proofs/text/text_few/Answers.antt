@@ -1,5 +1,4 @@
 -- `scratch::text::text_few` meets its contract: 2,048 numbers are enough for 512 elements, and the lines are filled from them.
-use borrow.Author.Rules.{rules}
 use native.Mathlib.Omega.{arith}
 use Rattle.answers.proofs.TextSteps.{lines-put}
 use Rattle.scratch.proofs.Arrays.{sized-array}

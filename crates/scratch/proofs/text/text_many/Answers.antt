@@ -1,5 +1,4 @@
 -- `scratch::text::text_many` meets its contract: 16,384 numbers are enough for 4,096 elements, and the lines are filled from them.
-use borrow.Author.Rules.{rules}
 use native.Mathlib.Omega.{arith}
 use Rattle.answers.proofs.TextSteps.{lines-put}
 use Rattle.scratch.proofs.Arrays.{sized-array}
