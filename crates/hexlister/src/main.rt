@@ -8,9 +8,13 @@ mod page;
 ghost use Rattle.std.specs.Prelude.{◌≡◌};
 ghost use Rattle.hexlister.specs.Inputs.{is_stopped, over, TakesIn, HeardIn};
 
-use libc::{STDERR_FILENO, STDIN_FILENO, STDOUT_FILENO};
 use lister_hex::{INPUT_LIMIT, State};
 use page::PAGE_ROOM;
+use std::io;
+use std::io::{Read, Write};
+
+// How many bytes a read is asked for.
+const BLOCK: usize = 4096;
 
 // What one answer of `read` leads to: reading goes on, or it is over, or it failed.
 #[derive(Clone, Copy)]
@@ -54,13 +58,18 @@ fn is_over(n: usize, state: State) -> bool
 
 // What is made of an answer of `read` and of the block that it was lent: as many bytes as it gave, the block's first, are read on from where
 // reading stood.
-fn take_in(state: State, got: isize, block: &[u8], octets: &mut [u8; INPUT_LIMIT]) -> Turn
+fn take_in(
+    state: State,
+    got: io::Result<usize>,
+    block: &[u8],
+    octets: &mut [u8; INPUT_LIMIT],
+) -> Turn
     ensures { TakesIn state octets.old got block.now result octets.new }
 {
-    if got < 0 {
+    let Ok(count) = got else {
         return Turn::Broken;
-    }
-    let n = io::count(got, block);
+    };
+    let n = count.min(block.len());
     let next = lister_hex::feed(state, &block[..n], octets);
     if is_over(n, next) {
         return Turn::Over(next);
@@ -70,15 +79,15 @@ fn take_in(state: State, got: isize, block: &[u8], octets: &mut [u8; INPUT_LIMIT
 
 // Reads until the input ends or a line cannot be read. A proved loop has to end, and nothing says that the input does: so it counts its
 // turns down, from a number that no run uses up.
-fn read_input(octets: &mut [u8; INPUT_LIMIT]) -> Input
+fn read_input<R: Read>(input: &mut R, octets: &mut [u8; INPUT_LIMIT]) -> Input
     ensures { HeardIn octets.old result octets.new }
 {
-    let mut block = io::buffer();
+    let mut block = [0u8; BLOCK];
     let mut state = lister_hex::start();
     let mut turns = u64::MAX;
     while 0 < turns {
         turns -= 1;
-        let got = libc::read(STDIN_FILENO, &mut block);
+        let got = input.read(&mut block);
         match take_in(state, got, &block, octets) {
             Turn::More(next) => {
                 state = next;
@@ -90,16 +99,14 @@ fn read_input(octets: &mut [u8; INPUT_LIMIT]) -> Input
     Input::Failed
 }
 
-fn main() {
+fn main(rt: HostRuntime) -> io::Result<()> {
     let mut octets = [0u8; INPUT_LIMIT];
-    match read_input(&mut octets) {
+    match read_input(&mut rt.stdin(), &mut octets) {
         Input::Ended(state) => {
             let mut page = [0u8; PAGE_ROOM];
             let n = page::put_output(&mut page, state, &octets);
-            io::write_all(STDOUT_FILENO, &page[..n]);
+            io::writer(&rt).write_all(&page[..n])
         }
-        Input::Failed => {
-            io::write_all(STDERR_FILENO, b"the input cannot be read\n");
-        }
+        Input::Failed => eprintln!(rt; "the input cannot be read"),
     }
 }
