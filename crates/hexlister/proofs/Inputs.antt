@@ -1,15 +1,11 @@
 -- What is printed is the output of the text that was read, whatever its blocks were, and of all that follows a line that cannot be read: by what
 -- `lister_hex` promises of any cutting.
 use mathlib.Core.Path.{◌≡◌, refl, sym, ap, subst, ◌∙◌}
-use mathlib.Core.Bool.{Bool, true, false, true≢false}
+use mathlib.Core.Bool.{Bool, true, false}
 use mathlib.Core.List.{List, [], ◌∷◌, ◌++◌, flatten, append-nil}
-use Prim.Native.Nat.{ℕ}
-use native.Mathlib.Omega.{arith}
+use Prim.Native.Nat.{ℕ, min}
 use lib.ListN.{length, take}
-use lib.IntN.{ℤ, pos, negsuc}
-use lib.Signed.{lt_z, non_neg}
-use borrow.Author.Tests.{ltb-true}
-use Rattle.io.specs.Counts.{clamp_len}
+use Rattle.std.specs.Prelude.{Result, Ok, Err}
 use Rattle.lister_hex.specs.declared.State.{State}
 use Rattle.lister_hex.specs.declared.State.TheVariants.{Stopped}
 use Rattle.lister_hex.specs.Lines.{input_limit, TextMeaning, reads}
@@ -41,7 +37,7 @@ heard-more block {lent} h e = record {
 
 -- what a turn takes in is a block more, whether reading goes on or is over
 pub heard-on :
-    {lent octets block after : List ℕ} {state next : State} {got : ℤ} {turn : Turn} →
+    {E : Type 0} {lent octets block after : List ℕ} {state next : State} {got : Result ℕ E} {turn : Turn} →
     Heard lent state octets →
     TakesIn state octets got block turn after →
     turn ≡ More next →
@@ -49,73 +45,45 @@ pub heard-on :
 heard-on {after = after} {state} h t e = heard-more _ h (ap (λ (u : Turn). standing (state_after state u) after) (sym e) ∙ t.leads)
 
 pub heard-last :
-    {lent octets block after : List ℕ} {state next : State} {got : ℤ} {turn : Turn} →
+    {E : Type 0} {lent octets block after : List ℕ} {state next : State} {got : Result ℕ E} {turn : Turn} →
     Heard lent state octets →
     TakesIn state octets got block turn after →
     turn ≡ Over next →
     Heard lent next after
 heard-last {after = after} {state} h t e = heard-more _ h (ap (λ (u : Turn). standing (state_after state u) after) (sym e) ∙ t.leads)
 
--- the test `got < 0`, on the number that the machine reads back from got's bits: a read that failed gave nothing
-not-below-zero : (z : ℤ) → lt_z z (pos 0) ≡ false → non_neg z ≡ true
-not-below-zero (pos n) e = refl
-not-below-zero (negsuc n) e = absurd (true≢false e)
-
+-- a read that failed gave nothing
 pub broke :
-    {z : ℤ} {state : State} {octets block : List ℕ} (got : ℤ) →
-    z ≡ got →
-    lt_z z (pos 0) ≡ true →
+    {E : Type 0} {got : Result ℕ E} {state : State} {octets block : List ℕ} (e : E) →
+    got ≡ Err e →
     TakesIn state octets got block Broken octets
 unfolding fed
-broke (pos n) e t =
-    let below : lt_z (pos n) (pos 0) ≡ true = ap (λ (y : ℤ). lt_z y (pos 0)) (sym e) ∙ t in
-    let none = ltb-true n 0 below in
-    absurd (omega arith)
-broke (negsuc n) e t = record { leads = refl; told = refl }
+broke e failed = rw failed (record { leads = refl; told = refl })
 
 -- what was counted was read on
-counts : {z got : ℤ} {n : ℕ} (block : List ℕ) → z ≡ got → n ≡ clamp_len z (length block) → n ≡ given got block
-counts block e counted = counted ∙ ap (λ (y : ℤ). clamp_len y (length block)) e
-
-tells : {n m : ℕ} {r b : Bool} (next : State) → n ≡ m → r ≡ over n next → r ≡ b → over m next ≡ b
-tells next e tested is = ap (λ (k : ℕ). over k next) (sym e) ∙ sym tested ∙ is
-
-leads-on :
-    {n m : ℕ} {t : Standing} (state : State) (octets block : List ℕ) →
-    n ≡ m →
-    t ≡ fed (standing state octets) (take n block) →
-    t ≡ fed (standing state octets) (take m block)
-leads-on state octets block e leads = leads ∙ ap (λ (k : ℕ). fed (standing state octets) (take k block)) e
-
 pub took-last :
-    {z got : ℤ} {n : ℕ} {state next : State} {octets block after : List ℕ} {r : Bool} →
-    z ≡ got →
-    lt_z z (pos 0) ≡ false →
-    n ≡ clamp_len z (length block) →
+    {E : Type 0} {got : Result ℕ E} {count n : ℕ} {state next : State} {octets block after : List ℕ} {r : Bool} →
+    got ≡ Ok count →
+    n ≡ min count (length block) →
     standing next after ≡ fed (standing state octets) (take n block) →
     r ≡ over n next →
     r ≡ true →
     TakesIn state octets got block (Over next) after
-took-last {z} {state = state} {next} {octets} {block} e sign counted read-on tested is =
-    let count = counts block e counted in
-    let over-is = tells next count tested is in
-    let below = ap non_neg (sym e) ∙ not-below-zero z sign in
-    record { leads = leads-on state octets block count read-on; told = rw (below, over-is) }
+took-last {next = next} e counted read-on tested is =
+    let over-is : over (min _ _) next ≡ true = ap (λ (k : ℕ). over k next) (sym counted) ∙ sym tested ∙ is in
+    rw e (record { leads = rw counted at read-on; told = rw over-is })
 
 pub took-on :
-    {z got : ℤ} {n : ℕ} {state next : State} {octets block after : List ℕ} {r : Bool} →
-    z ≡ got →
-    lt_z z (pos 0) ≡ false →
-    n ≡ clamp_len z (length block) →
+    {E : Type 0} {got : Result ℕ E} {count n : ℕ} {state next : State} {octets block after : List ℕ} {r : Bool} →
+    got ≡ Ok count →
+    n ≡ min count (length block) →
     standing next after ≡ fed (standing state octets) (take n block) →
     r ≡ over n next →
     r ≡ false →
     TakesIn state octets got block (More next) after
-took-on {z} {state = state} {next} {octets} {block} e sign counted read-on tested is =
-    let count = counts block e counted in
-    let over-is = tells next count tested is in
-    let below = ap non_neg (sym e) ∙ not-below-zero z sign in
-    record { leads = leads-on state octets block count read-on; told = rw (below, over-is) }
+took-on {next = next} e counted read-on tested is =
+    let over-is : over (min _ _) next ≡ false = ap (λ (k : ℕ). over k next) (sym counted) ∙ sym tested ∙ is in
+    rw e (record { leads = rw counted at read-on; told = rw over-is })
 
 -- one block is a cutting
 one_block : (text lent : List ℕ) → length lent ≡ input_limit → Answers (reads text) lent (fed (standing started lent) text)
