@@ -11,7 +11,8 @@ from kit import TOP, Kit, stop
 
 HERE = pathlib.Path(__file__).resolve().parent
 # What clang is told besides, for the module as rattle tells it and for C.
-MODULE = '-ffunction-sections -fdata-sections -mllvm -trap-unreachable -mllvm -no-trap-after-noreturn'.split()
+MODULE = ('-ffunction-sections -fdata-sections -mllvm -trap-unreachable -mllvm -no-trap-after-noreturn -mllvm -no-x86-call-frame-opt'
+          ' -mllvm -disable-machine-licm -mllvm -disable-postra-machine-licm -mllvm -sink-common-insts=false').split()
 FREE = f'-std=c99 -Wall -Wextra -Werror -ffreestanding -nostdinc -ffunction-sections -fdata-sections -I{HERE}/include -I{TOP}/include'.split()
 # The C that stands beside each library (include/): its sentences, and its identity.
 BESIDE = {'odif': 'odif_sentence', 'pm1': 'pm1_identity'}

@@ -1,12 +1,11 @@
 """The toolchain's kit, whose clang has a back end for every machine here. It is the linkers too, by a link of another name."""
-import os
 import pathlib
 import shutil
 import subprocess
 import sys
 import tempfile
 
-KIT = 'rattle-kit-5b'
+KIT = 'rattle-kit-13f'
 TOP = pathlib.Path(__file__).resolve().parent.parent
 
 
@@ -23,8 +22,7 @@ class Kit:
         known = subprocess.run([rt, 'version'], stdout=subprocess.PIPE, encoding='utf-8', check=True).stdout.split()[0]
         if known != KIT:
             stop(f'this is {known}, and the forms of its module are known of {KIT}; try portable/test, and name the new kit in portable/kit.py')
-        home = os.environ.get('RATTLE_HOME') or pathlib.Path(rt).resolve().parent.parent
-        self.bin = pathlib.Path(home) / 'on' / os.uname().machine / 'toolchain/bin'
+        self.bin = pathlib.Path(rt).resolve().parent.parent / 'toolchain/bin'
         self.links = tempfile.TemporaryDirectory()
 
     def tool(self, name):

@@ -36,7 +36,7 @@ def for_machine(text, empty, probes):
     lines = ''.join(re.findall(r'^target (?:datalayout|triple) = .*\n', empty, flags=re.M))
     text = replaced(r'^target datalayout = .*\ntarget triple = .*\n', lines, text, 'pairs of target lines')
     text = replaced(r' "target-cpu"="x86-64"', '', text, 'target-cpu')
-    return text if probes else replaced(r' "probe-stack"="inline-asm"', '', text, 'probe-stack')
+    return text if probes else replaced(r' "probe-stack"="inline-asm"(?: "stack-probe-size"="\d+")?', '', text, 'probe-stack')
 
 
 def aligned_in(function, checked):

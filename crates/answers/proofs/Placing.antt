@@ -25,7 +25,7 @@ use Rattle.letters.proofs.Telling.{rows_tell}
 use Rattle.order.specs.declared.Class.{Class}
 use Rattle.order.specs.declared.Fault.{Fault}
 use Rattle.order.specs.declared.Fault.TheVariants.{Nowhere, At}
-use Rattle.order.specs.Question.{verdict, out_of_order, element_start}
+use Rattle.order.specs.Question.{verdict, out_of_order_number, element_start}
 use Rattle.order.specs.Computed.{by_found, by_letter, order_in}
 use Rattle.order.specs.Fault.{FaultIn}
 use Rattle.order.proofs.Accepted.{judged-aside}
@@ -71,7 +71,7 @@ module _ {edition : Edition} {s rows : List ℕ} {count : ℕ} (held : LetterRow
     -- a fault was found at a row, or past them
     pub fault-found : (found : Fault) (k : ℕ) → FaultIn class s rows count found → found ≡ At k → fault_place s rows count k ≡ order_in edition class s
     fault-found found k f e =
-        ap (λ (p : ℕ). verdict out_of_order p) same-octet
+        ap (λ (p : ℕ). verdict out_of_order_number p) same-octet
         ∙ ap (λ (x : Fault). by_found s held.elements x) (sym e) ∙ by-fault found f
       where
         by_count : cond (ltb k count) (first_at rows whole_column k) (length s) ≡ cond (ltb k count) (place_of k (items_of_stream s)) (length s)

@@ -107,11 +107,11 @@ module _ (s : List ℕ) (r : Run) (o : Opening) (x y : Slot) where
   abbrev by_count : ℕ → Bool
   by_count n = filled n o.one.code o.two.code x y
 
-  pub in_order : Opens s r o → filled o.count o.one.code o.two.code x y ≡ in_order x y (tree_in s r)
-  in_order (nothing z e) = ap by_count z ∙ sym (in-order-none s x y r e)
-  in_order (single rest z m e) = ap by_count z ∙ sym (in-order-one s x y r o.one rest m e)
-  in_order (several rest last m n (ends_here z e)) = ap by_count z ∙ sym (in-order-two s x y r o.one rest m o.two last n e)
-  in_order (several rest last m n (goes_on third beyond z k)) =
+  pub filled-in_order : Opens s r o → filled o.count o.one.code o.two.code x y ≡ in_order x y (tree_in s r)
+  filled-in_order (nothing z e) = ap by_count z ∙ sym (in-order-none s x y r e)
+  filled-in_order (single rest z m e) = ap by_count z ∙ sym (in-order-one s x y r o.one rest m e)
+  filled-in_order (several rest last m n (ends_here z e)) = ap by_count z ∙ sym (in-order-two s x y r o.one rest m o.two last n e)
+  filled-in_order (several rest last m n (goes_on third beyond z k)) =
       ap by_count z ∙ sym (in-order-more s x y r o.one rest m o.two last n third beyond k)
 
   filled-few : (n p q : ℕ) → filled n p q x y ≡ true → n ≤ 2
@@ -122,4 +122,4 @@ module _ (s : List ℕ) (r : Run) (o : Opening) (x y : Slot) where
 
   -- a run whose items fill two slots has no more than two
   pub in-order-few : Opens s r o → in_order x y (tree_in s r) ≡ true → o.count ≤ 2
-  in-order-few k f = filled-few o.count _ _ (in_order k ∙ f)
+  in-order-few k f = filled-few o.count _ _ (filled-in_order k ∙ f)

@@ -1,5 +1,6 @@
 // What an element holds: its first items, and, of a run, the items that name it. Each is one pass over the run.
 #![tactic(auto)]
+
 ghost use Rattle.std.specs.Prelude.{◌≡◌, cond, not, ◌&&◌, ◌||◌, List, ℕ, ◌+◌, ◌<◌, ◌^◌, eqb};
 ghost use Rattle.runs.specs.Runs.{tree_in, Fine};
 ghost use Rattle.contents.specs.Search.{in_order};

@@ -1,5 +1,6 @@
 // The date of the document: the one item [0] on the path A3, A0 in the profile, and the day that its first ten octets name.
 #![tactic(auto)]
+
 ghost use Rattle.std.specs.Prelude.{◌≡◌, cond, eqb};
 ghost use Rattle.runs.specs.Runs.{items_of, Fine};
 ghost use Rattle.dates.specs.Finding.{path_octet, places_from, found, Tells, Answers};

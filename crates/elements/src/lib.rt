@@ -1,5 +1,6 @@
 // The shapes of elements; and of one element rules 12 to 14, and its row.
 #![tactic(auto)]
+
 ghost use Rattle.std.specs.Prelude.{◌≡◌, true, ◌≤◌, length};
 ghost use Rattle.octets.specs.Walk.{no_items, stream_limit};
 ghost use Rattle.runs.specs.Runs.{items_of, tree_in, Fine};

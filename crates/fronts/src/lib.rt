@@ -1,5 +1,6 @@
 // The first item of a stream, walked alone: no octet after it is read.
 #![tactic(auto)]
+
 ghost use Rattle.std.specs.Prelude.{◌≡◌, ◌<◌, length};
 ghost use Rattle.octets.specs.Walk.{ends};
 ghost use Rattle.fronts.specs.First.{walk_first};

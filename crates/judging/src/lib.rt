@@ -1,5 +1,6 @@
 // Rules 9 to 15 for one element, after those that are done.
 #![tactic(auto)]
+
 ghost use Rattle.std.specs.Prelude.{◌≡◌, true, List, ℕ, ◌*◌, ◌≤◌, length, take};
 ghost use Rattle.octets.specs.Walk.{stream_limit, no_items};
 ghost use Rattle.runs.specs.Runs.{items_of, Fine};

@@ -1,5 +1,6 @@
 // The judge of a whole stream: elements in order, rules 9 to 15 in order within each; and the rows of its table.
 #![tactic(auto)]
+
 ghost use Rattle.std.specs.Prelude.{◌≡◌, ◌≤◌, ltb, length};
 ghost use Rattle.octets.specs.Walk.{stream_limit};
 ghost use Rattle.runs.specs.Runs.{items_of, whole_stream, tops, Fine};

@@ -38,7 +38,7 @@ use Rattle.order.proofs.Keeping.{keep_append, keep_all, keep_same, keep-swap, ke
 use Rattle.order.proofs.Keeping.{everything-append, everything-none}
 use Rattle.order.proofs.RanksA.{some-told, some_of, Owner, class, object, lister-owner, object-rank, class-not-object, awaited-class, awaited-object}
 use Rattle.order.proofs.RanksA.{unit-rank, rank_same}
-use Rattle.order.proofs.FrontA.{steps, Placed, placed-told, ordered_of, ordered-told, kind-of, ordered_same, whole, begins-told}
+use Rattle.order.proofs.FrontA.{steps, Placed, placed-told, ordered_of, ordered-told, kind-of, ordered_same, begins-told}
 
 -- of elements that do not clash two that would are one
 no-clash-one : (es : List Element) → NoClash es → (e f : Element) → e ∈ es → f ∈ es → clash e f ≡ true → clash f e ≡ true → e ≡ f

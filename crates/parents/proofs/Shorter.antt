@@ -80,9 +80,9 @@ following in_group x xs g =
     record { in_group = false; in_groups = ((and-eq-true_iff (eqb x space_byte && in_group) (grouped false xs)).0 h).1; new_group = λ t. refl })
 
 -- in groups, what is no space is a digit
-is_digit : (in_group : Bool) (x : ℕ) (xs : List ℕ) → grouped in_group (x ∷ xs) ≡ true → eqb x space_byte ≡ false → is_digit x ≡ true
+grouped-is_digit : (in_group : Bool) (x : ℕ) (xs : List ℕ) → grouped in_group (x ∷ xs) ≡ true → eqb x space_byte ≡ false → is_digit x ≡ true
 unfolding grouped
-is_digit in_group x xs g n = cases (is_digit x) (λ d. d) (λ d. absurd (false≢true (rw (d, n) at g)))
+grouped-is_digit in_group x xs g n = cases (is_digit x) (λ d. d) (λ d. absurd (false≢true (rw (d, n) at g)))
 
 -- a byte that is no last space
 no_front : (x : ℕ) (v : Value) → in_front x v ≡ absent → (v ≡ absent) × (eqb x space_byte ≡ false)
@@ -99,7 +99,7 @@ one-group in_group [] g e = refl
 one-group in_group (x ∷ xs) g e =
     let n = no_front x (shorter xs) e in
     let f = following in_group x xs g in
-    rw (is_digit in_group x xs g n.1) (one-group f.in_group xs f.in_groups n.0)
+    rw (grouped-is_digit in_group x xs g n.1) (one-group f.in_group xs f.in_groups n.0)
 
 -- a group that begins has a digit
 pub not-empty : (in_group : Bool) (xs : List ℕ) → grouped in_group xs ≡ true → in_group ≡ false → 1 ≤ length xs

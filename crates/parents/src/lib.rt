@@ -1,5 +1,6 @@
 // Whose child an element is: the row of the class or object whose identifier is its own without the last group.
 #![tactic(auto)]
+
 ghost use Rattle.std.specs.Prelude.{◌≡◌, ◌+◌, ◌*◌, ◌<◌, ◌≤◌, length};
 ghost use Rattle.std.proofs.Math.Seq.{slice};
 ghost use Rattle.headers.specs.Head.{is_in};

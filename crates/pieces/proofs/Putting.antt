@@ -5,7 +5,7 @@ use mathlib.Core.List.{List, [], ◌++◌, append_assoc, append-nil}
 use Prim.Native.Nat.{ℕ, ◌+◌, ◌-◌, ◌≤◌}
 use native.Mathlib.Omega.{arith}
 use lib.ListN.{length, take, drop, length-append, length-drop, drop_of_length-le, take-append-drop}
-use lib.Seq.{take-length, take_all, take_at, drop_at, drop-drop, length-take-le, slice}
+use lib.Seq.{take_all, take_at, drop_at, drop-drop, length-take-le, slice}
 use Rattle.octets.specs.Walk.{no_items}
 use Rattle.tree.proofs.Here.{slice_is}
 use Rattle.runs.specs.declared.Run.{Run}
@@ -42,9 +42,9 @@ part_slice first past s l =
     sym (slice_is first (past - first) s) ∙ rw e
 
 -- it is copied there
-pub copied : (src own part ys : List ℕ) (k : ℕ) → src ≡ own → k ≡ length src → ys ≡ take (length src) src ++ drop (length src) part
+pub copied : (src own part ys : List ℕ) (k : ℕ) → src ≡ own → k ≡ length src → ys ≡ src ++ drop (length src) part
     → (k ≡ length own) × (ys ≡ own ++ drop k part)
-copied src own part ys k e l y = (l ∙ ap length e, y ∙ rw (take-length src, ← l, e))
+copied src own part ys k e l y = (l ∙ ap length e, y ∙ rw (← l, e))
 
 -- the pieces of the run `from` that are before the run `to` are put, n octets in all
 pub record PutSoFar (s : List ℕ) (from : Run) (out₀ : List ℕ) (to : Run) (n : ℕ) (out : List ℕ) : Type 0 where

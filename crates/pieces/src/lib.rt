@@ -2,6 +2,7 @@
 // and 23 items. Whether a run holds nothing else, how many octets its pieces have in all, and the pieces joined in order. Each function
 // calls itself for the run inside a constructed piece, a level deeper.
 #![tactic(auto)]
+
 ghost use Rattle.std.specs.Prelude.{◌≡◌, true, false, ◌++◌, ◌≤◌, length, drop};
 ghost use Rattle.headers.specs.Head.{constructed};
 ghost use Rattle.runs.specs.Runs.{tree_in, Fine};

@@ -1,6 +1,7 @@
 // The PM1 desk: a question over the reader, which pages of a letter are within PM1. It asks `odif::check`, and goes through the elements by
 // `runs::meet`.
 #![tactic(auto)]
+
 ghost use Rattle.std.specs.Prelude.{◌≡◌, [], ◌∷◌, ◌+◌, ◌*◌, ◌<◌, ◌≤◌, length};
 ghost use Rattle.std.proofs.lemmas.List.Edits.{sets};
 ghost use Rattle.runs.specs.Runs.{tree_in, Fine};
@@ -158,23 +159,4 @@ pub fn pages(edition: Edition, stream: &[u8], table: &mut [u32], list: &mut [u32
         elements: checked.elements,
         pages: count as u32,
     }
-}
-
-// The header's `pm1_pages` and its twin of 1993 hand their list to these as numbers.
-#[unsafe(no_mangle)]
-pub extern "C" fn pm1_pages_numbers(stream: &[u8], table: &mut [u32], list: &mut [u32]) -> Paged
-    ensures { PagesOutcome Edition.Of1988 stream.now table.old list.old result table.new list.new }
-{
-    pages(Edition::Of1988, stream, table, list)
-}
-
-#[unsafe(no_mangle)]
-pub extern "C" fn pm1_pages_numbers_1993(
-    stream: &[u8],
-    table: &mut [u32],
-    list: &mut [u32],
-) -> Paged
-    ensures { PagesOutcome Edition.Of1993 stream.now table.old list.old result table.new list.new }
-{
-    pages(Edition::Of1993, stream, table, list)
 }

@@ -3,7 +3,7 @@
 use mathlib.Core.Path.{◌≡◌, refl, ap, sym, subst}
 use mathlib.Core.Logic.{inl, inr, ◌↔◌}
 use mathlib.Core.Bool.{false}
-use mathlib.Core.List.{List, ◌∷◌, Memᴰ}
+use mathlib.Core.List.{List, [], ◌∷◌, Memᴰ}
 use mathlib.Core.Option.{some}
 use Prim.Native.Nat.{ℕ, suc, ◌/◌, ◌<◌, ◌≤◌}
 use native.Mathlib.Omega.{arith}
@@ -31,6 +31,7 @@ use Rattle.promises.specs.Demands.{In, Demand3}
 module _ {A : Type 0} where
   -- a member of a list stands somewhere in it
   pub member-in : (m : A) (ms : List A) → Memᴰ m ms → (i : ℕ) × (get_elem? ms i ≡ some m)
+  member-in m [] i = elim i [ ]
   member-in m (x ∷ ms) (Memᴰ.head e) = (0, ap some (sym e))
   member-in m (x ∷ ms) (Memᴰ.tail i) = let (k, e) = member-in m ms i in (suc k, e)
 

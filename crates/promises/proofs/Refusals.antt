@@ -41,6 +41,7 @@ Rises k [] = Unit {0}
 Rises k (r ∷ rs) = (k < r.number) × Rises r.number rs
 
 fires-above : (k : ℕ) (rs : List Rule) → Rises k rs → (n : ℕ) → Fires rs n → k < n
+fires-above k [] up n f = elim f [ ]
 fires-above k (r ∷ rs) (l, up) n (here t) = l
 fires-above k (r ∷ rs) (l, up) n (later f) = let m = fires-above r.number rs up n f in omega arith
 
@@ -50,6 +51,7 @@ data FirstIs (rs : List Rule) : ℕ → Type 0 where
   first_fires : {number : ℕ} → 0 < number → Fires rs number → ((n : ℕ) → n < number → Fires rs n → ⊥) → FirstIs rs number
 
 no-rule : (rs : List Rule) → rs ≡ [] → (n : ℕ) → Fires rs n → ⊥
+no-rule [] e n f = elim f [ ]
 no-rule (r ∷ rs) e n f = let z : ◌≡◌ {A = ℕ} 0 1 = cc in omega arith
 
 lowest : (r : Rule) (rs : List Rule) → Rises r.number rs → (n : ℕ) → n < r.number → Fires (r ∷ rs) n → ⊥
@@ -345,7 +347,7 @@ module _ (edition : Edition) where
 
   from-items : (t : Tree) → (t ≡ empty → ⊥) → (j : Judged) → Describes edition (top_items t) j → Tells t j
   from-items t items-there (accepted elements) (e, all) = (e, all, items-there)
-  from-items t items-there (refused number j) at = at_item at
+  from-items t items-there (refused _ _) at = at_item at
 
   from_first : (t : Tree) → Describes edition (top_items t) (judge_from edition [] t)
   from_first t = describes-from edition (top_items t) 0 t refl (λ i other l at. absurd (omega arith))

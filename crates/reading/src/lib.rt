@@ -1,5 +1,6 @@
 // The reading list of a side.
 #![tactic(auto)]
+
 ghost use Rattle.std.specs.Prelude.{◌≡◌, true, [], ◌∷◌, ◌++◌, ◌+◌, ◌*◌, ◌<◌, ◌≤◌, length, drop};
 ghost use Rattle.headers.specs.Head.{is_in};
 ghost use Rattle.names.specs.Names.{space_byte};

@@ -1,5 +1,6 @@
 // The rows of a letter: which numbers a row has and where, the kinds of elements and who shares a name space; and look-up of rows by their names.
 #![tactic(auto)]
+
 ghost use Rattle.std.specs.Prelude.{◌≡◌, ◌+◌, ◌≤◌};
 ghost use Rattle.rows.specs.Rows.{name_space_of};
 ghost use Rattle.rows.specs.Index.{links_begin, half_of, identifier_index, logical_index};

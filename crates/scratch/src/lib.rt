@@ -1,6 +1,7 @@
 // A stream is walked, its size told, and the question put in a frame of that size: there it is judged, and the rest left to `answers`. Frames have
 // two sizes, for few elements and for as many as a letter may have, since every letter pays for clearing one.
 #![tactic(auto)]
+
 ghost use Rattle.std.specs.Prelude.{◌≡◌, true, cond, ◌≤◌, length};
 ghost use Rattle.octets.specs.Walk.{walk_of};
 ghost use Rattle.letters.specs.Lent.{rows_needed};
@@ -13,11 +14,11 @@ use octets::Outcome;
 
 mod frames; // frames.rt: the arrays of either size
 mod list; // list.rt: the reading list of a side
-mod sources; // sources.rt: where each octet of a side stands
+mod side_sources; // side_sources.rt: where each octet of a side stands
 mod text; // text.rt: the whole reading of a side
 
 pub use list::{list_few, list_many};
-pub use sources::{sources_few, sources_many};
+pub use side_sources::{sources_few, sources_many};
 pub use text::{text_few, text_many};
 
 // Scratch for so many elements is soon cleared, and most letters have no more.

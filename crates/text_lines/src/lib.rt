@@ -1,5 +1,6 @@
 // The lines of a whole reading, from numbers in scratch: which match a line is, and where its text begins and ends.
 #![tactic(auto)]
+
 ghost use Rattle.std.specs.Prelude.{◌≡◌, [], ◌∷◌, ◌+◌, ◌*◌, ◌≤◌, length};
 ghost use Rattle.std.proofs.lemmas.List.Edits.{sets};
 ghost use Rattle.text_lines.specs.Text.{line_width};

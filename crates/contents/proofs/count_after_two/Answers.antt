@@ -1,6 +1,5 @@
 -- `contents::count_after_two` meets its contract: what is met decides.
 use mathlib.Core.Path.{refl}
-use borrow.Author.Rules.{rules}
 use Rattle.contents.specs.Opening.{ends_here, goes_on}
 use Rattle.contents.proofs.Firsts.{met}
 use Rattle.contents.proofs.count_after_two.Goals as goal

@@ -1,6 +1,4 @@
 -- `contents::fills_second` meets its contract, by its one test.
-use Rattle.contents.proofs.fills_second.Statement.{statement}
-use Rattle.contents.proofs.fills_second.Tie as tie
 use Rattle.contents.proofs.fills_second.Goals as goal
 
 pub returns-then-one : goal.returns-then-one

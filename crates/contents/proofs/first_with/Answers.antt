@@ -1,17 +1,14 @@
 -- `contents::first_with` meets its contract. The loop's invariant: a search from the start is one from here. The measure is what is left of
 -- the run.
-use Prim.Native.Nat.{◌-◌}
-use borrow.Author.Rules.{rules}
-use Rattle.runs.specs.Runs.{Fine}
 use Rattle.contents.specs.declared.Part.{Part}
 use Rattle.contents.specs.Opening.{Begins}
-use Rattle.contents.proofs.Firsts.{met, Alike, same-search, alike-on, holds-before, lacks-before, lacks-at-end, alike-after, holds-here}
+use Rattle.contents.proofs.Firsts.{met, same-search, alike-on, holds-before, lacks-before, lacks-at-end, alike-after, holds-here}
 use Rattle.contents.proofs.first_with.Goals as goal
 use Rattle.contents.proofs.first_with.Goals.{In-Item}
 
 -- the item that is met
-abbrev part : tie.After-known-told invariant-loop decreases-loop → Part
-part c = let g = c.before.code.given.0 in record { code = g.0; first = g.1.0; past = g.1.1.0; inner = g.1.1.1.0 }
+abbrev part : (c : In-Item) → Part
+part c = record { code = c.in-Item.code; first = c.in-Item.first; past = c.in-Item.past; inner = c.in-Item.inner }
 
 meeting : (c : In-Item) →
     Begins c.args.s.now c.loop-code.cur (part c)
@@ -38,17 +35,19 @@ part_of-requires c = tt
 
 pub returns-then-code-sought : goal.returns-then-code-sought
 returns-then-code-sought c =
+    let here = (goal.at.returns-then-code-sought c).In-Item in
     let a = c.args in
     let l = c.loop-code in
     rw c.part_of.ensures
-    (holds-before l.invariant.1 (holds-here a.s.now l.cur (part PLACE‹c.before.before›) _ (meeting (goal.at.returns-then-code-sought c).In-Item) a.sought c.if-code-sought.true))
+    (holds-before l.invariant.1 (holds-here a.s.now l.cur (part here) _ (meeting here) a.sought c.if-code-sought.true))
 
 pub loop-code-smaller : goal.loop-code-smaller
 loop-code-smaller c = (meeting (goal.at.loop-code-smaller c).In-Item).less
 
 pub loop-code-preserved : goal.loop-code-preserved
 loop-code-preserved c =
+    let here = (goal.at.loop-code-preserved c).In-Item in
     let a = c.args in
     let l = c.loop-code in
-    let m = meeting (goal.at.loop-code-preserved c).In-Item in
-    (m.rest_fine, alike-on l.invariant.1 (alike-after a.s.now l.cur (part PLACE‹c.before›) _ m a.sought c.if-code-sought.false))
+    let m = meeting here in
+    (m.rest_fine, alike-on l.invariant.1 (alike-after a.s.now l.cur (part here) _ m a.sought c.if-code-sought.false))

@@ -2,12 +2,11 @@
 -- The measure is what is left of the run.
 use Prim.Native.Nat.{ℕ, ◌+◌, ◌-◌, ◌<◌, ◌≤◌, ◌^◌}
 use native.Mathlib.Omega.{arith}
-use borrow.Author.Rules.{rules}
 use lib.Dec.{eqb}
 use lib.ListN.{length}
 use Rattle.contents.specs.Opening.{Begins}
 use Rattle.contents.proofs.Firsts.{met}
-use Rattle.contents.proofs.Gathering.{Gathering, at_most_one, gathering-nothing, gathering-more, gathering-end}
+use Rattle.contents.proofs.Gathering.{at_most_one, gathering-nothing, gathering-more, gathering-end}
 use Rattle.contents.proofs.gather.Goals as goal
 use Rattle.contents.proofs.gather.Goals.{After-part_of-p}
 
@@ -33,7 +32,7 @@ fits c n b =
       m.value_before,
       m.rest_limit,
       m.rest_fine.order,
-      c.well-formed,
+      c.well_formed,
     )
 
 pub unseen_yet-none-requires : goal.unseen_yet-none-requires

@@ -1,13 +1,7 @@
 -- `contents::gather` meets its contract. The loop's invariant: what was gathered is what stood from the start up to here.
 -- The measure is what is left of the run.
-use Prim.Native.Nat.{ℕ, ◌+◌, ◌-◌, ◌<◌, ◌≤◌, ◌^◌}
-use native.Mathlib.Omega.{arith}
-use borrow.Author.Rules.{rules}
-use lib.Dec.{eqb}
-use lib.ListN.{length}
-use Rattle.contents.specs.Opening.{Begins}
-use Rattle.contents.proofs.Firsts.{met}
-use Rattle.contents.proofs.Gathering.{Gathering, at_most_one, gathering-nothing, gathering-more, gathering-end}
+use Prim.Native.Nat.{◌-◌}
+use Rattle.contents.proofs.Gathering.{Gathering}
 use Rattle.contents.proofs.gather.Given as goal
 
 abbrev pub invariant-loop-code : goal.invariant-loop-code

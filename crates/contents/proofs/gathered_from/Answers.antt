@@ -1,6 +1,4 @@
 -- `contents::gathered_from` meets its contract, field by field.
-use Rattle.contents.proofs.gathered_from.Statement.{statement}
-use Rattle.contents.proofs.gathered_from.Tie as tie
 use Rattle.contents.proofs.gathered_from.Goals as goal
 
 pub span_of-requires : goal.span_of-requires

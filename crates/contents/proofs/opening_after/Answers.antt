@@ -1,6 +1,5 @@
 -- `contents::opening_after` meets its contract: what is met after the first item decides.
 use mathlib.Core.Path.{refl}
-use borrow.Author.Rules.{rules}
 use Rattle.contents.specs.Opening.{single, several}
 use Rattle.contents.proofs.Firsts.{met}
 use Rattle.contents.proofs.opening_after.Goals as goal
@@ -20,12 +19,12 @@ pub part_of-requires : goal.part_of-requires
 part_of-requires c = tt
 
 pub returns-in-End : goal.returns-in-End
-returns-in-End c =
+returns-in-End c r m =
     let a = c.args in
     single a.rest refl m (met a.s.now a.rest c.meet.ensures c.in-End.is)
 
 pub returns-in-Item : goal.returns-in-Item
-returns-in-Item c =
+returns-in-Item c r m =
     let a = c.args in
     several a.rest c.in-Item.last m
     (rw c.part_of.ensures (met a.s.now a.rest c.meet.ensures

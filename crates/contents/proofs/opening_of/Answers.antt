@@ -1,6 +1,5 @@
 -- `contents::opening_of` meets its contract: what is met at the start decides.
 use mathlib.Core.Path.{refl}
-use borrow.Author.Rules.{rules}
 use Rattle.contents.specs.Opening.{nothing}
 use Rattle.contents.proofs.Firsts.{met}
 use Rattle.contents.proofs.opening_of.Goals as goal

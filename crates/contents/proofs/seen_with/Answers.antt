@@ -1,5 +1,4 @@
 -- `contents::seen_with` meets its contract: its test is that of `seen_with`.
-use native.Mathlib.Omega.{arith}
 use borrow.Author.Tests.{eq-eqb, ne_eqb}
 use Rattle.contents.specs.Gather.{seen_with}
 use Rattle.contents.proofs.seen_with.Goals as goal

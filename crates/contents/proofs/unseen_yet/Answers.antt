@@ -1,6 +1,4 @@
 -- `contents::unseen_yet` meets its contract: its part is `no_part`.
-use Rattle.contents.proofs.unseen_yet.Statement.{statement}
-use Rattle.contents.proofs.unseen_yet.Tie as tie
 use Rattle.contents.proofs.unseen_yet.Goals as goal
 
 pub no_part-requires : goal.no_part-requires

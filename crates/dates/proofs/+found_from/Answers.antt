@@ -1,12 +1,11 @@
 -- `dates::found_from` meets its contract. The loop's invariant: `had` tells what the part of the run that is passed has on the path.
 -- The function ends, for each call is one octet further on the path.
-use Prim.Native.Nat.{ℕ, ◌-◌, ◌<◌}
+use Prim.Native.Nat.{ℕ}
 use mathlib.Core.Path.{◌∙◌}
 use native.Mathlib.Omega.{arith}
-use borrow.Author.Rules.{rules}
-use Rattle.runs.specs.Runs.{Fine, Meeting}
+use Rattle.runs.specs.Runs.{Meeting}
 use Rattle.contents.proofs.Firsts.{met}
-use Rattle.dates.proofs.Places.{SoFar, at_start, at-end, go_on, pass-over, zero-tells, zero-adds, path-adds, other-adds}
+use Rattle.dates.proofs.Places.{at_start, at-end, go_on, pass-over, zero-tells, zero-adds, path-adds, other-adds}
 use Rattle.dates.proofs.+found_from.Goals as goal
 use Rattle.dates.proofs.+found_from.Goals.{In-Item}
 

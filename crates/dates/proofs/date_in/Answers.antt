@@ -1,7 +1,6 @@
 -- `dates::date_in` meets its contract: what the pass tells, and the day that the value names, make the answer.
 use mathlib.Core.Path.{◌≡◌, ◌∙◌}
 use mathlib.Core.Bool.{cond}
-use borrow.Author.Rules.{rules}
 use lib.Seq.{slice}
 use Rattle.pieces.proofs.Putting.{part_slice}
 use Rattle.calendar.specs.Calendar.{day_at, names_day, no_day}

@@ -1,7 +1,6 @@
 -- `elements::see` meets its contract: items that do not stand in order, and another item among the pieces of the content or of a seal, are
 -- refused by 12, and what the others hold is looked into.
 use mathlib.Core.Path.{sym, ◌∙◌, subst}
-use borrow.Author.Rules.{rules}
 use borrow.Author.Tests.{not-true, not-false}
 use Rattle.runs.specs.Runs.{tree_in}
 use Rattle.elements.specs.Slots.{slot_content}

@@ -1,5 +1,4 @@
 -- `elements::seen_by` meets its contract.
-use borrow.Author.Rules.{rules}
 use borrow.Author.Tests.{eq-eqb, ne_eqb}
 use Rattle.elements.proofs.seen_by.Goals as goal
 

@@ -1,6 +1,5 @@
 -- `fronts::first_item` meets its contract: how the walk of one item ended is told by its answer.
 use mathlib.Core.Path.{sym, ◌∙◌}
-use borrow.Author.Rules.{rules}
 use Rattle.octets.specs.Walk.{count}
 use Rattle.octets.proofs.Turns.{answer-ends, answer-stops}
 use Rattle.fronts.specs.First.{walk_first}

@@ -1,7 +1,6 @@
 -- `fronts::inside_first` meets its contract: the run of the first item alone is fine, and has that item and no other.
 use mathlib.Core.Path.{sym, ◌∙◌}
 use native.Mathlib.Omega.{arith}
-use borrow.Author.Rules.{rules}
 use lib.ListN.{length}
 use Rattle.octets.specs.Walk.{deepest}
 use Rattle.runs.specs.Runs.{definite_run}

@@ -11,7 +11,6 @@ use Rattle.elements.specs.ElementRows.{bytes_in}
 use Rattle.judging.specs.declared.Hashes.{Hashes}
 use Rattle.judging.specs.Judges.{Taken}
 use Rattle.judging.proofs.Clash.{identifier-twice, logical-twice, portions-twice}
-use borrow.Author.Rules.{rules}
 use Rattle.judging.proofs.has_double.Goals as goal
 use Rattle.judging.proofs.has_double.Goals.{After-is_taken, After-is_taken-2}
 
@@ -38,32 +37,28 @@ logical-taken c b e =
 
 pub is_taken-requires : goal.is_taken-requires
 is_taken-requires c =
-    let known = c.requires.row_placed in
     let filed = subst (λ (index : List ℕ). Filed c.args.s.now c.args.rows.now identifier_column index c.args.n)
     (sym c.identifiers.ensures) c.requires.both_filed.identifiers in
-    record { bounded = c.requires.done_rows.2.identifiers; filed = filed; placed = (known.0.identifier, ap (λ (h : Hashes). h.identifier) known.1) }
+    record { bounded = c.requires.done_rows.2.identifiers; filed = filed; placed = (c.requires.row_placed.0.identifier, ap (λ (h : Hashes). h.identifier) c.requires.row_placed.1) }
 
 pub returns-then-is_taken : goal.returns-then-is_taken
 returns-then-is_taken c = λ table done e holds says stored. sym (identifier-twice holds says (identifier-taken (goal.at.returns-then-is_taken c).After-is_taken true c.if-is_taken.true))
 
 pub is_taken-requires-2 : goal.is_taken-requires-2
 is_taken-requires-2 c =
-    let known = c.requires.row_placed in
     let filed = subst (λ (index : List ℕ). Filed c.args.s.now c.args.rows.now logical_column index c.args.n)
     (sym c.logicals.ensures) c.requires.both_filed.logicals in
-    record { bounded = c.requires.done_rows.2.logicals; filed = filed; placed = (known.0.logical, ap (λ (h : Hashes). h.logical) known.1) }
+    record { bounded = c.requires.done_rows.2.logicals; filed = filed; placed = (c.requires.row_placed.0.logical, ap (λ (h : Hashes). h.logical) c.requires.row_placed.1) }
 
 pub returns-then-is_taken-2 : goal.returns-then-is_taken-2
 returns-then-is_taken-2 c =
-    let here = (goal.at.returns-then-is_taken-2 c).After-is_taken in
     λ table done e holds says stored.
-    sym (logical-twice holds says (identifier-taken here false c.if-is_taken.false)
-    (logical-taken here-2 true c.if-is_taken-2.true))
+    sym (logical-twice holds says (identifier-taken (goal.at.returns-then-is_taken-2 c).After-is_taken false c.if-is_taken.false)
+    (logical-taken (goal.at.returns-then-is_taken-2 c).After-is_taken-2 true c.if-is_taken-2.true))
 
 pub returns : goal.returns
 returns c =
-    let here = (goal.at.returns c).After-is_taken in
     λ table done e holds says stored.
     c.has_repeats.ensures ∙ ap repeats stored
-    ∙ sym (portions-twice holds says (identifier-taken here false c.if-is_taken.false)
-    (logical-taken here-2 false c.if-is_taken-2.false))
+    ∙ sym (portions-twice holds says (identifier-taken (goal.at.returns c).After-is_taken false c.if-is_taken.false)
+    (logical-taken (goal.at.returns c).After-is_taken-2 false c.if-is_taken-2.false))

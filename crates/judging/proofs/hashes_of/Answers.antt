@@ -1,5 +1,4 @@
 -- `judging::hashes_of` meets its contract: each hash is that of its bytes, from 0.
-use borrow.Author.Rules.{rules}
 use Rattle.judging.proofs.hashes_of.Goals as goal
 
 pub returns : goal.returns

@@ -3,7 +3,6 @@ use mathlib.Core.Path.{◌≡◌, sym, ap, ◌∙◌, subst}
 use mathlib.Core.List.{List}
 use Prim.Native.Nat.{ℕ}
 use native.Mathlib.Omega.{arith}
-use borrow.Author.Rules.{rules}
 use lib.ListN.{length}
 use Rattle.runs.specs.Runs.{tree_in}
 use Rattle.elements.specs.declared.Row.{Row}
@@ -18,16 +17,16 @@ use Rattle.judging.specs.Done.{DoneRows}
 use Rattle.judging.specs.Judges.{early_refusal, shape_by, element_by}
 use Rattle.judging.proofs.Steps.{refused-early, refused-later, refused-last}
 use Rattle.judging.proofs.judge_any.Goals as goal
-use Rattle.judging.proofs.judge_any.Goals.{After-early-number, Else-number-ne0, After-see-seen, Else-seen-ne0, After-has_double}
+use Rattle.judging.proofs.judge_any.Goals.{Start, After-early-number, Else-number-ne0, After-see-seen, Else-seen-ne0, After-has_double}
 
 -- the elements that are done, and their rows
-abbrev Done : tie.Start → List Row → List Element → Type 0
+abbrev Done : (c : Start) → List Row → List Element → Type 0
 Done c table done =
     DoneRows c.args.s.now c.args.rows.now c.args.n table done
 
 -- rules 9 to 11
 early-is : (c : After-early-number) (table : List Row) (done : List Element)
-    → Done PLACE‹c.before.before.before.before.before.before› table done →
+    → Done (goal.at.After-early-number c).Start table done →
     let a = c.args in
     c.early-number.result ≡ early_refusal (length done) a.item.code (shape_by a.edition a.item.code).octet
 early-is c table done holds =
@@ -37,7 +36,7 @@ early-is c table done holds =
     ∙ ap (λ (n : ℕ). early_refusal n a.item.code (shape_by a.edition a.item.code).octet) (sym holds.counted)
 
 early-passed : (c : Else-number-ne0) (table : List Row) (done : List Element)
-    → Done PLACE‹c.before.before.before.before.before.before.before› table done →
+    → Done (goal.at.Else-number-ne0 c).Start table done →
     let a = c.args in
     early_refusal (length done) a.item.code (shape_by a.edition a.item.code).octet ≡ 0
 early-passed c table done holds = sym (early-is (goal.at.Else-number-ne0 c).After-early-number table done holds) ∙ c.if-number-ne0.false
@@ -61,7 +60,7 @@ later-passed c = sym (seen-is (goal.at.Else-seen-ne0 c).After-see-seen).refusal 
 
 -- rule 15
 double-is : (c : After-has_double) (table : List Row) (done : List Element)
-    → Done PLACE‹c.before.before.before.before.before.before.before.before.before.before.before.before.before.before.before.before.before› table done →
+    → Done (goal.at.After-has_double c).Start table done →
     let a = c.args in
     c.has_double.result ≡ twice done (element_by a.edition a.item.code (tree_in a.s.now a.item.inner))
 double-is c table done holds =
@@ -78,15 +77,14 @@ returns-then-number-ne0 c =
     )
 
 pub see-seen-requires : goal.see-seen-requires
-see-seen-requires c =
-    let fits = c.requires.fine in (
-      fits.0,
-      subst WellMade (sym c.shape_of-shape.ensures) (made (shape_by c.args.edition c.args.item.code)),
-      fits.1,
-      fits.2,
-      fits.3,
-      fits.4,
-    )
+see-seen-requires c = (
+  c.requires.fine.0,
+  subst WellMade (sym c.shape_of-shape.ensures) (made (shape_by c.args.edition c.args.item.code)),
+  c.requires.fine.1,
+  c.requires.fine.2,
+  c.requires.fine.3,
+  c.requires.fine.4,
+)
 
 pub returns-then-seen-ne0 : goal.returns-then-seen-ne0
 returns-then-seen-ne0 c =

@@ -2,7 +2,6 @@
 use mathlib.Core.Path.{◌≡◌, sym, ap, ◌∙◌}
 use Prim.Native.Nat.{ℕ}
 use lib.ListN.{length}
-use borrow.Author.Rules.{rules}
 use Rattle.judging.specs.Judges.{early_refusal}
 use Rattle.judging.proofs.Bare.{bare-refused, bare-passes}
 use Rattle.judging.proofs.judge_bare.Goals as goal

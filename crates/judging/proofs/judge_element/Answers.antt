@@ -1,7 +1,6 @@
 -- `judging::judge_element` meets its contract: a run that is over has no items.
 use mathlib.Core.Path.{sym, ◌∙◌}
 use native.Mathlib.Omega.{arith}
-use borrow.Author.Rules.{rules}
 use borrow.Author.Tests.{eqb-true}
 use Rattle.runs.specs.Runs.{items_of, tops}
 use Rattle.runs.proofs.Laws.{no-tops}

@@ -13,8 +13,7 @@ use Rattle.lent.proofs.judge.Goals.{In-Refused}
 pub judge_stream-requires : goal.judge_stream-requires
 judge_stream-requires c =
     let s = c.args.stream.now in
-    let w = c.requires.by_index.2 in
-    record { fine = (stream-fine s _ _ w, stream-within s _ _ w); lent = cleared s _ _ c.requires.stream_in_bounds.0 (c.clear.ensures.index_len_unchanged ∙ c.requires.stream_in_bounds.1) c.clear.ensures.empty }
+    record { fine = (stream-fine s _ _ c.requires.by_index.2, stream-within s _ _ c.requires.by_index.2); lent = cleared s _ _ c.requires.stream_in_bounds.0 (c.clear.ensures.index_len_unchanged ∙ c.requires.stream_in_bounds.1) c.clear.ensures.empty }
 
 -- what rules 9 to 15 refuse
 refusing : (c : In-Refused) →

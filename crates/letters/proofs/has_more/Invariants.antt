@@ -1,14 +1,10 @@
 -- `letters::has_more` meets its contract: the elements of the stream and those that may still be passed are as many as those asked for and
 -- those of the rest.
-use mathlib.Core.Path.{◌≡◌, sym, ap, subst}
+use mathlib.Core.Path.{◌≡◌}
 use mathlib.Core.List.{List}
 use Prim.Native.Nat.{ℕ, ◌+◌, ◌-◌}
-use native.Mathlib.Omega.{arith}
-use borrow.Author.Rules.{rules}
-use borrow.Author.Tests.{lt-ltb, le-ltb}
-use Rattle.runs.specs.Runs.{items_of, whole_stream, tops, Fine, Meeting}
+use Rattle.runs.specs.Runs.{items_of, tops, Fine}
 use Rattle.runs.specs.declared.Run.{Run}
-use Rattle.contents.proofs.Firsts.{met}
 use Rattle.letters.proofs.has_more.Given as goal
 
 abbrev pub tops_in : List ℕ → Run → ℕ

@@ -1,10 +1,8 @@
 -- `letters::judge_stream` meets its contract: the judge stands between two elements at each turn, and all that is lent keeps its
 -- length.
 use mathlib.Core.Path.{◌≡◌, refl, sym, subst}
-use Prim.Native.Nat.{◌-◌}
 use native.Mathlib.Omega.{arith}
 use borrow.Author.Rules.{rules}
-use lib.ListN.{length}
 use Rattle.runs.specs.Runs.{Meeting}
 use Rattle.judging.specs.declared.PlacedItem.{PlacedItem}
 use Rattle.judging.specs.declared.Judgement.{Judgement}
@@ -22,21 +20,20 @@ meeting : (c : In-Item) →
 meeting c = met c.args.s.now
     c.loop-code.cur c.meet.ensures c.in-Item.is
 
-abbrev item : tie.After-known-told invariant-loop decreases-loop → PlacedItem
+abbrev item : (c : In-Item) → PlacedItem
 item c =
-    let g = c.before.code.given.0 in
-    record { code = g.0; first = c.before.before.before.before.loop.cur.at; past = g.1.1.1.1.0.at; inner = g.1.1.1.0 }
+    record { code = c.in-Item.code; first = c.loop-code.cur.at; past = c.in-Item.rest.at; inner = c.in-Item.inner }
 
 -- and judged
 judged : (c : After-judge_element) (y : Judgement) → c.judge_element.result ≡ y
-    → Judges c.args.edition c.args.s.now c.loop-code.invariant.0.done (item PLACE‹c.before.before.before.before›) y
+    → Judges c.args.edition c.args.s.now c.loop-code.invariant.0.done (item (goal.at.After-judge_element c).In-Item) y
 judged c y e =
     let state = c.loop-code.invariant.0 in
-    subst (Judges c.args.edition c.args.s.now state.done (item PLACE‹c.before.before.before.before›)) e (c.judge_element.ensures state.table state.done state.holds)
+    subst (Judges c.args.edition c.args.s.now state.done (item (goal.at.After-judge_element c).In-Item)) e (c.judge_element.ensures state.table state.done state.holds)
 
 -- and passed
 passing : (c : In-Passes) →
-    Passing c.args.edition c.args.s.now c.loop-code.invariant.0.done (item PLACE‹c.before.before.before.before.before.before.before.before.before›) c.in-Passes.row c.in-Passes.hashes
+    Passing c.args.edition c.args.s.now c.loop-code.invariant.0.done (item (goal.at.In-Passes c).In-Item) c.in-Passes.row c.in-Passes.hashes
 passing c = judged (goal.at.In-Passes c).After-judge_element _ c.in-Passes.is
 
 pub loop-code-init : goal.loop-code-init
@@ -62,13 +59,17 @@ returns-in-End c =
 pub judge_element-requires : goal.judge_element-requires
 judge_element-requires c =
     let l = c.loop-code in
-    let m = meeting (goal.at.judge_element-requires c).In-Item in record { done_rows = (l.invariant.0.table, l.invariant.0.done, l.invariant.0.holds); both_filed = l.invariant.0.filed; fine = (
-          m.inner_fine,
-          c.requires.fine.1,
-          omega (arith, m.starts, m.value_order, m.value_before),
-          omega (arith, m.rest_fine.order, m.rest_fine.inside),
-          omega (arith, c.requires.lent.portions, l.invariant.3),
-        ) }
+    let m = meeting (goal.at.judge_element-requires c).In-Item in record {
+      done_rows = (l.invariant.0.table, l.invariant.0.done, l.invariant.0.holds);
+      both_filed = l.invariant.0.filed;
+      fine = (
+        m.inner_fine,
+        c.requires.fine.1,
+        omega (arith, m.starts, m.value_order, m.value_before),
+        omega (arith, m.rest_fine.order, m.rest_fine.inside),
+        omega (arith, c.requires.lent.portions, l.invariant.3),
+      );
+    }
 
 pub returns-in-Fails : goal.returns-in-Fails
 returns-in-Fails c =
@@ -82,11 +83,16 @@ add_row-requires c =
     let l = c.loop-code in
     let w = passing (goal.at.add_row-requires c).In-Passes in
     let some = needed l.invariant.0 (meeting here) w in
-    let lent = c.requires.lent in record { done_rows = (l.invariant.0.table, l.invariant.0.done, l.invariant.0.holds); both_filed = l.invariant.0.filed; row_placed = (w.placed, w.hashed, c.requires.fine.1); scratch_width_in_bounds = (
-            omega (arith, some, lent.rows, l.invariant.1),
-            links-enough c.args.index.now _ l.invariant.2 (fewer-links (omega (arith, some)) lent.links),
-            few l.invariant.0 (meeting here) w,
-          ) }
+    record {
+      done_rows = (l.invariant.0.table, l.invariant.0.done, l.invariant.0.holds);
+      both_filed = l.invariant.0.filed;
+      row_placed = (w.placed, w.hashed, c.requires.fine.1);
+      scratch_width_in_bounds = (
+        omega (arith, some, c.requires.lent.rows, l.invariant.1),
+        links-enough c.args.index.now _ l.invariant.2 (fewer-links (omega (arith, some)) c.requires.lent.links),
+        few l.invariant.0 (meeting here) w,
+      );
+    }
 
 pub overflow_add-n : goal.overflow_add-n
 overflow_add-n c = omega (

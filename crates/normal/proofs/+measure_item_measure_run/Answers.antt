@@ -89,10 +89,7 @@ pub measure_run-loop-h-preserved : goal.measure_run-loop-h-preserved
 measure_run-loop-h-preserved t c =
     let a = c.args in
     let l = c.loop-h in
-    let octets : Octets a.s.now = λ i. omega (
-      arith,
-      c.shared_slice_known-1.given i,
-    ) in
+    let octets : Octets a.s.now = λ i. omega (arith, c.type_inv.s i) in
     let m = c.measure_item-m in
     let head = c.header_size-head in
     let stays = c.stays_shortest-shortest in

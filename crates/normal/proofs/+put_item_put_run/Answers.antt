@@ -105,7 +105,7 @@ pub put_run-put_header-past-requires : goal.put_run-put_header-past-requires
 put_run-put_header-past-requires t c =
     let a = c.args in
     let l = c.loop-h in
-    let octets : Octets a.s.now = λ i. omega (arith, c.shared_slice_known-1.given i) in
+    let octets : Octets a.s.now = λ i. omega (arith, c.type_inv.s i) in
     let u = met-item t (goal.at.put_run-put_header-past-requires t c).In-Item in
     let n = next t (goal.at.put_run-put_header-past-requires t c).After-measure_item-m in
     (omega arith, octets-field a.s.now l.at a.limit a.room c.in-Item.h octets u.read, omega (arith, n.2))

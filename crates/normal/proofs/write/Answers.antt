@@ -12,14 +12,14 @@ use Rattle.normal.specs.Normal.{normal_form}
 use Rattle.normal.specs.Passes.{RunEnds}
 use Rattle.normal.proofs.Answers.{form_is, stream-measured, gives-17, gives-18, gives-form}
 use Rattle.normal.proofs.write.Goals as goal
-use Rattle.normal.proofs.write.Goals.{After-shared_slice_known-1, After-measure_run-m}
+use Rattle.normal.proofs.write.Goals.{Start, After-measure_run-m}
 
 -- the whole stream is a run that ended
-ends : (c : After-shared_slice_known-1) → let s = c.args.s.now in RunEnds deepest s 0 (length s) false
+ends : (c : Start) → let s = c.args.s.now in RunEnds deepest s 0 (length s) false
 ends c = record { order = omega arith; within = omega arith; small = c.requires.0; whole = c.requires.1 }
 
 pub measure_run-m-requires : goal.measure_run-m-requires
-measure_run-m-requires c = ends (goal.at.measure_run-m-requires c).After-shared_slice_known-1
+measure_run-m-requires c = ends (goal.at.measure_run-m-requires c).Start
 
 -- what was measured
 measured : (c : After-measure_run-m) →
@@ -28,7 +28,7 @@ measured : (c : After-measure_run-m) →
     (m.size ≡ length (normal_form s)) × (m.shortest ≡ true → (m.size ≤ length s) × (normal_form s ≡ slice 0 m.size s))
 measured c =
     let a = c.args in
-    stream-measured a.s.now (ends (goal.at.After-measure_run-m c).After-shared_slice_known-1) c.measure_run-m.result c.measure_run-m.ensures
+    stream-measured a.s.now (ends (goal.at.After-measure_run-m c).Start) c.measure_run-m.result c.measure_run-m.ensures
 
 pub returns-then-length-gt-STREAM_LIMIT : goal.returns-then-length-gt-STREAM_LIMIT
 returns-then-length-gt-STREAM_LIMIT c =
@@ -48,7 +48,7 @@ put_value-requires c =
     (omega arith, l, omega arith)
 
 pub put_run-requires : goal.put_run-requires
-put_run-requires c = (ends (goal.at.put_run-requires c).After-shared_slice_known-1, search rules)
+put_run-requires c = (ends (goal.at.put_run-requires c).Start, search rules)
 
 pub returns-then-shortest : goal.returns-then-shortest
 returns-then-shortest c =

@@ -12,7 +12,7 @@ positive : (n : ℕ) → (n ≡ 0 → ⊥) → 0 < n
 positive n other = omega arith
 
 pub returns-then-n-eq0 : goal.returns-then-n-eq0
-returns-then-n-eq0 c = none-fault elements (ready.counted ∙ c.if-n-eq0.true)
+returns-then-n-eq0 c elements ready aside = none-fault elements (ready.counted ∙ c.if-n-eq0.true)
 
 pub first_step-requires : goal.first_step-requires
 first_step-requires c = record { letter_rows = c.requires.letter_rows; filed = c.requires.filed; n_nonzero = positive _ c.if-n-eq0.false }
@@ -21,12 +21,12 @@ pub pass-requires : goal.pass-requires
 pass-requires c = record { letter_rows = c.requires.letter_rows; filed = c.requires.filed; n_nonzero = positive _ c.if-n-eq0.false }
 
 pub returns-in-Stops : goal.returns-in-Stops
-returns-in-Stops c =
+returns-in-Stops c elements ready aside =
     let some-rows : 0 < length elements = omega (arith, positive _ c.if-n-eq0.false, ready.counted) in
     first_stops elements aside some-rows (ap step_of (sym c.in-Stops.is) ∙ c.first_step.ensures elements ready aside)
 
 pub returns-in-Goes : goal.returns-in-Goes
-returns-in-Goes c =
+returns-in-Goes c elements ready aside =
     let some-rows : 0 < length elements = omega (arith, positive _ c.if-n-eq0.false, ready.counted) in
     c.pass.ensures elements ready aside
     ∙ first-starts elements aside some-rows (state_of c.in-Goes.start) (ap step_of (sym c.in-Goes.is)

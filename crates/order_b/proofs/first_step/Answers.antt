@@ -11,7 +11,7 @@ pub kind_at-kind-requires : goal.kind_at-kind-requires
 kind_at-kind-requires c = omega (arith, c.requires.n_nonzero, c.requires.letter_rows.1.holds.identifiers.in_table)
 
 pub returns-then-kind-ne-PROFILE : goal.returns-then-kind-ne-PROFILE
-returns-then-kind-ne-PROFILE c = first-not ready 0 c.requires.n_nonzero
+returns-then-kind-ne-PROFILE c elements ready aside = first-not ready 0 c.requires.n_nonzero
     c.kind_at-kind.result c.kind_at-kind.ensures c.if-kind-ne-PROFILE.true
 
 pub portions_of-left-requires : goal.portions_of-left-requires
@@ -26,14 +26,14 @@ can_come-requires c = omega (
 )
 
 pub returns-then-not-can_come : goal.returns-then-not-can_come
-returns-then-not-can_come c =
+returns-then-not-can_come c elements ready aside =
     let lists = c.portions_of-left in
     let can = c.can_come in
     first-cannot ready 0 c.requires.n_nonzero c.kind_at-kind.result lists.result can.result c.kind_at-kind.ensures lists.ensures can.ensures
     c.if-kind-ne-PROFILE.false c.if-not-can_come.true
 
 pub returns : goal.returns
-returns c =
+returns c elements ready aside =
     let lists = c.portions_of-left in
     let can = c.can_come in
     first_goes ready 0 c.requires.n_nonzero c.kind_at-kind.result lists.result can.result c.kind_at-kind.ensures lists.ensures can.ensures

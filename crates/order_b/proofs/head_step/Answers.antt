@@ -13,7 +13,7 @@ pub kind_at-kind-requires : goal.kind_at-kind-requires
 kind_at-kind-requires c = omega (arith, c.requires.j_lt_n, c.requires.letter_rows.1.holds.identifiers.in_table)
 
 pub returns-then-not-may_follow : goal.returns-then-not-may_follow
-returns-then-not-may_follow c =
+returns-then-not-may_follow c elements ready aside =
     head-not ready c.args.j c.requires.j_lt_n (state_of c.args.state) c.kind_at-kind.result c.kind_at-kind.ensures
     (sym c.may_follow.ensures ∙ c.if-not-may_follow.true)
 
@@ -29,7 +29,7 @@ can_come-requires c = omega (
 )
 
 pub returns-then-not-can_come : goal.returns-then-not-can_come
-returns-then-not-can_come c =
+returns-then-not-can_come c elements ready aside =
     let lists = c.portions_of-left in
     let can = c.can_come in
     head-cannot ready c.args.j c.requires.j_lt_n c.kind_at-kind.result lists.result can.result c.kind_at-kind.ensures
@@ -38,7 +38,7 @@ returns-then-not-can_come c =
     ∙ c.if-not-may_follow.false) c.if-not-can_come.true
 
 pub returns : goal.returns
-returns c =
+returns c elements ready aside =
     let lists = c.portions_of-left in
     let can = c.can_come in
     head-goes ready c.args.j c.requires.j_lt_n c.kind_at-kind.result lists.result can.result c.kind_at-kind.ensures

@@ -17,13 +17,13 @@ use Rattle.order_b.proofs.Passing.{pass_from, pass-stops, pass-goes, pass-ends}
 use Rattle.order_b.proofs.pass.Goals as goal
 
 pub loop-j-init : goal.loop-j-init
-loop-j-init c = let some-rows = c.requires.n_nonzero in (omega arith, omega arith, λ elements ready aside. refl)
+loop-j-init c = (omega arith, omega arith, λ elements ready aside. refl)
 
 pub step_b-requires : goal.step_b-requires
 step_b-requires c = record { letter_rows = c.requires.letter_rows; filed = c.requires.filed; j_lt_n = c.loop-j-test.true }
 
 pub returns-in-Stops : goal.returns-in-Stops
-returns-in-Stops c =
+returns-in-Stops c elements ready aside =
     let l = c.loop-j in
     let below : l.j < length elements = omega (arith, c.loop-j-test.true, ready.counted) in
     sym (l.invariant.2 elements ready aside
@@ -31,10 +31,10 @@ returns-in-Stops c =
     ∙ c.step_b.ensures elements ready aside))
 
 pub overflow_add-j : goal.overflow_add-j
-overflow_add-j c = let known = c.requires.letter_rows in omega (
+overflow_add-j c = omega (
   arith,
   c.loop-j-test.true,
-  few-rows known.1,
+  few-rows c.requires.letter_rows.1,
 )
 
 pub loop-j-smaller : goal.loop-j-smaller
@@ -54,14 +54,14 @@ loop-j-preserved c =
     )
 
 pub returns-then-state-eq0 : goal.returns-then-state-eq0
-returns-then-state-eq0 c =
+returns-then-state-eq0 c elements ready aside =
     let l = c.loop-j in
     let all : l.j ≡ length elements = omega (arith, c.loop-j-test.false, l.invariant.1, ready.counted) in
     sym (l.invariant.2 elements ready aside ∙ pass-ends elements (state_of l.state) l.j all
     ∙ ap (λ (b : Bool). cond b Nowhere (At l.j)) (eq-eqb l.state.left 0 c.if-state-eq0.true))
 
 pub returns : goal.returns
-returns c =
+returns c elements ready aside =
     let l = c.loop-j in
     let all : l.j ≡ length elements = omega (arith, c.loop-j-test.false, l.invariant.1, ready.counted) in
     sym (l.invariant.2 elements ready aside ∙ pass-ends elements (state_of l.state) l.j all

@@ -10,11 +10,11 @@ pub kind_at-requires : goal.kind_at-requires
 kind_at-requires c = omega (arith, c.requires.j_lt_n, c.requires.letter_rows.1.holds.identifiers.in_table)
 
 pub returns-then-kind_at-eq-TEXT_UNIT : goal.returns-then-kind_at-eq-TEXT_UNIT
-returns-then-kind_at-eq-TEXT_UNIT c =
+returns-then-kind_at-eq-TEXT_UNIT c elements ready aside =
     c.unit_step.ensures elements ready aside
     ∙ step-unit ready c.args.j c.requires.j_lt_n (state_of c.args.state) (sym c.kind_at.ensures ∙ c.if-kind_at-eq-TEXT_UNIT.true)
 
 pub returns : goal.returns
-returns c =
+returns c elements ready aside =
     c.head_step.ensures elements ready aside
     ∙ step-head ready c.args.j c.requires.j_lt_n (state_of c.args.state) (λ e. c.if-kind_at-eq-TEXT_UNIT.false (c.kind_at.ensures ∙ e))

@@ -26,7 +26,7 @@ pub kind_at-requires : goal.kind_at-requires
 kind_at-requires c = omega (arith, c.requires.u_lt_n, c.requires.letter_rows.1.holds.identifiers.in_table)
 
 pub returns-then-kind_at-ne-TEXT_UNIT : goal.returns-then-kind_at-ne-TEXT_UNIT
-returns-then-kind_at-ne-TEXT_UNIT c =
+returns-then-kind_at-ne-TEXT_UNIT c elements ready =
     let a = c.args in
     no-unit ready a.side a.u (λ k. c.if-kind_at-ne-TEXT_UNIT.true (c.kind_at.ensures ∙ k))
 
@@ -60,7 +60,7 @@ last c = let a = c.args in subst
     (λ (v : Span). LastSpace a.s.now v.first v.past c.last_space-cut.result) (name-is (goal.at.After-last_space-cut c).After-bounds_at-name) c.last_space-cut.ensures
 
 pub returns-then-cut-name : goal.returns-then-cut-name
-returns-then-cut-name c =
+returns-then-cut-name c elements ready =
     let a = c.args in
     one-group ready a.side a.u (last (goal.at.returns-then-cut-name c).After-last_space-cut) (c.if-cut-name.true ∙ ap (λ (v : Span). v.past) (name-is (goal.at.returns-then-cut-name c).After-bounds_at-name))
 
@@ -123,14 +123,14 @@ owner_by-requires c =
     record { scratch_width_in_bounds = omega (arith, has.below, c.requires.letter_rows.1.holds.identifiers.in_table); meetable = meetable (rows_tell c.requires.letter_rows.1) c.in-At.row has.below; first_le_past = rw name (omega (arith, cut-before here), inside here) }
 
 pub returns-in-Nothing : goal.returns-in-Nothing
-returns-in-Nothing c =
+returns-in-Nothing c elements ready =
     let here = (goal.at.returns-in-Nothing c).After-carrier in
     let a = c.args in
     no-carrier ready a.side a.u (last (goal.at.returns-in-Nothing c).After-last_space-cut) (cut-before here) (inside here)
     (subst (FindsRow a.s.now a.rows.now identifier_column a.n object_space _) c.in-Nothing.is (finds here))
 
 pub returns-in-At : goal.returns-in-At
-returns-in-At c =
+returns-in-At c elements ready =
     let here = (goal.at.returns-in-At c).After-carrier in
     let a = c.args in
     let unit = sym c.kind_at.ensures

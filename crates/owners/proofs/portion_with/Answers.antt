@@ -35,8 +35,7 @@ returns-in-End c =
 pub is_same-requires : goal.is_same-requires
 is_same-requires c =
     let m = meeting (goal.at.is_same-requires c).In-Item in
-    let within = c.requires.first_le_past in
-    (m.value_order, m.value_inside, within.0, within.1)
+    (m.value_order, m.value_inside, c.requires.first_le_past.0, c.requires.first_le_past.1)
 
 pub returns-then-is_same : goal.returns-then-is_same
 returns-then-is_same c =

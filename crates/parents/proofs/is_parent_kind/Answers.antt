@@ -1,6 +1,5 @@
 -- `parents::is_parent_kind` meets its contract: the kinds of either side, by cases of the definition.
 use mathlib.Core.Path.{sym, ◌∙◌}
-use borrow.Author.Rules.{rules}
 use Rattle.parents.specs.Parent.{parent_kinds}
 use Rattle.parents.proofs.is_parent_kind.Goals as goal
 

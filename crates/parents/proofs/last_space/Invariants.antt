@@ -1,14 +1,9 @@
 -- `parents::last_space` meets its contract. The loop's invariant: no space stands in what is passed.
-use mathlib.Core.Path.{◌≡◌, ap, sym, ◌∙◌}
-use mathlib.Core.List.{◌∷◌, ◌++◌}
-use Prim.Native.Nat.{ℕ, ◌+◌, ◌-◌, ◌<◌, ◌≤◌}
-use native.Mathlib.Omega.{arith}
-use borrow.Author.Tests.{ne_eqb, lt-ltb, le-ltb}
-use lib.Seq.{slice, slice_empty}
-use Rattle.names.proofs.Parts.{slice-more, slice_cut}
+use mathlib.Core.Path.{◌≡◌}
+use Prim.Native.Nat.{◌-◌, ◌≤◌}
+use lib.Seq.{slice}
 use Rattle.contents.specs.Search.{absent}
 use Rattle.parents.specs.Parent.{shorter}
-use Rattle.parents.proofs.Shorter.{shorter-at, shorter-none, shorter-empty}
 use Rattle.parents.proofs.last_space.Given as goal
 
 abbrev pub invariant-loop-at : goal.invariant-loop-at

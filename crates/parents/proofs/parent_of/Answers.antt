@@ -3,11 +3,9 @@ use mathlib.Core.Path.{ap, sym, ◌∙◌, subst}
 use Prim.Native.Nat.{ℕ, ◌≤◌}
 use native.Mathlib.Omega.{arith}
 use lib.Seq.{slice}
-use borrow.Author.Tests.{not-true}
 use Rattle.headers.specs.Head.{is_in}
 use Rattle.parents.specs.Parent.{parent_kinds, no_parent}
 use Rattle.parents.proofs.Finding.{parent-other, parent-one-group, parent-found, found_in, side-small}
-use borrow.Author.Rules.{rules}
 use Rattle.parents.proofs.parent_of.Goals as goal
 
 pub returns-then-not-is_parent_kind : goal.returns-then-not-is_parent_kind
@@ -18,11 +16,10 @@ returns-then-not-is_parent_kind c =
 
 pub last_space-cut-requires : goal.last_space-cut-requires
 last_space-cut-requires c =
-    let bounded = c.requires.letter_rows.1.holds.identifiers in
     let j = c.args.j in
     let first = c.wide-first.ensures in
     let past = c.wide-past.ensures in
-    (omega (arith, bounded.ordered j c.requires.j_lt_n.0), omega (arith, bounded.inside j c.requires.j_lt_n.0))
+    (omega (arith, c.requires.letter_rows.1.holds.identifiers.ordered j c.requires.j_lt_n.0), omega (arith, c.requires.letter_rows.1.holds.identifiers.inside j c.requires.j_lt_n.0))
 
 pub returns-then-cut-past : goal.returns-then-cut-past
 returns-then-cut-past c =

@@ -1,14 +1,11 @@
 -- `pieces::are_pieces` meets its contract. The loop's invariant: the run is of pieces only exactly when what is left of it is. The
 -- function ends, for each call has fewer levels left.
-use mathlib.Core.Path.{◌≡◌, refl, sym, ◌∙◌}
+use mathlib.Core.Path.{refl, sym, ◌∙◌}
 use mathlib.Core.Bool.{true, false}
-use Prim.Native.Nat.{ℕ, ◌-◌, ◌<◌}
+use Prim.Native.Nat.{ℕ}
 use native.Mathlib.Omega.{arith}
-use borrow.Author.Rules.{rules}
-use borrow.Author.Tests.{not-true, not-false}
-use Rattle.runs.specs.Runs.{tree_in, Fine, Meeting}
+use Rattle.runs.specs.Runs.{Meeting}
 use Rattle.contents.proofs.Firsts.{met}
-use Rattle.pieces.specs.Pieces.{only_pieces}
 use Rattle.pieces.proofs.Levels.{level-less}
 use Rattle.pieces.proofs.Only.{only_none, only-piece, only-pieces, only-other}
 use Rattle.pieces.proofs.+are_pieces.Goals as goal

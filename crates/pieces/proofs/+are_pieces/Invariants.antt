@@ -1,16 +1,9 @@
 -- `pieces::are_pieces` meets its contract. The loop's invariant: the run is of pieces only exactly when what is left of it is. The
 -- function ends, for each call has fewer levels left.
-use mathlib.Core.Path.{◌≡◌, refl, sym, ◌∙◌}
-use mathlib.Core.Bool.{true, false}
-use Prim.Native.Nat.{ℕ, ◌-◌, ◌<◌}
-use native.Mathlib.Omega.{arith}
-use borrow.Author.Rules.{rules}
-use borrow.Author.Tests.{not-true, not-false}
-use Rattle.runs.specs.Runs.{tree_in, Fine, Meeting}
-use Rattle.contents.proofs.Firsts.{met}
+use mathlib.Core.Path.{◌≡◌}
+use Prim.Native.Nat.{◌-◌}
+use Rattle.runs.specs.Runs.{tree_in, Fine}
 use Rattle.pieces.specs.Pieces.{only_pieces}
-use Rattle.pieces.proofs.Levels.{level-less}
-use Rattle.pieces.proofs.Only.{only_none, only-piece, only-pieces, only-other}
 use Rattle.pieces.proofs.+are_pieces.Given as goal
 
 abbrev pub decreases-are_pieces : goal.decreases-are_pieces

@@ -1,16 +1,10 @@
 -- `pieces::joined_length` meets its contract. The loop's invariant: the octets of the run are those counted and those of what is left
 -- of it. The function ends, for each call has fewer levels left.
-use mathlib.Core.Path.{◌≡◌, refl, ap, ◌∙◌}
-use Prim.Native.Nat.{ℕ, ◌+◌, ◌-◌, ◌<◌}
-use native.Mathlib.Omega.{arith}
-use borrow.Author.Rules.{rules}
-use borrow.Author.Tests.{eq-eqb, ne_eqb}
+use mathlib.Core.Path.{◌≡◌}
+use Prim.Native.Nat.{◌+◌, ◌-◌}
 use lib.ListN.{length}
-use Rattle.runs.specs.Runs.{tree_in, Fine, Meeting}
-use Rattle.contents.proofs.Firsts.{met}
+use Rattle.runs.specs.Runs.{tree_in, Fine}
 use Rattle.pieces.specs.Pieces.{joined}
-use Rattle.pieces.proofs.Levels.{level-less}
-use Rattle.pieces.proofs.Joined.{gives-length, piece-gives, pieces-give, value-length, joined-none, joined-fits}
 use Rattle.pieces.proofs.+joined_length.Given as goal
 
 abbrev pub decreases-joined_length : goal.decreases-joined_length

@@ -1,9 +1,8 @@
 -- `pieces::put_joined` meets its contract. The invariant of the loop is `PutSoFar`. The function ends, for each call has fewer levels
 -- left.
 use mathlib.Core.Path.{◌≡◌, ap}
-use Prim.Native.Nat.{ℕ, ◌+◌, ◌-◌, ◌<◌, ◌≤◌}
+use Prim.Native.Nat.{ℕ, ◌+◌, ◌-◌, ◌≤◌}
 use native.Mathlib.Omega.{arith}
-use borrow.Author.Rules.{rules}
 use borrow.Author.Tests.{eq-eqb, ne_eqb}
 use lib.ListN.{length, take, drop}
 use lib.Seq.{slice}
@@ -12,7 +11,7 @@ use Rattle.contents.proofs.Firsts.{met}
 use Rattle.pieces.specs.Pieces.{joined}
 use Rattle.pieces.proofs.Levels.{level-less}
 use Rattle.pieces.proofs.Joined.{Gives, piece-gives, pieces-give}
-use Rattle.pieces.proofs.Putting.{part_from, part_length, part_slice, copied, PutSoFar, none-put, all-put, fits, more-put}
+use Rattle.pieces.proofs.Putting.{part_from, part_length, part_slice, copied, none-put, all-put, fits, more-put}
 use Rattle.pieces.proofs.+put_joined.Goals as goal
 use Rattle.pieces.proofs.+put_joined.Goals.{In-Item, Then-code-eq1, Else-code-eq1}
 
@@ -71,7 +70,8 @@ pub returns-in-End : goal.returns-in-End
 returns-in-End t c =
     let s = c.args.s.now in
     let l = c.loop-code in
-    all-put l.invariant (met s l.cur c.meet.ensures c.in-End.is)
+    let told = all-put l.invariant (met s l.cur c.meet.ensures c.in-End.is) in
+    record { value = told.0; out_after = told.1 }
 
 pub slice_bounds-put_joined-count : goal.slice_bounds-put_joined-count
 slice_bounds-put_joined-count t c = c.loop-code.invariant.within

@@ -1,5 +1,4 @@
 -- `portions::bounds_of` meets its contract: it reads the two numbers of the value k.
-use borrow.Author.Rules.{rules}
 use Rattle.portions.proofs.bounds_of.Goals as goal
 
 pub returns : goal.returns

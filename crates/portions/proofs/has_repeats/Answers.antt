@@ -65,14 +65,17 @@ tag_of-tag-requires c =
     let known = inside-more (stream here) (numbers here) (own here) (count here) (below here) (enough here) (inside here) in
     rw c.bounds_of.ensures (known.0, known.1)
 
-array-read-is-again : tie.Need-array-read-is-preserved invariant-loop decreases-loop
-array-read-is-again c = omega (arith, c.tag_of.ensures.1)
+pub bounds-marks-tag : goal.bounds-marks-tag
+bounds-marks-tag c = omega (arith, c.tag_of-tag.ensures.1)
 
 pub is_again-requires : goal.is_again-requires
 is_again-requires c =
     let here = (goal.at.is_again-requires c).In-loop-k in
-    record { k_lt_count = (below here, enough here, inside here); bounds_value = λ z. unmarked-apart (stream here) (numbers here) (count here) (own here + 1) c.loop-k.marks (done-marked here)
-          (bounded_at (stream here) (numbers here) (own here)) (ap (λ (t : ℕ). get_or c.loop-k.marks t 0) (sym (tag_is (goal.at.is_again-requires c).After-tag_of-tag)) ∙ z) }
+    record {
+      k_lt_count = (below here, enough here, inside here);
+      bounds_value = λ z. unmarked-apart (stream here) (numbers here) (count here) (own here + 1) c.loop-k.marks (done-marked here)
+          (bounded_at (stream here) (numbers here) (own here)) (ap (λ (t : ℕ). get_or c.loop-k.marks t 0) (sym (tag_is (goal.at.is_again-requires c).After-tag_of-tag)) ∙ z);
+    }
 
 pub returns-then-is_again : goal.returns-then-is_again
 returns-then-is_again c =

@@ -1,16 +1,12 @@
 -- `portions::has_repeats` meets its contract. The loop's invariant: the values from k on have no repeat, and their tags are marked.
-use mathlib.Core.Path.{◌≡◌, refl, sym, ap, subst, ◌∙◌}
+use mathlib.Core.Path.{◌≡◌}
 use mathlib.Core.Bool.{false}
-use mathlib.Core.List.{List}
-use Prim.Native.Nat.{ℕ, ◌+◌, ◌*◌, ◌-◌, ◌<◌, ◌≤◌}
-use native.Mathlib.Omega.{arith}
-use lib.ListN.{length, get_or, set, length-set, replicate}
+use Prim.Native.Nat.{◌*◌, ◌≤◌}
+use lib.ListN.{length}
 use lib.Seq.{slice}
 use Rattle.portions.specs.Portions.{repeats}
-use Rattle.portions.specs.Bounds.{bounded_at, bounded, Inside}
-use Rattle.portions.specs.Tags.{tag}
-use Rattle.portions.proofs.Pairs.{inside-more, repeats-more, repeats-none}
-use Rattle.portions.proofs.Tags.{Marked, none-marked, unmarked-apart, inside-from, repeats-before, marked_more}
+use Rattle.portions.specs.Bounds.{bounded}
+use Rattle.portions.proofs.Tags.{Marked}
 use Rattle.portions.proofs.has_repeats.Given as goal
 
 abbrev pub invariant-loop-k : goal.invariant-loop-k

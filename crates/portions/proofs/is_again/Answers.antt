@@ -1,6 +1,5 @@
 -- `portions::is_again` meets its contract: what is not marked is not there.
 use mathlib.Core.Path.{sym}
-use borrow.Author.Rules.{rules}
 use Rattle.portions.proofs.is_again.Goals as goal
 
 pub returns-then-mark-eq0 : goal.returns-then-mark-eq0

@@ -1,11 +1,8 @@
 -- `portions::is_among` meets its contract. The loop's invariant: the value k stands after itself exactly if it stands from j on.
 use mathlib.Core.Path.{◌≡◌, refl, sym, ◌∙◌}
-use Prim.Native.Nat.{◌+◌, ◌*◌, ◌-◌, ◌≤◌}
 use native.Mathlib.Omega.{arith}
-use lib.Seq.{slice}
 use Rattle.names.specs.Names.{same}
-use Rattle.portions.specs.Portions.{among}
-use Rattle.portions.specs.Bounds.{bounded_at, bounded, Inside}
+use Rattle.portions.specs.Bounds.{bounded_at}
 use Rattle.portions.proofs.Pairs.{inside-more, among-more, among_none}
 use Rattle.portions.proofs.is_among.Goals as goal
 use Rattle.portions.proofs.is_among.Goals.{After-is_same}

@@ -1,5 +1,4 @@
 -- `portions::is_misspelt` meets its contract: both ways round the test before.
-use borrow.Author.Rules.{rules}
 use Rattle.portions.proofs.is_misspelt.Goals as goal
 
 pub returns : goal.returns

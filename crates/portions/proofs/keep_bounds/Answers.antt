@@ -2,7 +2,6 @@
 use native.Mathlib.Omega.{arith}
 use lib.ListN.{length-set}
 use Rattle.portions.proofs.Pairs.{pair-stored}
-use borrow.Author.Rules.{rules}
 use Rattle.portions.proofs.keep_bounds.Goals as goal
 
 pub bounds-bounds-k-then-k-lt-MOST_PORTIONS : goal.bounds-bounds-k-then-k-lt-MOST_PORTIONS

@@ -1,12 +1,11 @@
 -- `portions::read_portions` meets its contract. The loop's invariant: so many were read, and the rest of the run is left.
-use mathlib.Core.Path.{◌≡◌, refl, subst, ◌∙◌}
-use Prim.Native.Nat.{◌*◌, ◌-◌, ◌≤◌}
+use mathlib.Core.Path.{refl, subst, ◌∙◌}
+use Prim.Native.Nat.{◌*◌, ◌≤◌}
 use native.Mathlib.Omega.{arith}
-use borrow.Author.Rules.{rules}
 use lib.ListN.{length}
 use Rattle.runs.specs.Runs.{Meeting, Meets}
 use Rattle.portions.specs.Portions.{most_portions}
-use Rattle.portions.proofs.Reading.{Reads, starts, all_read, other-read, one-read}
+use Rattle.portions.proofs.Reading.{starts, all_read, other-read, one-read}
 use Rattle.portions.proofs.read_portions.Goals as goal
 use Rattle.portions.proofs.read_portions.Goals.{In-Item}
 

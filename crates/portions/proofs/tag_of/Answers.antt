@@ -1,10 +1,8 @@
 -- `portions::tag_of` meets its contract: the tag so far, after what is left, is the tag of the whole.
 use mathlib.Core.Path.{◌≡◌, refl, sym, ◌∙◌}
-use Prim.Native.Nat.{◌-◌, ◌<◌, ◌≤◌}
 use native.Mathlib.Omega.{arith}
-use borrow.Author.Rules.{rules}
-use lib.Seq.{slice, slice_empty}
-use Rattle.portions.specs.Tags.{tags, tag_from}
+use lib.Seq.{slice_empty}
+use Rattle.portions.specs.Tags.{tag_from}
 use Rattle.portions.proofs.Tags.{tag-more}
 use Rattle.portions.proofs.tag_of.Goals as goal
 

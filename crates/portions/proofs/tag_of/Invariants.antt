@@ -1,11 +1,8 @@
 -- `portions::tag_of` meets its contract: the tag so far, after what is left, is the tag of the whole.
-use mathlib.Core.Path.{◌≡◌, refl, sym, ◌∙◌}
+use mathlib.Core.Path.{◌≡◌}
 use Prim.Native.Nat.{◌-◌, ◌<◌, ◌≤◌}
-use native.Mathlib.Omega.{arith}
-use borrow.Author.Rules.{rules}
-use lib.Seq.{slice, slice_empty}
+use lib.Seq.{slice}
 use Rattle.portions.specs.Tags.{tags, tag_from}
-use Rattle.portions.proofs.Tags.{tag-more}
 use Rattle.portions.proofs.tag_of.Given as goal
 
 abbrev pub invariant-loop-i : goal.invariant-loop-i

@@ -1,6 +1,5 @@
 -- `reading::column_of` meets its contract: one case for each side.
 use mathlib.Core.Path.{sym, ap}
-use borrow.Author.Rules.{rules}
 use Rattle.reading.specs.Ready.{column_of}
 use Rattle.reading.proofs.column_of.Goals as goal
 

@@ -1,8 +1,6 @@
 -- `reading::is_listed` meets its contract: the tests are the definition's, in its order.
 use mathlib.Core.Path.{◌≡◌, sym, ap, ◌∙◌}
 use Prim.Native.Nat.{ℕ}
-use borrow.Author.Rules.{rules}
-use borrow.Author.Tests.{not-true, not-false}
 use Rattle.headers.specs.Head.{is_in}
 use Rattle.rows.specs.Columns.{identifier_column, kind_at}
 use Rattle.reading.specs.Match.{kinds_of}

@@ -3,7 +3,6 @@ use mathlib.Core.Path.{sym, ap, ◌∙◌}
 use Rattle.headers.specs.Head.{is_in}
 use Rattle.reading.specs.declared.Side.{Side}
 use Rattle.reading.specs.Match.{kinds_of}
-use borrow.Author.Rules.{rules}
 use Rattle.reading.proofs.is_read.Goals as goal
 
 pub returns-in-Layout : goal.returns-in-Layout

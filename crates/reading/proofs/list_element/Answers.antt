@@ -2,12 +2,10 @@
 use mathlib.Core.Path.{sym, ◌∙◌, subst}
 use mathlib.Core.List.{List}
 use native.Mathlib.Omega.{arith}
-use borrow.Author.Tests.{not-true, not-false}
 use Rattle.reading.specs.declared.Match.{Match}
 use Rattle.reading.specs.Records.{PutsRecords}
 use Rattle.reading.proofs.Putting.{puts_none}
 use Rattle.reading.proofs.Listing.{unlisted}
-use borrow.Author.Rules.{rules}
 use Rattle.reading.proofs.list_element.Goals as goal
 
 pub is_listed-requires : goal.is_listed-requires
@@ -15,7 +13,7 @@ is_listed-requires c =
     omega (arith, c.requires.element_lt_n, c.requires.letter_rows.1.holds.identifiers.in_table)
 
 pub returns-then-not-is_listed : goal.returns-then-not-is_listed
-returns-then-not-is_listed c =
+returns-then-not-is_listed c elements ready =
     let a = c.args in
     let none = unlisted a.side a.s.now a.rows.now a.n a.element c.requires.element_lt_n elements ready
     (sym c.is_listed.ensures ∙ c.if-not-is_listed.true) in

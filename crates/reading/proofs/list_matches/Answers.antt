@@ -6,7 +6,6 @@ use Rattle.rows.specs.Columns.{identifier_column, logical_column}
 use Rattle.rows.specs.Index.{Filed}
 use Rattle.reading.specs.declared.Side.TheVariants.{Layout, Logical}
 use Rattle.reading.proofs.Scratch.{puts-list}
-use borrow.Author.Rules.{rules}
 use Rattle.reading.proofs.list_matches.Goals as goal
 
 pub list_side-requires : goal.list_side-requires

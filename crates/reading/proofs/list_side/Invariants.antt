@@ -1,7 +1,6 @@
 -- `reading::list_side` meets its contract: the elements are taken in turn. The measure is how many are left.
 use Prim.Native.Nat.{◌-◌}
-use native.Mathlib.Omega.{arith}
-use Rattle.reading.proofs.Turning.{Turning, turning-all, turning-none, turning-more, room-for-element}
+use Rattle.reading.proofs.Turning.{Turning}
 use Rattle.reading.proofs.list_side.Given as goal
 
 abbrev pub invariant-loop-element : goal.invariant-loop-element

@@ -3,7 +3,6 @@ use mathlib.Core.Path.{ap}
 use native.Mathlib.Omega.{arith}
 use lib.ListN.{length}
 use Rattle.reading.proofs.Putting.{puts_none, found-one, found_none, found_below}
-use borrow.Author.Rules.{rules}
 use Rattle.reading.proofs.put_found.Goals as goal
 
 pub put_record-requires : goal.put_record-requires

@@ -2,7 +2,6 @@
 use native.Mathlib.Omega.{arith}
 use lib.ListN.{length-set}
 use Rattle.reading.proofs.Putting.{puts_one}
-use borrow.Author.Rules.{rules}
 use Rattle.reading.proofs.put_record.Goals as goal
 
 pub bounds-flat-at-2 : goal.bounds-flat-at-2

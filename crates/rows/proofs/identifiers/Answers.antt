@@ -1,6 +1,5 @@
 -- `rows::identifiers` meets its contract: the front is the first half.
 use Rattle.rows.proofs.Halves.{first-size, first-half}
-use borrow.Author.Rules.{rules}
 use Rattle.rows.proofs.identifiers.Goals as goal
 
 pub slice_bounds-result-end : goal.slice_bounds-result-end

@@ -2,7 +2,6 @@
 use mathlib.Core.Path.{refl}
 use native.Mathlib.Omega.{arith}
 use Rattle.rows.proofs.Parts.{links-inside}
-use borrow.Author.Rules.{rules}
 use Rattle.rows.specs.Index.{links_begin}
 use Rattle.rows.proofs.links_begin.Goals as goal
 

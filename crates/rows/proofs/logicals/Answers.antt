@@ -1,6 +1,5 @@
 -- `rows::logicals` meets its contract: what is left is the second half.
 use Rattle.rows.proofs.Halves.{second-half}
-use borrow.Author.Rules.{rules}
 use Rattle.rows.proofs.logicals.Goals as goal
 
 pub returns : goal.returns

@@ -3,7 +3,6 @@ use mathlib.Core.Path.{refl, sym}
 use native.Mathlib.Omega.{arith}
 use lib.ListN.{get_or-eq_default}
 use Rattle.rows.specs.Rows.{spaces, name_space_of}
-use borrow.Author.Rules.{rules}
 use Rattle.rows.proofs.space_of.Goals as goal
 
 pub returns-then-kind-lt9 : goal.returns-then-kind-lt9

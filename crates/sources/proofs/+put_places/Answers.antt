@@ -63,7 +63,8 @@ pub returns-in-End : goal.returns-in-End
 returns-in-End t c =
     let s = c.args.s.now in
     let l = c.loop-code in
-    all-put l.invariant (met s l.cur c.meet.ensures c.in-End.is)
+    let told = all-put l.invariant (met s l.cur c.meet.ensures c.in-End.is) in
+    record { value = told.0; list_after = told.1 }
 
 pub offset_bounds-list-done : goal.offset_bounds-list-done
 offset_bounds-list-done t c = omega (arith, c.loop-code.invariant.filling.within)
@@ -78,8 +79,7 @@ pub put_places-done-requires : goal.put_places-done-requires
 put_places-done-requires t c =
     let m = meeting t (goal.at.put_places-done-requires t c).In-Item in
     let l = c.loop-code in
-    let small = c.requires.fine.1 in
-    (omega (arith, level-less m), ((m.inner_fine, small), omega (arith, inner-fits t (goal.at.put_places-done-requires t c).Then-code-eq1, part_length l.list l.done)))
+    (omega (arith, level-less m), ((m.inner_fine, c.requires.fine.1), omega (arith, inner-fits t (goal.at.put_places-done-requires t c).Then-code-eq1, part_length l.list l.done)))
 
 pub overflow_add-done : goal.overflow_add-done
 overflow_add-done t c = omega (arith, inner-fits t (goal.at.overflow_add-done t c).Then-code-eq1, c.put_places-done.ensures.value)

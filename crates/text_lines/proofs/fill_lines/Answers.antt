@@ -1,8 +1,7 @@
 -- `text_lines::fill_lines` meets its contract. The loop's invariant: the lines that are put, and then those that are left, are all.
 use mathlib.Core.Path.{◌≡◌, refl, ap, sym, ◌∙◌}
-use Prim.Native.Nat.{ℕ, ◌-◌, ◌*◌, ◌≤◌}
+use Prim.Native.Nat.{ℕ, ◌-◌, ◌*◌}
 use native.Mathlib.Omega.{arith}
-use lib.ListN.{length}
 use lib.Seq.{sets}
 use Rattle.text_lines.specs.Flat.{lines_left}
 use Rattle.text_lines.proofs.Flat.{left_step, left-none}

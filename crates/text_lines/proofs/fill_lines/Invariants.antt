@@ -1,11 +1,9 @@
 -- `text_lines::fill_lines` meets its contract. The loop's invariant: the lines that are put, and then those that are left, are all.
-use mathlib.Core.Path.{◌≡◌, refl, ap, sym, ◌∙◌}
-use Prim.Native.Nat.{ℕ, ◌-◌, ◌*◌, ◌≤◌}
-use native.Mathlib.Omega.{arith}
+use mathlib.Core.Path.{◌≡◌}
+use Prim.Native.Nat.{◌-◌, ◌*◌, ◌≤◌}
 use lib.ListN.{length}
 use lib.Seq.{sets}
 use Rattle.text_lines.specs.Flat.{lines_left}
-use Rattle.text_lines.proofs.Flat.{left_step, left-none}
 use Rattle.text_lines.proofs.fill_lines.Given as goal
 
 abbrev pub invariant-loop-k : goal.invariant-loop-k

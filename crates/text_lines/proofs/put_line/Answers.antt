@@ -4,7 +4,6 @@ use Prim.Native.Nat.{suc, ◌+◌, ◌*◌}
 use native.Mathlib.Omega.{arith}
 use native.Mathlib.Numerals.{add-one}
 use lib.ListN.{length-set}
-use borrow.Author.Rules.{rules}
 use Rattle.text_lines.proofs.put_line.Goals as goal
 
 pub bounds-lines-at-2 : goal.bounds-lines-at-2

@@ -33,11 +33,11 @@ pub dated_as-requires : goal.dated_as-requires
 dated_as-requires c = found-narrow c.date_in.ensures c.requires.1
 
 pub returns-in-End : goal.returns-in-End
-returns-in-End c =
+returns-in-End c edition zero =
     let s = c.args.stream.now in
     absurd (met_some edition s zero (met s (whole_stream s) (whole-met (goal.at.returns-in-End c).After-meet) c.in-End.is))
 
 pub returns-in-Item : goal.returns-in-Item
-returns-in-Item c =
+returns-in-Item c edition zero =
     let s = c.args.stream.now in
     subst (DateTells edition s) (sym c.dated_as.ensures) (date-told edition s zero (meeting (goal.at.returns-in-Item c).In-Item) c.date_in.ensures)

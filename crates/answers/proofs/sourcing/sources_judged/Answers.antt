@@ -13,10 +13,9 @@ list_matches-lines-requires c =
 
 pub count_sources-total-requires : goal.count_sources-total-requires
 count_sources-total-requires c =
-    let walk = c.requires.accepts in
-    let l = accepted-judged walk.ended c.requires.letter_rows in
+    let l = accepted-judged c.requires.accepts.ended c.requires.letter_rows in
     let lists = c.list_matches-lines.ensures c.args.edition l.held in
-    record { fine = (stream-fine c.args.stream.now walk.at walk.headers walk.ended, l.held); lines_listed = all_listed l c.args.side lists }
+    record { fine = (stream-fine c.args.stream.now c.requires.accepts.at c.requires.accepts.headers c.requires.accepts.ended, l.held); lines_listed = all_listed l c.args.side lists }
 
 pub returns-then-list-total : goal.returns-then-list-total
 returns-then-list-total c =
@@ -26,10 +25,9 @@ returns-then-list-total c =
 
 pub put_sources-requires : goal.put_sources-requires
 put_sources-requires c =
-    let walk = c.requires.accepts in
-    let l = accepted-judged walk.ended c.requires.letter_rows in
+    let l = accepted-judged c.requires.accepts.ended c.requires.letter_rows in
     let lists = c.list_matches-lines.ensures c.args.edition l.held in
-    let fine = stream-fine c.args.stream.now walk.at walk.headers walk.ended in
+    let fine = stream-fine c.args.stream.now c.requires.accepts.at c.requires.accepts.headers c.requires.accepts.ended in
     let room = c.if-list-total.false in
     record { fine = (fine, l.held, l.within_limit); lines_listed = all_listed l c.args.side lists; lines_in_bounds = omega (arith, room, c.count_sources-total.ensures) }
 

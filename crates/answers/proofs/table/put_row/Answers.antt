@@ -16,7 +16,7 @@ use borrow.Author.Rules.{rules}
 use Rattle.answers.proofs.table.put_row.Goals as goal
 
 pub returns : goal.returns
-returns c =
+returns c edition letter row there =
     let a = c.args in
     let j = a.j in
     let own = scratch-slice letter j row c.requires.j_lt_count.0 there in

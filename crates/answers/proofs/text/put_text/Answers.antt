@@ -50,17 +50,20 @@ returns-in-Content c =
     c.fetch_judged.ensures in
     let part = part_slice _ _ a.stream.now f.fetches.stands.order in
     let copy = copied _ _ a.out.now _ c.copy.result part c.copy.ensures.count c.copy.ensures.out_after in
-    as-text _ _ a.out.now _ c.copy.result (ap (λ (x : Fetched). x.part) f.joins) copy.0 copy.1
+    let told = as-text _ _ a.out.now _ c.copy.result (ap (λ (x : Fetched). x.part) f.joins) copy.0 copy.1 in
+    record { value = told.0; out_after = told.1 }
 
 pub returns-in-Pieces : goal.returns-in-Pieces
 returns-in-Pieces c =
     let a = c.args in
     let f = subst (FindsContent a.edition a.stream.now a.unit) c.in-Pieces.is
     c.fetch_judged.ensures in
-    as-text _ _ a.out.now _ c.put_joined.result (ap (λ (x : Fetched). x.part) f.joins) c.put_joined.ensures.value c.put_joined.ensures.out_after
+    let told = as-text _ _ a.out.now _ c.put_joined.result (ap (λ (x : Fetched). x.part) f.joins) c.put_joined.ensures.value c.put_joined.ensures.out_after in
+    record { value = told.0; out_after = told.1 }
 
 pub returns-in-NoUnit : goal.returns-in-NoUnit
 returns-in-NoUnit c =
     let a = c.args in
     let f = subst (FindsContent a.edition a.stream.now a.unit) c.in-NoUnit.is c.fetch_judged.ensures in
-    as-text _ [] a.out.now a.out.now 0 (ap (λ (x : Fetched). x.part) f.joins) refl refl
+    let told = as-text _ [] a.out.now a.out.now 0 (ap (λ (x : Fetched). x.part) f.joins) refl refl in
+    record { value = told.0; out_after = told.1 }

@@ -1,5 +1,4 @@
 -- `elements::frames::body_with` meets its contract: by whether the items are looked at.
-use borrow.Author.Rules.{rules}
 use borrow.Author.Tests.{not-true, not-false}
 use Rattle.elements.proofs.Framing.{unnamed, named-within}
 use Rattle.elements.proofs.frames.body_with.Goals as goal

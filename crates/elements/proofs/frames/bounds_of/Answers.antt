@@ -1,6 +1,5 @@
 -- `elements::frames::bounds_of` meets its contract: by whether the item was found.
 use mathlib.Core.Path.{subst}
-use borrow.Author.Rules.{rules}
 use Rattle.contents.specs.Opening.{FoundIn}
 use Rattle.elements.proofs.Bounding.{held-bounding, lacked-bounding}
 use Rattle.elements.proofs.frames.bounds_of.Goals as goal

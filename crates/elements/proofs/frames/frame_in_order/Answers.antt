@@ -1,5 +1,4 @@
 -- `elements::frames::frame_in_order` meets its contract: all is found in the opening, whose run has no more items if they stand in order.
-use borrow.Author.Rules.{rules}
 use Rattle.elements.proofs.Framing.{ordered-frame}
 use Rattle.elements.proofs.frames.frame_in_order.Goals as goal
 

@@ -1,5 +1,4 @@
 -- `elements::frames::frame_of` meets its contract, for each kind of shape.
-use borrow.Author.Rules.{rules}
 use borrow.Author.Tests.{not-true, not-false}
 use Rattle.elements.proofs.Framing.{free-frame, unlooked-frame}
 use Rattle.elements.proofs.frames.frame_of.Goals as goal

@@ -1,5 +1,4 @@
 -- `elements::frames::held_in_pieces` meets its contract: an item with pieces is there.
-use borrow.Author.Rules.{rules}
 use Rattle.elements.proofs.Holding.{pieced-holding}
 use Rattle.elements.proofs.frames.held_in_pieces.Goals as goal
 

@@ -1,5 +1,4 @@
 -- `elements::frames::held_whole` meets its contract: no item with pieces or tiles is there.
-use borrow.Author.Rules.{rules}
 use Rattle.elements.proofs.Holding.{lacked-holding}
 use Rattle.elements.proofs.frames.held_whole.Goals as goal
 

@@ -1,6 +1,5 @@
 -- `elements::frames::holder_in` meets its contract: by whether an item of the run has the octet of pieces.
 use mathlib.Core.Path.{subst}
-use borrow.Author.Rules.{rules}
 use Rattle.contents.specs.Opening.{FoundIn}
 use Rattle.elements.specs.Frames.{with_pieces}
 use Rattle.elements.proofs.frames.holder_in.Goals as goal

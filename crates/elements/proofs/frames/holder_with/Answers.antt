@@ -1,6 +1,5 @@
 -- `elements::frames::holder_with` meets its contract: by whether an item of the opening has the octet of pieces.
 use mathlib.Core.Path.{subst}
-use borrow.Author.Rules.{rules}
 use Rattle.contents.specs.Opening.{FoundIn}
 use Rattle.elements.specs.Frames.{with_pieces}
 use Rattle.elements.proofs.frames.holder_with.Goals as goal

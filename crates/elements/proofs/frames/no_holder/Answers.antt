@@ -1,5 +1,4 @@
 -- `elements::frames::no_holder` meets its contract.
-use borrow.Author.Rules.{rules}
 use Rattle.elements.proofs.frames.no_holder.Goals as goal
 
 pub returns : goal.returns

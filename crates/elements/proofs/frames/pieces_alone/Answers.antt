@@ -1,5 +1,4 @@
 -- `elements::frames::pieces_alone` meets its contract: by whether the content is in pieces.
-use borrow.Author.Rules.{rules}
 use borrow.Author.Tests.{not-true, not-false}
 use Rattle.elements.proofs.Holding.{whole-alone, pieced-alone}
 use Rattle.elements.proofs.frames.pieces_alone.Goals as goal

@@ -1,6 +1,5 @@
 -- `elements::frames::run_with` meets its contract: what is found in the opening is what its run has.
 use mathlib.Core.Path.{sym, subst}
-use borrow.Author.Rules.{rules}
 use Rattle.contents.specs.Opening.{FoundIn}
 use Rattle.elements.specs.Frames.{Inner}
 use Rattle.elements.proofs.Bounding.{held_inner, lacked-inner}

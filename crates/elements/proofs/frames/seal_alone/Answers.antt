@@ -1,6 +1,5 @@
 -- `elements::frames::seal_alone` meets its contract: by whether an item of the run has the octet of a seal in pieces.
 use mathlib.Core.Path.{refl, subst}
-use borrow.Author.Rules.{rules}
 use Rattle.contents.specs.Opening.{FoundIn}
 use Rattle.elements.proofs.Holding.{sealed-alone, unsealed-alone}
 use Rattle.elements.proofs.Zero.{zero-lacked}

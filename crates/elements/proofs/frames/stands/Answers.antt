@@ -1,7 +1,6 @@
 -- `elements::frames::stands` meets its contract: the second slots are tried in order.
 use mathlib.Core.Path.{◌≡◌, sym, ◌∙◌}
 use mathlib.Core.Bool.{true, false}
-use borrow.Author.Rules.{rules}
 use Rattle.runs.specs.Runs.{tree_in}
 use Rattle.contents.specs.Search.{in_order}
 use Rattle.elements.specs.Slots.{slot_ordered}

@@ -1,6 +1,5 @@
 -- `elements::frames::unpieced_in` meets its contract: by whether an item of the run has the octet of tiles.
 use mathlib.Core.Path.{subst}
-use borrow.Author.Rules.{rules}
 use Rattle.contents.specs.Opening.{FoundIn}
 use Rattle.elements.specs.Frames.{with_tiles}
 use Rattle.elements.proofs.frames.unpieced_in.Goals as goal

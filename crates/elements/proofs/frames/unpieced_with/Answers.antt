@@ -1,6 +1,5 @@
 -- `elements::frames::unpieced_with` meets its contract: by whether an item of the opening has the octet of tiles.
 use mathlib.Core.Path.{subst}
-use borrow.Author.Rules.{rules}
 use Rattle.contents.specs.Opening.{FoundIn}
 use Rattle.elements.specs.Frames.{with_tiles}
 use Rattle.elements.proofs.frames.unpieced_with.Goals as goal

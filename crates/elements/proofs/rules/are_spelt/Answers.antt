@@ -1,8 +1,7 @@
 -- `elements::rules::are_spelt` meets its contract: the tests of the definition in order.
 use mathlib.Core.Path.{◌≡◌, sym, ◌∙◌}
 use mathlib.Core.Bool.{true, false, and-true}
-use borrow.Author.Rules.{rules}
-use borrow.Author.Tests.{not-true, not-false, le-leb, lt-leb}
+use borrow.Author.Tests.{le-leb, lt-leb}
 use Rattle.elements.specs.Judge.{spelt}
 use Rattle.elements.proofs.rules.are_spelt.Goals as goal
 

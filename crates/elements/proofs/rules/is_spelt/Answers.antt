@@ -1,5 +1,4 @@
 -- `elements::rules::is_spelt` meets its contract.
-use borrow.Author.Rules.{rules}
 use Rattle.elements.proofs.Values.{spelt-absent, spelt-there}
 use Rattle.elements.proofs.rules.is_spelt.Goals as goal
 

@@ -1,8 +1,7 @@
 -- `elements::rules::is_tabled` meets its contract: the tests of the definition in order.
 use mathlib.Core.Path.{sym, ◌∙◌}
 use mathlib.Core.Bool.{and-true}
-use borrow.Author.Rules.{rules}
-use borrow.Author.Tests.{not-true, not-false, le-leb, lt-leb, eq-eqb, ne_eqb}
+use borrow.Author.Tests.{le-leb, lt-leb, eq-eqb, ne_eqb}
 use Rattle.elements.specs.Sees.{tabled_by}
 use Rattle.elements.proofs.rules.is_tabled.Goals as goal
 

@@ -1,6 +1,5 @@
 -- `elements::rules::object_type` meets its contract: by how many octets the pair bounds.
 use native.Mathlib.Omega.{arith}
-use borrow.Author.Rules.{rules}
 use Rattle.elements.proofs.Values.{type-absent, type-long, type-one}
 use Rattle.elements.proofs.rules.object_type.Goals as goal
 

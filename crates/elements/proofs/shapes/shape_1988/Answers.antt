@@ -2,7 +2,6 @@
 -- that of no element, since the list has none for any other.
 use mathlib.Core.Path.{sym, ap, ◌∙◌}
 use mathlib.Core.List.{[]}
-use borrow.Author.Rules.{rules}
 use Rattle.elements.specs.Shape.{shapes1988}
 use Rattle.elements.specs.Slots.{slots_of}
 use Rattle.elements.proofs.Looking.{found, passed}

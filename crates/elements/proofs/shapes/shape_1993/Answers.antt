@@ -1,7 +1,6 @@
 -- `elements::shapes::shape_1993` meets its contract: each arm makes the shape that 1993 has of its own for its octet, and the last one that of
 -- 1988.
 use mathlib.Core.Path.{sym, ap, ◌∙◌}
-use borrow.Author.Rules.{rules}
 use Rattle.elements.specs.Shape.{added1993, shapes1988, shapes1993}
 use Rattle.elements.specs.Slots.{slots_of}
 use Rattle.elements.proofs.Looking.{found, passed}

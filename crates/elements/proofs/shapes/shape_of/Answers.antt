@@ -1,6 +1,5 @@
 -- `elements::shapes::shape_of` meets its contract: a case for each edition.
 use mathlib.Core.Path.{sym, ap, ◌∙◌}
-use borrow.Author.Rules.{rules}
 use Rattle.headers.specs.Head.{type_field}
 use Rattle.elements.specs.declared.Edition.{Edition}
 use Rattle.elements.specs.Shape.{shape_of}

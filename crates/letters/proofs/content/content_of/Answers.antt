@@ -1,6 +1,5 @@
 -- `letters::content::content_of` meets its contract: the item that the element is holds it.
 use mathlib.Core.Path.{sym, subst}
-use borrow.Author.Rules.{rules}
 use Rattle.headers.specs.Head.{type_field}
 use Rattle.elements.specs.declared.Slots.{Slots}
 use Rattle.elements.specs.Shape.{shape_of}

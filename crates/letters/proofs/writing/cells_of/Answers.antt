@@ -1,6 +1,5 @@
 -- `letters::writing::cells_of` meets its contract: each number fits.
 use native.Mathlib.Omega.{arith}
-use borrow.Author.Rules.{rules}
 use Rattle.letters.proofs.writing.cells_of.Goals as goal
 
 pub overflow_cast-result-7 : goal.overflow_cast-result-7

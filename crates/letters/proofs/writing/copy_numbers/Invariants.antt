@@ -1,10 +1,7 @@
 -- `letters::writing::copy_numbers` meets its contract: after i turns the first i numbers stand at their place.
-use mathlib.Core.Path.{◌≡◌, ap, ◌∙◌}
-use Prim.Native.Nat.{◌+◌, ◌-◌, ◌<◌, ◌≤◌}
-use native.Mathlib.Numerals.{add-one}
-use native.Mathlib.Omega.{arith}
-use lib.ListN.{length}
-use lib.Seq.{paste, paste-zero, paste-suc, length-paste}
+use mathlib.Core.Path.{◌≡◌}
+use Prim.Native.Nat.{◌-◌, ◌≤◌}
+use lib.Seq.{paste}
 use Rattle.letters.proofs.writing.copy_numbers.Given as goal
 
 abbrev pub invariant-loop-i : goal.invariant-loop-i

@@ -6,7 +6,6 @@ use native.Mathlib.Omega.{arith}
 use lib.Seq.{paste, sets-eq}
 use Rattle.rows.specs.Rows.{scratch_width}
 use Rattle.elements.specs.ElementRows.{cells}
-use borrow.Author.Rules.{rules}
 use Rattle.letters.proofs.writing.put_row.Goals as goal
 
 pub returns : goal.returns

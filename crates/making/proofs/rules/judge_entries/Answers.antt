@@ -106,7 +106,7 @@ overflow_add-k c = omega (
 
 pub loop-k-preserved : goal.loop-k-preserved
 loop-k-preserved c =
-    let entry_at = c.entry_at in
+    let entered = c.entry_at in
     let rule = c.rule-ruled in
     let if1 = c.if-ruled-ne0 in
     let buffer = c.args.buffer.now in
@@ -114,16 +114,16 @@ loop-k-preserved c =
     let l = c.loop-k in
     let j = l.invariant.1 in
     let r = rule.ensures in
-    let number = subst (λ (x : Entry). rule.result.number ≡ entry_refusal buffer j.done x) entry_at.ensures (r.number_is j.done j.keeps) in
+    let number = subst (λ (x : Entry). rule.result.number ≡ entry_refusal buffer j.done x) entered.ensures (r.number_is j.done j.keeps) in
     let p = r.passes if1.false in
-    let lies = subst (EntryLies buffer) entry_at.ensures p.lies in
-    let hashed = p.hash_is ∙ ap (λ (x : Entry). hash (bytes_in buffer x.identifier)) entry_at.ensures in (
+    let lies = subst (EntryLies buffer) entered.ensures p.lies in
+    let hashed = p.hash_is ∙ ap (λ (x : Entry). hash (bytes_in buffer x.identifier)) entered.ensures in (
       omega (
         arith,
         c.loop-k-test.true,
       ),
       judging-more j (sym if1.false ∙ number) (c.keep.ensures j.done (entry_at numbers l.k) j.keeps refl refl),
-      c.keep.auto.index ∙ l.invariant.2,
+      c.keep.auto.rows ∙ l.invariant.2,
       c.keep.auto.index ∙ l.invariant.3,
     )
 

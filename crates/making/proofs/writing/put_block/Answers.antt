@@ -25,7 +25,7 @@ put_four-listed-requires c =
       c.put_part-named.ensures.to,
       c.put_part-named.auto.out,
       i,
-      c.type_size.ensures,
+      c.size_of-identifier.ensures,
       c.size_of-portion.ensures,
     )
 
@@ -45,7 +45,7 @@ put_part-requires c =
         c.put_part-named.ensures.to,
         c.put_part-named.auto.out,
         i,
-        c.type_size.ensures,
+        c.size_of-identifier.ensures,
         c.size_of-portion.ensures,
         c.put_four-listed.ensures.to,
         c.put_four-listed.auto.out,
@@ -54,13 +54,13 @@ put_part-requires c =
 
 pub returns : goal.returns
 returns c =
-    let type_size = c.type_size in
-    let size-of2 = c.size_of-portion in
+    let size_of = c.size_of-identifier in
+    let size_of2 = c.size_of-portion in
     let buffer = c.args.buffer.now in
     let entry = c.args.entry in
     let lies = c.requires.0 in
-    let e = type_size.ensures ∙ sym (part-size buffer entry.identifier lies.identifier) in
-    let f = size-of2.ensures ∙ sym (part-size buffer entry.portion lies.portion) in
+    let e = size_of.ensures ∙ sym (part-size buffer entry.identifier lies.identifier) in
+    let f = size_of2.ensures ∙ sym (part-size buffer entry.portion lies.portion) in
     subst (λ (xs : List ℕ). PutsOctets c.args.out.now c.args.at xs c.put_part.result c.put_part.new.out)
-    (block-by (said_by buffer entry) type_size.result size-of2.result e f)
+    (block-by (said_by buffer entry) size_of.result size_of2.result e f)
     (puts_then c.put_front-fronted.ensures (puts_then c.put_part-named.ensures (puts_then c.put_four-listed.ensures c.put_part.ensures)))

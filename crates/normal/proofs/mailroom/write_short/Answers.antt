@@ -13,14 +13,14 @@ use Rattle.normal.specs.Passes.{RunEnds}
 use Rattle.normal.proofs.Answers.{form_is, stream-measured}
 use Rattle.normal.proofs.Short.{short-18, short-form}
 use Rattle.normal.proofs.mailroom.write_short.Goals as goal
-use Rattle.normal.proofs.mailroom.write_short.Goals.{After-shared_slice_known-1, After-measure_run-m}
+use Rattle.normal.proofs.mailroom.write_short.Goals.{Start, After-measure_run-m}
 
 -- the whole stream is a run that ended
-ends : (c : After-shared_slice_known-1) → let s = c.args.s.now in RunEnds deepest s 0 (length s) false
+ends : (c : Start) → let s = c.args.s.now in RunEnds deepest s 0 (length s) false
 ends c = record { order = omega arith; within = omega arith; small = omega (arith, c.requires.0); whole = c.requires.1 }
 
 pub measure_run-m-requires : goal.measure_run-m-requires
-measure_run-m-requires c = ends (goal.at.measure_run-m-requires c).After-shared_slice_known-1
+measure_run-m-requires c = ends (goal.at.measure_run-m-requires c).Start
 
 -- what was measured
 measured : (c : After-measure_run-m) →
@@ -29,7 +29,7 @@ measured : (c : After-measure_run-m) →
     (m.size ≡ length (normal_form s)) × (m.shortest ≡ true → (m.size ≤ length s) × (normal_form s ≡ slice 0 m.size s))
 measured c =
     let a = c.args in
-    stream-measured a.s.now (ends (goal.at.After-measure_run-m c).After-shared_slice_known-1) c.measure_run-m.result c.measure_run-m.ensures
+    stream-measured a.s.now (ends (goal.at.After-measure_run-m c).Start) c.measure_run-m.result c.measure_run-m.ensures
 
 pub returns-then-out-length : goal.returns-then-out-length
 returns-then-out-length c =
@@ -43,7 +43,7 @@ put_value-requires c =
     (omega arith, l, omega arith)
 
 pub put_run-requires : goal.put_run-requires
-put_run-requires c = (ends (goal.at.put_run-requires c).After-shared_slice_known-1, search rules)
+put_run-requires c = (ends (goal.at.put_run-requires c).Start, search rules)
 
 pub returns-then-shortest : goal.returns-then-shortest
 returns-then-shortest c =

@@ -3,24 +3,18 @@
 use mathlib.Core.Path.{ap, ◌∙◌}
 use Prim.Native.Nat.{◌-◌, ◌<◌}
 use native.Mathlib.Omega.{arith}
-use borrow.Author.Rules.{rules}
 use lib.ListN.{length}
 use Rattle.names.specs.Asked.{spelling}
 use Rattle.names.specs.Hash.{hashes, hash, bucket}
 use Rattle.names.proofs.Hashing.{hash-below}
-use Rattle.rows.proofs.ChainSearch.{Passed, passed_first, passed-more, link-falls, named-true, named-false, found}
+use Rattle.rows.proofs.ChainSearch.{passed_first, passed-more, link-falls, named-true, named-false, found}
 use Rattle.rows.proofs.chains.find.Goals as goal
-
--- what is known at the entry, from the loop's head
-abbrev entry : tie.At-loop invariant-loop decreases-loop → tie.Start invariant-loop decreases-loop
-entry c = c.before.before.before.before.before.before.before.before
 
 pub bucket_of-requires : goal.bucket_of-requires
 bucket_of-requires c =
     let bytes = spelling c.args.s.now c.args.asked in
     let low : hash bytes < hashes = hash-below 0 bytes (omega arith) in
-    let indexed = c.requires.indexed in
-    (indexed.some_buckets, indexed.few_buckets, omega (arith, c.requires.hashed_value))
+    (c.requires.indexed.some_buckets, c.requires.indexed.few_buckets, omega (arith, c.requires.hashed_value))
 
 pub bounds-head-bucket_of : goal.bounds-head-bucket_of
 bounds-head-bucket_of c = omega (arith, c.bucket_of.ensures.1)
@@ -33,11 +27,10 @@ loop-link-init c =
 
 pub has-requires : goal.has-requires
 has-requires c =
-    let start = entry PLACE‹c.before› in
-    let b = start.pre.0 in
+    let b = c.requires.bounded in
     let j = c.loop-link.link - 1 in
-    let l : j < start.args.n = omega (arith, c.loop-link.invariant.within) in
-    record { column_bound = b.in-row; scratch_width_in_bounds = omega (arith, b.in_table); j_bound = b.ordered j l; j_in_bounds = b.inside j l; asked_within = start.pre.1.1.0 }
+    let l : j < c.args.n = omega (arith, c.loop-link.invariant.within) in
+    record { column_bound = b.in-row; scratch_width_in_bounds = omega (arith, b.in_table); j_bound = b.ordered j l; j_in_bounds = b.inside j l; asked_within = c.requires.asked_within }
 
 pub returns-then-has : goal.returns-then-has
 returns-then-has c =
@@ -47,16 +40,16 @@ returns-then-has c =
 
 pub bounds-next-j : goal.bounds-next-j
 bounds-next-j c =
-    omega (arith, c.loop-link.invariant.within, (entry PLACE‹c.before.before.before.before›).pre.1.0.linked)
+    omega (arith, c.loop-link.invariant.within, c.requires.indexed.linked)
 
 pub loop-link-smaller : goal.loop-link-smaller
 loop-link-smaller c =
-    omega (arith, c.wide16-link-in-loop-link.ensures, link-falls (entry PLACE‹c.before.before.before.before.before›).requires.1.0 c.loop-link-test.true c.loop-link.invariant)
+    omega (arith, c.wide16-link-in-loop-link.ensures, link-falls c.requires.indexed c.loop-link-test.true c.loop-link.invariant)
 
 pub loop-link-preserved : goal.loop-link-preserved
 loop-link-preserved c =
     rw c.wide16-link-in-loop-link.ensures
-    (passed-more (entry PLACE‹c.before.before.before.before.before›).requires.1.0 c.loop-link-test.true c.loop-link.invariant
+    (passed-more c.requires.indexed c.loop-link-test.true c.loop-link.invariant
     (named-false c.has.ensures c.if-has.false))
 
 pub returns : goal.returns

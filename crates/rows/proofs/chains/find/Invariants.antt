@@ -1,14 +1,8 @@
 -- `rows::chains::find` meets its contract. The loop's invariant: the row at hand is of the bucket, and no row from there on has what is asked.
 -- The measure is the link, which falls with each turn.
-use mathlib.Core.Path.{ap, ◌∙◌}
-use Prim.Native.Nat.{◌-◌, ◌<◌}
-use native.Mathlib.Omega.{arith}
-use borrow.Author.Rules.{rules}
 use lib.ListN.{length}
 use Rattle.names.specs.Asked.{spelling}
-use Rattle.names.specs.Hash.{hashes, hash, bucket}
-use Rattle.names.proofs.Hashing.{hash-below}
-use Rattle.rows.proofs.ChainSearch.{Passed, passed_first, passed-more, link-falls, named-true, named-false, found}
+use Rattle.rows.proofs.ChainSearch.{Passed}
 use Rattle.rows.proofs.chains.find.Given as goal
 
 abbrev pub invariant-loop-link : goal.invariant-loop-link

@@ -6,7 +6,6 @@ use borrow.Author.Tests.{eq-eqb, ne_eqb}
 use lib.Dec.{eqb}
 use Rattle.rows.specs.Columns.{kind_at}
 use Rattle.rows.specs.Rows.{name_space_of}
-use borrow.Author.Rules.{rules}
 use Rattle.rows.proofs.chains.has.Goals as goal
 
 pub returns-then-own-space : goal.returns-then-own-space

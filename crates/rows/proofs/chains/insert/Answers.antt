@@ -5,7 +5,6 @@ use lib.ListN.{length-set}
 use Rattle.rows.specs.Columns.{value_at}
 use Rattle.rows.proofs.ChainGrow.{skipped, links-none}
 use Rattle.rows.proofs.Parts.{some_links, links-size, bucket-asked, chain-grown}
-use borrow.Author.Rules.{rules}
 use Rattle.rows.proofs.chains.insert.Goals as goal
 
 pub links_begin-links-requires : goal.links_begin-links-requires
@@ -27,11 +26,10 @@ bounds-index-b-then-rows-at c =
 pub returns-then-rows-at : goal.returns-then-rows-at
 returns-then-rows-at c =
     let a = c.args in
-    let p = c.requires.1 in
     let b = c.bucket_of-b.ensures in
-    chain-grown a.index.now c.links_begin-links.ensures.0 p.0 p.1.0 b.0 b.1 p.1.1.1 c.if-rows-at.true
+    let told = chain-grown a.index.now c.links_begin-links.ensures.0 c.requires.indexed c.requires.n_in_bounds b.0 b.1 c.requires.hashed_value c.if-rows-at.true in
+    record { indexed_2 = told.0; index_len_unchanged = told.1.0; links = told.1.1 }
 
 pub returns-else-rows-at : goal.returns-else-rows-at
 returns-else-rows-at c =
-    let p = c.requires.1 in
-    record { indexed_2 = skipped p.0 p.1.0 (λ l. absurd (omega (arith, l, c.if-rows-at.false))); index_len_unchanged = refl; links = links-none _ _ _ _ }
+    record { indexed_2 = skipped c.requires.indexed c.requires.n_in_bounds (λ l. absurd (omega (arith, l, c.if-rows-at.false))); index_len_unchanged = refl; links = links-none _ _ _ _ }

@@ -2,7 +2,6 @@
 use mathlib.Core.Path.{sym, ap, ◌∙◌}
 use Prim.Native.Nat.{ℕ, ◌-◌}
 use Rattle.rows.proofs.Filing.{chained-all, chained-some}
-use borrow.Author.Rules.{rules}
 use Rattle.rows.proofs.lookup.chained_of.Goals as goal
 
 pub returns-then-mark-eq0 : goal.returns-then-mark-eq0

@@ -8,7 +8,6 @@ use Rattle.names.specs.Hash.{bucket}
 use Rattle.rows.specs.Index.{heads_of, links_of}
 use Rattle.rows.proofs.Filing.{none-filed}
 use Rattle.rows.proofs.Parts.{some_links, heads-size, links-size, mark-last, head_at, bucket-asked, bucket-in}
-use borrow.Author.Rules.{rules}
 use Rattle.rows.proofs.lookup.find.Goals as goal
 
 pub overflow_sub-index : goal.overflow_sub-index

@@ -9,7 +9,6 @@ use Rattle.rows.specs.Lookup.{FindsFrom, FiledIn}
 use Rattle.rows.proofs.Finding.{finds-more}
 use Rattle.rows.proofs.Filing.{bounded-front, by-hash-from, in-order-from}
 use Rattle.rows.proofs.Parts.{some_links, heads-count, to-parts}
-use borrow.Author.Rules.{rules}
 use Rattle.rows.proofs.lookup.find_any.Goals as goal
 use Rattle.rows.proofs.lookup.find_any.Goals.{After-next-1}
 

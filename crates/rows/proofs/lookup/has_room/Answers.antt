@@ -7,7 +7,6 @@ use native.Mathlib.Omega.{arith}
 use lib.ListN.{get_or}
 use Rattle.rows.specs.Lookup.{AtMost, Linked}
 use Rattle.rows.proofs.Parts.{some_links, heads-count, to-parts, of_parts}
-use borrow.Author.Rules.{rules}
 use Rattle.rows.proofs.lookup.has_room.Goals as goal
 
 pub links_begin-links-requires : goal.links_begin-links-requires

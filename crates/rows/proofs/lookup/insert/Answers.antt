@@ -10,7 +10,6 @@ use Rattle.rows.specs.Index.{heads_of, links_of}
 use Rattle.rows.proofs.Links.{none-at-most}
 use Rattle.rows.proofs.Filing.{by-hash-all, filed-absent}
 use Rattle.rows.proofs.Parts.{some_links, links-size, mark-last, head_at, bucket-asked, filed-grown}
-use borrow.Author.Rules.{rules}
 use Rattle.rows.proofs.lookup.insert.Goals as goal
 
 pub overflow_sub-last : goal.overflow_sub-last
@@ -47,5 +46,8 @@ returns-then-index-bucket_of-eq0 c =
     let some : 0 < length (links_of a.index.now) = omega (arith, c.requires.n_in_bounds) in
     let none : get_or (heads_of a.index.now) b.result 0 ≡ 0 = sym (head_at a.index.now is b.result b.ensures.1) ∙ c.if-index-bucket_of-eq0.true in
     let few : AtMost (links_of a.index.now) 7 (get_or (heads_of a.index.now) b.result 0) =
-    subst (AtMost (links_of a.index.now) 7) (sym none) (none-at-most (links_of a.index.now) 7) in record { filed_2 = filed-grown a.index.now c.insert.new.index c.requires.filed a.hashed (mark-last a.index.now some) c.requires.n_in_bounds c.if-index-last-ne0.false
-          c.insert.ensures.indexed_2 c.insert.ensures.index_len_unchanged c.insert.ensures.links is b.ensures.0 b.ensures.1 few; index_len_unchanged = c.insert.ensures.index_len_unchanged }
+    subst (AtMost (links_of a.index.now) 7) (sym none) (none-at-most (links_of a.index.now) 7) in record {
+      filed_2 = filed-grown a.index.now c.insert.new.index c.requires.filed a.hashed (mark-last a.index.now some) c.requires.n_in_bounds c.if-index-last-ne0.false
+          c.insert.ensures.indexed_2 c.insert.ensures.index_len_unchanged c.insert.ensures.links is b.ensures.0 b.ensures.1 few;
+      index_len_unchanged = c.insert.ensures.index_len_unchanged;
+    }

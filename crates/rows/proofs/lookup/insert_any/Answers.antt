@@ -9,7 +9,6 @@ use Rattle.rows.specs.Lookup.{Ordered, mark_of}
 use Rattle.rows.specs.Index.{links_of}
 use Rattle.rows.proofs.Filing.{by-hash-all, in-order-some}
 use Rattle.rows.proofs.Parts.{some_links, links-size, links-part, mark-last, bucket-asked, filed-grown, filed-back, filed-marked}
-use borrow.Author.Rules.{rules}
 use Rattle.rows.proofs.lookup.insert_any.Goals as goal
 use Rattle.rows.proofs.lookup.insert_any.Goals.{After-wide16-mark}
 
@@ -32,14 +31,19 @@ bounds-index-last c = omega (arith, c.requires.n_in_bounds, links-size c.args.in
 pub put_in_order-requires : goal.put_in_order-requires
 put_in_order-requires c =
     let a = c.args in
-    let part = links-part a.index.now c.links_begin-links.ensures.0 in record { bounded = c.requires.bounded; ordered = subst (λ (l : List ℕ). Ordered a.s.now a.rows.now a.column l (c.wide16-mark.result - 1) a.n) (sym part)
-            (in-order-some c.requires.filed (marks (goal.at.put_in_order-requires c).After-wide16-mark) c.if-mark-ne0.true); n_in_bounds = (subst (λ (l : List ℕ). a.n < length l) (sym part) (omega (arith, c.requires.n_in_bounds)), omega (arith, c.requires.n_bound)) }
+    let part = links-part a.index.now c.links_begin-links.ensures.0 in record {
+      bounded = c.requires.bounded;
+      ordered = subst (λ (l : List ℕ). Ordered a.s.now a.rows.now a.column l (c.wide16-mark.result - 1) a.n) (sym part)
+          (in-order-some c.requires.filed (marks (goal.at.put_in_order-requires c).After-wide16-mark) c.if-mark-ne0.true);
+      n_in_bounds = (subst (λ (l : List ℕ). a.n < length l) (sym part) (omega (arith, c.requires.n_in_bounds)), omega (arith, c.requires.n_bound));
+    }
 
 pub returns-then-mark-ne0 : goal.returns-then-mark-ne0
 returns-then-mark-ne0 c =
     let a = c.args in
-    filed-back a.index.now c.requires.filed c.links_begin-links.ensures.0 (marks (goal.at.returns-then-mark-ne0 c).After-wide16-mark) c.requires.n_in_bounds c.if-mark-ne0.true
-    c.put_in_order.new.next c.put_in_order.ensures.ordered_2 c.put_in_order.ensures.around
+    let told = filed-back a.index.now c.requires.filed c.links_begin-links.ensures.0 (marks (goal.at.returns-then-mark-ne0 c).After-wide16-mark) c.requires.n_in_bounds c.if-mark-ne0.true
+    c.put_in_order.new.next c.put_in_order.ensures.ordered_2 c.put_in_order.ensures.around in
+    record { filed_2 = told.0; index_len_unchanged = told.1 }
 
 pub bucket_of-requires : goal.bucket_of-requires
 bucket_of-requires c =
@@ -49,8 +53,7 @@ bucket_of-requires c =
 
 pub has_room-requires : goal.has_room-requires
 has_room-requires c =
-    let a = c.args in
-    (
+    let a = c.args in (
       record {
         s = a.s.now;
         rows = a.rows.now;
@@ -67,8 +70,11 @@ insert-requires c =
 pub returns-then-has_room : goal.returns-then-has_room
 returns-then-has_room c =
     let a = c.args in
-    let b = c.bucket_of.ensures in record { filed_2 = filed-grown a.index.now c.insert.new.index c.requires.filed a.hashed (marks (goal.at.returns-then-has_room c).After-wide16-mark) c.requires.n_in_bounds c.if-mark-ne0.false c.insert.ensures.indexed_2 c.insert.ensures.index_len_unchanged c.insert.ensures.links
-          c.links_begin-links.ensures.0 b.0 b.1 (c.has_room.ensures c.if-has_room.true); index_len_unchanged = c.insert.ensures.index_len_unchanged }
+    let b = c.bucket_of.ensures in record {
+      filed_2 = filed-grown a.index.now c.insert.new.index c.requires.filed a.hashed (marks (goal.at.returns-then-has_room c).After-wide16-mark) c.requires.n_in_bounds c.if-mark-ne0.false c.insert.ensures.indexed_2 c.insert.ensures.index_len_unchanged c.insert.ensures.links
+          c.links_begin-links.ensures.0 b.0 b.1 (c.has_room.ensures c.if-has_room.true);
+      index_len_unchanged = c.insert.ensures.index_len_unchanged;
+    }
 
 pub bounds-index-links : goal.bounds-index-links
 bounds-index-links c =
@@ -81,4 +87,5 @@ bounds-index-last-2 c =
 pub returns : goal.returns
 returns c =
     let a = c.args in
-    filed-marked a.index.now c.requires.filed c.links_begin-links.ensures.0 (marks (goal.at.returns c).After-wide16-mark) c.requires.n_in_bounds c.if-mark-ne0.false
+    let told = filed-marked a.index.now c.requires.filed c.links_begin-links.ensures.0 (marks (goal.at.returns c).After-wide16-mark) c.requires.n_in_bounds c.if-mark-ne0.false in
+    record { filed_2 = told.0; index_len_unchanged = told.1 }

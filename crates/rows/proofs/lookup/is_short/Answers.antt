@@ -1,12 +1,10 @@
 -- `rows::lookup::is_short` meets its contract. The loop's invariant: what is left may have `left` - 1 rows. The measure is `left`.
 use mathlib.Core.Path.{◌≡◌, subst}
 use mathlib.Core.Bool.{false≢true}
-use lib.ListN.{get_or}
-use Prim.Native.Nat.{suc, ◌-◌, ◌<◌}
+use Prim.Native.Nat.{suc, ◌-◌}
 use native.Mathlib.Omega.{arith}
-use borrow.Author.Rules.{rules}
 use Rattle.rows.specs.Lookup.{AtMost}
-use Rattle.rows.proofs.Links.{Walks, walks-first, walks_more, none-at-most, one_more}
+use Rattle.rows.proofs.Links.{walks-first, walks_more, none-at-most, one_more}
 use Rattle.rows.proofs.lookup.is_short.Goals as goal
 
 pub loop-link-init : goal.loop-link-init

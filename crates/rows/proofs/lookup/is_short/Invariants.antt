@@ -1,12 +1,8 @@
 -- `rows::lookup::is_short` meets its contract. The loop's invariant: what is left may have `left` - 1 rows. The measure is `left`.
-use mathlib.Core.Path.{◌≡◌, subst}
-use mathlib.Core.Bool.{false≢true}
 use lib.ListN.{get_or}
-use Prim.Native.Nat.{suc, ◌-◌, ◌<◌}
-use native.Mathlib.Omega.{arith}
-use borrow.Author.Rules.{rules}
+use Prim.Native.Nat.{◌-◌, ◌<◌}
 use Rattle.rows.specs.Lookup.{AtMost}
-use Rattle.rows.proofs.Links.{Walks, walks-first, walks_more, none-at-most, one_more}
+use Rattle.rows.proofs.Links.{Walks}
 use Rattle.rows.proofs.lookup.is_short.Given as goal
 
 abbrev pub invariant-loop-link : goal.invariant-loop-link

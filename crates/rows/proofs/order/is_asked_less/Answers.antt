@@ -11,7 +11,6 @@ use Rattle.names.specs.Names.{space_byte, same}
 use Rattle.names.specs.Asked.{spelling}
 use Rattle.rows.specs.Order.{less}
 use Rattle.rows.proofs.Less.{joined-short, joined-long}
-use borrow.Author.Rules.{rules}
 use Rattle.rows.proofs.order.is_asked_less.Goals as goal
 use Rattle.rows.proofs.order.is_asked_less.Goals.{Else-to-from}
 

@@ -7,7 +7,6 @@ use lib.Dec.{eqb}
 use Rattle.rows.specs.Rows.{name_space_of}
 use Rattle.rows.specs.Columns.{kind_at}
 use Rattle.rows.specs.Order.{less}
-use borrow.Author.Rules.{rules}
 use Rattle.rows.proofs.order.is_before.Goals as goal
 
 pub returns-then-own-space : goal.returns-then-own-space

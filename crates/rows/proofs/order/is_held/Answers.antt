@@ -7,7 +7,6 @@ use borrow.Author.Tests.{eq-eqb, ne_eqb, lt-ltb, le-ltb}
 use lib.Dec.{eqb}
 use Rattle.rows.specs.Columns.{kind_at, first_at, past_at}
 use Rattle.rows.specs.Rows.{name_space_of}
-use borrow.Author.Rules.{rules}
 use Rattle.rows.proofs.order.is_held.Goals as goal
 
 pub returns-then-first-past : goal.returns-then-first-past
@@ -28,8 +27,7 @@ returns-then-space_of-space c =
 
 pub is_spelt-requires : goal.is_spelt-requires
 is_spelt-requires c =
-    let wide322 = c.wide32-past in
-    (
+    let wide322 = c.wide32-past in (
       c.requires.asked_within,
       omega (arith, wide322.ensures, c.wide32-first.ensures),
       omega (arith, wide322.ensures),

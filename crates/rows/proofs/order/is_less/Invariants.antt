@@ -1,14 +1,8 @@
 -- `rows::order::is_less` meets its contract. The loop's invariant: the whole is in the order that what is left is.
-use mathlib.Core.Path.{◌≡◌, refl, sym, ◌∙◌}
-use mathlib.Core.Bool.{cond}
-use Prim.Native.Nat.{◌+◌, ◌-◌, ◌≤◌}
-use native.Mathlib.Omega.{arith}
-use borrow.Author.Tests.{eq-eqb, ne_eqb}
-use lib.Dec.{eqb, ltb}
-use lib.ListN.{get_or}
-use lib.Seq.{slice, slice_empty}
+use mathlib.Core.Path.{◌≡◌}
+use Prim.Native.Nat.{◌-◌, ◌≤◌}
+use lib.Seq.{slice}
 use Rattle.rows.specs.Order.{less}
-use Rattle.rows.proofs.Less.{less-more, less-nothing, nothing-less}
 use Rattle.rows.proofs.order.is_less.Given as goal
 
 abbrev pub invariant-loop-i : goal.invariant-loop-i

@@ -10,7 +10,6 @@ use lib.Seq.{slice}
 use Rattle.names.specs.Names.{space_byte, same}
 use Rattle.names.specs.Asked.{spelling}
 use Rattle.names.proofs.Same.{joined-other, joined_same}
-use borrow.Author.Rules.{rules}
 use Rattle.rows.proofs.order.is_spelt.Goals as goal
 use Rattle.rows.proofs.order.is_spelt.Goals.{Else-past-first}
 

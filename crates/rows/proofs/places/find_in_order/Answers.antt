@@ -2,7 +2,6 @@
 use Prim.Native.Nat.{◌<◌}
 use native.Mathlib.Omega.{arith}
 use Rattle.rows.proofs.Finding.{held-true, held-false, none_before, last-below, last_found, none_found}
-use borrow.Author.Rules.{rules}
 use Rattle.rows.proofs.places.find_in_order.Goals as goal
 
 pub returns-then-p-from : goal.returns-then-p-from
@@ -11,14 +10,13 @@ returns-then-p-from c =
 
 pub is_held-requires : goal.is_held-requires
 is_held-requires c =
-    let b = c.requires.bounded in
     let j = c.wide16-j.result in
     let l : c.wide16-j.result < c.args.n = omega (
       arith,
       c.wide16-j.ensures,
-      last-below b c.requires.ordered c.place-p.ensures c.if-p-from.false,
+      last-below c.requires.bounded c.requires.ordered c.place-p.ensures c.if-p-from.false,
     ) in
-    record { column_bound = b.in-row; scratch_width_in_bounds = omega (arith, b.in_table); j_bound = b.ordered j l; j_in_bounds = b.inside j l; asked_within = c.requires.asked_within }
+    record { column_bound = c.requires.bounded.in-row; scratch_width_in_bounds = omega (arith, c.requires.bounded.in_table); j_bound = c.requires.bounded.ordered j l; j_in_bounds = c.requires.bounded.inside j l; asked_within = c.requires.asked_within }
 
 pub returns-then-is_held : goal.returns-then-is_held
 returns-then-is_held c =

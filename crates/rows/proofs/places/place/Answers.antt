@@ -8,9 +8,8 @@ use Prim.Native.Nat.{ℕ, ◌+◌, ◌-◌, ◌/◌, ◌<◌}
 use native.Mathlib.Omega.{arith}
 use lib.ListN.{get_or}
 use Rattle.names.specs.Asked.{spelling}
-use Rattle.rows.specs.Lookup.{key_at, Between}
+use Rattle.rows.specs.Lookup.{key_at}
 use Rattle.rows.proofs.Sorted.{between-all, lower-half, upper-half, between-met}
-use borrow.Author.Rules.{rules}
 use Rattle.rows.proofs.places.place.Goals as goal
 use Rattle.rows.proofs.places.place.Goals.{After-shared_slice_known-in-loop-low-1}
 
@@ -36,9 +35,8 @@ bounds-next-middle c =
 
 pub is_before-requires : goal.is_before-requires
 is_before-requires c =
-    let b = c.requires.bounded in
     let l : c.wide16.result < c.args.n = omega (arith, c.wide16.ensures, row_below (goal.at.is_before-requires c).After-shared_slice_known-in-loop-low-1) in
-    record { column_bound = b.in-row; scratch_width_in_bounds = omega (arith, b.in_table); j_bound = b.ordered c.wide16.result l; j_in_bounds = b.inside c.wide16.result l; asked_within = c.requires.asked_within }
+    record { column_bound = c.requires.bounded.in-row; scratch_width_in_bounds = omega (arith, c.requires.bounded.in_table); j_bound = c.requires.bounded.ordered c.wide16.result l; j_in_bounds = c.requires.bounded.inside c.wide16.result l; asked_within = c.requires.asked_within }
 
 pub loop-low-preserved-then-is_before : goal.loop-low-preserved-then-is_before
 loop-low-preserved-then-is_before c =

@@ -1,16 +1,9 @@
 -- `rows::places::place` meets its contract. The loop's invariant: what stands before `low` does not come after what is asked for, what stands
 -- from `high` on does. The measure is how many stand between.
-use mathlib.Core.Bool.{true, false}
-use Rattle.rows.specs.Order.{less}
-use mathlib.Core.Path.{◌≡◌, sym, ◌∙◌, subst}
 use mathlib.Core.List.{◌∷◌}
-use Prim.Native.Nat.{ℕ, ◌+◌, ◌-◌, ◌/◌, ◌<◌}
-use native.Mathlib.Omega.{arith}
-use lib.ListN.{get_or}
+use Prim.Native.Nat.{◌-◌}
 use Rattle.names.specs.Asked.{spelling}
-use Rattle.rows.specs.Lookup.{key_at, Between}
-use Rattle.rows.proofs.Sorted.{between-all, lower-half, upper-half, between-met}
-use borrow.Author.Rules.{rules}
+use Rattle.rows.specs.Lookup.{Between}
 use Rattle.rows.proofs.places.place.Given as goal
 
 abbrev pub invariant-loop-low : goal.invariant-loop-low

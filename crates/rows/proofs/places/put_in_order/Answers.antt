@@ -9,19 +9,21 @@ use Rattle.rows.specs.Columns.{kind_at}
 use Rattle.rows.specs.Lookup.{key_at, Between}
 use Rattle.rows.proofs.Sorted.{ordered-more, put-around}
 use Rattle.rows.proofs.Filing.{bounded-front}
-use borrow.Author.Rules.{rules}
 use Rattle.rows.proofs.places.put_in_order.Goals as goal
 
 pub place-p-requires : goal.place-p-requires
 place-p-requires c =
-    let b = c.requires.bounded in
-    let own = b.ordered c.args.n (omega arith) in
-    let inner = b.inside c.args.n (omega arith) in record { bounded = bounded-front (omega arith) b; ordered = c.requires.ordered; asked_within = record {
-          first_order = omega (arith, own, c.wide32-first.ensures, c.wide32-past.ensures);
-          first_inside = omega (arith, inner, c.wide32-past.ensures);
-          second_order = omega arith;
-          second_inside = omega arith;
-        } }
+    let own = c.requires.bounded.ordered c.args.n (omega arith) in
+    let inner = c.requires.bounded.inside c.args.n (omega arith) in record {
+      bounded = bounded-front (omega arith) c.requires.bounded;
+      ordered = c.requires.ordered;
+      asked_within = record {
+        first_order = omega (arith, own, c.wide32-first.ensures, c.wide32-past.ensures);
+        first_inside = omega (arith, inner, c.wide32-past.ensures);
+        second_order = omega arith;
+        second_inside = omega arith;
+      };
+    }
 
 pub returns : goal.returns
 returns c =

@@ -1,6 +1,6 @@
 -- `rows::places::shift` meets its contract. The loop's invariant: what stood from i to n stands one place further.
 use mathlib.Core.Path.{◌≡◌, subst}
-use Prim.Native.Nat.{ℕ, ◌-◌, ◌≤◌}
+use Prim.Native.Nat.{ℕ}
 use native.Mathlib.Omega.{arith}
 use Rattle.rows.specs.Lookup.{Shifted}
 use Rattle.rows.proofs.Sorted.{shift_none, shift-more}

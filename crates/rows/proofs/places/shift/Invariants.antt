@@ -1,9 +1,6 @@
 -- `rows::places::shift` meets its contract. The loop's invariant: what stood from i to n stands one place further.
-use mathlib.Core.Path.{◌≡◌, subst}
-use Prim.Native.Nat.{ℕ, ◌-◌, ◌≤◌}
-use native.Mathlib.Omega.{arith}
+use Prim.Native.Nat.{◌-◌, ◌≤◌}
 use Rattle.rows.specs.Lookup.{Shifted}
-use Rattle.rows.proofs.Sorted.{shift_none, shift-more}
 use Rattle.rows.proofs.places.shift.Given as goal
 
 abbrev pub invariant-loop-i : goal.invariant-loop-i

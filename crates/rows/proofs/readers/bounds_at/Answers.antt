@@ -1,5 +1,4 @@
 -- `rows::readers::bounds_at` meets its contract.
-use borrow.Author.Rules.{rules}
 use Rattle.rows.proofs.readers.bounds_at.Goals as goal
 
 pub returns : goal.returns

@@ -1,6 +1,5 @@
 -- `rows::readers::is_named` meets its contract.
 use mathlib.Core.Path.{ap, ◌∙◌}
-use borrow.Author.Rules.{rules}
 use Rattle.rows.specs.Columns.{there}
 use Rattle.rows.proofs.readers.is_named.Goals as goal
 

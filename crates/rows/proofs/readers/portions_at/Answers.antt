@@ -1,7 +1,6 @@
 -- `rows::readers::portions_at` meets its contract.
 use mathlib.Core.Path.{ap}
 use Rattle.rows.specs.Columns.{portions_run}
-use borrow.Author.Rules.{rules}
 use Rattle.rows.proofs.readers.portions_at.Goals as goal
 
 pub returns : goal.returns

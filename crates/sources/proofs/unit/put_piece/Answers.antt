@@ -15,10 +15,12 @@ returns-then-first-past c =
     let a = c.args in
     let one = one_place a.first a.past c.if-first-past.true in
     let room = ap length one in
-    puts-same a.line 3 _ _ a.list.now c.put_source.new.list one
-    (puts_one a.line a.first a.past a.list.now c.put_source.new.list (omega (arith, c.requires.1)) c.put_source.ensures)
+    let told = puts-same a.line 3 _ _ a.list.now c.put_source.new.list one
+    (puts_one a.line a.first a.past a.list.now c.put_source.new.list (omega (arith, c.requires.1)) c.put_source.ensures) in
+    record { value = told.0; list_after = told.1 }
 
 pub returns : goal.returns
 returns c =
     let a = c.args in
-    puts-same a.line 0 _ _ _ _ (no_place a.first a.past c.if-first-past.false) (puts_none a.line a.list.now)
+    let told = puts-same a.line 0 _ _ _ _ (no_place a.first a.past c.if-first-past.false) (puts_none a.line a.list.now) in
+    record { value = told.0; list_after = told.1 }

@@ -20,4 +20,5 @@ returns-then-unit-count c =
 pub returns : goal.returns
 returns c =
     let a = c.args in
-    puts-same a.line 0 _ _ _ _ (no-unit-places c.requires.fine.1 a.unit c.if-unit-count.false) (puts_none a.line a.list.now)
+    let told = puts-same a.line 0 _ _ _ _ (no-unit-places c.requires.fine.1 a.unit c.if-unit-count.false) (puts_none a.line a.list.now) in
+    record { value = told.0; list_after = told.1 }

@@ -1,4 +1,4 @@
--- `scratch::sources::sources_by` meets its contract: what the walk refused is refused, and what it passed is put in a frame for as many elements as
+-- `scratch::side_sources::sources_by` meets its contract: what the walk refused is refused, and what it passed is put in a frame for as many elements as
 -- the numbers have room for matches.
 use mathlib.Core.Path.{◌∙◌, subst}
 use Prim.Native.Nat.{◌*◌, ◌/◌, ◌≤◌}
@@ -13,7 +13,7 @@ use Rattle.letters.proofs.Letters.{refused-walk}
 use Rattle.answers.proofs.Sources.{sources-refused}
 use Rattle.answers.proofs.Working.{sources-told}
 use Rattle.scratch.proofs.Arrays.{walked_whole}
-use Rattle.scratch.proofs.sources.sources_by.Goals as goal
+use Rattle.scratch.proofs.side_sources.sources_by.Goals as goal
 
 pub overflow_cast-count : goal.overflow_cast-count
 overflow_cast-count c =
