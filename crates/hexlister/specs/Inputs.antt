@@ -1,7 +1,9 @@
--- What is made of what was read, and what is printed of it. No contract can say which bytes `read` puts into a block: `TakesIn` says that of each
--- block exactly the bytes that it tells of are read on, `Heard` that reading stands where some text leads, and `Prints` that what is then
--- printed is that text's output.
-use Rattle.std.specs.Prelude.{◌≡◌, Bool, true, false, cond, ◌||◌, List, ◌++◌, ℕ, min, length, take, eqb, Result, Ok, Err}
+-- What is made of what was read, and what is printed of it. No contract can say which bytes the system puts into a block: `TakesIn` says that of
+-- each block exactly the bytes that `read` tells of are read on, `Heard` that reading stands where some text leads, and `Prints` that what is then
+-- printed is that text's output. Of a reader whose bytes are known `PrintsKnown` and `Writes` say that it is the output of all of them.
+use Rattle.std.specs.Prelude.{◌≡◌, Bool, true, false, cond, ◌||◌, List, ◌++◌, ℕ, min, length, take, eqb, Result, Ok, Err, IfSome, ⊤}
+use Rattle.std.specs.Io.KnownBytes.{Appends, Keeps}
+use Rattle.std.specs.declared.option.Option.{Option}
 use Rattle.lister_text.specs.Lines.{unreadable}
 use Rattle.lister_hex.specs.declared.State.{State}
 use Rattle.lister_hex.specs.declared.State.TheVariants.{Pairs, Half, Stopped}
@@ -79,3 +81,13 @@ PrintsAll =
     length lent ≡ input_limit →
     Leads text lent (Stopped line) octets →
     output (text ++ more) ≡ output text
+
+-- and where the bytes that a reader has left are known, what is printed is the output of all of them
+abbrev pub PrintsKnown : Option (List ℕ) → Input → (octets : List ℕ) → Type 0
+PrintsKnown known (Ended state) octets = IfSome known (λ text. read_lines (finished state) octets ≡ output text)
+PrintsKnown known Failed octets = ⊤
+
+-- what a writer then holds more, where its bytes are known as well: that output, and where reading failed nothing
+abbrev pub Writes : (heard : Bool) → (known before after : Option (List ℕ)) → Type 0
+Writes true known before after = IfSome known (λ text. Appends before after (output text))
+Writes false known before after = Keeps before after

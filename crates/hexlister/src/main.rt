@@ -1,12 +1,14 @@
 // The hex lister: reads standard input, lines of hexadecimal pairs, to its end, and prints what the stream is, one element a line.
 //
-// What `read` puts into a block no contract says. `take_in` has all that is made of its answer and of the block; the loop that calls the two
-// adds nothing, and hands on where reading stands after some bytes. `page::put_output` makes of that the whole output, which is written at once.
+// What the system puts into a block no contract says. `take_in` has all that is made of an answer of `read` and of the block; the loop that calls
+// the two adds nothing, and hands on where reading stands after some bytes. `page::put_output` makes of that the whole output, which is written at
+// once. Of a reader and a writer whose bytes are known, `list` says the whole: what is written is the output of all that was there to read.
 #![tactic(auto)]
+
 mod page;
 
-ghost use Rattle.std.specs.Prelude.{◌≡◌};
-ghost use Rattle.hexlister.specs.Inputs.{is_stopped, over, TakesIn, HeardIn};
+ghost use Rattle.std.specs.Prelude.{◌≡◌, IfOk};
+ghost use Rattle.hexlister.specs.Inputs.{is_stopped, over, TakesIn, HeardIn, PrintsKnown, Writes};
 
 use lister_hex::{INPUT_LIMIT, State};
 use page::PAGE_ROOM;
@@ -80,7 +82,8 @@ fn take_in(
 // Reads until the input ends or a line cannot be read. A proved loop has to end, and nothing says that the input does: so it counts its
 // turns down, from a number that no run uses up.
 fn read_input<R: Read>(input: &mut R, octets: &mut [u8; INPUT_LIMIT]) -> Input
-    ensures { HeardIn octets.old result octets.new }
+    ensures heard { HeardIn octets.old result octets.new }
+    ensures printed { PrintsKnown (R.remaining input.old) result octets.new }
 {
     let mut block = [0u8; BLOCK];
     let mut state = lister_hex::start();
@@ -99,14 +102,25 @@ fn read_input<R: Read>(input: &mut R, octets: &mut [u8; INPUT_LIMIT]) -> Input
     Input::Failed
 }
 
-fn main(rt: HostRuntime) -> io::Result<()> {
+// Lists what a reader has left: reads it, and writes the whole output at once. False where it cannot be read, and then nothing is written.
+fn list<R: Read, W: Write>(input: &mut R, out: &mut W) -> io::Result<bool>
+    ensures { IfOk result (λ heard. Writes heard (R.remaining input.old) (W.contents out.old) (W.contents out.new)) }
+{
     let mut octets = [0u8; INPUT_LIMIT];
-    match read_input(&mut rt.stdin(), &mut octets) {
+    match read_input(input, &mut octets) {
         Input::Ended(state) => {
             let mut page = [0u8; PAGE_ROOM];
             let n = page::put_output(&mut page, state, &octets);
-            io::writer(&rt).write_all(&page[..n])
+            out.write_all(&page[..n])?;
+            Ok(true)
         }
-        Input::Failed => eprintln!(rt; "the input cannot be read"),
+        Input::Failed => Ok(false),
     }
+}
+
+fn main(rt: HostRuntime) -> io::Result<()> {
+    if !list(&mut rt.stdin(), &mut io::writer(&rt))? {
+        eprintln!(rt; "the input cannot be read")?;
+    }
+    Ok(())
 }
