@@ -9,25 +9,25 @@ from kit import TOP
 from machines import HERE, Failed, run
 
 # A library of one function, which is proved in a second.
-TINY = '#[no_mangle]\npub extern "C" fn tiny(n: u32) -> u32 {\n    n & 7\n}\n'
+TINY = '#![tactic(auto)]\n\n#[unsafe(no_mangle)]\npub extern "C" fn tiny(n: u32) -> u32 {\n    n & 7\n}\n'
 
 
 def same_archive(room):
-    """`portable/capture` writes the archive that `rt staticlib` writes, octet for octet, and a module besides."""
+    """`portable/capture` writes the archive that `rt lib` writes, octet for octet, and a module besides."""
     top = room.folder / 'tiny'
     (top / 'crates/tiny/src').mkdir(parents=True)
-    (top / 'crates.txt').write_text('tiny:\n', 'utf-8')
+    (top / 'crates.txt').write_text('tiny staticlib:\n', 'utf-8')
     (top / 'crates/tiny/src/lib.rt').write_text(TINY, 'utf-8')
     (top / 'portable').mkdir()
     shutil.copy(HERE / 'capture', top / 'portable')
-    archive = top / 'target/staticlib/libtiny.a'
-    run('rt', 'staticlib', 'tiny', cwd=top)
+    archive, kept = top / 'crates/tiny/out/libtiny.a', top / 'target/staticlib'
+    run('rt', 'lib', '--cpu=x86-64', cwd=top / 'crates/tiny')
     plain = archive.read_bytes()
     archive.unlink()
     run(top / 'portable/capture', 'tiny', 'small')
-    if archive.with_name('libsmall.a').read_bytes() != plain:
+    if (kept / 'libsmall.a').read_bytes() != plain:
         raise Failed('it is another archive')
-    if not (top / 'target/staticlib/small.bc').stat().st_size:
+    if not (kept / 'small.bc').stat().st_size:
         raise Failed('there is no module')
     return 'octet for octet'
 
@@ -77,7 +77,7 @@ def refuses(room):
     export = retarget.Export('i128', 'odif_check', ['i64 %a0'])
     said = [
         (sentence_of(HERE / 'build', 'rv64i', other / 'out', env=path), 'rattle-kit-0'),
-        (sentence_of(HERE / 'capture', 'odif', env=path), 'has no on/'),
+        (sentence_of(HERE / 'capture', 'odif', env=path), 'has no toolchain/bin/clang'),
         (sentence_of(HERE / 'build', 'i386-linux', other / 'out'), 'multiple of 4'),
         (sentence_of(HERE / 'build', 'pdp11', other / 'out'), 'no target pdp11'),
         (sentence_of(room.kit.tool('clang'), '--target=i386-unknown-linux-gnu', '--no-default-config', '-fsyntax-only', '-nostdinc', f'-I{HERE}/include',

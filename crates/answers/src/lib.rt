@@ -1,6 +1,7 @@
 // The work behind the questions: what each does with a stream that was judged.
 // Nothing that was lent to a question is written before all that can refuse it is known.
 #![tactic(auto)]
+
 ghost use Rattle.std.specs.Prelude.{◌≡◌, length};
 ghost use Rattle.octets.specs.Walk.{walk_of};
 ghost use Rattle.rows.specs.Columns.{identifier_column};

@@ -1,5 +1,6 @@
 // The order of class A in one pass over the rows, by numbers: no array, a small state by value.
 #![tactic(auto)]
+
 ghost use Rattle.std.specs.Prelude.{◌≡◌, ◌<◌};
 ghost use Rattle.rows.specs.Columns.{identifier_column, kind_at};
 ghost use Rattle.order.specs.Fault.{FaultIn};

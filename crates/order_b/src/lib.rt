@@ -1,6 +1,7 @@
 // The order of class B in one pass over the rows, with a small state by value. Nothing is stored: the element that a unit is associated with is looked up in
 // the index that is there.
 #![tactic(auto)]
+
 ghost use Rattle.std.specs.Prelude.{◌≡◌, ◌||◌, ◌+◌, ◌*◌, ◌<◌, ◌≤◌, eqb, length};
 ghost use Rattle.rows.specs.Rows.{scratch_width};
 ghost use Rattle.rows.specs.Columns.{identifier_column};

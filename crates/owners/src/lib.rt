@@ -1,6 +1,7 @@
 // Which portion of which element a text unit represents: what its identifier says, looked up by the index that is there. And what else the order
 // rules look at. Nothing is stored: each is asked of the rows when it is wanted.
 #![tactic(auto)]
+
 ghost use Rattle.std.specs.Prelude.{◌≡◌, ◌+◌, ◌*◌, ◌<◌, ◌≤◌, length};
 ghost use Rattle.std.proofs.Math.Seq.{slice};
 ghost use Rattle.rows.specs.Rows.{scratch_width};

@@ -1,6 +1,7 @@
 // Where the octets of a content stand: the places of its pieces, counted, and put as records of three numbers (line, first, past). Each function over a run
 // calls itself for the run inside a 24 or a 30, a level deeper.
 #![tactic(auto)]
+
 ghost use Rattle.std.specs.Prelude.{◌≡◌, [], ◌∷◌, ◌++◌, ◌+◌, ◌*◌, ◌≤◌, length, drop};
 ghost use Rattle.std.proofs.lemmas.List.Edits.{sets};
 ghost use Rattle.octets.specs.Walk.{stream_limit};

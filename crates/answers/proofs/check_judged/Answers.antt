@@ -1,6 +1,5 @@
 -- `answers::check_judged` meets its contract: what the judge left says what the letter is, and the rest is the check of that.
 use mathlib.Core.Path.{◌∙◌}
-use borrow.Author.Rules.{rules}
 use native.Mathlib.Omega.{arith}
 use Rattle.answers.proofs.Judging.{accepted-judged}
 use Rattle.answers.proofs.Checks.{checks_16, checks-letter}

@@ -1,6 +1,5 @@
 -- `answers::tell_refused` meets its contract: number and place of each question, and the headers of the check.
 use mathlib.Core.Path.{◌∙◌, ap}
-use borrow.Author.Rules.{rules}
 use Rattle.answers.specs.Questions.{check_told}
 use Rattle.answers.proofs.Working.{refused_as}
 use Rattle.answers.proofs.tell_refused.Goals as goal

@@ -5,7 +5,6 @@ use native.Mathlib.Omega.{arith}
 use mathlib.Core.Logic.{inl, inr}
 use Rattle.owners.proofs.Telling.{kind-told}
 use Rattle.order_a.proofs.Passing.{no_profile}
-use borrow.Author.Rules.{rules}
 use Rattle.order_a.proofs.fault_a.Goals as goal
 
 pub returns-then-n-eq0 : goal.returns-then-n-eq0

@@ -1,11 +1,6 @@
 -- `order_a::pass` meets its contract: the rows are taken in turn. The measure is how many are left.
-use mathlib.Core.Path.{sym, ◌∙◌, subst}
 use Prim.Native.Nat.{◌-◌}
-use native.Mathlib.Omega.{arith}
-use Rattle.order_a.specs.Pass.{StepAt}
-use borrow.Author.Rules.{rules}
-use Rattle.letters.proofs.Telling.{few-rows}
-use Rattle.order_a.proofs.Stepping.{Walking, walking-first, walking-more, walking-stops, walking-ends, walking-whole}
+use Rattle.order_a.proofs.Stepping.{Walking}
 use Rattle.order_a.proofs.pass.Given as goal
 
 abbrev pub invariant-loop-k : goal.invariant-loop-k

@@ -3,7 +3,6 @@ use Rattle.order_a.specs.Pass.{sight_for}
 use Rattle.letters.proofs.Telling.{rows_tell}
 use Rattle.letters.proofs.Telling.{row_inside}
 use Rattle.owners.proofs.Telling.{meetable}
-use borrow.Author.Rules.{rules}
 use Rattle.order_a.proofs.see.Goals as goal
 
 pub kind_at-kind-requires : goal.kind_at-kind-requires

@@ -1,6 +1,5 @@
 -- `order_a::walk_on` meets its contract: field by field.
 use Rattle.order_a.specs.Pass.{walk_for}
-use borrow.Author.Rules.{rules}
 use Rattle.order_a.proofs.walk_on.Goals as goal
 
 pub returns : goal.returns

@@ -1,5 +1,4 @@
 -- `order_b::can_come` meets its contract.
-use borrow.Author.Rules.{rules}
 use borrow.Author.Tests.{eq-eqb, ne_eqb}
 use Rattle.order_b.proofs.can_come.Goals as goal
 

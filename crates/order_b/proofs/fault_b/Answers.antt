@@ -3,7 +3,6 @@ use mathlib.Core.Path.{◌≡◌, ap, sym, ◌∙◌}
 use Prim.Native.Nat.{ℕ, ◌<◌}
 use native.Mathlib.Omega.{arith}
 use lib.ListN.{length}
-use borrow.Author.Rules.{rules}
 use Rattle.order_b.specs.Steps.{state_of, step_of}
 use Rattle.order_b.proofs.Passing.{first_stops, first-starts, none-fault}
 use Rattle.order_b.proofs.fault_b.Goals as goal

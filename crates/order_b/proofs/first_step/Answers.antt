@@ -1,7 +1,5 @@
 -- `order_b::first_step` meets its contract.
 use native.Mathlib.Omega.{arith}
-use borrow.Author.Rules.{rules}
-use borrow.Author.Tests.{not-true, not-false}
 use Rattle.letters.proofs.Telling.{rows_tell}
 use Rattle.owners.proofs.Telling.{meetable}
 use Rattle.order_b.proofs.Seeing.{first-not, first-cannot, first_goes}

@@ -1,8 +1,6 @@
 -- `order_b::head_step` meets its contract.
 use mathlib.Core.Path.{sym, ◌∙◌}
 use native.Mathlib.Omega.{arith}
-use borrow.Author.Rules.{rules}
-use borrow.Author.Tests.{not-true, not-false}
 use Rattle.letters.proofs.Telling.{rows_tell}
 use Rattle.owners.proofs.Telling.{meetable}
 use Rattle.order_b.specs.Steps.{state_of}

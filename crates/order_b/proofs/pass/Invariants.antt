@@ -1,19 +1,12 @@
 -- `order_b::pass` meets its contract. The loop's invariant: the answer from the second element is the answer from here.
-use mathlib.Core.Path.{◌≡◌, refl, ap, sym, ◌∙◌}
+use mathlib.Core.Path.{◌≡◌}
 use mathlib.Core.List.{List}
-use mathlib.Core.Bool.{Bool, cond}
-use Prim.Native.Nat.{◌-◌, ◌≤◌, ◌<◌}
-use native.Mathlib.Omega.{arith}
-use borrow.Author.Rules.{rules}
-use borrow.Author.Tests.{eq-eqb, ne_eqb}
-use lib.ListN.{length}
+use Prim.Native.Nat.{◌-◌, ◌≤◌}
 use Rattle.elements.specs.Judge.{Element}
 use Rattle.letters.specs.Telling.{RowsTell}
 use Rattle.order.specs.Represents.{LimitsAside}
-use Rattle.order.specs.declared.Fault.TheVariants.{Nowhere, At}
-use Rattle.letters.proofs.Telling.{few-rows}
-use Rattle.order_b.specs.Steps.{state_of, step_of}
-use Rattle.order_b.proofs.Passing.{pass_from, pass-stops, pass-goes, pass-ends}
+use Rattle.order_b.specs.Steps.{state_of}
+use Rattle.order_b.proofs.Passing.{pass_from}
 use Rattle.order_b.proofs.pass.Given as goal
 
 abbrev pub invariant-loop-j : goal.invariant-loop-j

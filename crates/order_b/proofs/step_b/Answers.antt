@@ -1,7 +1,6 @@
 -- `order_b::step_b` meets its contract: a unit takes the one step, any other element the other.
 use mathlib.Core.Path.{sym, ◌∙◌}
 use native.Mathlib.Omega.{arith}
-use borrow.Author.Rules.{rules}
 use Rattle.order_b.specs.Steps.{state_of}
 use Rattle.order_b.proofs.Seeing.{step-unit, step-head}
 use Rattle.order_b.proofs.step_b.Goals as goal

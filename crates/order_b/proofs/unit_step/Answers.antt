@@ -1,6 +1,5 @@
 -- `order_b::unit_step` meets its contract: the unit's owner is the one of its record.
 use mathlib.Core.Path.{subst}
-use borrow.Author.Rules.{rules}
 use Rattle.reading.specs.declared.Side.TheVariants.{Layout}
 use Rattle.owners.specs.Owner.{OwnerIs}
 use Rattle.order_b.specs.Steps.{state_of}

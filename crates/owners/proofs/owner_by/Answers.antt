@@ -1,8 +1,6 @@
 -- `owners::owner_by` meets its contract: the kind is tested, and the portions of a row of the side are looked through.
 use mathlib.Core.Path.{◌≡◌, ap, sym, ◌∙◌}
 use Prim.Native.Nat.{ℕ}
-use borrow.Author.Rules.{rules}
-use borrow.Author.Tests.{not-true, not-false}
 use Rattle.headers.specs.Head.{is_in}
 use Rattle.rows.specs.Columns.{kind_at}
 use Rattle.reading.specs.Match.{kinds_of}

@@ -2,7 +2,6 @@
 use mathlib.Core.Path.{◌≡◌, ap, sym, ◌∙◌, subst}
 use Prim.Native.Nat.{ℕ, ◌<◌, ◌≤◌}
 use native.Mathlib.Omega.{arith}
-use borrow.Author.Rules.{rules}
 use mathlib.Core.List.{List}
 use lib.ListN.{length}
 use lib.Seq.{slice}
@@ -31,11 +30,10 @@ returns-then-kind_at-ne-TEXT_UNIT c elements ready =
     no-unit ready a.side a.u (λ k. c.if-kind_at-ne-TEXT_UNIT.true (c.kind_at.ensures ∙ k))
 
 pub bounds_at-name-requires : goal.bounds_at-name-requires
-bounds_at-name-requires c =
-    (
-      rw c.column_of.ensures (bounded-on c.requires.letter_rows.1 c.args.side).in-row,
-      omega (arith, c.requires.u_lt_n, c.requires.letter_rows.1.holds.identifiers.in_table),
-    )
+bounds_at-name-requires c = (
+  rw c.column_of.ensures (bounded-on c.requires.letter_rows.1 c.args.side).in-row,
+  omega (arith, c.requires.u_lt_n, c.requires.letter_rows.1.holds.identifiers.in_table),
+)
 
 -- the unit's name of the side
 name-is : (c : After-bounds_at-name)
@@ -137,4 +135,4 @@ returns-in-At c elements ready =
     ∙ c.if-kind_at-ne-TEXT_UNIT.false in
     let by = by-carrier ready a.side a.u (last (goal.at.returns-in-At c).After-last_space-cut) (cut-before here) (inside here) c.in-At.row
     (has-row (goal.at.returns-in-At c).In-At) unit c.requires.u_lt_n in
-    subst (OwnerIs a.side elements a.u) (sym (rw (name-is (goal.at.returns-in-At c).After-bounds_at-name) PLACE‹c.before.before.before.before› c.owner_by.ensures)) by
+    subst (OwnerIs a.side elements a.u) (sym (rw (name-is (goal.at.returns-in-At c).After-bounds_at-name) at c.owner_by.ensures)) by

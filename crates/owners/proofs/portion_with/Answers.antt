@@ -1,13 +1,9 @@
 -- `owners::portion_with` meets its contract. The loop's invariant: the answer among all portions is that among those that are left.
-use mathlib.Core.Path.{◌≡◌, refl, sym, ◌∙◌, subst}
-use Prim.Native.Nat.{◌-◌}
+use mathlib.Core.Path.{refl, sym, ◌∙◌, subst}
 use native.Mathlib.Omega.{arith}
-use borrow.Author.Rules.{rules}
 use lib.Seq.{slice}
-use Rattle.runs.specs.Runs.{tree_in, Meeting, Meets}
-use Rattle.portions.specs.Portions.{values}
-use Rattle.owners.specs.Owner.{listed_at, owner_among}
-use Rattle.owners.proofs.Telling.{Left, left-all, left-more, left-small}
+use Rattle.runs.specs.Runs.{Meeting, Meets}
+use Rattle.owners.proofs.Telling.{left-all, left-more, left-small}
 use Rattle.owners.proofs.Among.{among_none, among-met, among-rest}
 use Rattle.owners.proofs.portion_with.Goals as goal
 use Rattle.owners.proofs.portion_with.Goals.{In-Item}

@@ -1,14 +1,11 @@
 -- `owners::portion_with` meets its contract. The loop's invariant: the answer among all portions is that among those that are left.
-use mathlib.Core.Path.{◌≡◌, refl, sym, ◌∙◌, subst}
+use mathlib.Core.Path.{◌≡◌}
 use Prim.Native.Nat.{◌-◌}
-use native.Mathlib.Omega.{arith}
-use borrow.Author.Rules.{rules}
 use lib.Seq.{slice}
-use Rattle.runs.specs.Runs.{tree_in, Meeting, Meets}
+use Rattle.runs.specs.Runs.{tree_in}
 use Rattle.portions.specs.Portions.{values}
 use Rattle.owners.specs.Owner.{listed_at, owner_among}
-use Rattle.owners.proofs.Telling.{Left, left-all, left-more, left-small}
-use Rattle.owners.proofs.Among.{among_none, among-met, among-rest}
+use Rattle.owners.proofs.Telling.{Left}
 use Rattle.owners.proofs.portion_with.Given as goal
 
 abbrev pub invariant-loop-from : goal.invariant-loop-from

@@ -1,10 +1,8 @@
 -- `owners::portions_of` meets its contract: each portion that is met is counted.
 use mathlib.Core.Path.{subst}
-use Prim.Native.Nat.{◌-◌}
 use native.Mathlib.Omega.{arith}
-use borrow.Author.Rules.{rules}
 use Rattle.runs.specs.Runs.{Meeting, Meets}
-use Rattle.owners.proofs.Telling.{Left, left-all, left-none, left-more, left-small}
+use Rattle.owners.proofs.Telling.{left-all, left-none, left-more, left-small}
 use Rattle.owners.proofs.portions_of.Goals as goal
 use Rattle.owners.proofs.portions_of.Goals.{In-Item}
 

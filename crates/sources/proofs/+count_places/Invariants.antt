@@ -1,16 +1,10 @@
 -- `sources::count_places` meets its contract. The loop's invariant: the places of the run are those counted and those of what is left of it. The function
 -- ends, for each call has fewer levels left.
-use mathlib.Core.Path.{◌≡◌, refl, ap, ◌∙◌}
-use Prim.Native.Nat.{ℕ, ◌+◌, ◌-◌, ◌<◌}
-use native.Mathlib.Omega.{arith}
-use borrow.Author.Rules.{rules}
-use borrow.Author.Tests.{eq-eqb, ne_eqb}
+use mathlib.Core.Path.{◌≡◌}
+use Prim.Native.Nat.{◌+◌, ◌-◌}
 use lib.ListN.{length}
-use Rattle.runs.specs.Runs.{items_of, Fine, Meeting}
-use Rattle.contents.proofs.Firsts.{met}
-use Rattle.pieces.proofs.Levels.{level-less}
+use Rattle.runs.specs.Runs.{items_of, Fine}
 use Rattle.sources.specs.Places.{places_of}
-use Rattle.sources.proofs.Places.{gives-length, piece-gives, empty-gives, pieces-give, places-none, places-few}
 use Rattle.sources.proofs.+count_places.Given as goal
 
 abbrev pub decreases-count_places : goal.decreases-count_places

@@ -1,9 +1,8 @@
 -- `sources::put_places` meets its contract. The invariant of the loop is `PutSoFar`. The function ends, for each call has fewer levels left.
 --
 use mathlib.Core.List.{[], ◌∷◌}
-use Prim.Native.Nat.{ℕ, ◌+◌, ◌-◌, ◌*◌, ◌<◌, ◌≤◌}
+use Prim.Native.Nat.{ℕ, ◌+◌, ◌*◌, ◌≤◌}
 use native.Mathlib.Omega.{arith}
-use borrow.Author.Rules.{rules}
 use borrow.Author.Tests.{eq-eqb, ne_eqb}
 use lib.ListN.{length}
 use Rattle.runs.specs.Runs.{items_of, Meeting}
@@ -12,7 +11,7 @@ use Rattle.pieces.proofs.Levels.{level-less}
 use Rattle.pieces.proofs.Putting.{part_length}
 use Rattle.sources.specs.Places.{places_of}
 use Rattle.sources.proofs.Places.{Gives, piece-gives, empty-gives, pieces-give}
-use Rattle.sources.proofs.Putting.{PutSoFar, none-put, all-put, fits, more-put, one-put, none_more}
+use Rattle.sources.proofs.Putting.{none-put, all-put, fits, more-put, one-put, none_more}
 use Rattle.sources.proofs.+put_places.Goals as goal
 use Rattle.sources.proofs.+put_places.Goals.{In-Item, Then-code-eq1, Then-first-past}
 

@@ -4,7 +4,6 @@ use Prim.Native.Nat.{suc, ◌+◌}
 use native.Mathlib.Omega.{arith}
 use native.Mathlib.Numerals.{add-one}
 use lib.ListN.{length-set}
-use borrow.Author.Rules.{rules}
 use Rattle.sources.proofs.put_source.Goals as goal
 
 pub bounds-list-at-2 : goal.bounds-list-at-2

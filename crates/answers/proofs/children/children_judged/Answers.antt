@@ -4,7 +4,6 @@ use Prim.Native.Nat.{ℕ, ◌<◌}
 use native.Mathlib.Omega.{arith}
 use mathlib.Core.List.{List, ◌++◌}
 use lib.ListN.{length, drop}
-use borrow.Author.Rules.{rules}
 use Rattle.parents.specs.Parent.{no_parent}
 use Rattle.parents.proofs.Children.{children-few}
 use Rattle.answers.proofs.Judging.{accepted-judged}

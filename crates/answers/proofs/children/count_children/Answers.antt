@@ -1,9 +1,8 @@
 -- `answers::children::count_children` meets its contract. The loop's invariant: those that were found, and those that are left.
 use mathlib.Core.Path.{◌≡◌, ap, sym, ◌∙◌}
-use Prim.Native.Nat.{ℕ, suc, ◌+◌, ◌-◌, ◌≤◌}
+use Prim.Native.Nat.{ℕ, suc, ◌+◌, ◌-◌}
 use native.Mathlib.Omega.{arith}
 use lib.ListN.{length}
-use borrow.Author.Rules.{rules}
 use Rattle.answers.specs.Filling.{rows_with}
 use Rattle.answers.proofs.Tabling.{rows-hit, rows-miss, rows-done}
 use Rattle.answers.proofs.children.count_children.Goals as goal

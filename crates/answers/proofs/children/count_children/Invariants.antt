@@ -1,11 +1,8 @@
 -- `answers::children::count_children` meets its contract. The loop's invariant: those that were found, and those that are left.
-use mathlib.Core.Path.{◌≡◌, ap, sym, ◌∙◌}
-use Prim.Native.Nat.{ℕ, suc, ◌+◌, ◌-◌, ◌≤◌}
-use native.Mathlib.Omega.{arith}
+use mathlib.Core.Path.{◌≡◌}
+use Prim.Native.Nat.{◌+◌, ◌-◌, ◌≤◌}
 use lib.ListN.{length}
-use borrow.Author.Rules.{rules}
 use Rattle.answers.specs.Filling.{rows_with}
-use Rattle.answers.proofs.Tabling.{rows-hit, rows-miss, rows-done}
 use Rattle.answers.proofs.children.count_children.Given as goal
 
 abbrev pub invariant-loop-j : goal.invariant-loop-j

@@ -1,9 +1,6 @@
 -- `answers::children::put_children` meets its contract: what is put, and then those that are left, is all.
 use mathlib.Core.Path.{sym, ◌∙◌}
-use Prim.Native.Nat.{◌-◌}
-use native.Mathlib.Omega.{arith}
-use borrow.Author.Rules.{rules}
-use Rattle.answers.proofs.Tabling.{Putting, putting-all, putting-room, putting-hit, putting-miss, putting-none}
+use Rattle.answers.proofs.Tabling.{putting-all, putting-room, putting-hit, putting-miss, putting-none}
 use Rattle.answers.proofs.children.put_children.Goals as goal
 
 pub loop-j-init : goal.loop-j-init

@@ -1,6 +1,5 @@
 -- `answers::content::content_at` meets its contract: the row's kind is tested, and what holds the content is found.
 use mathlib.Core.Path.{subst}
-use borrow.Author.Rules.{rules}
 use Rattle.letters.specs.Content.{HoldsElement}
 use Rattle.answers.specs.Asking.{other_kind, held_whole, held_in_pieces}
 use Rattle.answers.proofs.content.content_at.Goals as goal

@@ -1,6 +1,5 @@
 -- `answers::content::copy_part` meets its contract: the part fits and is copied, or nothing is.
 use mathlib.Core.Path.{ap}
-use borrow.Author.Rules.{rules}
 use native.Mathlib.Omega.{arith}
 use lib.ListN.{length}
 use lib.Seq.{length-slice}

@@ -1,5 +1,4 @@
 -- `answers::content::copy_pieces` meets its contract: the pieces joined fit and are put, or nothing is.
-use borrow.Author.Rules.{rules}
 use native.Mathlib.Omega.{arith}
 use Rattle.answers.proofs.Copying.{copies-none, copies-all}
 use Rattle.answers.proofs.content.copy_pieces.Goals as goal

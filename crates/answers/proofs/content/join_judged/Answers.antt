@@ -1,6 +1,5 @@
 -- `answers::content::join_judged` meets its contract: a part or the pieces that were fetched are copied, and what is no text unit is refused.
 use mathlib.Core.Path.{subst}
-use borrow.Author.Rules.{rules}
 use native.Mathlib.Omega.{arith}
 use Rattle.answers.specs.Asking.{FindsContent}
 use Rattle.answers.proofs.Copying.{joins-unit, joins-none}

@@ -1,6 +1,5 @@
 -- `answers::content::locate_judged` meets its contract: each case of a fetch has the numbers that document 01 gives it, and they fit.
 use mathlib.Core.Path.{subst}
-use borrow.Author.Rules.{rules}
 use native.Mathlib.Omega.{arith}
 use Rattle.answers.specs.Asking.{FindsContent}
 use Rattle.answers.proofs.content.locate_judged.Goals as goal

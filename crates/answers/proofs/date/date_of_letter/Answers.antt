@@ -1,6 +1,5 @@
 -- `answers::date::date_of_letter` meets its contract: the first element that is met is the profile, and the date in its run is the letter's.
 use mathlib.Core.Path.{sym, subst}
-use borrow.Author.Rules.{rules}
 use Rattle.runs.specs.declared.Run.{Run}
 use Rattle.runs.specs.Runs.{whole_stream, Fine, Meets, Meeting}
 use Rattle.contents.proofs.Firsts.{met}

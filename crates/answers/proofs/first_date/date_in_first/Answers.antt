@@ -1,6 +1,5 @@
 -- `answers::first_date::date_in_first` meets its contract: rules 10 and 11 by the element's type field, then what is found in its run.
 use mathlib.Core.Path.{◌≡◌, ap, sym, ◌∙◌, subst}
-use borrow.Author.Rules.{rules}
 use native.Mathlib.Omega.{arith}
 use Rattle.elements.specs.declared.Slots.{Slots}
 use Rattle.elements.proofs.Slotting.{octet-same}

@@ -1,6 +1,5 @@
 -- `answers::first_date::date_of_first` meets its contract: the note is added to the answer.
 use mathlib.Core.Path.{ap}
-use borrow.Author.Rules.{rules}
 use Rattle.answers.specs.FirstDates.{with_unread, first_dated}
 use Rattle.answers.proofs.first_date.date_of_first.Goals as goal
 

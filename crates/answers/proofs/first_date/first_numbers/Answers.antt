@@ -1,7 +1,6 @@
 -- `answers::first_date::first_numbers` meets its contract: 1, an empty stream, and then what the walk of the first element tells.
 use mathlib.Core.Path.{◌≡◌, sym, subst}
 use Prim.Native.Nat.{◌<◌, ◌≤◌}
-use borrow.Author.Rules.{rules}
 use native.Mathlib.Omega.{arith}
 use lib.ListN.{length}
 use Rattle.octets.specs.Walk.{stops}

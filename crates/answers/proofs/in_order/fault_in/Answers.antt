@@ -1,6 +1,5 @@
 -- `in_order::fault_in` meets its contract: the pass of the class.
 use mathlib.Core.Path.{sym, subst}
-use borrow.Author.Rules.{rules}
 use Rattle.order.specs.declared.Class.{Class}
 use Rattle.order.specs.Fault.{FaultIn}
 use Rattle.answers.proofs.in_order.fault_in.Goals as goal

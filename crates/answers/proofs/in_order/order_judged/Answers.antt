@@ -1,6 +1,5 @@
 -- `in_order::order_judged` meets its contract: what the pass finds is the fault, and its row has its place.
 use mathlib.Core.Path.{◌∙◌}
-use borrow.Author.Rules.{rules}
 use Rattle.runs.proofs.Laws.{stream-within}
 use Rattle.answers.proofs.Placing.{none_found, fault-found}
 use Rattle.answers.proofs.in_order.order_judged.Goals as goal

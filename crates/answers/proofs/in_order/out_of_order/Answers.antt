@@ -1,5 +1,4 @@
 -- `in_order::out_of_order` meets its contract.
-use borrow.Author.Rules.{rules}
 use borrow.Author.Tests.{lt-ltb, le-ltb}
 use Rattle.answers.proofs.in_order.out_of_order.Goals as goal
 

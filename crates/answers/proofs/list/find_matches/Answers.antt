@@ -1,6 +1,5 @@
 -- `answers::list::find_matches` meets its contract: what the judge left says what the letter is, and the rest is the list of that.
 use native.Mathlib.Omega.{arith}
-use borrow.Author.Rules.{rules}
 use Rattle.reading.proofs.Single.{no-more-than-elements}
 use Rattle.letters.proofs.Table.{letter-apart}
 use Rattle.answers.proofs.Judging.{accepted-judged}

@@ -5,7 +5,6 @@ use Prim.Native.Nat.{ℕ}
 use Rattle.rows.specs.Columns.{identifier_column}
 use Rattle.rows.specs.Index.{Filed}
 use native.Mathlib.Omega.{arith}
-use borrow.Author.Rules.{rules}
 use Rattle.answers.proofs.Judging.{accepted-judged}
 use Rattle.answers.proofs.Listing.{finished-rows, lists-finished}
 use Rattle.answers.proofs.list.list_judged.Goals as goal
@@ -17,10 +16,15 @@ pub finish-requires : goal.finish-requires
 finish-requires c =
     let x = c.args in
     let l = accepted-judged c.requires.accepts.ended c.requires.letter_rows in
-    let found = c.find_matches-listed.ensures in record { accepts = c.requires.accepts; letter_rows = c.requires.letter_rows; filed = subst (λ (index : List ℕ). Filed x.stream.now x.rows.now identifier_column index x.count) (sym c.identifiers-names.ensures)
-              c.requires.both_filed.identifiers; count_bound = λ finished.
-              let rows = finished-rows x.edition x.side x.stream.now x.table.now x.room refl found l.judged finished in
-              omega (arith, l.held.holds.counted) }
+    let found = c.find_matches-listed.ensures in record {
+      accepts = c.requires.accepts;
+      letter_rows = c.requires.letter_rows;
+      filed = subst (λ (index : List ℕ). Filed x.stream.now x.rows.now identifier_column index x.count) (sym c.identifiers-names.ensures)
+          c.requires.both_filed.identifiers;
+      count_bound = λ finished.
+          let rows = finished-rows x.edition x.side x.stream.now x.table.now x.room refl found l.judged finished in
+          omega (arith, l.held.holds.counted);
+    }
 
 pub returns : goal.returns
 returns c =

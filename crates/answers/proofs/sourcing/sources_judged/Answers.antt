@@ -1,6 +1,5 @@
 -- `answers::sourcing::sources_judged` meets its contract: the matches that are listed are those of the side, and so are their sources.
 use native.Mathlib.Omega.{arith}
-use borrow.Author.Rules.{rules}
 use Rattle.runs.proofs.Laws.{stream-fine}
 use Rattle.answers.proofs.Judging.{accepted-judged}
 use Rattle.answers.proofs.Sources.{few-lines, few-sources, all_listed, too_short, put_all}

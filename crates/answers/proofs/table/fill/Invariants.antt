@@ -1,7 +1,6 @@
 -- `answers::table::fill` meets its contract: the rows are put in turn.
 use Prim.Native.Nat.{◌-◌}
-use native.Mathlib.Omega.{arith}
-use Rattle.answers.proofs.Tabling.{Filling, filling-all, filling-more, filling-none}
+use Rattle.answers.proofs.Tabling.{Filling}
 use Rattle.answers.proofs.table.fill.Given as goal
 
 abbrev pub invariant-loop-j : goal.invariant-loop-j

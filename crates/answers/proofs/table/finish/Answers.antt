@@ -1,8 +1,6 @@
 -- `answers::table::finish` meets its contract: the table is filled, or nothing is done.
 use mathlib.Core.Path.{sym, ◌∙◌}
 use native.Mathlib.Omega.{arith}
-use borrow.Author.Rules.{rules}
-use borrow.Author.Tests.{not-true, not-false}
 use Rattle.answers.proofs.Judging.{accepted-judged}
 use Rattle.answers.proofs.Tabling.{table_filled}
 use Rattle.answers.proofs.table.finish.Goals as goal

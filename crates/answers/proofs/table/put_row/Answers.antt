@@ -12,7 +12,6 @@ use Rattle.letters.proofs.Telling.{rows_tell}
 use Rattle.parents.specs.Parent.{parent, row_or_none}
 use Rattle.answers.specs.Table.{table_width}
 use Rattle.answers.proofs.Tabling.{scratch-slice, put-behind}
-use borrow.Author.Rules.{rules}
 use Rattle.answers.proofs.table.put_row.Goals as goal
 
 pub returns : goal.returns

@@ -1,9 +1,8 @@
 -- `answers::text::measure` meets its contract: what is counted, and what is left, is all.
 use mathlib.Core.Path.{◌≡◌, ap, ◌∙◌}
-use Prim.Native.Nat.{ℕ, ◌+◌, ◌-◌, ◌≤◌}
+use Prim.Native.Nat.{ℕ, ◌-◌}
 use native.Mathlib.Omega.{arith}
 use lib.ListN.{length}
-use borrow.Author.Rules.{rules}
 use Rattle.text_lines.specs.Text.{texts_of}
 use Rattle.text_lines.specs.Flat.{records_from}
 use Rattle.text_lines.proofs.Putting.{size-left, size_none}

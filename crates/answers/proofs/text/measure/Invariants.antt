@@ -1,12 +1,9 @@
 -- `answers::text::measure` meets its contract: what is counted, and what is left, is all.
-use mathlib.Core.Path.{◌≡◌, ap, ◌∙◌}
-use Prim.Native.Nat.{ℕ, ◌+◌, ◌-◌, ◌≤◌}
-use native.Mathlib.Omega.{arith}
+use mathlib.Core.Path.{◌≡◌}
+use Prim.Native.Nat.{◌+◌, ◌-◌, ◌≤◌}
 use lib.ListN.{length}
-use borrow.Author.Rules.{rules}
 use Rattle.text_lines.specs.Text.{texts_of}
 use Rattle.text_lines.specs.Flat.{records_from}
-use Rattle.text_lines.proofs.Putting.{size-left, size_none}
 use Rattle.answers.specs.Text.{text_in}
 use Rattle.answers.proofs.text.measure.Given as goal
 

@@ -2,7 +2,6 @@
 use mathlib.Core.Path.{refl, ap, subst}
 use mathlib.Core.List.{[]}
 use native.Mathlib.Omega.{arith}
-use borrow.Author.Rules.{rules}
 use lib.ListN.{length}
 use Rattle.pieces.proofs.Putting.{part_slice, copied}
 use Rattle.answers.specs.Answers.{Fetched}

@@ -1,12 +1,11 @@
 -- `answers::text::put_texts` meets its contract. The loop's invariant is `PutSoFar`.
 use mathlib.Core.Path.{ap, ◌∙◌}
-use Prim.Native.Nat.{ℕ, ◌-◌, ◌≤◌}
+use Prim.Native.Nat.{ℕ, ◌≤◌}
 use native.Mathlib.Omega.{arith}
 use mathlib.Core.List.{◌++◌}
 use lib.ListN.{length, drop}
-use borrow.Author.Rules.{rules}
 use Rattle.pieces.proofs.Putting.{part_from, part_length}
-use Rattle.text_lines.proofs.Putting.{PutSoFar, none-put, all-put, room-left, end-within, more-put}
+use Rattle.text_lines.proofs.Putting.{none-put, all-put, room-left, end-within, more-put}
 use Rattle.answers.specs.Text.{text_in}
 use Rattle.answers.proofs.text.put_texts.Goals as goal
 
@@ -40,12 +39,16 @@ put_text-done-requires c =
     let a = c.args in
     let l = c.loop-k in
     let below = c.loop-k-test.true in
-    let same = ap (λ (u : ℕ). length (text_in a.edition a.stream.now u)) c.wide-unit.ensures in record { accepts = c.requires.accepts; letter_rows = c.requires.letter_rows; unit_in_bounds = omega (
-          arith,
-          same,
-          room-left (text_in a.edition a.stream.now) a.numbers.now a.lines a.out.now l.invariant below c.requires.lines_in_bounds,
-          part_length l.out l.done,
-        ) }
+    let same = ap (λ (u : ℕ). length (text_in a.edition a.stream.now u)) c.wide-unit.ensures in record {
+      accepts = c.requires.accepts;
+      letter_rows = c.requires.letter_rows;
+      unit_in_bounds = omega (
+        arith,
+        same,
+        room-left (text_in a.edition a.stream.now) a.numbers.now a.lines a.out.now l.invariant below c.requires.lines_in_bounds,
+        part_length l.out l.done,
+      );
+    }
 
 pub overflow_add-done : goal.overflow_add-done
 overflow_add-done c =

@@ -1,12 +1,6 @@
 -- `answers::text::put_texts` meets its contract. The loop's invariant is `PutSoFar`.
-use mathlib.Core.Path.{ap, ◌∙◌}
-use Prim.Native.Nat.{ℕ, ◌-◌, ◌≤◌}
-use native.Mathlib.Omega.{arith}
-use mathlib.Core.List.{◌++◌}
-use lib.ListN.{length, drop}
-use borrow.Author.Rules.{rules}
-use Rattle.pieces.proofs.Putting.{part_from, part_length}
-use Rattle.text_lines.proofs.Putting.{PutSoFar, none-put, all-put, room-left, end-within, more-put}
+use Prim.Native.Nat.{◌-◌}
+use Rattle.text_lines.proofs.Putting.{PutSoFar}
 use Rattle.answers.specs.Text.{text_in}
 use Rattle.answers.proofs.text.put_texts.Given as goal
 

@@ -6,7 +6,6 @@ use Prim.Native.Nat.{ℕ}
 use Rattle.rows.specs.Columns.{identifier_column}
 use Rattle.rows.specs.Index.{Filed}
 use native.Mathlib.Omega.{arith}
-use borrow.Author.Rules.{rules}
 use lib.ListN.{length}
 use Rattle.runs.proofs.Laws.{stream-fine}
 use Rattle.answers.proofs.Judging.{accepted-judged}
@@ -45,11 +44,16 @@ pub finish-requires : goal.finish-requires
 finish-requires c =
     let x = c.args in
     let l = accepted-judged c.requires.accepts.ended c.requires.letter_rows in
-    let find = c.find_matches-listed in record { accepts = c.requires.accepts; letter_rows = c.requires.letter_rows; filed = subst (λ (index : List ℕ). Filed x.stream.now x.rows.now identifier_column index x.count) (sym c.identifiers-names.ensures)
-              c.requires.both_filed.identifiers; count_bound = λ finished.
-              let rows = finished-rows x.edition x.side x.stream.now x.table.now x.room refl find.ensures l.judged
-              (finished-list find.result c.measure-needed.result (length x.out.now) c.answer-shown.ensures finished) in
-              omega (arith, l.held.holds.counted) }
+    let find = c.find_matches-listed in record {
+      accepts = c.requires.accepts;
+      letter_rows = c.requires.letter_rows;
+      filed = subst (λ (index : List ℕ). Filed x.stream.now x.rows.now identifier_column index x.count) (sym c.identifiers-names.ensures)
+          c.requires.both_filed.identifiers;
+      count_bound = λ finished.
+          let rows = finished-rows x.edition x.side x.stream.now x.table.now x.room refl find.ensures l.judged
+          (finished-list find.result c.measure-needed.result (length x.out.now) c.answer-shown.ensures finished) in
+          omega (arith, l.held.holds.counted);
+    }
 
 pub put_texts-requires : goal.put_texts-requires
 put_texts-requires c =
@@ -84,4 +88,4 @@ returns c =
     shows x.edition x.side x.stream.now x.table.now x.room x.out.now refl c.find_matches-listed.ensures all size (told
     ∙ answer_is x.edition x.side x.stream.now x.table.now x.room x.out.now refl c.find_matches-listed.ensures all size)
     c.finish.ensures ends lines few.0.room
-    c.put_texts.auto.out c.put_texts.ensures
+    c.put_texts.auto.numbers c.put_texts.ensures

@@ -1,6 +1,5 @@
 -- `answers::text::text_length` meets its contract: each case of a fetch has the octets of the text.
 use mathlib.Core.Path.{ap, sym, subst, ◌∙◌}
-use borrow.Author.Rules.{rules}
 use lib.ListN.{length}
 use lib.Seq.{length-slice}
 use Rattle.answers.specs.Answers.{Fetched}

@@ -2,7 +2,6 @@
 use Rattle.order_a.proofs.Steps.{count-few, one-few}
 use native.Mathlib.Omega.{arith}
 use Rattle.order_a.specs.Step.{next}
-use borrow.Author.Rules.{rules}
 use Rattle.order_a.proofs.ranks.after.Goals as goal
 
 pub overflow_add-generic : goal.overflow_add-generic

@@ -1,8 +1,6 @@
 -- `ranks::is_complete` meets its contract: test by test.
 use mathlib.Core.Path.{sym, ◌∙◌}
-use borrow.Author.Tests.{not-true, not-false}
 use Rattle.order_a.specs.Step.{complete}
-use borrow.Author.Rules.{rules}
 use Rattle.order_a.proofs.ranks.is_complete.Goals as goal
 
 pub returns-then-not-is_settled : goal.returns-then-not-is_settled

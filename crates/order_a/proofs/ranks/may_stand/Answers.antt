@@ -1,7 +1,6 @@
 -- `ranks::may_stand` meets its contract: one part, and then the other.
 use mathlib.Core.Path.{ap, sym, ◌∙◌}
 use Rattle.order_a.specs.Step.{stands, tabled, complete}
-use borrow.Author.Rules.{rules}
 use Rattle.order_a.proofs.ranks.may_stand.Goals as goal
 
 pub returns-then-is_tabled : goal.returns-then-is_tabled

@@ -2,7 +2,6 @@
 use mathlib.Core.Path.{◌∙◌}
 use native.Mathlib.Omega.{arith}
 use Rattle.order_a.proofs.Table.{in_table, past-table}
-use borrow.Author.Rules.{rules}
 use Rattle.order_a.proofs.ranks.rank_in.Goals as goal
 
 pub returns-then-kind-ge13 : goal.returns-then-kind-ge13

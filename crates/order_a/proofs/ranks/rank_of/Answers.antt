@@ -2,7 +2,6 @@
 use native.Mathlib.Omega.{arith}
 use borrow.Author.Tests.{ne_eqb, lt-ltb}
 use Rattle.order_a.specs.Step.{rank_of}
-use borrow.Author.Rules.{rules}
 use Rattle.order_a.proofs.ranks.rank_of.Goals as goal
 
 pub returns-then-x-ne-TEXT_UNIT : goal.returns-then-x-ne-TEXT_UNIT

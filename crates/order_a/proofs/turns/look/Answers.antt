@@ -5,7 +5,6 @@ use Rattle.letters.proofs.Telling.{rows_tell}
 use Rattle.order_a.specs.declared.turns.Own.{Own}
 use Rattle.order_a.specs.Turns.{OwnIs}
 use Rattle.order_a.proofs.Owning.{own_is, row_inside, row_low}
-use borrow.Author.Rules.{rules}
 use Rattle.order_a.proofs.turns.look.Goals as goal
 
 pub own_of-requires : goal.own_of-requires

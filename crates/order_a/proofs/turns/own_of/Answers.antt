@@ -4,7 +4,6 @@ use Prim.Native.Nat.{◌<◌, ◌≤◌}
 use native.Mathlib.Omega.{arith}
 use borrow.Author.Tests.{lt-ltb, le-ltb}
 use Rattle.order_a.specs.Turns.{RowBelow, own_of}
-use borrow.Author.Rules.{rules}
 use Rattle.order_a.proofs.turns.own_of.Goals as goal
 
 pub kind_at-requires : goal.kind_at-requires

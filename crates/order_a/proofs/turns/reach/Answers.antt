@@ -1,9 +1,9 @@
 -- `turns::reach` meets its contract: the rows are counted in turn. The measure is how many are left.
-use Prim.Native.Nat.{◌-◌, ◌<◌, ◌≤◌}
+use Prim.Native.Nat.{◌<◌}
 use native.Mathlib.Omega.{arith}
 use Rattle.letters.proofs.Telling.{rows_tell}
 use Rattle.letters.proofs.Telling.{few-rows}
-use Rattle.order_a.proofs.Reaching.{Counted, counted_none, counts-few, counted-more, counted-all}
+use Rattle.order_a.proofs.Reaching.{counted_none, counts-few, counted-more, counted-all}
 use Rattle.order_a.proofs.turns.reach.Goals as goal
 
 pub loop-at-init : goal.loop-at-init

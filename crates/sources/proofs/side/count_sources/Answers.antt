@@ -1,9 +1,8 @@
 -- `sources::side::count_sources` meets its contract. The loop's invariant: the sources that are counted, and those of the lines that are left, are all.
 --
 use mathlib.Core.Path.{◌≡◌, ap}
-use Prim.Native.Nat.{ℕ, ◌+◌, ◌-◌, ◌≤◌}
+use Prim.Native.Nat.{ℕ, ◌+◌, ◌≤◌}
 use native.Mathlib.Omega.{arith}
-use borrow.Author.Rules.{rules}
 use lib.ListN.{length}
 use Rattle.sources.specs.Units.{places_in}
 use Rattle.sources.proofs.Sides.{sources_left, left-all, left-none, left-length}

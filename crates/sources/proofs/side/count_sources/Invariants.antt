@@ -1,12 +1,10 @@
 -- `sources::side::count_sources` meets its contract. The loop's invariant: the sources that are counted, and those of the lines that are left, are all.
 --
-use mathlib.Core.Path.{◌≡◌, ap}
-use Prim.Native.Nat.{ℕ, ◌+◌, ◌-◌, ◌≤◌}
-use native.Mathlib.Omega.{arith}
-use borrow.Author.Rules.{rules}
+use mathlib.Core.Path.{◌≡◌}
+use Prim.Native.Nat.{◌+◌, ◌-◌, ◌≤◌}
 use lib.ListN.{length}
 use Rattle.sources.specs.Units.{places_in}
-use Rattle.sources.proofs.Sides.{sources_left, left-all, left-none, left-length}
+use Rattle.sources.proofs.Sides.{sources_left}
 use Rattle.sources.proofs.side.count_sources.Given as goal
 
 abbrev pub invariant-loop-k : goal.invariant-loop-k

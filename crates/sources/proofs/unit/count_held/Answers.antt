@@ -1,6 +1,5 @@
 -- `sources::unit::count_held` meets its contract: one piece, or the pieces of a run.
 use mathlib.Core.Path.{ap, sym, subst, ◌∙◌}
-use borrow.Author.Rules.{rules}
 use lib.ListN.{length}
 use Rattle.letters.specs.declared.Held.{Held}
 use Rattle.sources.specs.Steps.{held_places, HeldHere}

@@ -1,6 +1,5 @@
 -- `sources::unit::count_unit` meets its contract: what holds the content of an element has its places, and an element that isn't there has none.
 use mathlib.Core.Path.{ap, sym, ◌∙◌}
-use borrow.Author.Rules.{rules}
 use lib.ListN.{length}
 use Rattle.sources.proofs.Holders.{unit-places, unit-here}
 use Rattle.sources.proofs.Sides.{no-unit-places}

@@ -1,7 +1,6 @@
 -- `sources::unit::put_held` meets its contract: one piece, or the pieces of a run.
 use mathlib.Core.Path.{ap, subst}
 use native.Mathlib.Omega.{arith}
-use borrow.Author.Rules.{rules}
 use lib.ListN.{length}
 use Rattle.letters.specs.declared.Held.{Held}
 use Rattle.sources.specs.Steps.{held_places, HeldHere}
@@ -22,9 +21,11 @@ put_places-requires c =
 pub returns-in-Part : goal.returns-in-Part
 returns-in-Part c =
     let a = c.args in
-    puts-same a.line c.put_piece.result _ _ _ _ (ap (held_places a.s.now) c.in-Part.is) (record { value = c.put_piece.ensures.value; list_after = c.put_piece.ensures.list_after })
+    let told = puts-same a.line c.put_piece.result _ _ _ _ (ap (held_places a.s.now) c.in-Part.is) (c.put_piece.ensures.value, c.put_piece.ensures.list_after) in
+    record { value = told.0; list_after = told.1 }
 
 pub returns-in-Pieces : goal.returns-in-Pieces
 returns-in-Pieces c =
     let a = c.args in
-    puts-same a.line c.put_places.result _ _ _ _ (ap (held_places a.s.now) c.in-Pieces.is) (record { value = c.put_places.ensures.value; list_after = c.put_places.ensures.list_after })
+    let told = puts-same a.line c.put_places.result _ _ _ _ (ap (held_places a.s.now) c.in-Pieces.is) (c.put_places.ensures.value, c.put_places.ensures.list_after) in
+    record { value = told.0; list_after = told.1 }

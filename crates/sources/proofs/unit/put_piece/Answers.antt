@@ -1,7 +1,6 @@
 -- `sources::unit::put_piece` meets its contract: by whether it has octets.
 use mathlib.Core.Path.{ap}
 use native.Mathlib.Omega.{arith}
-use borrow.Author.Rules.{rules}
 use lib.ListN.{length}
 use Rattle.sources.proofs.Holders.{one_place, no_place, puts-same, puts_one, puts_none}
 use Rattle.sources.proofs.unit.put_piece.Goals as goal

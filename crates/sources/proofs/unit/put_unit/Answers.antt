@@ -1,7 +1,6 @@
 -- `sources::unit::put_unit` meets its contract: what holds the content of an element has its places, and an element that isn't there has none.
 use mathlib.Core.Path.{ap, sym}
 use native.Mathlib.Omega.{arith}
-use borrow.Author.Rules.{rules}
 use lib.ListN.{length}
 use Rattle.sources.proofs.Holders.{unit-places, unit-here, puts-same, puts_none}
 use Rattle.sources.proofs.Sides.{no-unit-places}
@@ -15,7 +14,8 @@ put_held-requires c =
 pub returns-then-unit-count : goal.returns-then-unit-count
 returns-then-unit-count c =
     let a = c.args in
-    puts-same a.line c.put_held.result _ _ _ _ (sym (unit-places c.content_of.ensures)) (record { value = c.put_held.ensures.value; list_after = c.put_held.ensures.list_after })
+    let told = puts-same a.line c.put_held.result _ _ _ _ (sym (unit-places c.content_of.ensures)) (c.put_held.ensures.value, c.put_held.ensures.list_after) in
+    record { value = told.0; list_after = told.1 }
 
 pub returns : goal.returns
 returns c =
