@@ -1,5 +1,6 @@
 // The dimensions of a page: the A4 in its descriptor body, the numbers in that, and the verdict on them.
 #![tactic(auto)]
+
 ghost use Rattle.std.specs.Prelude.{◌≡◌, ◌≤◌};
 ghost use Rattle.runs.specs.Runs.{tree_in, Fine};
 ghost use Rattle.dimensions.specs.Dimensions.{verdict_of_items, verdict_of_body, verdict_of};

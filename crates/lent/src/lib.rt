@@ -1,6 +1,7 @@
 // The scratch that a caller lends for the mailroom's question: how much a letter needs, and rules 1 to 15 judged in it. No array of elements is
 // made here, so the stack stays small whatever the letter.
 #![tactic(auto)]
+
 ghost use Rattle.std.specs.Prelude.{◌≡◌, ℕ, ◌≤◌, length};
 ghost use Rattle.octets.specs.Walk.{walk_of};
 ghost use Rattle.runs.specs.Runs.{whole_stream, Fine};

@@ -1,6 +1,7 @@
 // Making a letter of entries: the question behind `odif::make`. Entries are judged in order, then the letter is measured, and only then is
 // anything written.
 #![tactic(auto)]
+
 ghost use Rattle.std.specs.Prelude.{◌≡◌, ◌+◌, ◌*◌, ◌/◌, ◌<◌, ◌≤◌, length};
 ghost use Rattle.making.specs.Entries.{judge_entries};
 ghost use Rattle.making.specs.Answers.{reason_of, MakeOutcome};

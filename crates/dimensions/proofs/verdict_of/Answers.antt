@@ -1,7 +1,6 @@
 -- `dimensions::verdict_of` meets its contract: a page without a descriptor has no dimensions.
 use mathlib.Core.Path.{◌∙◌}
 use native.Mathlib.Omega.{arith}
-use borrow.Author.Rules.{rules}
 use Rattle.runs.specs.Runs.{tree_in}
 use Rattle.dimensions.proofs.Bodies.{found, no-descriptor, descriptor, body-small}
 use Rattle.dimensions.proofs.verdict_of.Goals as goal

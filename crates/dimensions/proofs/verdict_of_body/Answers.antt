@@ -1,7 +1,6 @@
 -- `dimensions::verdict_of_body` meets its contract: how many A4 there are decides.
 use mathlib.Core.Path.{refl, ◌∙◌}
 use mathlib.Core.Logic.{inr}
-use borrow.Author.Rules.{rules}
 use Rattle.dimensions.proofs.Bodies.{no-a4, second-a4, one-a4}
 use Rattle.dimensions.proofs.verdict_of_body.Goals as goal
 

@@ -4,7 +4,6 @@ use lib.Seq.{slice}
 use Rattle.pieces.proofs.Putting.{part_slice}
 use Rattle.measures.specs.Integers.{integer_of}
 use Rattle.dimensions.proofs.Items.{not-two, two_items, one-other, two-other, both-80}
-use borrow.Author.Rules.{rules}
 use Rattle.dimensions.proofs.verdict_of_items.Goals as goal
 
 pub opening_of-o-requires : goal.opening_of-o-requires

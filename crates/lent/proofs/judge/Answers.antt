@@ -1,6 +1,5 @@
 -- `lent::judge` meets its contract: the cleared index is what the judge of a stream asks for, and what that says is what rules 9 to 15 say.
 use mathlib.Core.Path.{sym, ◌∙◌, subst}
-use borrow.Author.Rules.{rules}
 use native.Mathlib.Omega.{arith}
 use Rattle.runs.proofs.Laws.{stream-fine, stream-within}
 use Rattle.letters.specs.Scratch.{GivesVerdict}

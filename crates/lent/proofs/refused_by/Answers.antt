@@ -1,7 +1,6 @@
 -- `lent::refused_by` meets its contract: what the walk refuses is refused, then the scratch is measured, then the elements are judged in it.
 use mathlib.Core.Path.{◌≡◌, sym, ap, ◌∙◌}
 use Prim.Native.Nat.{ℕ, ◌+◌, ◌*◌, ◌≤◌}
-use borrow.Author.Rules.{rules}
 use native.Mathlib.Omega.{arith}
 use lib.ListN.{length, take}
 use lib.Seq.{length-take-le}

@@ -1,11 +1,7 @@
 -- `lent::rows_needed` meets its contract: the elements counted so far and those of the rest are those of the stream.
 use mathlib.Core.Path.{◌≡◌, sym, ap, subst}
-use mathlib.Core.List.{List}
-use Prim.Native.Nat.{ℕ, ◌+◌, ◌-◌, ◌≤◌}
 use native.Mathlib.Omega.{arith}
-use borrow.Author.Rules.{rules}
-use Rattle.runs.specs.Runs.{items_of, whole_stream, tops, Fine, Meeting}
-use Rattle.runs.specs.declared.Run.{Run}
+use Rattle.runs.specs.Runs.{whole_stream, tops, Fine, Meeting}
 use Rattle.contents.proofs.Firsts.{met}
 use Rattle.lent.proofs.rows_needed.Invariants.{tops_in}
 use Rattle.lent.proofs.rows_needed.Goals as goal

@@ -1,12 +1,9 @@
 -- `lent::rows_needed` meets its contract: the elements counted so far and those of the rest are those of the stream.
-use mathlib.Core.Path.{◌≡◌, sym, ap, subst}
+use mathlib.Core.Path.{◌≡◌}
 use mathlib.Core.List.{List}
 use Prim.Native.Nat.{ℕ, ◌+◌, ◌-◌, ◌≤◌}
-use native.Mathlib.Omega.{arith}
-use borrow.Author.Rules.{rules}
-use Rattle.runs.specs.Runs.{items_of, whole_stream, tops, Fine, Meeting}
+use Rattle.runs.specs.Runs.{items_of, tops, Fine}
 use Rattle.runs.specs.declared.Run.{Run}
-use Rattle.contents.proofs.Firsts.{met}
 use Rattle.lent.proofs.rows_needed.Given as goal
 
 abbrev pub tops_in : List ℕ → Run → ℕ

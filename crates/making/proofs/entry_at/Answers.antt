@@ -1,5 +1,4 @@
 -- `making::entry_at` meets its contract: three spans, one after another.
-use borrow.Author.Rules.{rules}
 use Rattle.making.proofs.entry_at.Goals as goal
 
 pub returns : goal.returns

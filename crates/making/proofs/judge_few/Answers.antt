@@ -2,7 +2,6 @@
 use mathlib.Core.Logic.{inl}
 use native.Mathlib.Omega.{arith}
 use Rattle.making.proofs.Judging.{zeros-roomy, few-links}
-use borrow.Author.Rules.{rules}
 use Rattle.making.proofs.judge_few.Goals as goal
 
 pub judge_entries-requires : goal.judge_entries-requires

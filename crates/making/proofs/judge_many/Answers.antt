@@ -2,7 +2,6 @@
 use mathlib.Core.Logic.{inr}
 use native.Mathlib.Omega.{arith}
 use Rattle.making.proofs.Judging.{zeros-roomy, many-links}
-use borrow.Author.Rules.{rules}
 use Rattle.making.proofs.judge_many.Goals as goal
 
 pub judge_entries-requires : goal.judge_entries-requires

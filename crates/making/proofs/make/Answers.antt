@@ -2,7 +2,6 @@
 use native.Mathlib.Omega.{arith}
 use Rattle.making.proofs.Lent.{all-ordered}
 use Rattle.making.proofs.Making.{make-refused, make-fits, make-lie, make-long, make-within, make-short, make-length, make-written}
-use borrow.Author.Rules.{rules}
 use Rattle.making.proofs.make.Goals as goal
 
 pub returns-then-refused-ne0 : goal.returns-then-refused-ne0

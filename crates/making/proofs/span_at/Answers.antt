@@ -1,5 +1,4 @@
 -- `making::span_at` meets its contract: two numbers, as they are.
-use borrow.Author.Rules.{rules}
 use Rattle.making.proofs.span_at.Goals as goal
 
 pub returns : goal.returns

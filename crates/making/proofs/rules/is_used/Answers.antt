@@ -7,17 +7,21 @@ use Rattle.rows.specs.Columns.{identifier_column}
 use Rattle.rows.specs.Chains.{FindsRow}
 use Rattle.making.specs.Keeps.{block_space, is_found}
 use Rattle.making.proofs.Steps.{used-found}
-use borrow.Author.Rules.{rules}
 use Rattle.making.proofs.rules.is_used.Goals as goal
 
 pub find-requires : goal.find-requires
 find-requires c =
-    let lies = c.requires.part_lies.0 in record { bounded = c.requires.bounded.0; filed = c.requires.bounded.1; asked_within = record {
-            first_order = lies.order;
-            first_inside = lies.inside;
-            second_order = omega arith;
-            second_inside = omega arith;
-          }; hashed_value = c.requires.part_lies.1 }
+    let lies = c.requires.part_lies.0 in record {
+      bounded = c.requires.bounded.0;
+      filed = c.requires.bounded.1;
+      asked_within = record {
+        first_order = lies.order;
+        first_inside = lies.inside;
+        second_order = omega arith;
+        second_inside = omega arith;
+      };
+      hashed_value = c.requires.part_lies.1;
+    }
 
 pub returns-in-At : goal.returns-in-At
 returns-in-At c =

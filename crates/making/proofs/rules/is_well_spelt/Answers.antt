@@ -6,7 +6,6 @@ use lib.ListN.{length}
 use Rattle.names.specs.Names.{longest_identifier, is_identifier, is_portion}
 use Rattle.making.specs.Entries.{said_by, unit_name, all_spelt}
 use Rattle.making.proofs.Ruling.{third-tells, second-tells, first-tells, unit-length}
-use borrow.Author.Rules.{rules}
 use Rattle.making.proofs.rules.is_well_spelt.Goals as goal
 
 pub returns-then-is_portion : goal.returns-then-is_portion

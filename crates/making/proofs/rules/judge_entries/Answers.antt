@@ -1,6 +1,6 @@
 -- `making::rules::judge_entries` meets its contract: at each turn the judge stands between two entries.
 use mathlib.Core.Path.{◌≡◌, refl, ap, sym, ◌∙◌, subst}
-use Prim.Native.Nat.{ℕ, ◌-◌, ◌/◌, ◌<◌, ◌≤◌}
+use Prim.Native.Nat.{ℕ, ◌/◌, ◌<◌}
 use native.Mathlib.Omega.{arith}
 use lib.ListN.{length}
 use Rattle.names.specs.Hash.{hash}
@@ -12,17 +12,16 @@ use Rattle.making.specs.Flat.{entry_width, entry_at, entries_in}
 use Rattle.making.specs.Lent.{EntryLies}
 use Rattle.rows.proofs.Parts.{links-alike}
 use Rattle.making.proofs.Lent.{entry-there}
-use Rattle.making.proofs.Judging.{Judging, judging-none, few-done, stopped-at, judging-more, none_left}
+use Rattle.making.proofs.Judging.{judging-none, few-done, stopped-at, judging-more, none_left}
 use Rattle.making.proofs.rules.judge_entries.Goals as goal
 
 pub loop-k-init : goal.loop-k-init
-loop-k-init c =
-    (
-      omega arith,
-      judging-none c.args.buffer.now c.args.numbers.now c.args.rows.now c.args.index.now c.requires,
-      refl,
-      refl,
-    )
+loop-k-init c = (
+  omega arith,
+  judging-none c.args.buffer.now c.args.numbers.now c.args.rows.now c.args.index.now c.requires,
+  refl,
+  refl,
+)
 
 pub entry_at-requires : goal.entry_at-requires
 entry_at-requires c = entry-there (length c.args.numbers.now) c.loop-k.k (omega arith)
@@ -92,11 +91,15 @@ keep-requires c =
     let lies = subst (EntryLies buffer) c.entry_at.ensures p.lies in
     let hashed = p.hash_is ∙ ap (λ (x : Entry). hash (bytes_in buffer x.identifier))
     c.entry_at.ensures in
-    let below : l.k < length numbers / entry_width = omega arith in record { bounded = (j.keeps.bounded, j.keeps.filed); scratch_width_in_bounds = (
-          omega (arith, c.requires.rows_fit l.k below p.few, l.invariant.2),
-          omega (arith, c.requires.links_fit l.k below p.few, links-alike c.args.index.now l.index l.invariant.3),
-          p.few,
-        ); first_le_past = (lies.identifier.order, lies.identifier.inside, hashed) }
+    let below : l.k < length numbers / entry_width = omega arith in record {
+      bounded = (j.keeps.bounded, j.keeps.filed);
+      scratch_width_in_bounds = (
+        omega (arith, c.requires.rows_fit l.k below p.few, l.invariant.2),
+        omega (arith, c.requires.links_fit l.k below p.few, links-alike c.args.index.now l.index l.invariant.3),
+        p.few,
+      );
+      first_le_past = (lies.identifier.order, lies.identifier.inside, hashed);
+    }
 
 pub overflow_add-k : goal.overflow_add-k
 overflow_add-k c = omega (

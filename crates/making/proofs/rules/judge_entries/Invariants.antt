@@ -1,18 +1,9 @@
 -- `making::rules::judge_entries` meets its contract: at each turn the judge stands between two entries.
-use mathlib.Core.Path.{◌≡◌, refl, ap, sym, ◌∙◌, subst}
-use Prim.Native.Nat.{ℕ, ◌-◌, ◌/◌, ◌<◌, ◌≤◌}
-use native.Mathlib.Omega.{arith}
+use mathlib.Core.Path.{◌≡◌}
+use Prim.Native.Nat.{◌-◌, ◌/◌, ◌≤◌}
 use lib.ListN.{length}
-use Rattle.names.specs.Hash.{hash}
-use Rattle.elements.specs.ElementRows.{bytes_in}
-use Rattle.making.specs.declared.Entry.{Entry}
-use Rattle.making.specs.Entries.{entry_refusal, judge_entries}
-use Rattle.making.specs.Answers.{reason_of}
-use Rattle.making.specs.Flat.{entry_width, entry_at, entries_in}
-use Rattle.making.specs.Lent.{EntryLies}
-use Rattle.rows.proofs.Parts.{links-alike}
-use Rattle.making.proofs.Lent.{entry-there}
-use Rattle.making.proofs.Judging.{Judging, judging-none, few-done, stopped-at, judging-more, none_left}
+use Rattle.making.specs.Flat.{entry_width}
+use Rattle.making.proofs.Judging.{Judging}
 use Rattle.making.proofs.rules.judge_entries.Given as goal
 
 abbrev pub invariant-loop-k : goal.invariant-loop-k

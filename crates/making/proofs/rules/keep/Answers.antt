@@ -4,7 +4,6 @@ use native.Mathlib.Omega.{arith}
 use lib.ListN.{length-set}
 use Rattle.names.specs.Hash.{hash}
 use Rattle.making.proofs.Keeping.{put-value, put-bounded, put-filed, keeps-more}
-use borrow.Author.Rules.{rules}
 use Rattle.making.proofs.rules.keep.Goals as goal
 
 pub bounds-rows-at-2 : goal.bounds-rows-at-2

@@ -2,7 +2,6 @@
 use mathlib.Core.Path.{sym, ◌∙◌}
 use Rattle.making.specs.Entries.{inside, parts_inside}
 use Rattle.making.proofs.Ruling.{third-tells, second-tells, first-tells}
-use borrow.Author.Rules.{rules}
 use Rattle.making.proofs.rules.parts_lie.Goals as goal
 
 pub returns-then-lies-2 : goal.returns-then-lies-2

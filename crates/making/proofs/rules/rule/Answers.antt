@@ -1,11 +1,9 @@
 -- `making::rules::rule` meets its contract: the rules one after another.
 use mathlib.Core.Path.{refl, sym, ◌∙◌}
 use native.Mathlib.Omega.{arith}
-use borrow.Author.Tests.{not-true, not-false}
 use Rattle.making.specs.Entries.{said_by}
 use Rattle.making.proofs.Spelling.{spelt}
 use Rattle.making.proofs.Ruling.{identifier-lies, portion-lies, entry-lies, refuses-27, refuses-14, refuses-15, refuses-9, refuses-none}
-use borrow.Author.Rules.{rules}
 use Rattle.making.proofs.rules.rule.Goals as goal
 
 pub returns-then-not-parts_lie : goal.returns-then-not-parts_lie

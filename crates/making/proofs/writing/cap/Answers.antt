@@ -2,7 +2,6 @@
 use mathlib.Core.Path.{sym}
 use Rattle.making.proofs.Sizes.{capped-within, capped-over}
 use native.Mathlib.Omega.{arith}
-use borrow.Author.Rules.{rules}
 use Rattle.making.proofs.writing.cap.Goals as goal
 
 pub returns-then-size-gt-STREAM_LIMIT : goal.returns-then-size-gt-STREAM_LIMIT

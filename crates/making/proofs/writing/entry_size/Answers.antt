@@ -4,7 +4,6 @@ use Prim.Native.Nat.{ℕ, ◌+◌}
 use native.Mathlib.Omega.{arith}
 use Rattle.making.specs.Octets.{entry_size_by, capped}
 use Rattle.making.specs.Lent.{names_of}
-use borrow.Author.Rules.{rules}
 use Rattle.making.proofs.writing.entry_size.Goals as goal
 
 pub returns : goal.returns

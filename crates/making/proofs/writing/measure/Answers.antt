@@ -1,9 +1,8 @@
 -- `making::writing::measure` meets its contract: after k turns the size is that of the first k entries.
 use mathlib.Core.Path.{◌≡◌, ap, sym, ◌∙◌, subst}
-use Prim.Native.Nat.{ℕ, ◌-◌, ◌/◌, ◌≤◌}
+use Prim.Native.Nat.{ℕ, ◌/◌}
 use lib.ListN.{length}
 use native.Mathlib.Omega.{arith}
-use borrow.Author.Rules.{rules}
 use Rattle.making.specs.Flat.{entry_width}
 use Rattle.making.specs.Octets.{entry_size_by, capped}
 use Rattle.making.specs.Lent.{names_of, text_of, Ordered, size_up_to}

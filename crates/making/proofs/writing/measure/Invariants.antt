@@ -1,14 +1,10 @@
 -- `making::writing::measure` meets its contract: after k turns the size is that of the first k entries.
-use mathlib.Core.Path.{◌≡◌, ap, sym, ◌∙◌, subst}
-use Prim.Native.Nat.{ℕ, ◌-◌, ◌/◌, ◌≤◌}
+use mathlib.Core.Path.{◌≡◌}
+use Prim.Native.Nat.{◌-◌, ◌/◌, ◌≤◌}
 use lib.ListN.{length}
-use native.Mathlib.Omega.{arith}
-use borrow.Author.Rules.{rules}
 use Rattle.making.specs.Flat.{entry_width}
-use Rattle.making.specs.Octets.{entry_size_by, capped}
-use Rattle.making.specs.Lent.{names_of, text_of, Ordered, size_up_to}
-use Rattle.making.proofs.Sizes.{capped-within, capped-most}
-use Rattle.making.proofs.Lent.{entry-there, measured-next}
+use Rattle.making.specs.Octets.{capped}
+use Rattle.making.specs.Lent.{size_up_to}
 use Rattle.making.proofs.writing.measure.Given as goal
 
 abbrev pub invariant-loop-k : goal.invariant-loop-k

@@ -7,7 +7,6 @@ use Rattle.normal.specs.Passes.{PutsOctets}
 use Rattle.making.specs.Entries.{said_by}
 use Rattle.making.proofs.Putting.{puts_then}
 use Rattle.making.proofs.Sizes.{part-size, block-by}
-use borrow.Author.Rules.{rules}
 use Rattle.making.proofs.writing.put_block.Goals as goal
 
 pub put_four-listed-requires : goal.put_four-listed-requires

@@ -1,6 +1,6 @@
 -- `making::writing::put_entries` meets its contract: after k turns the first k entries are written.
 use mathlib.Core.Path.{◌≡◌, refl, sym, ◌∙◌, subst}
-use Prim.Native.Nat.{ℕ, suc, ◌+◌, ◌-◌, ◌/◌, ◌<◌, ◌≤◌}
+use Prim.Native.Nat.{ℕ, suc, ◌+◌, ◌/◌, ◌<◌, ◌≤◌}
 use lib.ListN.{length}
 use native.Mathlib.Omega.{arith}
 use Rattle.normal.specs.Passes.{PutsOctets}
@@ -39,8 +39,7 @@ pub loop-k-preserved : goal.loop-k-preserved
 loop-k-preserved c =
     let a = c.args in
     let l = c.loop-k in
-    let entry_at = c.entry_at in
-    (
+    let entry_at = c.entry_at in (
       omega arith,
       c.put_entry-at.auto.out ∙ l.invariant.1,
       written_next a.buffer.now a.numbers.now l.k entry_at.result entry_at.ensures l.invariant.2 c.put_entry-at.ensures,

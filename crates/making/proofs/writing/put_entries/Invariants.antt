@@ -1,14 +1,10 @@
 -- `making::writing::put_entries` meets its contract: after k turns the first k entries are written.
-use mathlib.Core.Path.{◌≡◌, refl, sym, ◌∙◌, subst}
-use Prim.Native.Nat.{ℕ, suc, ◌+◌, ◌-◌, ◌/◌, ◌<◌, ◌≤◌}
+use mathlib.Core.Path.{◌≡◌}
+use Prim.Native.Nat.{◌-◌, ◌/◌, ◌≤◌}
 use lib.ListN.{length}
-use native.Mathlib.Omega.{arith}
 use Rattle.normal.specs.Passes.{PutsOctets}
 use Rattle.making.specs.Flat.{entry_width, said_up_to}
-use Rattle.making.specs.Octets.{entry_size_by, entries_octets}
-use Rattle.making.specs.declared.Entry.{Entry}
-use Rattle.making.specs.Lent.{names_of, text_of, EntryLies}
-use Rattle.making.proofs.Lent.{entry-there, size-next, size-on, octets-up-to, written_none, written_next}
+use Rattle.making.specs.Octets.{entries_octets}
 use Rattle.making.proofs.writing.put_entries.Given as goal
 
 abbrev pub invariant-loop-k : goal.invariant-loop-k

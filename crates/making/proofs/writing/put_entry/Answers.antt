@@ -7,7 +7,6 @@ use Rattle.normal.specs.Passes.{PutsOctets}
 use Rattle.making.specs.Entries.{said_by}
 use Rattle.making.proofs.Putting.{puts_then, entry-pieces}
 use Rattle.making.proofs.Sizes.{names-size, block_size}
-use borrow.Author.Rules.{rules}
 use Rattle.making.proofs.writing.put_entry.Goals as goal
 
 pub put_unit-requires : goal.put_unit-requires

@@ -2,7 +2,6 @@
 use native.Mathlib.Omega.{arith}
 use lib.ListN.{length-set}
 use Rattle.making.proofs.Putting.{put_four}
-use borrow.Author.Rules.{rules}
 use Rattle.making.proofs.writing.put_four.Goals as goal
 
 pub bounds-out-at-2 : goal.bounds-out-at-2

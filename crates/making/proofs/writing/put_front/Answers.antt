@@ -2,7 +2,6 @@
 use mathlib.Core.Path.{◌∙◌}
 use lib.ListN.{length-set}
 use Rattle.making.proofs.Putting.{puts_then, put_one}
-use borrow.Author.Rules.{rules}
 use Rattle.making.proofs.writing.put_front.Goals as goal
 
 pub shape_of-out : goal.shape_of-out

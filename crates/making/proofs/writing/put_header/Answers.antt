@@ -2,7 +2,6 @@
 use mathlib.Core.Path.{refl, ◌∙◌}
 use lib.ListN.{length-set}
 use native.Mathlib.Omega.{arith}
-use borrow.Author.Rules.{rules}
 use Rattle.making.proofs.Putting.{puts_then, put_one}
 use Rattle.making.proofs.writing.put_header.Goals as goal
 

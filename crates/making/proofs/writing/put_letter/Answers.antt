@@ -5,7 +5,6 @@ use lib.ListN.{length, length-set}
 use native.Mathlib.Omega.{arith}
 use Rattle.making.specs.Flat.{entry_width}
 use Rattle.making.proofs.Lent.{size-some}
-use borrow.Author.Rules.{rules}
 use Rattle.making.proofs.writing.put_letter.Goals as goal
 
 pub bounds-out-0 : goal.bounds-out-0

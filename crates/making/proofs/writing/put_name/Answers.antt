@@ -4,7 +4,6 @@ use native.Mathlib.Omega.{arith}
 use lib.ListN.{length-set}
 use Rattle.making.proofs.Putting.{puts_then, put_one}
 use Rattle.making.proofs.Sizes.{part-size}
-use borrow.Author.Rules.{rules}
 use Rattle.making.proofs.writing.put_name.Goals as goal
 
 pub bounds-out-named : goal.bounds-out-named

@@ -14,7 +14,6 @@ use Rattle.making.specs.Octets.{name_size, unit_size_by}
 use Rattle.making.specs.Lent.{names_of, text_of}
 use Rattle.making.proofs.Putting.{puts_then}
 use Rattle.making.proofs.Sizes.{part-size, names-size, text-size, unit-by}
-use borrow.Author.Rules.{rules}
 use Rattle.making.proofs.writing.put_unit.Goals as goal
 
 pub put_header-headed-requires : goal.put_header-headed-requires

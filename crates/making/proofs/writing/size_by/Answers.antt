@@ -6,7 +6,6 @@ use Rattle.normal.proofs.Lengths.{further-le}
 use Rattle.normal.specs.Normal.{further_octets}
 use Rattle.making.specs.Octets.{capped}
 use Rattle.making.proofs.Sizes.{text-over}
-use borrow.Author.Rules.{rules}
 use Rattle.making.proofs.writing.size_by.Goals as goal
 
 pub returns-then-text-gt-STREAM_LIMIT : goal.returns-then-text-gt-STREAM_LIMIT

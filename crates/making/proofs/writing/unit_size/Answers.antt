@@ -1,7 +1,6 @@
 -- `making::writing::unit_size` meets its contract: at most four length octets follow the first.
 use native.Mathlib.Omega.{arith}
 use Rattle.normal.proofs.Lengths.{further-le}
-use borrow.Author.Rules.{rules}
 use Rattle.making.proofs.writing.unit_size.Goals as goal
 
 pub overflow_add-result-2 : goal.overflow_add-result-2
