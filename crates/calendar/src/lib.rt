@@ -1,5 +1,6 @@
 // Days of the Gregorian calendar, as the first ten octets of a value spell them: four, two and two digits with hyphens between.
 #![tactic(auto)]
+
 ghost use Rattle.std.specs.Prelude.{◌≡◌, true, cond, ◌+◌, ◌<◌, length};
 ghost use Rattle.calendar.specs.Calendar.{leap, days_in, exists, two_digits, two_number, spells_ten, day_at, names_day, no_day};
 

@@ -1,9 +1,9 @@
--- What is made of what was read, and what is printed of it. No contract can say which bytes `read` puts into a block: `TakesIn` says that of each
--- block exactly the bytes that it tells of are read on, `Heard` that reading stands where some text leads, and `Prints` that what is then
--- printed is that text's output.
-use Rattle.std.specs.Prelude.{◌≡◌, Bool, true, false, cond, ◌||◌, List, ◌++◌, ℕ, length, take, eqb, ℤ}
-use Rattle.std.specs.Int.Signed.{non_neg}
-use Rattle.io.specs.Counts.{clamp_len}
+-- What is made of what was read, and what is printed of it. No contract can say which bytes the system puts into a block: `TakesIn` says that of
+-- each block exactly the bytes that `read` tells of are read on, `Heard` that reading stands where some text leads, and `Prints` that what is then
+-- printed is that text's output. Of a reader whose bytes are known `PrintsKnown` and `Writes` say that it is the output of all of them.
+use Rattle.std.specs.Prelude.{◌≡◌, Bool, true, false, cond, ◌||◌, List, ◌++◌, ℕ, min, length, take, eqb, Result, Ok, Err, IfSome, ⊤}
+use Rattle.std.specs.Io.KnownBytes.{Appends, Keeps}
+use Rattle.std.specs.declared.option.Option.{Option}
 use Rattle.lister_text.specs.Lines.{unreadable}
 use Rattle.lister_hex.specs.declared.State.{State}
 use Rattle.lister_hex.specs.declared.State.TheVariants.{Pairs, Half, Stopped}
@@ -32,8 +32,9 @@ abbrev pub over : ℕ → State → Bool
 over n state = eqb n 0 || is_stopped state
 
 -- how many bytes `read` gave: none where it failed
-abbrev pub given : ℤ → List ℕ → ℕ
-given got block = clamp_len got (length block)
+abbrev pub given : {E : Type 0} → Result ℕ E → List ℕ → ℕ
+given (Ok n) block = min n (length block)
+given (Err e) block = 0
 
 -- the state that a turn hands on
 abbrev pub state_after : State → Turn → State
@@ -42,11 +43,12 @@ state_after state (Over next) = next
 state_after state Broken = state
 
 -- whether reading goes on, is over or failed, by what `read` answered
-abbrev pub turn_of : ℤ → ℕ → State → Turn
-turn_of got n next = cond (non_neg got) (cond (over n next) (Over next) (More next)) Broken
+abbrev pub turn_of : {E : Type 0} → Result ℕ E → ℕ → State → Turn
+turn_of (Ok count) n next = cond (over n next) (Over next) (More next)
+turn_of (Err e) n next = Broken
 
 -- what is made of an answer of `read` and of the block then: reading stands where exactly the bytes that `read` gave lead on from where it stood
-pub record TakesIn (state : State) (octets : List ℕ) (got : ℤ) (block : List ℕ) (turn : Turn) (after : List ℕ) : Type 0 where
+pub record TakesIn {E : Type 0} (state : State) (octets : List ℕ) (got : Result ℕ E) (block : List ℕ) (turn : Turn) (after : List ℕ) : Type 0 where
   pub leads : standing (state_after state turn) after ≡ fed (standing state octets) (take (given got block) block)
   pub told : turn ≡ turn_of got (given got block) (state_after state turn)
 
@@ -79,3 +81,13 @@ PrintsAll =
     length lent ≡ input_limit →
     Leads text lent (Stopped line) octets →
     output (text ++ more) ≡ output text
+
+-- and where the bytes that a reader has left are known, what is printed is the output of all of them
+abbrev pub PrintsKnown : Option (List ℕ) → Input → (octets : List ℕ) → Type 0
+PrintsKnown known (Ended state) octets = IfSome known (λ text. read_lines (finished state) octets ≡ output text)
+PrintsKnown known Failed octets = ⊤
+
+-- what a writer then holds more, where its bytes are known as well: that output, and where reading failed nothing
+abbrev pub Writes : (heard : Bool) → (known before after : Option (List ℕ)) → Type 0
+Writes true known before after = IfSome known (λ text. Appends before after (output text))
+Writes false known before after = Keeps before after

@@ -1,16 +1,22 @@
 // The hex lister: reads standard input, lines of hexadecimal pairs, to its end, and prints what the stream is, one element a line.
 //
-// What `read` puts into a block no contract says. `take_in` has all that is made of its answer and of the block; the loop that calls the two
-// adds nothing, and hands on where reading stands after some bytes. `page::put_output` makes of that the whole output, which is written at once.
+// What the system puts into a block no contract says. `take_in` has all that is made of an answer of `read` and of the block; the loop that calls
+// the two adds nothing, and hands on where reading stands after some bytes. `page::put_output` makes of that the whole output, which is written at
+// once. Of a reader and a writer whose bytes are known, `list` says the whole: what is written is the output of all that was there to read.
 #![tactic(auto)]
+
 mod page;
 
-ghost use Rattle.std.specs.Prelude.{◌≡◌};
-ghost use Rattle.hexlister.specs.Inputs.{is_stopped, over, TakesIn, HeardIn};
+ghost use Rattle.std.specs.Prelude.{◌≡◌, IfOk};
+ghost use Rattle.hexlister.specs.Inputs.{is_stopped, over, TakesIn, HeardIn, PrintsKnown, Writes};
 
-use libc::{STDERR_FILENO, STDIN_FILENO, STDOUT_FILENO};
 use lister_hex::{INPUT_LIMIT, State};
 use page::PAGE_ROOM;
+use std::io;
+use std::io::{Read, Write};
+
+// How many bytes a read is asked for.
+const BLOCK: usize = 4096;
 
 // What one answer of `read` leads to: reading goes on, or it is over, or it failed.
 #[derive(Clone, Copy)]
@@ -54,13 +60,18 @@ fn is_over(n: usize, state: State) -> bool
 
 // What is made of an answer of `read` and of the block that it was lent: as many bytes as it gave, the block's first, are read on from where
 // reading stood.
-fn take_in(state: State, got: isize, block: &[u8], octets: &mut [u8; INPUT_LIMIT]) -> Turn
+fn take_in(
+    state: State,
+    got: io::Result<usize>,
+    block: &[u8],
+    octets: &mut [u8; INPUT_LIMIT],
+) -> Turn
     ensures { TakesIn state octets.old got block.now result octets.new }
 {
-    if got < 0 {
+    let Ok(count) = got else {
         return Turn::Broken;
-    }
-    let n = io::count(got, block);
+    };
+    let n = count.min(block.len());
     let next = lister_hex::feed(state, &block[..n], octets);
     if is_over(n, next) {
         return Turn::Over(next);
@@ -70,15 +81,16 @@ fn take_in(state: State, got: isize, block: &[u8], octets: &mut [u8; INPUT_LIMIT
 
 // Reads until the input ends or a line cannot be read. A proved loop has to end, and nothing says that the input does: so it counts its
 // turns down, from a number that no run uses up.
-fn read_input(octets: &mut [u8; INPUT_LIMIT]) -> Input
-    ensures { HeardIn octets.old result octets.new }
+fn read_input<R: Read>(input: &mut R, octets: &mut [u8; INPUT_LIMIT]) -> Input
+    ensures heard { HeardIn octets.old result octets.new }
+    ensures printed { PrintsKnown (R.remaining input.old) result octets.new }
 {
-    let mut block = io::buffer();
+    let mut block = [0u8; BLOCK];
     let mut state = lister_hex::start();
     let mut turns = u64::MAX;
     while 0 < turns {
         turns -= 1;
-        let got = libc::read(STDIN_FILENO, &mut block);
+        let got = input.read(&mut block);
         match take_in(state, got, &block, octets) {
             Turn::More(next) => {
                 state = next;
@@ -90,16 +102,25 @@ fn read_input(octets: &mut [u8; INPUT_LIMIT]) -> Input
     Input::Failed
 }
 
-fn main() {
+// Lists what a reader has left: reads it, and writes the whole output at once. False where it cannot be read, and then nothing is written.
+fn list<R: Read, W: Write>(input: &mut R, out: &mut W) -> io::Result<bool>
+    ensures { IfOk result (λ heard. Writes heard (R.remaining input.old) (W.contents out.old) (W.contents out.new)) }
+{
     let mut octets = [0u8; INPUT_LIMIT];
-    match read_input(&mut octets) {
+    match read_input(input, &mut octets) {
         Input::Ended(state) => {
             let mut page = [0u8; PAGE_ROOM];
             let n = page::put_output(&mut page, state, &octets);
-            io::write_all(STDOUT_FILENO, &page[..n]);
+            out.write_all(&page[..n])?;
+            Ok(true)
         }
-        Input::Failed => {
-            io::write_all(STDERR_FILENO, b"the input cannot be read\n");
-        }
+        Input::Failed => Ok(false),
     }
+}
+
+fn main(rt: HostRuntime) -> io::Result<()> {
+    if !list(&mut rt.stdin(), &mut io::writer(&rt))? {
+        eprintln!(rt; "the input cannot be read")?;
+    }
+    Ok(())
 }

@@ -16,7 +16,7 @@ use Rattle.elements.specs.Judge.{body_of, portions_octet, amount_at, bytes_of, C
 use Rattle.letters.specs.Letter.{letter, refusal, items_of_stream, EndToEnd, PairsWithin, letter_in, rows_in}
 use Rattle.reading.specs.declared.Match.{Match}
 use Rattle.reading.specs.declared.Side.{Side}
-use Rattle.reading.specs.Match.{unit_kind, matches, IsMatch, Before, units, portions_on}
+use Rattle.reading.specs.Match.{unit_kind, IsMatch, Before, units, portions_on}
 use Rattle.answers.specs.Table.{rows_lent}
 use Rattle.answers.specs.Answers.{onto, table_of, refused_check, checked, checked_table, written, written_output, listed, listed_table, matches_in}
 use Rattle.answers.specs.Answers.{listed_list, handed, withheld, fetched, located, Stands, joined_in, copied, copied_output}

@@ -1,10 +1,10 @@
 -- The list that `fill` has made after k turns: the first k records, and then what was there.
 use mathlib.Core.Path.{◌≡◌, refl, sym, ap, ◌∙◌}
 use mathlib.Core.List.{List, [], ◌∷◌, ◌++◌}
-use Prim.Native.Nat.{ℕ, zero, suc, ◌+◌, ◌≤◌, ◌<◌}
+use Prim.Native.Nat.{ℕ, zero, suc, ◌+◌, ◌<◌}
 use native.Mathlib.Omega.{arith}
 use native.Mathlib.Numerals.{add-one}
-use lib.ListN.{length, set, drop, get_or, length-append, length-drop}
+use lib.ListN.{length, set, drop, get_or, length-append}
 use lib.Seq.{drop-cons, set_at, append_snoc}
 use Rattle.reading.specs.declared.Match.{Match}
 use Rattle.reading.specs.Records.{record_at, records}
@@ -34,6 +34,3 @@ made_more numbers list k h =
     ap (λ (l : List Match). set (p ++ l) k (record_at numbers k)) (drop-cons list k no_match h)
     ∙ set_at p (get_or list k no_match) (drop (suc k) list) (record_at numbers k) k (length-records numbers k)
     ∙ sym (append_snoc p (record_at numbers k) (drop (suc k) list)) ∙ sym (rw (next, add-one k))
-
-pub length-made : (numbers : List ℕ) (list : List Match) (k : ℕ) → k ≤ length list → length (made numbers list k) ≡ length list
-length-made numbers list k h = simp (length-append, length-records numbers k, length-drop) (omega arith)

@@ -1,9 +1,7 @@
 -- `calendar::day_named` meets its contract, by its two tests.
 use mathlib.Core.Path.{◌≡◌, ap, sym, ◌∙◌}
 use mathlib.Core.Bool.{true, false}
-use borrow.Author.Tests.{not-true, not-false}
 use Rattle.calendar.specs.Calendar.{exists, day_at, names_day}
-use borrow.Author.Rules.{rules}
 use Rattle.calendar.proofs.day_named.Goals as goal
 
 pub returns-then-not-is_spelt : goal.returns-then-not-is_spelt

@@ -4,7 +4,6 @@ use native.Mathlib.Omega.{arith}
 use lib.ListN.{get_or, get_or-eq_default}
 use borrow.Author.Tests.{ne_eqb}
 use Rattle.calendar.specs.Calendar.{month_days, days_in}
-use borrow.Author.Rules.{rules}
 use Rattle.calendar.proofs.days_in.Goals as goal
 
 pub returns-then-month-ge13 : goal.returns-then-month-ge13

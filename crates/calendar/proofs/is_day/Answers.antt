@@ -3,7 +3,6 @@ use native.Mathlib.Omega.{arith}
 use Prim.Native.Nat.{◌<◌, ◌≤◌}
 use borrow.Author.Tests.{le-leb, lt-leb}
 use Rattle.calendar.specs.Calendar.{exists}
-use borrow.Author.Rules.{rules}
 use Rattle.calendar.proofs.is_day.Goals as goal
 
 pub returns-then-d-eq0 : goal.returns-then-d-eq0

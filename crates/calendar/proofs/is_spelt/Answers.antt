@@ -1,8 +1,7 @@
 -- `calendar::is_spelt` meets its contract: its tests are the definition's, in their order.
 use mathlib.Core.Path.{sym, ◌∙◌}
-use borrow.Author.Tests.{le-leb, lt-leb, eq-eqb, ne_eqb, not-true, not-false}
+use borrow.Author.Tests.{le-leb, lt-leb, eq-eqb, ne_eqb}
 use Rattle.calendar.specs.Calendar.{spells_ten}
-use borrow.Author.Rules.{rules}
 use Rattle.calendar.proofs.is_spelt.Goals as goal
 
 pub returns-then-v-lt10 : goal.returns-then-v-lt10

@@ -1,8 +1,6 @@
 -- `calendar::is_two_digits` meets its contract: two digits, one after the other.
 use mathlib.Core.Path.{sym, ◌∙◌}
-use borrow.Author.Tests.{not-true, not-false}
 use Rattle.calendar.specs.Calendar.{two_digits}
-use borrow.Author.Rules.{rules}
 use Rattle.calendar.proofs.is_two_digits.Goals as goal
 
 pub returns-then-not-is_digit : goal.returns-then-not-is_digit

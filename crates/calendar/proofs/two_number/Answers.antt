@@ -2,7 +2,6 @@
 use native.Mathlib.Omega.{arith}
 use Rattle.calendar.specs.Calendar.{two_number}
 use Rattle.calendar.proofs.Spelling.{two-bounds}
-use borrow.Author.Rules.{rules}
 use Rattle.calendar.proofs.two_number.Goals as goal
 
 pub overflow_sub-result : goal.overflow_sub-result

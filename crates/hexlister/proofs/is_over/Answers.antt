@@ -1,0 +1,9 @@
+-- `is_over` meets its contract: the tests are the definition's.
+use borrow.Author.Tests.{eq-eqb, ne_eqb}
+use Rattle.hexlister.proofs.is_over.Goals as goal
+
+pub returns-then-n-eq0 : goal.returns-then-n-eq0
+returns-then-n-eq0 c = rw (eq-eqb _ _ c.if-n-eq0.true)
+
+pub returns : goal.returns
+returns c = rw (ne_eqb _ _ c.if-n-eq0.false) c.is_stopped.ensures
