@@ -1,6 +1,7 @@
 // The public questions, and nothing else. None has a `requires`: any caller may ask, of any octets, with any buffers. Those of the base are here,
 // those that were asked for later each in a file of their own. Crate `odif_c` has their names for C.
 #![tactic(auto)]
+
 ghost use Rattle.std.specs.Prelude.{◌≡◌, ◌≤◌};
 ghost use Rattle.octets.specs.Walk.{stream_limit};
 ghost use Rattle.answers.specs.Asking.{written_as};

@@ -1,5 +1,4 @@
 -- `odif::check` meets its contract: it is what the question's work left.
-use borrow.Author.Rules.{rules}
 use Rattle.answers.proofs.Working.{check-left}
 use Rattle.odif.proofs.check.Goals as goal
 

@@ -1,6 +1,5 @@
 -- `odif::content` meets its contract: the part is what the bounds bound, and empty if they are 0 and 0.
 use mathlib.Core.Path.{◌∙◌}
-use borrow.Author.Rules.{rules}
 use native.Mathlib.Omega.{arith}
 use Rattle.pieces.proofs.Putting.{part_slice}
 use Rattle.odif.proofs.content.Goals as goal

@@ -1,5 +1,4 @@
 -- `odif::joined` meets its contract: it is what the question's work left.
-use borrow.Author.Rules.{rules}
 use Rattle.answers.proofs.Working.{joined-left}
 use Rattle.odif.proofs.joined.Goals as goal
 

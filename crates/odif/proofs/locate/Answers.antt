@@ -1,5 +1,4 @@
 -- `odif::locate` meets its contract: it is what the question's work left.
-use borrow.Author.Rules.{rules}
 use Rattle.answers.proofs.Working.{content-left}
 use Rattle.odif.proofs.locate.Goals as goal
 

@@ -1,6 +1,5 @@
 -- `odif::normal` meets its contract: what is refused by rules 1 to 15 is refused, and of a letter the writer's answer is given.
 use mathlib.Core.Path.{ap, sym, ◌∙◌, subst}
-use borrow.Author.Rules.{rules}
 use Rattle.normal.specs.declared.Answer.{Answer}
 use Rattle.answers.specs.Asking.{written_as}
 use Rattle.answers.proofs.Working.{IsLetter}

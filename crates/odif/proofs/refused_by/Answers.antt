@@ -1,5 +1,4 @@
 -- `odif::refused_by` meets its contract: the rules' work tells number and place.
-use borrow.Author.Rules.{rules}
 use Rattle.odif.proofs.Short.{reason-told}
 use Rattle.odif.proofs.refused_by.Goals as goal
 

@@ -1,5 +1,4 @@
 -- `odif::why` meets its contract: number and place are those of the fetch.
-use borrow.Author.Rules.{rules}
 use Rattle.answers.proofs.Fetching.{why-located}
 use Rattle.odif.proofs.why.Goals as goal
 

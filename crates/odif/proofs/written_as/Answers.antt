@@ -1,6 +1,5 @@
 -- `odif::written_as` meets its contract: each case of the writer's answer, in numbers that fit.
 use mathlib.Core.Path.{ap, sym, subst}
-use borrow.Author.Rules.{rules}
 use native.Mathlib.Omega.{arith}
 use Rattle.normal.specs.declared.Answer.{Answer}
 use Rattle.answers.specs.Asking.{written_as}

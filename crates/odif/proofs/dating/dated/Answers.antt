@@ -1,5 +1,4 @@
 -- `odif::dated` meets its contract: it is what was found.
-use borrow.Author.Rules.{rules}
 use Rattle.odif.proofs.dating.dated.Goals as goal
 
 pub returns : goal.returns

@@ -1,6 +1,5 @@
 -- `odif::dating::find_date` meets its contract: what is refused by rules 1 to 15 is refused, and of a letter the date in its profile is given.
 use mathlib.Core.Path.{◌≡◌, ap, sym, ◌∙◌, subst}
-use borrow.Author.Rules.{rules}
 use Rattle.runs.proofs.Laws.{stream-fine, stream-within}
 use Rattle.answers.specs.declared.Reason.{Reason}
 use Rattle.answers.specs.Answers.{ruled}

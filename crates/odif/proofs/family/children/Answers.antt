@@ -1,6 +1,4 @@
 -- `odif::children` meets its contract: it is what the question's work left.
-use native.Mathlib.Omega.{arith}
-use borrow.Author.Rules.{rules}
 use Rattle.answers.proofs.Working.{children-left}
 use Rattle.odif.proofs.family.children.Goals as goal
 

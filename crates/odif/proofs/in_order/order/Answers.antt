@@ -1,5 +1,4 @@
 -- `odif::in_order::order` meets its contract: it is what the question's work told, which is the answer.
-use borrow.Author.Rules.{rules}
 use Rattle.answers.proofs.Working.{order-left}
 use Rattle.odif.proofs.in_order.order.Goals as goal
 

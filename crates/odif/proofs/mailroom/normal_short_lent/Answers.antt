@@ -1,7 +1,6 @@
 -- `odif::normal_short_lent` meets its contract: what is over its limit, what is refused by the rules and scratch that is too small are refused,
 -- and of a letter the writer's answer is given.
 use mathlib.Core.Path.{ap, sym, ◌∙◌, subst}
-use borrow.Author.Rules.{rules}
 use Rattle.normal.specs.declared.Answer.{Answer}
 use Rattle.answers.specs.Asking.{written_as}
 use Rattle.answers.proofs.Working.{IsLetter}

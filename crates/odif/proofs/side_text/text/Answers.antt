@@ -3,7 +3,6 @@ use mathlib.Core.Path.{◌≡◌, sym}
 use mathlib.Core.Bool.{Bool, true, false, cond}
 use mathlib.Core.List.{List}
 use Prim.Native.Nat.{ℕ}
-use borrow.Author.Rules.{rules}
 use Rattle.octets.specs.declared.Outcome.{Outcome}
 use Rattle.answers.specs.Asking.{Sized}
 use Rattle.odif.proofs.side_text.text.Goals as goal
