@@ -2,6 +2,7 @@
 // crate `odif`, with its contract, of the edition of 1988, and its twin of that of 1993. A slice is a pointer and a length; a null pointer with
 // length 0 is fine. The names of the base are here, those of questions that were asked for later each in a file, as in `odif`.
 #![tactic(auto)]
+
 ghost use Rattle.answers.specs.Answers.{CheckOutcome, NormalOutcome, ListOutcome, LocatedOutcome, JoinedOutcome};
 
 use odif::{Checked, Copied, Edition, Found, Listed, Match, Side, Written};

@@ -1,2 +1,0 @@
--- Exporting: the lists of both sides, by both editions.
-pub mod Exporting
