@@ -1,7 +1,7 @@
 -- `pm1::count_pages` meets its contract. The loop's invariant: those that are counted, and then those of the rows that are left, are all.
 use mathlib.Core.Path.{◌≡◌, ap, sym, ◌∙◌}
 use mathlib.Core.Bool.{true, false}
-use Prim.Native.Nat.{◌+◌, ◌-◌, ◌≤◌}
+use Prim.Native.Nat.{◌+◌, ◌-◌}
 use native.Mathlib.Omega.{arith}
 use Rattle.pm1.specs.ByTable.{pages_among}
 use Rattle.pm1.proofs.Counting.{among_next, among_none}

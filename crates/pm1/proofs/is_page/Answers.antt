@@ -1,7 +1,6 @@
 -- `pm1::is_page` meets its contract, by its tests.
 use Rattle.pm1.specs.ByTable.{kind_at, object_at}
 use Rattle.pm1.proofs.Tests.{no-page, a-class, an-object}
-use borrow.Author.Rules.{rules}
 use Rattle.pm1.proofs.is_page.Goals as goal
 
 pub returns-then-table-at-ne-PAGE : goal.returns-then-table-at-ne-PAGE

@@ -1,6 +1,5 @@
 -- `pm1::pages` meets its contract: what the check answers, and how many pages there are, decide.
 use native.Mathlib.Omega.{arith}
-use borrow.Author.Rules.{rules}
 use Rattle.pm1.proofs.Outcomes.{pages-refused, countable, pages-30, ready, pages-all}
 use Rattle.pm1.proofs.pages.Goals as goal
 

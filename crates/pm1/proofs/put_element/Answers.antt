@@ -2,11 +2,9 @@
 use mathlib.Core.Path.{◌≡◌, sym, ◌∙◌}
 use mathlib.Core.Bool.{true}
 use native.Mathlib.Omega.{arith}
-use borrow.Author.Tests.{not-true, not-false}
 use Rattle.pm1.specs.Pages.{is_page}
 use Rattle.pm1.specs.ByTable.{kind_at, object_at}
 use Rattle.pm1.proofs.Putting.{puts_none, room-one, puts_one}
-use borrow.Author.Rules.{rules}
 use Rattle.pm1.proofs.put_element.Goals as goal
 
 pub returns-then-not-is_page : goal.returns-then-not-is_page

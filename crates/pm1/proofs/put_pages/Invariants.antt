@@ -1,10 +1,6 @@
 -- `pm1::put_pages` meets its contract: each element that is met puts its record, if it is a page. The measure is what is left of the run.
-use native.Mathlib.Omega.{arith}
-use borrow.Author.Rules.{rules}
 use Prim.Native.Nat.{◌-◌}
-use Rattle.runs.specs.Runs.{Meeting}
-use Rattle.contents.proofs.Firsts.{met}
-use Rattle.pm1.proofs.Going.{Going, going-all, element-low, element-row, record-room, going_more, going-none}
+use Rattle.pm1.proofs.Going.{Going}
 use Rattle.pm1.proofs.put_pages.Given as goal
 
 abbrev pub invariant-loop-inner : goal.invariant-loop-inner
