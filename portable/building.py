@@ -34,6 +34,7 @@ def module_of(kit, target, library, optimise, room, edit):
     """Compiles the module of a library for a target, and writes the C file of its functions. edit: what a test does to the module first."""
     kit.clang(*target.words, '-x', 'c', '/dev/null', '-S', '-emit-llvm', '-o', room / 'empty.ll')
     text = retarget.for_machine(edit(text_of(kit, library, room)), (room / 'empty.ll').read_text('utf-8'), target.probes)
+    text = retarget.narrowed(text) if target.bits == 32 else text
     exports = retarget.exports_of(text)
     text = retarget.with_entries(retarget.aligned(text) if target.aligned else text, exports, target.bits)
     source, passes = room / f'{library}.ll', []

@@ -1,8 +1,10 @@
 """Makes of rattle's LLVM module, which is for x86-64 Linux, one for another machine.
 
-Four things of the module are x86-64's:
+Five things of the module are x86-64's:
 - its data layout, triple and target-cpu. Those that clang gives an empty file for the machine take their place. Nothing else in the code depends on
-  them: every place is counted in octets, a pointer stands in eight octets on every machine, and no pointer becomes a number or the other way round;
+  them: every place is counted in octets, a pointer stands in eight octets on every machine, and no number becomes a pointer;
+- how wide an address is. A copy of octets looks whether its two sides lie over each other, by the difference of their addresses, in 64 bits. A
+  machine of 32 bits reads an address in those, and widens it: the difference is the same;
 - stack probes, where the machine has no page below the stack that traps;
 - copies that do not say where they stand, which a machine that reads no number across its bounds would make octet by octet;
 - the exported functions, which take and give back structs as C does on x86-64. They become private. For each there is a function at_NAME that takes
@@ -37,6 +39,11 @@ def for_machine(text, empty, probes):
     text = replaced(r'^target datalayout = .*\ntarget triple = .*\n', lines, text, 'pairs of target lines')
     text = replaced(r' "target-cpu"="x86-64"', '', text, 'target-cpu')
     return text if probes else replaced(r' "probe-stack"="inline-asm"(?: "stack-probe-size"="\d+")?', '', text, 'probe-stack')
+
+
+def narrowed(text):
+    """The module with addresses that are read in 32 bits, and widened."""
+    return re.sub(r'^  (%[\w.]+) = ptrtoaddr ptr (%[\w.]+) to i64$', r'  \1.read = ptrtoaddr ptr \2 to i32\n  \1 = zext i32 \1.read to i64', text, flags=re.M)
 
 
 def aligned_in(function, checked):
