@@ -31,14 +31,22 @@ def replaced(pattern, new, text, what):
     return text
 
 
+def without(pattern, text, what):
+    """The text without a pattern that stands once in each group of attributes of rattle's functions, of which there are two: some are marked inline."""
+    groups = re.findall(r'^attributes #\d+ = \{ (?:alwaysinline )?nounwind ".*\}$', text, flags=re.M)
+    if not groups or any(len(re.findall(pattern, group)) != 1 for group in groups):
+        raise NotAsKnown(f'the module has no {what} in a group of attributes, or more than one')
+    return re.sub(pattern, '', text)
+
+
 def for_machine(text, empty, probes):
     """The module with the lines of another machine, which stand in the module that clang made of an empty file."""
     if known := [bad for bad in UNKNOWN if bad in re.sub(r'"[^"]*"', '""', text)]:
         raise NotAsKnown(f'the module has {known[0].strip()}, which is not free of the machine')
     lines = ''.join(re.findall(r'^target (?:datalayout|triple) = .*\n', empty, flags=re.M))
     text = replaced(r'^target datalayout = .*\ntarget triple = .*\n', lines, text, 'pairs of target lines')
-    text = replaced(r' "target-cpu"="x86-64"', '', text, 'target-cpu')
-    return text if probes else replaced(r' "probe-stack"="inline-asm"(?: "stack-probe-size"="\d+")?', '', text, 'probe-stack')
+    text = without(r' "target-cpu"="x86-64"(?=[ "])', text, 'target-cpu')
+    return text if probes else without(r' "probe-stack"="inline-asm"(?: "stack-probe-size"="\d+")?', text, 'probe-stack')
 
 
 def narrowed(text):
