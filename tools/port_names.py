@@ -19,12 +19,14 @@ WORD = re.compile(r"(?<![\w'₀-₉])[^\W\d](?:[\w'₀-₉]|-(?=[\w]))*")
 CAMEL = re.compile(r'[a-z][a-z0-9]*(?:[A-Z][a-z0-9]*)+')
 PAGES = ['docs/READING.md', 'docs/PROMISES.md', 'docs/ARCHITECTURE.md', 'docs/DECISIONS.md', 'docs/EXCEPTIONS.md', 'docs/CONTRIBUTING.md',
          'docs/PROVING.md', 'docs/ORDER.md', 'docs/DATES.md', 'docs/EDITIONS.md', 'docs/EVIDENCE.md', 'docs/PM1.md', 'docs/CHARACTERS.md']
+# A string of a line, which keeps its words.
+STRING = r'"(?:[^"\\\n]|\\.)*"'
 # Words of the library that a definition here must not take: the prover's own names of goals and places.
 KEPT = re.compile(r'(?:invariant|decreases|goal|tie|Need|loop|returns)-')
 
 # Words that would fall together with another of their file: each becomes a word of its own first.
 APART = [
-    (r'crates/order/.*|crates/promises/.*', 'outOfOrder', 'outOfOrderNumber'),
+    (r'crates/(order|answers|promises)/.*', 'outOfOrder', 'outOfOrderNumber'),
     (r'crates/order/.*|crates/promises.*', 'in_step', 'all_in_step'),
     (r'crates/parents/.*|crates/promises.*', 'all_digits', 'only_digits'),
     (r'crates/letters/proofs/Fetching.antt', 'held_by', 'held-by'),
@@ -69,7 +71,12 @@ def declared(text):
 
 
 def words_of(text):
-    return set(WORD.findall(text))
+    return set(WORD.findall(re.sub(STRING, '""', text)))
+
+
+def respelt(text, table):
+    """The text with its words by the table, but for what stands in strings."""
+    return ''.join(part if part.startswith('"') else WORD.sub(lambda found: table.get(found[0], found[0]), part) for part in re.split(f'({STRING})', text))
 
 
 def main():
@@ -102,7 +109,7 @@ def main():
             to = table.get(word)
             if to and (to in words or any(other != word and table.get(other) == to for other in words)):
                 together[word, to, str(path.relative_to(TOP))] += 1
-        new = WORD.sub(lambda found: table.get(found[0], found[0]), text)
+        new = respelt(text, table)
         if new != before[path]:
             path.write_text(new, 'utf-8')
     for page in PAGES:
