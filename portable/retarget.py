@@ -2,9 +2,10 @@
 
 Five things of the module are x86-64's:
 - its data layout, triple and target-cpu. Those that clang gives an empty file for the machine take their place. Nothing else in the code depends on
-  them: every place is counted in octets, a pointer stands in eight octets on every machine, and no number becomes a pointer;
+  them, but for what follows: every place is counted in octets, a pointer stands in eight octets on every machine, and no number becomes a pointer;
 - how wide an address is. A copy of octets looks whether its two sides lie over each other, by the difference of their addresses, in 64 bits. A
-  machine of 32 bits reads an address in those, and widens it: the difference is the same;
+  machine of 32 bits reads an address in those, and widens it: the difference is the same. And a pair whose second part is a pointer, what an
+  iterator gives, is read at once, by a type that has the pointer after eight octets on x86-64 alone: there it is read part by part;
 - stack probes, where the machine has no page below the stack that traps;
 - copies that do not say where they stand, which a machine that reads no number across its bounds would make octet by octet;
 - the exported functions, which take and give back structs as C does on x86-64. They become private. For each there is a function at_NAME that takes
@@ -50,7 +51,16 @@ def for_machine(text, empty, probes):
 
 
 def narrowed(text):
-    """The module with addresses that are read in 32 bits, and widened."""
+    """The module with addresses that are read in 32 bits, and widened, and with pairs that end with a pointer read in their parts."""
+    def parts(found):
+        pair, first, place, at = found.groups()
+        return (f'  {pair}.first = load {first}, ptr {place}, align {at}\n  {pair}.place = getelementptr i8, ptr {place}, i64 8\n'
+                f'  {pair}.second = load ptr, ptr {pair}.place, align {at}\n'
+                f'  {pair}.half = insertvalue {{ {first}, ptr }} poison, {first} {pair}.first, 0\n'
+                f'  {pair} = insertvalue {{ {first}, ptr }} {pair}.half, ptr {pair}.second, 1')
+    text = re.sub(r'^  (%[\w.]+) = load \{ (i\d+|ptr), ptr \}, ptr (%[\w.]+), align (8)$', parts, text, flags=re.M)
+    if known := re.search(r'\b(?:load|store) \{ [^}]*, ptr\b[^}]*\}', text):
+        raise NotAsKnown(f'the module has {known[0]}, of which the pointer stands elsewhere in 32 bits')
     return re.sub(r'^  (%[\w.]+) = ptrtoaddr ptr (%[\w.]+) to i64$', r'  \1.read = ptrtoaddr ptr \2 to i32\n  \1 = zext i32 \1.read to i64', text, flags=re.M)
 
 
